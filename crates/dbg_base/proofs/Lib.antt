@@ -1,0 +1,2 @@
+pub mod Padding
+mod Rows

@@ -1,0 +1,128 @@
+-- Worked rows, computed from the definitions: a counter that feeds a consumer.
+use Rattle.std.proofs.Common.{◌≡◌, ℕ, ℤ, pos, negsuc, List, [], ◌∷◌, ◌++◌, Option, Some, None, Result, Ok, Err, true, false, refl}
+use Rattle.std.specs.Prelude.{codes}
+use Rattle.dbg_base.specs.declared.expr.Operator.TheVariants.{Add, Subtract, Divide, Remainder, Less, Greater, And, Or, Equal}
+use Rattle.dbg_base.specs.declared.call.Call.TheVariants.{Give, Ask}
+use Rattle.dbg_base.specs.declared.call.Plan.TheVariants.{Next}
+use Rattle.dbg_base.specs.declared.call.Query.TheVariants.{Vars}
+use Rattle.dbg_base.specs.declared.refusal.Refusal.TheVariants.{UnknownProcess, BadLine}
+use Rattle.dbg_base.specs.Trees.{Tree, Number, Variable, Truth, Not, Negate, Binary, Action, Local, Sends, Receives, Command, Process, Program}
+use Rattle.dbg_base.specs.Evaluation.{Num, Tru, evaluate}
+use Rattle.dbg_base.specs.Configurations.{Configuration, start_of}
+use Rattle.dbg_base.specs.Firing.{GuardFalse, Fault, ChannelEmpty, fire}
+use Rattle.dbg_base.specs.Histories.{play, local_state, progress_of}
+use Rattle.dbg_base.specs.ModelStates.{ModelState, opening_state, after_choice, history_of, configuration_of}
+use Rattle.dbg_base.specs.Acts.{lowest_enabled}
+use Rattle.dbg_base.specs.CommandLines.{parsed_line, words_of}
+use Rattle.dbg_base.specs.Shell.{parts_of, read_lines}
+
+abbrev counter : Process
+counter = record {
+  name = codes "a";
+  variables = (codes "x", pos 0) ∷ [];
+  commands = record {
+    guard = Binary Less (Variable 0) (Number (pos 3));
+    action = Sends 1 (Binary Add (Variable 0) (Number (pos 1)));
+    assignments = (0, Binary Add (Variable 0) (Number (pos 1))) ∷ [];
+  } ∷ [];
+}
+
+abbrev consumer : Process
+consumer = record {
+  name = codes "b";
+  variables = (codes "y", pos 0) ∷ (codes "n", pos 0) ∷ [];
+  commands = record {
+    guard = Truth true;
+    action = Receives 0 0;
+    assignments = (1, Binary Add (Variable 1) (Number (pos 1))) ∷ [];
+  } ∷ record {
+    guard = Binary Greater (Variable 1) (Number (pos 0));
+    action = Local;
+    assignments = (1, Binary Subtract (Variable 1) (Number (pos 1))) ∷ [];
+  } ∷ [];
+}
+
+abbrev system : Program
+system = counter ∷ consumer ∷ []
+
+-- the least signed number of 64 bits by -1, and what rounds toward zero
+quotient_overflows : evaluate (Binary Divide (Number (negsuc 9223372036854775807)) (Number (negsuc 0))) [] ≡ None
+quotient_overflows = refl
+
+remainder_overflows : evaluate (Binary Remainder (Number (negsuc 9223372036854775807)) (Number (negsuc 0))) [] ≡ None
+remainder_overflows = refl
+
+quotient_toward_zero : evaluate (Binary Divide (Number (negsuc 6)) (Number (pos 2))) [] ≡ Some (Num (negsuc 2))
+quotient_toward_zero = refl
+
+remainder_of_the_dividend : evaluate (Binary Remainder (Number (negsuc 6)) (Number (pos 2))) [] ≡ Some (Num (negsuc 0))
+remainder_of_the_dividend = refl
+
+sum_overflows : evaluate (Binary Add (Variable 0) (Number (pos 9223372036854775807))) (pos 1 ∷ []) ≡ None
+sum_overflows = refl
+
+-- `((x = 0) or ((x / 0) = 1))`
+or_stops : evaluate (Binary Or (Binary Equal (Variable 0) (Number (pos 0))) (Binary Equal (Binary Divide (Variable 0) (Number (pos 0))) (Number (pos 1)))) (pos 0 ∷ []) ≡ Some (Tru true)
+or_stops = refl
+
+-- at the start the counter fires, and the consumer doesn't: its first command finds no message, and the guard of its second is false
+
+nothing_to_receive : fire system (start_of system) 1 0 ≡ Err ChannelEmpty
+nothing_to_receive = refl
+
+guard_is_false : fire system (start_of system) 1 1 ≡ Err GuardFalse
+guard_is_false = refl
+
+nothing_enabled : lowest_enabled system (start_of system) 1 ≡ None
+nothing_enabled = refl
+
+counter_enabled : lowest_enabled system (start_of system) 0 ≡ Some 0
+counter_enabled = refl
+
+-- the play of two counts and one receive
+abbrev two_and_one : List (List ℕ)
+two_and_one = (0 ∷ 0 ∷ []) ∷ (0 ∷ []) ∷ []
+
+plays_two_and_one : play system two_and_one ≡ record {
+  values = (pos 2 ∷ []) ∷ (pos 1 ∷ pos 1 ∷ []) ∷ [];
+  channels = ([] ∷ (pos 2 ∷ []) ∷ []) ∷ ([] ∷ [] ∷ []) ∷ [];
+}
+plays_two_and_one = refl
+
+-- the local state of the counter after its first event in that play
+counter_after_one : local_state system two_and_one 0 1 ≡ pos 1 ∷ []
+counter_after_one = refl
+
+-- a receive without its send is not played
+orphan_stays_unplayed : (progress_of system ([] ∷ (0 ∷ []) ∷ [])).unplayed ≡ [] ∷ (0 ∷ []) ∷ []
+orphan_stays_unplayed = refl
+
+-- after `next a` the variable of a is 1
+after_next : (configuration_of system (after_choice (opening_state system) 0 0)).values ≡ (pos 1 ∷ []) ∷ (pos 0 ∷ pos 0 ∷ []) ∷ []
+after_next = refl
+
+-- command lines
+reads_next : parsed_line system (codes "1 next a") ≡ Ok (Some (1, Give (Next (record { 0 = 0 }))))
+reads_next = refl
+
+reads_vars : parsed_line system (codes "  16 vars b ") ≡ Ok (Some (16, Ask (Vars (record { 0 = 1 }))))
+reads_vars = refl
+
+unknown_process : parsed_line system (codes "1 next d") ≡ Err UnknownProcess
+unknown_process = refl
+
+no_seat : parsed_line system (codes "01x next a") ≡ Err BadLine
+no_seat = refl
+
+seat_too_large : parsed_line system (codes "17 next a") ≡ Err BadLine
+seat_too_large = refl
+
+blank_line : parsed_line system (codes "   ") ≡ Ok None
+blank_line = refl
+
+-- a carriage return before a line end is dropped, and a last line needs no end
+input_in_parts : parts_of (read_lines (codes "p" ++ 10 ∷ codes "%%" ++ 13 ∷ 10 ∷ codes "1 next a" ++ 10 ∷ codes "1 v")) ≡ Some (record {
+  program = codes "p" ++ 10 ∷ [];
+  commands = codes "1 next a" ∷ codes "1 v" ∷ [];
+})
+input_in_parts = refl

@@ -1,0 +1,9 @@
+use Rattle.std.proofs.Common.{ℕ, List, ◌++◌, length, drop, replicate, subst, arith}
+use Rattle.dbg_base.specs.Names.{IsPadded}
+use Rattle.dbg_base.proofs.Padding.{padded}
+use Rattle.dbg_base.proofs.name.Name.new.Goals as goal
+
+pub invariant_of-result : goal.invariant_of-result
+invariant_of-result c =
+    let bytes = c.args.bytes.now in
+    rw c.copy_from_slice.ensures.after (padded bytes (grind arith) (omega arith))

@@ -1,0 +1,114 @@
+-- One command of one process fires, or why it doesn't.
+use Rattle.std.specs.Prelude.{ℕ, ℤ, Bool, true, false, List, [], ◌∷◌, ◌++◌, Option, Some, None, Result, Ok, Err, slice_set}
+use Rattle.dbg_base.specs.Trees.{Tree, Action, Local, Sends, Receives, Command, Program, command_of}
+use Rattle.dbg_base.specs.Evaluation.{Value, Num, Tru, evaluate, number_of}
+use Rattle.dbg_base.specs.Configurations.{Configuration, values_of, channel_of, with_channel, with_values}
+
+-- why a command does not fire
+pub data Cause : Type 0 where
+  GuardFalse : Cause
+  Fault : Cause
+  ChannelEmpty : Cause
+
+-- the guard's truth, or none where its evaluation faults
+abbrev pub truth_of : Option Value → Option Bool
+truth_of None = None
+truth_of (Some (Num z)) = None
+truth_of (Some (Tru b)) = Some b
+
+-- what firing a command does: the variables that are set, each with its new value, and the value that is sent, if any
+pub record Effect : Type 0 where
+  pub sets : List (ℕ × ℤ)
+  pub message : Option ℤ
+
+-- the variable that takes the message, if the command receives one
+abbrev pub taken : Action → Option ℤ → List (ℕ × ℤ)
+taken (Receives source variable) (Some message) = (variable, message) ∷ []
+taken (Receives source variable) None = []
+taken (Sends target value) message = []
+taken Local message = []
+
+-- the values with each of these variables set
+abbrev pub set_all : List ℤ → List (ℕ × ℤ) → List ℤ
+set_all values [] = values
+set_all values (s ∷ sets) = set_all (slice_set values s.0 s.1) sets
+
+-- adds a variable with its new value, unless either evaluation faults
+abbrev pub and_set : ℕ → Option ℤ → Option (List (ℕ × ℤ)) → Option (List (ℕ × ℤ))
+and_set variable None sets = None
+and_set variable (Some z) None = None
+and_set variable (Some z) (Some sets) = Some ((variable, z) ∷ sets)
+
+-- the assigned variables with their new values, all read in the same values
+abbrev pub assigned : List (ℕ × Tree) → List ℤ → Option (List (ℕ × ℤ))
+assigned [] values = Some []
+assigned (a ∷ assignments) values = and_set a.0 (number_of (evaluate a.1 values)) (assigned assignments values)
+
+-- what is sent behind what is set
+abbrev pub effect_with : List (ℕ × ℤ) → Option ℤ → Option (List (ℕ × ℤ)) → Option Effect
+effect_with front message None = None
+effect_with front message (Some sets) = Some (record { sets = front ++ sets; message = message })
+
+-- goes on with the value to send
+abbrev pub sending : Option ℤ → (ℤ → Option Effect) → Option Effect
+sending None go = None
+sending (Some z) go = go z
+
+-- the same, by what the command does beside its assignments
+abbrev pub effect_by : Action → List (ℕ × Tree) → List ℤ → Option ℤ → Option Effect
+effect_by (Sends target value) assignments values message =
+    sending (number_of (evaluate value values)) (λ z. effect_with [] (Some z) (assigned assignments values))
+effect_by action assignments values message =
+    effect_with (taken action message) None (assigned assignments (set_all values (taken action message)))
+
+-- What a command does where its process has these values and, if it receives, takes this message. The value to send is read in
+-- the old values, an assignment in the old values with the message already taken; none where an evaluation faults.
+abbrev pub effect_of : Command → List ℤ → Option ℤ → Option Effect
+effect_of command values message = effect_by command.action command.assignments values message
+
+-- the value goes to the back of the channel from process p to the target
+abbrev pub deliver : Configuration → ℕ → ℕ → Option ℤ → Configuration
+deliver c p target None = c
+deliver c p target (Some z) = with_channel c p target (channel_of c p target ++ z ∷ [])
+
+-- the configuration after process p did this: the sent value goes to the back of its channel
+abbrev pub after_effect : Configuration → ℕ → Action → Effect → Configuration
+after_effect c p (Sends target value) effect =
+    deliver (with_values c p (set_all (values_of c p) effect.sets)) p target effect.message
+after_effect c p action effect = with_values c p (set_all (values_of c p) effect.sets)
+
+-- the effect is made, unless an evaluation faulted
+abbrev pub complete : Configuration → ℕ → Action → Option Effect → Result Configuration Cause
+complete c p action None = Err Fault
+complete c p action (Some effect) = Ok (after_effect c p action effect)
+
+-- a receive takes the front of its channel, and any other command goes on as it is
+abbrev pub receive : Command → Configuration → ℕ → ℕ → List ℤ → Result Configuration Cause
+receive command c p source [] = Err ChannelEmpty
+receive command c p source (message ∷ messages) =
+    complete (with_channel c source p messages) p command.action (effect_of command (values_of c p) (Some message))
+
+abbrev pub proceed : Command → Action → Configuration → ℕ → Result Configuration Cause
+proceed command (Receives source variable) c p = receive command c p source (channel_of c source p)
+proceed command action c p = complete c p action (effect_of command (values_of c p) None)
+
+-- goes on where the guard is true
+abbrev pub where_true : Option Bool → Result Configuration Cause → Result Configuration Cause
+where_true None next = Err Fault
+where_true (Some false) next = Err GuardFalse
+where_true (Some true) next = next
+
+-- Process p makes this command: its guard is evaluated first; then a receive needs a message; then the value to send and the
+-- assigned values are evaluated; then all variables are set at once and the sent value goes on its way.
+abbrev pub fire_command : Command → Configuration → ℕ → Result Configuration Cause
+fire_command command c p =
+    where_true (truth_of (evaluate command.guard (values_of c p))) (proceed command command.action c p)
+
+-- the command, if there is one
+abbrev pub fire_if : Option Command → Configuration → ℕ → Result Configuration Cause
+fire_if None c p = Err GuardFalse
+fire_if (Some command) c p = fire_command command c p
+
+-- Command k of process p; a command that the process has not counts as one whose guard is false.
+abbrev pub fire : Program → Configuration → ℕ → ℕ → Result Configuration Cause
+fire P c p k = fire_if (command_of P p k) c p

@@ -1,0 +1,16 @@
+pub mod Names
+pub mod Refusals
+pub mod Trees
+pub mod Evaluation
+pub mod Configurations
+pub mod Firing
+pub mod Histories
+pub mod ModelStates
+pub mod Acts
+pub mod Views
+pub mod Tokens
+pub mod Grammar
+pub mod Checks
+pub mod CommandLines
+pub mod Replies
+pub mod Shell

@@ -1,0 +1,142 @@
+-- What the shell writes for its input.
+use Rattle.std.specs.Prelude.{◌≡◌, ℕ, Bool, List, [], ◌∷◌, ◌++◌, length, take, Option, Some, None, Result, Ok, Err, ◌==◌, nat_lt, if◌then◌else◌, ◌⊎◌, codes}
+use Rattle.std.specs.Option.{option_map}
+use Rattle.std.specs.Str.{bytes_eq}
+use Rattle.std.specs.Fmt.{decimal}
+use Rattle.dbg_base.specs.declared.call.Call.{Call}
+use Rattle.dbg_base.specs.declared.call.Call.TheVariants.{Give, Ask}
+use Rattle.dbg_base.specs.declared.said.Said.{Said}
+use Rattle.dbg_base.specs.declared.refusal.Refusal.{Refusal}
+use Rattle.dbg_base.specs.declared.refusal.Refusal.TheVariants.{Memory}
+use Rattle.dbg_base.specs.declared.limits.TheConstants.{INPUT_BYTES}
+use Rattle.dbg_base.specs.Trees.{Program}
+use Rattle.dbg_base.specs.Tokens.{Fault, kind_number}
+use Rattle.dbg_base.specs.Checks.{Reads, IsFault}
+use Rattle.dbg_base.specs.ModelStates.{ModelState, opening_state}
+use Rattle.dbg_base.specs.Acts.{Refuses, Acts}
+use Rattle.dbg_base.specs.Views.{answer}
+use Rattle.dbg_base.specs.CommandLines.{without_return, parsed_line}
+use Rattle.dbg_base.specs.Replies.{reply_text, refusal_text}
+
+-- The whole lines of some bytes, without their line ends, and the bytes behind the last line end.
+pub record Lines : Type 0 where
+  pub whole : List (List ℕ)
+  pub rest : List ℕ
+
+-- a byte before these whole lines and this rest
+abbrev pub byte_before : ℕ → List (List ℕ) → List ℕ → Lines
+byte_before b [] rest = record { whole = []; rest = b ∷ rest }
+byte_before b (line ∷ whole) rest = record { whole = (b ∷ line) ∷ whole; rest = rest }
+
+-- a line end makes what stands before it a line
+abbrev pub with_front : ℕ → Lines → Lines
+with_front b lines =
+    if b == 10 then record { whole = [] ∷ lines.whole; rest = lines.rest } else byte_before b lines.whole lines.rest
+
+abbrev pub lines_of : List ℕ → Lines
+lines_of [] = record { whole = []; rest = [] }
+lines_of (b ∷ bytes) = with_front b (lines_of bytes)
+
+-- is there more input than may be
+abbrev pub is_too_long : List ℕ → Bool
+is_too_long input = nat_lt INPUT_BYTES (length input)
+
+-- bytes behind the last line end are a last line, if there are any
+abbrev pub last_line : List ℕ → List (List ℕ)
+last_line [] = []
+last_line (b ∷ bytes) = (b ∷ bytes) ∷ []
+
+-- the whole lines, and then what is behind them
+abbrev pub all_lines : Lines → List (List ℕ)
+all_lines lines = lines.whole ++ last_line lines.rest
+
+-- the lines that are looked at where at most so many bytes may be: those that end within the limit, and where all bytes are within
+-- it also a last line without an end
+abbrev pub lines_within : ℕ → List ℕ → List (List ℕ)
+lines_within limit bytes =
+    if nat_lt limit (length bytes) then (lines_of (take limit bytes)).whole else all_lines (lines_of bytes)
+
+-- the lines of the input that are looked at
+abbrev pub read_lines : List ℕ → List (List ℕ)
+read_lines input = lines_within INPUT_BYTES input
+
+-- the program text, and the lines behind its end line
+pub record Parts : Type 0 where
+  pub program : List ℕ
+  pub commands : List (List ℕ)
+
+-- the line that ends a program text
+abbrev pub is_end_line : List ℕ → Bool
+is_end_line line = bytes_eq (without_return line) (codes "%%")
+
+abbrev pub line_before : List ℕ → Parts → Parts
+line_before line parts = record parts { program = line ++ 10 ∷ [] ++ parts.program }
+
+-- the lines before the first end line are the program text, and those behind it command lines
+abbrev pub parts_of : List (List ℕ) → Option Parts
+parts_of [] = None
+parts_of (line ∷ lines) =
+    if is_end_line line then Some (record { program = []; commands = lines }) else option_map (line_before line) (parts_of lines)
+
+-- a text as a line
+abbrev pub as_line : List ℕ → List ℕ
+as_line text = text ++ 10 ∷ []
+
+-- a call was made at M, was answered so, and left M'
+abbrev pub Says : Program → Call → ModelState → Said → ModelState → Type 0
+Says P (Give plan) M said M' = Acts P plan M said M'
+Says P (Ask query) M said M' = (said ≡ answer P M query) × (M' ≡ M)
+Says P call M said M' = ⊥
+
+-- a call was answered at M, or refused for want of memory, which changes nothing
+abbrev pub SaysOrRefuses : Program → Call → ModelState → Said → ModelState → Type 0
+SaysOrRefuses P call M said M' = Says P call M said M' ⊎ Refuses Memory M said M'
+
+-- what is written for a line at M, and the state that it leaves
+abbrev pub AnswersParsed : Program → Result (Option (ℕ × Call)) Refusal → ModelState → List ℕ → ModelState → Type 0
+AnswersParsed P (Err refusal) M out M' = (out ≡ as_line (refusal_text P refusal)) × (M' ≡ M)
+AnswersParsed P (Ok None) M out M' = (out ≡ []) × (M' ≡ M)
+AnswersParsed P (Ok (Some line)) M out M' = (said : Said) × SaysOrRefuses P line.1 M said M' × (out ≡ as_line (reply_text P line.1 said))
+
+abbrev pub AnswersLine : Program → List ℕ → ModelState → List ℕ → ModelState → Type 0
+AnswersLine P line M out M' = AnswersParsed P (parsed_line P line) M out M'
+
+-- what is written for these lines from M on, and the state after them
+abbrev pub AnswersLines : Program → List (List ℕ) → ModelState → List ℕ → ModelState → Type 0
+AnswersLines P [] M out M' = (out ≡ []) × (M' ≡ M)
+AnswersLines P (line ∷ lines) M out M' =
+    (first others : List ℕ) × (between : ModelState) × AnswersLine P line M first between
+    × AnswersLines P lines between others M' × (out ≡ first ++ others)
+
+abbrev pub too_long_text : List ℕ
+too_long_text = as_line (codes "input too long")
+
+-- what is written at the end of the input
+abbrev pub end_text : List ℕ → List ℕ
+end_text input = if is_too_long input then too_long_text else []
+
+-- what is written where no end line was read
+abbrev pub no_end_text : List ℕ → List ℕ
+no_end_text input = if is_too_long input then too_long_text else as_line (codes "program refused: no end line")
+
+-- how a program fault is told
+abbrev pub fault_text : Fault → List ℕ
+fault_text fault = as_line (codes "program refused " ++ decimal (kind_number fault.kind) ++ codes " at " ++ decimal fault.at)
+
+-- the program was read, and each line behind it was answered in turn
+abbrev pub AnswersCommands : List ℕ → Parts → List ℕ → Type 0
+AnswersCommands input parts out =
+    (P : Program) × Reads parts.program P × (replies : List ℕ) × (M : ModelState)
+    × AnswersLines P parts.commands (opening_state P) replies M × (out ≡ replies ++ end_text input)
+
+-- the program was refused, and nothing else is written
+abbrev pub RefusesProgram : Parts → List ℕ → Type 0
+RefusesProgram parts out = (fault : Fault) × IsFault parts.program fault × (out ≡ fault_text fault)
+
+abbrev pub TextOfParts : List ℕ → Option Parts → List ℕ → Type 0
+TextOfParts input None out = out ≡ no_end_text input
+TextOfParts input (Some parts) out = AnswersCommands input parts out ⊎ RefusesProgram parts out
+
+-- what is written for the input
+abbrev pub Text : List ℕ → List ℕ → Type 0
+Text input out = TextOfParts input (parts_of (read_lines input)) out

@@ -1,0 +1,196 @@
+-- The tokens of a program text, each with the offset of its first byte, and what a text without tokens has wrong.
+use Rattle.std.specs.Prelude.{◌≡◌, ℕ, ◌+◌, ◌-◌, ◌*◌, ◌^◌, ◌<◌, ◌≤◌, Bool, true, false, ◌&&◌, ◌||◌, ◌==◌, List, [], ◌∷◌, ◌++◌, length, nat_le, IsTrue, codes}
+use Rattle.std.specs.List.{list_all, AllByRecursion}
+use Rattle.std.specs.Str.Parse.{digits_value}
+use Rattle.dbg_base.specs.declared.limits.TheConstants.{NAME_BYTES, OPEN_PARENTHESES, INPUT_BYTES}
+
+-- a mark of the language
+pub data Sign : Type 0 where
+  OpenBrace : Sign
+  CloseBrace : Sign
+  OpenParenthesis : Sign
+  CloseParenthesis : Sign
+  Semicolon : Sign
+  Colon : Sign
+  Becomes : Sign
+  Comma : Sign
+  Equals : Sign
+  NotEquals : Sign
+  LessThan : Sign
+  AtMost : Sign
+  GreaterThan : Sign
+  AtLeast : Sign
+  Plus : Sign
+  Minus : Sign
+  Star : Sign
+  Slash : Sign
+  Percent : Sign
+
+-- a word, a number or a sign
+pub data Token : Type 0 where
+  Word : (bytes : List ℕ) → Token
+  Number : (value : ℕ) → Token
+  Symbol : (sign : Sign) → Token
+
+-- a token where it stands: the offset of its first byte
+pub record Placed : Type 0 where
+  pub at : ℕ
+  pub token : Token
+
+-- how a sign is written
+abbrev pub sign_bytes : Sign → List ℕ
+sign_bytes OpenBrace = codes "{"
+sign_bytes CloseBrace = codes "}"
+sign_bytes OpenParenthesis = codes "("
+sign_bytes CloseParenthesis = codes ")"
+sign_bytes Semicolon = codes ";"
+sign_bytes Colon = codes ":"
+sign_bytes Becomes = codes ":="
+sign_bytes Comma = codes ","
+sign_bytes Equals = codes "="
+sign_bytes NotEquals = codes "!="
+sign_bytes LessThan = codes "<"
+sign_bytes AtMost = codes "<="
+sign_bytes GreaterThan = codes ">"
+sign_bytes AtLeast = codes ">="
+sign_bytes Plus = codes "+"
+sign_bytes Minus = codes "-"
+sign_bytes Star = codes "*"
+sign_bytes Slash = codes "/"
+sign_bytes Percent = codes "%"
+
+-- a blank, a tab, a line end or a carriage return, which separate tokens and have no other meaning
+abbrev pub is_space : ℕ → Bool
+is_space b = (b == 32) || (b == 9) || (b == 10) || (b == 13)
+
+-- `a` to `z`
+abbrev pub is_letter : ℕ → Bool
+is_letter b = nat_le 97 b && nat_le b 122
+
+-- `0` to `9`
+abbrev pub is_digit : ℕ → Bool
+is_digit b = nat_le 48 b && nat_le b 57
+
+-- a letter, a digit or `_`
+abbrev pub is_word_byte : ℕ → Bool
+is_word_byte b = is_letter b || is_digit b || (b == 95)
+
+-- a letter, and then letters, digits and `_`
+abbrev pub is_word : List ℕ → Bool
+is_word [] = false
+is_word (b ∷ bytes) = is_letter b && list_all is_word_byte bytes
+
+-- one digit or more
+abbrev pub is_numeral : List ℕ → Bool
+is_numeral [] = false
+is_numeral (b ∷ bytes) = is_digit b && list_all is_digit bytes
+
+-- these bytes write the token; a number may have leading zeros
+abbrev pub Spells : Token → List ℕ → Type 0
+Spells (Word word) bytes = (bytes ≡ word) × IsTrue (is_word word)
+Spells (Number value) bytes = IsTrue (is_numeral bytes) × (value ≡ digits_value 10 bytes)
+Spells (Symbol sign) bytes = bytes ≡ sign_bytes sign
+
+-- no longer piece at the front of the same text writes a token
+abbrev pub IsLongest : List ℕ → List ℕ → Type 0
+IsLongest piece rest =
+    (longer more : List ℕ) (other : Token) → Spells other longer → longer ++ more ≡ piece ++ rest → length longer ≤ length piece
+
+-- From the offset `at` on the text begins with these tokens, each the longest that stands there, with spaces before and between
+-- them; `rest`, at the offset `end`, is the text behind them and behind some of the spaces that follow.
+abbrev pub BeginsWith : ℕ → List ℕ → List Placed → ℕ → List ℕ → Type 0
+BeginsWith at text [] end rest =
+    (gap : List ℕ) × IsTrue (list_all is_space gap) × (text ≡ gap ++ rest) × (end ≡ at + length gap)
+BeginsWith at text (p ∷ tokens) end rest =
+    (gap piece more : List ℕ) × IsTrue (list_all is_space gap) × (text ≡ gap ++ piece ++ more) × (p.at ≡ at + length gap)
+    × Spells p.token piece × IsLongest piece more × BeginsWith (p.at + length piece) more tokens end rest
+
+-- a word has at most 32 bytes, and a number is at most the largest signed number of 64 bits
+abbrev pub IsWithinLimits : Token → Type 0
+IsWithinLimits (Word bytes) = length bytes ≤ NAME_BYTES
+IsWithinLimits (Number value) = value < 2 ^ 63
+IsWithinLimits (Symbol sign) = Unit {0}
+
+-- how many parentheses are open behind a token; the count never goes below 0
+abbrev pub open_behind : ℕ → Token → ℕ
+open_behind depth (Symbol OpenParenthesis) = depth + 1
+open_behind depth (Symbol CloseParenthesis) = depth - 1
+open_behind depth token = depth
+
+-- and behind several
+abbrev pub open_after : ℕ → List Placed → ℕ
+open_after depth [] = depth
+open_after depth (p ∷ tokens) = open_after (open_behind depth p.token) tokens
+
+-- at most 32 parentheses are open at once
+abbrev pub StaysShallow : ℕ → List Placed → Type 0
+StaysShallow depth [] = Unit {0}
+StaysShallow depth (p ∷ tokens) = (open_behind depth p.token ≤ OPEN_PARENTHESES) × StaysShallow (open_behind depth p.token) tokens
+
+-- tokens that meet the limits
+abbrev pub AreWithinLimits : List Placed → Type 0
+AreWithinLimits tokens = AllByRecursion (λ p. IsWithinLimits p.token) tokens × StaysShallow 0 tokens
+
+-- these are the text's tokens
+abbrev pub HasTokens : List ℕ → List Placed → Type 0
+HasTokens text tokens =
+    (length text ≤ INPUT_BYTES) × BeginsWith 0 text tokens (length text) [] × AreWithinLimits tokens
+
+-- what a program text has wrong, by its kinds in the order of their numbers
+pub data FaultKind : Type 0 where
+  ByteFault : FaultKind
+  TokenFault : FaultKind
+  GrammarFault : FaultKind
+  NameTaken : FaultKind
+  NameUnknown : FaultKind
+  TypeWrong : FaultKind
+  LimitFault : FaultKind
+  SelfSend : FaultKind
+  SetTwice : FaultKind
+
+abbrev pub kind_number : FaultKind → ℕ
+kind_number ByteFault = 1
+kind_number TokenFault = 2
+kind_number GrammarFault = 3
+kind_number NameTaken = 4
+kind_number NameUnknown = 5
+kind_number TypeWrong = 6
+kind_number LimitFault = 7
+kind_number SelfSend = 8
+kind_number SetTwice = 9
+
+-- a fault and the offset at which it is
+pub record Fault : Type 0 where
+  pub kind : FaultKind
+  pub at : ℕ
+
+-- the first byte is no space
+abbrev pub BeginsWithNoSpace : List ℕ → Type 0
+BeginsWithNoSpace [] = ⊥
+BeginsWithNoSpace (b ∷ bytes) = is_space b ≡ false
+
+-- no token stands at the front
+abbrev pub BeginsWithNoToken : List ℕ → Type 0
+BeginsWithNoToken bytes = (piece more : List ℕ) (token : Token) → Spells token piece → bytes ≡ piece ++ more → ⊥
+
+-- the longest token at the front is beyond its limit
+abbrev pub BeginsWithTooLarge : List ℕ → Type 0
+BeginsWithTooLarge bytes =
+    (piece more : List ℕ) × (token : Token) × Spells token piece × IsLongest piece more × (bytes ≡ piece ++ more) × ¬ IsWithinLimits token
+
+-- a parenthesis opens at the front where as many are open as may be
+abbrev pub OpensTooDeep : ℕ → List ℕ → Type 0
+OpensTooDeep depth bytes = (depth ≡ OPEN_PARENTHESES) × (more : List ℕ) × (bytes ≡ sign_bytes OpenParenthesis ++ more)
+
+-- what is wrong at the front, where so many parentheses are open
+abbrev pub FaultsInFront : FaultKind → ℕ → List ℕ → Type 0
+FaultsInFront ByteFault depth bytes = BeginsWithNoSpace bytes × BeginsWithNoToken bytes
+FaultsInFront TokenFault depth bytes = BeginsWithTooLarge bytes
+FaultsInFront LimitFault depth bytes = OpensTooDeep depth bytes
+FaultsInFront kind depth bytes = ⊥
+
+-- the first fault of the tokens: tokens without a fault stand before it
+abbrev pub IsTokenFault : List ℕ → Fault → Type 0
+IsTokenFault text fault =
+    (tokens : List Placed) × (rest : List ℕ) × BeginsWith 0 text tokens fault.at rest × AreWithinLimits tokens
+    × FaultsInFront fault.kind (open_after 0 tokens) rest

@@ -1,0 +1,61 @@
+-- A program as a tree: what its text says, with processes, variables and commands named by their places from 0.
+use Rattle.std.specs.Prelude.{ℕ, ℤ, Bool, List, [], map, Option, slice_get, slice_index_or}
+use Rattle.dbg_base.specs.declared.expr.Operator.{Operator}
+use Rattle.dbg_base.specs.declared.expr.Expr.{Expr}
+use Rattle.dbg_base.specs.declared.expr.Expr.TheVariants as expr
+
+-- an expression over the variables of one process
+pub data Tree : Type 0 where
+  Number : (value : ℤ) → Tree
+  Variable : (index : ℕ) → Tree
+  Truth : (value : Bool) → Tree
+  Not : (operand : Tree) → Tree
+  Negate : (operand : Tree) → Tree
+  Binary : (operator : Operator) (left right : Tree) → Tree
+
+-- an expression of the code, without the places in memory of its parts
+abbrev pub tree_of : Expr → Tree
+tree_of (expr.Number value) = Number value
+tree_of (expr.Variable index) = Variable index
+tree_of (expr.Truth value) = Truth value
+tree_of (expr.Not' place operand) = Not (tree_of operand)
+tree_of (expr.Negate' place operand) = Negate (tree_of operand)
+tree_of (expr.Binary' operator left_place left right_place right) = Binary operator (tree_of left) (tree_of right)
+
+-- what a command does beside its assignments: nothing, a send of a value, or a receive into a variable
+pub data Action : Type 0 where
+  Local : Action
+  Sends : (target : ℕ) (value : Tree) → Action
+  Receives : (source variable : ℕ) → Action
+
+-- a guarded command: each assignment is a variable and the expression of its new value
+pub record Command : Type 0 where
+  pub guard : Tree
+  pub action : Action
+  pub assignments : List (ℕ × Tree)
+
+-- a process: each variable is its name and its initial value
+pub record Process : Type 0 where
+  pub name : List ℕ
+  pub variables : List (List ℕ × ℤ)
+  pub commands : List Command
+
+-- the processes in text order
+abbrev pub Program : Type 0
+Program = List Process
+
+-- a process that a program has not
+abbrev pub no_process : Process
+no_process = record { name = []; variables = []; commands = [] }
+
+-- the process p, where there is one
+abbrev pub process_of : Program → ℕ → Process
+process_of P p = slice_index_or P p no_process
+
+-- the names of the processes
+abbrev pub names_of : Program → List (List ℕ)
+names_of P = map (λ process. process.name) P
+
+-- the command k of process p, if it has one
+abbrev pub command_of : Program → ℕ → ℕ → Option Command
+command_of P p k = slice_get (process_of P p).commands k

@@ -1,0 +1,49 @@
+//! Numbers of processes and commands, and cuts.
+
+ghost use Rattle.std.specs.Prelude.{◌≡◌, ℕ, List};
+
+use std::marker::Model;
+
+/// A process, by its place in the program, from 0.
+#[derive(Clone, Copy, Debug, PartialEq, Eq, PartialOrd, Ord)]
+pub struct Pid(pub u32);
+
+/// A command of a process, by its place in the process, from 0.
+#[derive(Clone, Copy, Debug, PartialEq, Eq, PartialOrd, Ord)]
+pub struct Choice(pub u32);
+
+/// One count of events for each process, in program order.
+#[derive(Debug, Drop)]
+pub struct Cut {
+    counts: Vec<u32>,
+}
+
+impl Model for Cut {
+    ghost Value = { List ℕ };
+
+    ghost view = { λ cut. cut.counts.items };
+}
+
+impl Cut {
+    /// The cut with these counts. It takes no memory.
+    pub fn new(counts: Vec<u32>) -> Self
+        ensures { result ≡ counts.items }
+    {
+        Cut { counts }
+    }
+
+    /// The counts, in program order.
+    pub fn counts(&self) -> &[u32]
+        ensures { result.now ≡ self.now }
+    {
+        self.counts.as_slice()
+    }
+
+    /// Gives the counts back. It takes no memory.
+    pub fn into_counts(self) -> Vec<u32>
+        ensures { result.items ≡ self }
+    {
+        let Cut { counts } = self;
+        counts
+    }
+}

@@ -1,0 +1,22 @@
+//! The plain types that every crate of the debugger speaks of, and the limits.
+//!
+//! They hold no logic. What a system of processes does, and what a session shows, is defined in `specs/`,
+//! one module for each concept; `docs/model.md` tells it in words.
+#![tactic(auto)]
+
+mod call;
+mod expr;
+mod ids;
+pub mod limits;
+mod name;
+mod refusal;
+mod said;
+mod sequence;
+
+pub use call::{Call, Conjunct, Plan, Query};
+pub use expr::{Expr, Operator};
+pub use ids::{Choice, Cut, Pid};
+pub use name::Name;
+pub use refusal::Refusal;
+pub use said::{Answer, Done, Head, Reply, Said};
+pub use sequence::Sequence;

@@ -1,0 +1,94 @@
+//! Why a call was refused.
+
+ghost use Rattle.std.specs.Prelude.{◌≡◌};
+ghost use Rattle.dbg_base.specs.Refusals.{number_of};
+
+use crate::ids::Pid;
+use crate::name::Name;
+
+/// Why a call or a line was refused. A refused call changes nothing.
+#[derive(Clone, Copy, Debug, PartialEq, Eq)]
+pub enum Refusal {
+    /// There is no such process.
+    UnknownProcess,
+    /// The process has no such command.
+    UnknownChoice,
+    /// The command's guard is false.
+    GuardFalse,
+    /// An evaluation faults.
+    Fault,
+    /// There is nothing to receive.
+    ChannelEmpty,
+    /// The process has no event.
+    NothingToUndo,
+    /// This process has received the message.
+    Consequence(Pid),
+    /// The redo line is empty.
+    NothingToRedo,
+    /// This breakpoint halts the session.
+    Halted(Name),
+    /// The count of events is above the process's place.
+    BadPlace,
+    /// A breakpoint has the name already.
+    BreakTaken,
+    /// No breakpoint has the name.
+    UnknownBreak,
+    /// The breakpoint has no cut.
+    NoCut,
+    /// The breakpoint is not armed.
+    NotArmed,
+    /// The breakpoint is armed already.
+    AlreadyArmed,
+    /// No accepted command is left to take back.
+    NothingBack,
+    /// This seat gave the last accepted command.
+    OtherSeat(u32),
+    /// The process has as many events as a process may have.
+    ProcessFull,
+    /// As many breakpoints are set as may be.
+    BreaksFull,
+    /// As many calls are entered as may be.
+    JournalFull,
+    /// Memory ran out.
+    Memory,
+    /// The line has no form of a command line.
+    BadLine,
+    /// No truth expression over that process, a process named twice, or no conjunct.
+    BadPredicate,
+    /// No command of the process fires.
+    NoneEnabled,
+}
+
+impl Refusal {
+    /// The number by which the refusal is told, from 1 to 24. It takes no memory.
+    pub fn number(&self) -> u32
+        ensures { result ≡ number_of self.now }
+    {
+        match self {
+            Refusal::UnknownProcess => 1,
+            Refusal::UnknownChoice => 2,
+            Refusal::GuardFalse => 3,
+            Refusal::Fault => 4,
+            Refusal::ChannelEmpty => 5,
+            Refusal::NothingToUndo => 6,
+            Refusal::Consequence(_) => 7,
+            Refusal::NothingToRedo => 8,
+            Refusal::Halted(_) => 9,
+            Refusal::BadPlace => 10,
+            Refusal::BreakTaken => 11,
+            Refusal::UnknownBreak => 12,
+            Refusal::NoCut => 13,
+            Refusal::NotArmed => 14,
+            Refusal::AlreadyArmed => 15,
+            Refusal::NothingBack => 16,
+            Refusal::OtherSeat(_) => 17,
+            Refusal::ProcessFull => 18,
+            Refusal::BreaksFull => 19,
+            Refusal::JournalFull => 20,
+            Refusal::Memory => 21,
+            Refusal::BadLine => 22,
+            Refusal::BadPredicate => 23,
+            Refusal::NoneEnabled => 24,
+        }
+    }
+}

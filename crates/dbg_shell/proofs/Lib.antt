@@ -1,0 +1,15 @@
+pub mod Writing
+pub mod Histories
+pub mod Runs
+pub mod Words
+pub mod LineEnds
+pub mod Pairs
+pub mod Splits
+pub mod Answering
+pub mod LineReplies
+pub mod InputTexts
+pub mod CheckTexts
+pub mod Cuts
+pub mod Firings
+pub mod Channels
+pub mod Digits

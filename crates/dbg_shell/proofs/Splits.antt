@@ -1,0 +1,157 @@
+-- Where the program text ends.
+use Rattle.std.proofs.Common.{◌≡◌, ℕ, ◌+◌, ◌-◌, ◌<◌, ◌≤◌, Bool, true, false, List, [], ◌∷◌, ◌++◌, length, take, drop, Option, Some, None, refl, sym, ap, ◌∙◌, subst, inl, inr, ◌⊎◌, append_assoc, arith}
+use Rattle.std.specs.Prelude.{slice_range, IfSome, option_map}
+use Rattle.std.specs.Io.KnownBytes.{prepend_known, Keeps}
+use Rattle.std.proofs.lemmas.List.{append-nil, drop-drop, drop-append-le, take-append-le, length-drop}
+use Rattle.std.proofs.Math.Seq.{take-add}
+use Rattle.dbg_base.specs.Shell.{Parts, parts_of, is_end_line, line_before}
+use Rattle.dbg_shell.specs.declared.framing.Span.{Span}
+use Rattle.dbg_shell.specs.declared.framing.Next.{Next}
+use Rattle.dbg_shell.specs.declared.framing.Next.TheVariants as nexts
+use Rattle.dbg_shell.specs.declared.program_text.TextEnd.TheVariants as ends
+use Rattle.dbg_shell.specs.Spans.{lines_from, AdvancesAt, Tells}
+use Rattle.dbg_shell.specs.Serving.{with_text, Splits}
+
+slice_on : (xs : List ℕ) (a b c : ℕ) → a ≤ b → b ≤ c → slice_range xs a c ≡ slice_range xs a b ++ slice_range xs b c
+slice_on xs a b c first second =
+    let n : ℕ = b - a in
+    let m : ℕ = c - b in
+    let longer : c - a ≡ n + m = omega arith in
+    let there : drop n (drop a xs) ≡ drop b xs = drop-drop n a xs ∙ ap (λ (k : ℕ). drop k xs) (omega arith) in
+    ap (λ (k : ℕ). take k (drop a xs)) longer ∙ take-add n m (drop a xs) ∙ ap (λ (ys : List ℕ). take n (drop a xs) ++ take m ys) there
+
+with_nothing : (o : Option Parts) → o ≡ option_map (with_text []) o
+with_nothing None = refl
+with_nothing (Some parts) = refl
+
+texts_join : (s line t : List ℕ) (o : Option Parts) → t ≡ s ++ (line ++ 10 ∷ []) → option_map (with_text s) (option_map (line_before line) o) ≡ option_map (with_text t) o
+texts_join s line t None e = refl
+texts_join s line t (Some parts) e =
+    ap (λ (text : List ℕ). Some (record { program = text; commands = parts.commands }))
+    (sym (append_assoc s (line ++ 10 ∷ []) parts.program) ∙ ap (λ (u : List ℕ). u ++ parts.program) (sym e))
+
+-- the parts from one place on are those from a later place on, with the text between them in front
+pub record SoFar (whole : List ℕ) (from at : ℕ) : Type 0 where
+  pub begun : from ≤ at
+  pub split : parts_of (lines_from from whole) ≡ option_map (with_text (slice_range whole from at)) (parts_of (lines_from at whole))
+
+pub so_far_begins : (whole : List ℕ) (from : ℕ) → SoFar whole from from
+so_far_begins whole from =
+    let none : 0 ≡ from - from = omega arith in
+    record {
+      begun = omega arith;
+      split = with_nothing _ ∙ ap (λ (n : ℕ). option_map (with_text (take n (drop from whole))) (parts_of (lines_from from whole))) none;
+    }
+
+parts_behind : (line : List ℕ) (lines : List (List ℕ)) → is_end_line line ≡ false → parts_of (line ∷ lines) ≡ option_map (line_before line) (parts_of lines)
+parts_behind line lines e = rw e refl
+
+parts_at : (line : List ℕ) (lines : List (List ℕ)) → is_end_line line ≡ true → parts_of (line ∷ lines) ≡ Some (record { program = []; commands = lines })
+parts_at line lines e = rw e refl
+
+split_on : (whole line : List ℕ) (from at new : ℕ) → from ≤ at → at ≤ new → is_end_line line ≡ false → lines_from at whole ≡ line ∷ lines_from new whole
+    → (slice_range whole at new ≡ line ++ 10 ∷ []) ⊎ (lines_from new whole ≡ [])
+    → option_map (with_text (slice_range whole from at)) (parts_of (lines_from at whole))
+    ≡ option_map (with_text (slice_range whole from new)) (parts_of (lines_from new whole))
+split_on whole line from at new begun on other here (inl text) =
+    ap (λ lines. option_map (with_text (slice_range whole from at)) (parts_of lines)) here
+    ∙ ap (option_map (with_text (slice_range whole from at))) (parts_behind line (lines_from new whole) other)
+    ∙ texts_join (slice_range whole from at) line (slice_range whole from new) (parts_of (lines_from new whole))
+    (slice_on whole from at new begun on ∙ ap (λ (t : List ℕ). slice_range whole from at ++ t) text)
+split_on whole line from at new begun on other here (inr none) =
+    ap (λ lines. option_map (with_text (slice_range whole from at)) (parts_of lines)) here
+    ∙ ap (option_map (with_text (slice_range whole from at))) (parts_behind line (lines_from new whole) other)
+    ∙ ap (λ lines. option_map (with_text (slice_range whole from at)) (option_map (line_before line) (parts_of lines))) none
+    ∙ sym (ap (λ lines. option_map (with_text (slice_range whole from new)) (parts_of lines)) none)
+
+so_far_on : (whole bytes : List ℕ) (from at new : ℕ) (span : Span) → at < new → SoFar whole from at → Tells whole bytes at new (nexts.Line span)
+    → is_end_line (slice_range bytes span.from span.to) ≡ false → SoFar whole from new
+so_far_on whole bytes from at new span on so_far told other =
+    let begun : from ≤ at = so_far.begun in
+    record {
+      begun = omega arith;
+      split = so_far.split ∙ split_on whole (slice_range bytes span.from span.to) from at new begun (omega arith) other told.0 told.4;
+    }
+
+-- the bytes that were read stand at the front of all that there is
+slice_of_front : (bytes rest : List ℕ) (from to : ℕ) → from ≤ to → to ≤ length bytes → slice_range (bytes ++ rest) from to ≡ slice_range bytes from to
+slice_of_front bytes rest from to le held =
+    let here : drop from (bytes ++ rest) ≡ drop from bytes ++ rest = drop-append-le from bytes rest (omega arith) in
+    let long : length (drop from bytes) ≡ length bytes - from = length-drop from bytes in
+    ap (λ (t : List ℕ). take (to - from) t) here ∙ take-append-le (to - from) (drop from bytes) rest (omega arith)
+
+split_at : (whole bytes rest : List ℕ) (from at new : ℕ) (span : Span) → whole ≡ bytes ++ rest → SoFar whole from at → Tells whole bytes at new (nexts.Line span)
+    → is_end_line (slice_range bytes span.from span.to) ≡ true → Splits whole bytes from new (ends.Before span)
+split_at whole bytes rest from at new span all so_far told end =
+    let begun : from ≤ at = so_far.begun in
+    let here : span.from ≡ at = told.1 in
+    let ordered : span.from ≤ span.to = told.2 in
+    let held : span.to ≤ length bytes = told.3 in
+    let text : slice_range whole from at ≡ slice_range bytes from span.from =
+    ap (λ (t : List ℕ). slice_range t from at) all ∙ slice_of_front bytes rest from at begun (omega arith) ∙ ap (λ (n : ℕ). slice_range bytes from n) (sym here) in
+    let line : List ℕ = slice_range bytes span.from span.to in (
+      so_far.split ∙ ap (λ lines. option_map (with_text (slice_range whole from at)) (parts_of lines)) told.0
+          ∙ ap (option_map (with_text (slice_range whole from at))) (parts_at line (lines_from new whole) end)
+          ∙ ap (λ (t : List ℕ). Some (record { program = t; commands = lines_from new whole })) (append-nil (slice_range whole from at) ∙ text),
+      omega arith,
+    )
+
+no_parts : (whole : List ℕ) (from at : ℕ) → SoFar whole from at → lines_from at whole ≡ [] → parts_of (lines_from from whole) ≡ None
+no_parts whole from at so_far none = so_far.split ∙ ap (λ lines. option_map (with_text (slice_range whole from at)) (parts_of lines)) none
+
+-- The same, where the bytes that the reader has left are known or not.
+pub known_begins : (known : Option (List ℕ)) (from : ℕ) → IfSome known (λ whole. SoFar whole from from)
+known_begins None from = tt
+known_begins (Some whole) from = so_far_begins whole from
+
+pub kept : (a b : Option (List ℕ)) (P : List ℕ → Type 0) → Keeps a b → IfSome b P → IfSome a P
+kept None b P keeps p = tt
+kept (Some xs) None P keeps p = absurd keeps
+kept (Some xs) (Some ys) P keeps p = subst P keeps p
+
+-- where the line that was looked at is the one that was told
+line_is : (whole bytes line : List ℕ) (at new : ℕ) (span : Span) (end : Bool) → Tells whole bytes at new (nexts.Line span)
+    → (span.from ≤ span.to → span.to ≤ length bytes → line ≡ slice_range bytes span.from span.to) → is_end_line line ≡ end
+    → is_end_line (slice_range bytes span.from span.to) ≡ end
+line_is whole bytes line at new span end told seen test = ap is_end_line (sym (seen told.2 told.3)) ∙ test
+
+pub known_goes_on : (a b : Option (List ℕ)) (bytes line : List ℕ) (from at new : ℕ) (next : Next) (span : Span) → Keeps a b → AdvancesAt at new next
+    → IfSome a (λ whole. SoFar whole from at) → IfSome b (λ whole. Tells whole bytes at new next) → next ≡ nexts.Line span
+    → (span.from ≤ span.to → span.to ≤ length bytes → line ≡ slice_range bytes span.from span.to) → is_end_line line ≡ false
+    → IfSome a (λ whole. SoFar whole from new)
+known_goes_on None b bytes line from at new next span keeps on so_far told is seen other = tt
+known_goes_on (Some xs) None bytes line from at new next span keeps on so_far told is seen other = absurd keeps
+known_goes_on (Some xs) (Some ys) bytes line from at new next span keeps on so_far told is seen other =
+    let here : Tells xs bytes at new (nexts.Line span) =
+    subst (λ (whole : List ℕ). Tells whole bytes at new (nexts.Line span)) keeps (subst (λ (n : Next). Tells ys bytes at new n) is told) in
+    so_far_on xs bytes from at new span (subst (λ (n : Next). AdvancesAt at new n) is on) so_far here (line_is xs bytes line at new span false here seen other)
+
+pub known_ends : (a b after : Option (List ℕ)) (bytes line : List ℕ) (from at new : ℕ) (next : Next) (span : Span) → Keeps a b
+    → Keeps b (prepend_known bytes after) → IfSome a (λ whole. SoFar whole from at) → IfSome b (λ whole. Tells whole bytes at new next)
+    → next ≡ nexts.Line span → (span.from ≤ span.to → span.to ≤ length bytes → line ≡ slice_range bytes span.from span.to)
+    → is_end_line line ≡ true → IfSome a (λ whole. Splits whole bytes from new (ends.Before span))
+known_ends None b after bytes line from at new next span keeps stays so_far told is seen end = tt
+known_ends (Some xs) None after bytes line from at new next span keeps stays so_far told is seen end = absurd keeps
+known_ends (Some xs) (Some ys) None bytes line from at new next span keeps stays so_far told is seen end = absurd stays
+known_ends (Some xs) (Some ys) (Some rest) bytes line from at new next span keeps stays so_far told is seen end =
+    let here : Tells xs bytes at new (nexts.Line span) =
+    subst (λ (whole : List ℕ). Tells whole bytes at new (nexts.Line span)) keeps (subst (λ (n : Next). Tells ys bytes at new n) is told) in
+    split_at xs bytes rest from at new span (sym keeps ∙ sym stays) so_far here (line_is xs bytes line at new span true here seen end)
+
+pub known_none : (a b : Option (List ℕ)) (bytes : List ℕ) (from at new : ℕ) (next : Next) → Keeps a b → IfSome a (λ whole. SoFar whole from at)
+    → IfSome b (λ whole. Tells whole bytes at new next) → next ≡ nexts.End → IfSome a (λ whole. Splits whole bytes from new ends.End)
+known_none None b bytes from at new next keeps so_far told is = tt
+known_none (Some xs) None bytes from at new next keeps so_far told is = absurd keeps
+known_none (Some xs) (Some ys) bytes from at new next keeps so_far told is =
+    let here : Tells ys bytes at new nexts.End = subst (λ (n : Next). Tells ys bytes at new n) is told in
+    subst (λ (whole : List ℕ). Splits whole bytes from new ends.End) keeps
+    (no_parts ys from at (subst (λ (whole : List ℕ). SoFar whole from at) (sym keeps) so_far) here.0, here.1)
+
+pub known_too_long : (a b : Option (List ℕ)) (bytes : List ℕ) (from at new : ℕ) (next : Next) → Keeps a b → IfSome a (λ whole. SoFar whole from at)
+    → IfSome b (λ whole. Tells whole bytes at new next) → next ≡ nexts.TooLong → IfSome a (λ whole. Splits whole bytes from new ends.TooLong)
+known_too_long None b bytes from at new next keeps so_far told is = tt
+known_too_long (Some xs) None bytes from at new next keeps so_far told is = absurd keeps
+known_too_long (Some xs) (Some ys) bytes from at new next keeps so_far told is =
+    let here : Tells ys bytes at new nexts.TooLong = subst (λ (n : Next). Tells ys bytes at new n) is told in
+    subst (λ (whole : List ℕ). Splits whole bytes from new ends.TooLong) keeps
+    (no_parts ys from at (subst (λ (whole : List ℕ). SoFar whole from at) (sym keeps) so_far) here.0, here.1)

@@ -1,0 +1,11 @@
+use Rattle.std.proofs.Common.{◌≡◌, rules, to_z, of_z, w64}
+use Rattle.dbg_shell.proofs.Writing.{writes_then, stopped}
+use Rattle.dbg_shell.proofs.parts.write_number_pair.Goals as goal
+
+pub returns-in_err-write_label : goal.returns-in_err-write_label
+returns-in_err-write_label g c = stopped _ c.in_err-write_label.ensures c.from_residual.ensures.0
+
+pub returns : goal.returns
+returns g c =
+    let e : to_z w64 (of_z w64 c.args.number) ≡ c.args.number = search rules in
+    rw (← e) (writes_then c.in_ok-write_label.ensures c.write_number.ensures)

@@ -1,0 +1,45 @@
+-- What the check of a program text writes.
+use Rattle.std.specs.Prelude.{◌≡◌, ℕ, List, ◌++◌, Option, Some, None, codes, sum_by, length, ◌⊎◌}
+use Rattle.std.specs.Bool.{MatchBool}
+use Rattle.std.specs.Fmt.{decimal}
+use Rattle.dbg_base.specs.Trees.{Program}
+use Rattle.dbg_base.specs.Checks.{Reads}
+use Rattle.dbg_base.specs.Shell.{Parts, as_line, fault_text, is_too_long, too_long_text}
+use Rattle.proc_lang.specs.Small.{IsSmall, IsRefusal}
+use Rattle.proc_lang.specs.Faults.{fault_of}
+use Rattle.proc_lang.specs.declared.fault.ProgFault.{ProgFault}
+use Rattle.proc_lang.specs.declared.fault.ProgError.TheVariants.{Bad}
+use Rattle.dbg_shell.specs.declared.outcome.Served.{Served}
+use Rattle.dbg_shell.specs.declared.outcome.Served.TheVariants.{Done, Refused, TooLong}
+use Rattle.dbg_shell.specs.Serving.{WritesSome}
+
+-- how many processes and commands a program has
+abbrev pub size_text : ℕ → ℕ → List ℕ
+size_text processes commands = as_line (codes "ok " ++ decimal processes ++ codes " processes " ++ decimal commands ++ codes " commands")
+
+-- how many commands all its processes have
+abbrev pub command_count : Program → ℕ
+command_count P = sum_by (λ process. length process.commands) P
+
+-- the text is a small program, and its size is told
+abbrev pub TellsSize : List ℕ → Served → List ℕ → Type 0
+TellsSize text served out =
+    (P : Program) × Reads text P × IsSmall P × (served ≡ Done) × (out ≡ size_text (length P) (command_count P))
+
+-- the text is no small program, and why it is refused is told
+abbrev pub TellsFault : List ℕ → Served → List ℕ → Type 0
+TellsFault text served out =
+    (fault : ProgFault) × IsRefusal text (Bad fault) × ((P : Program) → Reads text P → IsSmall P → ⊥) × (served ≡ Refused)
+    × (out ≡ fault_text (fault_of fault))
+
+-- what the check of a text writes
+abbrev pub ChecksText : List ℕ → Served → Option (List ℕ) → Option (List ℕ) → Type 0
+ChecksText text served old new = WritesSome old new (λ out. TellsSize text served out ⊎ TellsFault text served out)
+
+abbrev pub TellsTooLong : Served → Option (List ℕ) → Option (List ℕ) → Type 0
+TellsTooLong served old new = (served ≡ TooLong) × WritesSome old new (λ out. out ≡ too_long_text)
+
+-- What the check of an input writes: the text ends at the first end line, or where the input does.
+abbrev pub ChecksInput : List ℕ → Option Parts → Served → Option (List ℕ) → Option (List ℕ) → Type 0
+ChecksInput input (Some parts) served old new = ChecksText parts.program served old new
+ChecksInput input None served old new = MatchBool (is_too_long input) (TellsTooLong served old new) (ChecksText input served old new)

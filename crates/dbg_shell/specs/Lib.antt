@@ -1,0 +1,9 @@
+pub mod Outcomes
+pub mod Writing
+pub mod Spans
+pub mod Lines
+pub mod Checking
+pub mod Standings
+pub mod Plays
+pub mod Sessions
+pub mod Serving

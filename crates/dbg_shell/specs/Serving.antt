@@ -1,0 +1,73 @@
+-- What serving an input does.
+use Rattle.std.specs.Prelude.{◌≡◌, ℕ, ◌≤◌, true, false, List, ◌++◌, length, slice_range, Option, Some, None, Result, if◌then◌else◌}
+use Rattle.std.specs.Io.KnownBytes.{Appends}
+use Rattle.dbg_base.specs.Trees.{Program}
+use Rattle.dbg_base.specs.Checks.{Reads}
+use Rattle.dbg_base.specs.ModelStates.{ModelState, opening_state}
+use Rattle.dbg_base.specs.Shell.{Parts, parts_of, read_lines, is_too_long, AnswersLine, AnswersLines, end_text, Text}
+use Rattle.proc_lang.specs.Small.{IsSmall}
+use Rattle.dbg_shell.specs.declared.outcome.Served.{Served}
+use Rattle.dbg_shell.specs.declared.outcome.Served.TheVariants.{Done, Refused, TooLong}
+use Rattle.dbg_shell.specs.declared.program_text.TextEnd.{TextEnd}
+use Rattle.dbg_shell.specs.declared.program_text.TextEnd.TheVariants.{Before}
+use Rattle.dbg_shell.specs.declared.program_text.TextEnd.TheVariants as ends
+use Rattle.dbg_shell.specs.Spans.{lines_from}
+use Rattle.dbg_shell.specs.Writing.{Writes}
+
+-- the text is a small program
+abbrev pub IsSmallText : List ℕ → Type 0
+IsSmallText text = (P : Program) × Reads text P × IsSmall P
+
+-- where there is a program text, it is a small program
+abbrev pub HasSmallText : Option Parts → Type 0
+HasSmallText None = Unit {0}
+HasSmallText (Some parts) = IsSmallText parts.program
+
+-- The input has no line that ends a program text, or a small program in front of it.
+abbrev pub IsServed : List ℕ → Type 0
+IsServed input = HasSmallText (parts_of (read_lines input))
+
+-- how a run over the input ends, where its program, if one is there, reads as one
+abbrev pub served_by : List ℕ → Option Parts → Served
+served_by input None = if is_too_long input then TooLong else Refused
+served_by input (Some parts) = if is_too_long input then TooLong else Done
+
+abbrev pub served_of : List ℕ → Served
+served_of input = served_by input (parts_of (read_lines input))
+
+-- a text of this form was written
+abbrev pub WritesSome : Option (List ℕ) → Option (List ℕ) → (List ℕ → Type 0) → Type 0
+WritesSome old new IsOut = (out : List ℕ) × IsOut out × Appends old new out
+
+-- the run ended as the input is, and what it wrote is the text of the input
+abbrev pub ServesInput : List ℕ → Served → Option (List ℕ) → Option (List ℕ) → Type 0
+ServesInput input served old new = (served ≡ served_of input) × WritesSome old new (Text input)
+
+-- a text in front of a program text
+abbrev pub with_text : List ℕ → Parts → Parts
+with_text text parts = record parts { program = text ++ parts.program }
+
+-- The program text from a place on is what stands in the bytes that were read up to the line that ends it, and the command lines are
+-- those from the new place on; or no line ends it.
+abbrev pub Splits : List ℕ → List ℕ → ℕ → ℕ → TextEnd → Type 0
+Splits input bytes at new (Before span) =
+    (parts_of (lines_from at input) ≡ Some (record { program = slice_range bytes at span.from; commands = lines_from new input }))
+    × (span.from ≤ length bytes)
+Splits input bytes at new ends.End = (parts_of (lines_from at input) ≡ None) × (is_too_long input ≡ false)
+Splits input bytes at new ends.TooLong = (parts_of (lines_from at input) ≡ None) × (is_too_long input ≡ true)
+
+-- the answer to the line was written, or where the writer failed a front of it
+pub record WritesAnswer {A E : Type 0} (P : Program) (line : List ℕ) (M : ModelState) (old : Option (List ℕ)) (result : Result A E)
+    (new : Option (List ℕ)) (M' : ModelState) : Type 0 where
+  pub text : List ℕ
+  pub answers : AnswersLine P line M text M'
+  pub written : Writes old new result text
+
+-- how a run over the command lines ends
+abbrev pub end_of : List ℕ → Served
+end_of input = if is_too_long input then TooLong else Done
+
+-- what is written for these lines and at the end of the input
+abbrev pub RepliesTo : Program → List (List ℕ) → List ℕ → List ℕ → Type 0
+RepliesTo P lines input out =
+    (replies : List ℕ) × (M : ModelState) × AnswersLines P lines (opening_state P) replies M × (out ≡ replies ++ end_text input)

@@ -1,0 +1,46 @@
+-- Where a line stands in the input, and what is known of the input there.
+use Rattle.std.specs.Prelude.{◌≡◌, ℕ, ◌-◌, ◌<◌, ◌≤◌, Bool, true, false, not, ◌==◌, List, [], ◌∷◌, ◌++◌, length, drop, slice_range, Option, ◌⊎◌}
+use Rattle.std.specs.List.{list_all}
+use Rattle.std.specs.Io.KnownBytes.{Keeps, prepend_known, IsAtEnd}
+use Rattle.dbg_base.specs.declared.limits.TheConstants.{INPUT_BYTES}
+use Rattle.dbg_base.specs.Shell.{lines_within, is_too_long}
+use Rattle.dbg_shell.specs.declared.framing.Next.{Next}
+use Rattle.dbg_shell.specs.declared.framing.Next.TheVariants.{Line, End, TooLong}
+
+-- behind a line the place is further on, and else it stays
+abbrev pub AdvancesAt : ℕ → ℕ → Next → Type 0
+AdvancesAt old new (Line span) = old < new
+AdvancesAt old new End = new ≡ old
+AdvancesAt old new TooLong = new ≡ old
+
+-- no line end
+abbrev pub is_inside : ℕ → Bool
+is_inside b = not (b == 10)
+
+abbrev pub is_unended : List ℕ → Bool
+is_unended = list_all is_inside
+
+-- the lines that are still to be looked at from this place on
+abbrev pub lines_from : ℕ → List ℕ → List (List ℕ)
+lines_from at input = lines_within (INPUT_BYTES - at) (drop at input)
+
+-- At this place of the input stands this line, and the next line at the new place, which is behind a line end unless no line is
+-- left; or no line is left, and the input ends there or is too long.
+abbrev pub Tells : List ℕ → List ℕ → ℕ → ℕ → Next → Type 0
+Tells input bytes at new (Line span) =
+    (lines_from at input ≡ slice_range bytes span.from span.to ∷ lines_from new input) × (span.from ≡ at) × (span.from ≤ span.to)
+    × (span.to ≤ length bytes) × ((slice_range input at new ≡ slice_range bytes span.from span.to ++ 10 ∷ []) ⊎ (lines_from new input ≡ []))
+Tells input bytes at new End = (lines_from at input ≡ []) × (is_too_long input ≡ false)
+Tells input bytes at new TooLong = (lines_from at input ≡ []) × (is_too_long input ≡ true)
+
+-- the same, whatever follows the bytes that were read, which is nothing where the input has ended
+abbrev pub TellsAny : List ℕ → Bool → ℕ → ℕ → Next → Type 0
+TellsAny bytes ended at new next = (rest : List ℕ) → (ended ≡ true → rest ≡ []) → Tells (bytes ++ rest) bytes at new next
+
+-- where the input has ended the reader has nothing left
+abbrev pub EndsWith : Bool → Option (List ℕ) → Type 0
+EndsWith ended remaining = ended ≡ true → IsAtEnd remaining
+
+-- the bytes that were read and those that the reader has left are together what they were
+abbrev pub KeepsInput : List ℕ → Option (List ℕ) → List ℕ → Option (List ℕ) → Type 0
+KeepsInput old before new after = Keeps (prepend_known old before) (prepend_known new after)

@@ -1,0 +1,56 @@
+//! A program text alone.
+
+ghost use Rattle.std.specs.Prelude.{◌≡◌, IfOk, IfSome};
+ghost use Rattle.dbg_base.specs.Shell.{parts_of, read_lines};
+ghost use Rattle.proc_lang.specs.Programs.{program_of};
+ghost use Rattle.dbg_shell.specs.Checking.{command_count, ChecksText, ChecksInput};
+
+use crate::framing::Input;
+use crate::notices::{tell_fault, tell_size, tell_too_long};
+use crate::outcome::{ServeFault, Served};
+use crate::program_text::{TextEnd, read_program_text};
+use dbg_base::Pid;
+use proc_lang::{ProgError, Program, parse_program};
+use std::alloc::Global;
+use std::io::{Read, Write};
+
+// The commands of all processes.
+fn command_count(program: &Program) -> u32
+    ensures { result ≡ command_count (program_of program.now) }
+{
+    let mut count = 0u32;
+    for p in 0..program.processes() {
+        count += program.commands(Pid(p));
+    }
+    count
+}
+
+fn check_text<W: Write>(alloc: Global, text: &[u8], writer: &mut W) -> Result<Served, ServeFault>
+    ensures { IfOk result (λ served. ChecksText text.now served (W.contents writer.old) (W.contents writer.new)) }
+{
+    match parse_program(alloc, text) {
+        Ok(program) => tell_size(program.processes(), command_count(&program), writer),
+        Err(ProgError::Bad(fault)) => tell_fault(&fault, writer),
+        Err(ProgError::Memory) => Err(ServeFault::Memory),
+    }
+}
+
+/// Reads a program text, which a line `%%` ends or the input's end, and writes how many processes and commands the program has, or
+/// what is wrong with it. Bytes behind the line `%%` are not looked at. Where the text does not end within 1,048,576 bytes, that is
+/// told. A read fault, and want of memory, write nothing.
+pub fn check<R: Read, W: Write>(
+    alloc: Global,
+    reader: &mut R,
+    writer: &mut W,
+) -> Result<Served, ServeFault>
+    // Where the reader tells its bytes, and nothing fails.
+    ensures { IfOk result (λ served. IfSome (R.remaining reader.old)
+        (λ input. ChecksInput input (parts_of (read_lines input)) served (W.contents writer.old) (W.contents writer.new))) }
+{
+    let mut input = Input::new(alloc).map_err(|_| ServeFault::Memory)?;
+    match read_program_text(&mut input, reader)? {
+        TextEnd::Before(span) => check_text(alloc, input.before(span), writer),
+        TextEnd::End => check_text(alloc, input.bytes(), writer),
+        TextEnd::TooLong => tell_too_long(writer),
+    }
+}

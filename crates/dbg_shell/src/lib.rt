@@ -1,0 +1,32 @@
+//! The shell: bytes of input become lines, lines become calls of a session, and what the session says becomes bytes of output.
+//!
+//! `serve` answers a program text and the command lines behind it, `check` looks at a program text alone, and `job` reads the words
+//! of the program's own command line. Its session is the plain one: it keeps each process's choices, and plays them anew at each call.
+#![tactic(auto)]
+
+mod checking;
+mod command_line;
+mod configuration;
+mod firing;
+mod framing;
+mod jobs;
+mod notices;
+mod outcome;
+mod parts;
+mod playing;
+mod program_text;
+mod reply;
+mod serving;
+mod session;
+mod usage;
+
+pub use checking::check;
+pub use command_line::{Line, parse_line};
+pub use jobs::Job;
+pub use outcome::{ServeFault, Served, status};
+pub use reply::print_reply;
+pub use serving::serve;
+pub use usage::job;
+
+#[cfg(test)]
+mod tests;

@@ -1,0 +1,55 @@
+//! The program text, which stands in front of the input.
+
+ghost use Rattle.std.specs.Prelude.{◌≡◌, true, IfOk, IfSome};
+ghost use Rattle.std.specs.Io.KnownBytes.{prepend_known};
+ghost use Rattle.dbg_base.specs.Shell.{is_end_line};
+ghost use Rattle.dbg_shell.specs.Spans.{EndsWith, KeepsInput};
+ghost use Rattle.dbg_shell.specs.Serving.{Splits};
+ghost use Rattle.dbg_shell.specs.declared.program_text.TextEnd.TheVariants.{End};
+
+use crate::command_line::without_return;
+use crate::framing::{Input, Next, Span};
+use crate::outcome::ServeFault;
+use std::io::Read;
+
+/// Where the program text ends.
+#[derive(Clone, Copy, Debug, PartialEq, Eq)]
+pub(crate) enum TextEnd {
+    /// In front of this line, the first that is `%%`.
+    Before(Span),
+    /// At the input's end.
+    End,
+    /// Not within the input that may be.
+    TooLong,
+}
+
+fn is_end_line(line: &[u8]) -> bool
+    ensures { result ≡ is_end_line line.now }
+{
+    without_return(line) == b"%%".as_slice()
+}
+
+/// Reads the program text.
+pub(crate) fn read_program_text<R: Read>(
+    input: &mut Input,
+    reader: &mut R,
+) -> Result<TextEnd, ServeFault>
+    requires { EndsWith input.old.ended (R.remaining reader.old) }
+    ensures keeps { KeepsInput input.old.bytes.items (R.remaining reader.old) input.new.bytes.items (R.remaining reader.new) }
+    ensures ends { EndsWith input.new.ended (R.remaining reader.new) }
+    ensures stopped { IfOk result (λ end. end ≡ End → input.new.ended ≡ true) }
+    ensures splits { IfOk result (λ end. IfSome (prepend_known input.old.bytes.items (R.remaining reader.old))
+        (λ whole. Splits whole input.new.bytes.items input.old.at input.new.at end)) }
+{
+    loop {
+        match input.next_line(reader)? {
+            Next::Line(span) => {
+                if is_end_line(input.line(span)) {
+                    return Ok(TextEnd::Before(span));
+                }
+            }
+            Next::End => return Ok(TextEnd::End),
+            Next::TooLong => return Ok(TextEnd::TooLong),
+        }
+    }
+}

@@ -1,0 +1,98 @@
+//! A program text and the command lines behind it.
+
+ghost use Rattle.std.specs.Prelude.{◌≡◌, IfOk, IfSome};
+ghost use Rattle.std.specs.Io.KnownBytes.{prepend_known};
+ghost use Rattle.proc_lang.specs.Programs.{program_of};
+ghost use Rattle.dbg_shell.specs.Spans.{EndsWith, lines_from};
+ghost use Rattle.dbg_shell.specs.Sessions.{state_of, IsSized};
+ghost use Rattle.dbg_shell.specs.Serving.{IsServed, ServesInput, WritesAnswer, WritesSome, RepliesTo, end_of};
+
+use crate::command_line::parse_line;
+use crate::framing::{Input, Next};
+use crate::notices::{flush, tell_fault, tell_no_end_line, tell_too_long};
+use crate::outcome::{ServeFault, Served};
+use crate::program_text::{TextEnd, read_program_text};
+use crate::reply::{print_refusal, print_reply};
+use crate::session::Session;
+use proc_lang::{ProgError, Program, parse_program};
+use std::alloc::Global;
+use std::io::{Read, Write};
+
+// Answers one command line: what is written is handed on before the next line is asked for.
+fn serve_line<W: Write>(
+    alloc: Global,
+    program: &Program,
+    session: &mut Session,
+    line: &[u8],
+    writer: &mut W,
+) -> Result<(), ServeFault>
+    requires { IsSized (program_of program.now) (state_of session.old) }
+    ensures sized { IsSized (program_of program.now) (state_of session.new) }
+    ensures answers { WritesAnswer (program_of program.now) line.now (state_of session.old) (W.contents writer.old) result
+        (W.contents writer.new) (state_of session.new) }
+{
+    match parse_line(program, line) {
+        Ok(Some(line)) => {
+            let said = session.answer(alloc, program, &line.call);
+            print_reply(program, &line.call, &said, writer)?;
+            flush(writer)
+        }
+        Ok(None) => Ok(()),
+        Err(refusal) => {
+            print_refusal(program, &refusal, writer)?;
+            flush(writer)
+        }
+    }
+}
+
+// Answers the command lines.
+fn serve_lines<R: Read, W: Write>(
+    alloc: Global,
+    program: &Program,
+    input: &mut Input,
+    reader: &mut R,
+    writer: &mut W,
+) -> Result<Served, ServeFault>
+    requires { EndsWith input.old.ended (R.remaining reader.old) }
+    ensures { IfOk result (λ served. IfSome (prepend_known input.old.bytes.items (R.remaining reader.old)) (λ whole.
+        (served ≡ end_of whole) × WritesSome (W.contents writer.old) (W.contents writer.new)
+        (RepliesTo (program_of program.now) (lines_from input.old.at whole) whole))) }
+{
+    let mut session = Session::new(alloc, program).map_err(|_| ServeFault::Memory)?;
+    loop {
+        match input.next_line(reader)? {
+            Next::Line(span) => serve_line(alloc, program, &mut session, input.line(span), writer)?,
+            Next::End => return Ok(Served::Done),
+            Next::TooLong => return tell_too_long(writer),
+        }
+    }
+}
+
+/// Reads a program text up to a line `%%`, and then answers each command line behind it, in order: a reply is written and flushed
+/// before the next line is read. A text without that line, and one that is no program, is refused, and nothing else is written.
+///
+/// At most 1,048,577 bytes are read. Where there are more than 1,048,576, the lines that end within those are treated as ever, and
+/// then it is told that the input is too long. A fault of the reader comes after the replies to all whole lines before it; of a fault
+/// of the writer a front of the replies is left. Neither is tried again. Want of memory before the first command line writes nothing;
+/// later the line is answered `no 21`, and changes nothing.
+pub fn serve<R: Read, W: Write>(
+    alloc: Global,
+    reader: &mut R,
+    writer: &mut W,
+) -> Result<Served, ServeFault>
+    // Where the reader tells its bytes, and these have no end line or a small program in front of it, and nothing fails: the run ends
+    // as the input is, and what is written is the text of the input.
+    ensures { IfOk result (λ served. IfSome (R.remaining reader.old)
+        (λ input. IsServed input → ServesInput input served (W.contents writer.old) (W.contents writer.new))) }
+{
+    let mut input = Input::new(alloc).map_err(|_| ServeFault::Memory)?;
+    match read_program_text(&mut input, reader)? {
+        TextEnd::Before(span) => match parse_program(alloc, input.before(span)) {
+            Ok(program) => serve_lines(alloc, &program, &mut input, reader, writer),
+            Err(ProgError::Bad(fault)) => tell_fault(&fault, writer),
+            Err(ProgError::Memory) => Err(ServeFault::Memory),
+        },
+        TextEnd::End => tell_no_end_line(writer),
+        TextEnd::TooLong => tell_too_long(writer),
+    }
+}

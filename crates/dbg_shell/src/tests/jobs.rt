@@ -1,0 +1,68 @@
+use crate::{Job, job};
+use clap::error::ErrorKind;
+use std::alloc::Global;
+use std::test::Fail;
+
+#[test]
+fn words_ask_for_jobs(rt: HostRuntime) -> Result<(), Fail> {
+    let run = job(rt.alloc(), ["rdbg", "run"].as_slice());
+    assert!(rt; matches!(run, Ok(Job::Run)));
+    let check = job(rt.alloc(), ["rdbg", "check"].as_slice());
+    assert!(rt; matches!(check, Ok(Job::Check)));
+    Ok(())
+}
+
+fn refusal(alloc: Global, words: &'static [&'static str]) -> Option<(ErrorKind, i32)> {
+    match job(alloc, words) {
+        Ok(_) => None,
+        Err(error) => Some((error.kind(), error.exit_code())),
+    }
+}
+
+#[test]
+fn other_words_are_refused(rt: HostRuntime) {
+    let alloc = rt.alloc();
+    let alone = refusal(alloc, ["rdbg"].as_slice());
+    assert_eq!(rt; alone, Some((ErrorKind::MissingSubcommand, 2)));
+    let unknown = refusal(alloc, ["rdbg", "jump"].as_slice());
+    assert_eq!(rt; unknown, Some((ErrorKind::InvalidSubcommand, 2)));
+    let more = refusal(alloc, ["rdbg", "run", "now"].as_slice());
+    assert_eq!(rt; more, Some((ErrorKind::UnknownArgument, 2)));
+    let help = refusal(alloc, ["rdbg", "--help"].as_slice());
+    assert_eq!(rt; help, Some((ErrorKind::DisplayHelp, 0)));
+}
+
+const HELP: &str =
+    "Steps through programs of processes that send each other messages, one command at a time
+
+Usage: rdbg <COMMAND>
+
+Commands:
+  run    Reads a program, a line `%%` and command lines, and answers each line
+  check  Reads a program and says how many processes and commands it has, or what is wrong
+  help   Print this message or the help of the given subcommand(s)
+
+Options:
+  -h, --help  Print help
+
+The text comes from standard input: a program, a line `%%`, and for `run` command lines behind it.
+
+Example of a text for `run`:
+  process a { var x = 0; when (x < 3) : x := (x + 1); }
+  %%
+  1 next a
+  1 vars a
+";
+
+#[test]
+fn help_tells_the_jobs(rt: HostRuntime) -> Result<(), Fail> {
+    let alloc = rt.alloc();
+    match job(alloc, ["rdbg", "--help"].as_slice()) {
+        Ok(_) => panic!(rt; "no help"),
+        Err(error) => {
+            let text = error.to_string(alloc)?;
+            assert_eq!(rt; text.as_str(), HELP);
+        }
+    }
+    Ok(())
+}

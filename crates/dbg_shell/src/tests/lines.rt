@@ -1,0 +1,107 @@
+use super::two;
+use crate::{Line, parse_line};
+use dbg_base::{Call, Plan, Query, Refusal};
+use std::alloc::{AllocError, Global};
+use std::test::Fail;
+
+// What a line gives, as plain numbers: the seat, whether it is `next`, and the process.
+fn told(parsed: Result<Option<Line>, Refusal>) -> Result<Option<(u32, bool, u32)>, Refusal> {
+    match parsed? {
+        None => Ok(None),
+        Some(line) => match line.call {
+            Call::Give(Plan::Next(pid)) => Ok(Some((line.seat, true, pid.0))),
+            Call::Ask(Query::Vars(pid)) => Ok(Some((line.seat, false, pid.0))),
+            _ => Ok(Some((0, false, 0))),
+        },
+    }
+}
+
+const LINES: [(&str, Result<Option<(u32, bool, u32)>, Refusal>); 30] = [
+    ("1 next a", Ok(Some((1, true, 0)))),
+    ("1 next b", Ok(Some((1, true, 1)))),
+    ("16 vars b", Ok(Some((16, false, 1)))),
+    ("01 next a", Ok(Some((1, true, 0)))),
+    ("000000001 next a", Ok(Some((1, true, 0)))),
+    (" \t1\t next  a \t", Ok(Some((1, true, 0)))),
+    ("1 next a\r", Ok(Some((1, true, 0)))),
+    ("", Ok(None)),
+    ("\r", Ok(None)),
+    (" \t ", Ok(None)),
+    (" \r", Ok(None)),
+    ("\r\r", Err(Refusal::BadLine)),
+    ("1 next a\r\r", Err(Refusal::BadLine)),
+    ("1 next a \r\r", Err(Refusal::BadLine)),
+    ("0 next a", Err(Refusal::BadLine)),
+    ("17 next a", Err(Refusal::BadLine)),
+    ("01x next a", Err(Refusal::BadLine)),
+    ("-1 next a", Err(Refusal::BadLine)),
+    ("0000000001 next a", Err(Refusal::BadLine)),
+    ("next a", Err(Refusal::BadLine)),
+    ("1", Err(Refusal::BadLine)),
+    ("1 next", Err(Refusal::BadLine)),
+    ("1 next a b", Err(Refusal::BadLine)),
+    ("1 next A", Err(Refusal::BadLine)),
+    ("1 next 1a", Err(Refusal::BadLine)),
+    ("1 Next a", Err(Refusal::BadLine)),
+    ("1 jump a", Err(Refusal::BadLine)),
+    ("1 step a 0", Err(Refusal::BadLine)),
+    ("17 next d", Err(Refusal::BadLine)),
+    ("1 next d", Err(Refusal::UnknownProcess)),
+];
+
+#[test]
+fn lines_become_calls(rt: HostRuntime) {
+    let program = two(&rt, rt.alloc());
+    for (line, want) in &LINES {
+        let parsed = told(parse_line(&program, line.as_bytes()));
+        assert_eq!(rt; parsed, *want, "at {line:?}");
+    }
+}
+
+#[test]
+fn names_may_be_reserved_words_and_have_32_bytes(rt: HostRuntime) {
+    let program = two(&rt, rt.alloc());
+    let unknown = ["1 next process", "1 vars abcdefghijklmnopqrstuvwxyz_01234"];
+    for line in &unknown {
+        let parsed = told(parse_line(&program, line.as_bytes()));
+        assert_eq!(rt; parsed, Err(Refusal::UnknownProcess), "at {line:?}");
+    }
+    let long = told(parse_line(&program, b"1 vars abcdefghijklmnopqrstuvwxyz_012345"));
+    assert_eq!(rt; long, Err(Refusal::BadLine));
+}
+
+// A line of blanks with this text behind them.
+fn padded(alloc: Global, blanks: usize, text: &str) -> Result<Vec<u8>, AllocError> {
+    let mut line = vec![in alloc; b' '; blanks]?;
+    line.extend_from_slice(text.as_bytes())?;
+    Ok(line)
+}
+
+#[test]
+fn a_line_has_at_most_1024_bytes(rt: HostRuntime) -> Result<(), Fail> {
+    let alloc = rt.alloc();
+    let program = two(&rt, alloc);
+    let most = padded(alloc, 1_016, "1 next a")?;
+    assert_eq!(rt;
+        told(parse_line(&program, most.as_slice())),
+        Ok(Some((1, true, 0)))
+    );
+    let more = padded(alloc, 1_017, "1 next a")?;
+    assert_eq!(rt;
+        told(parse_line(&program, more.as_slice())),
+        Err(Refusal::BadLine)
+    );
+    let carriage = padded(alloc, 1_016, "1 next a\r")?;
+    assert_eq!(rt;
+        told(parse_line(&program, carriage.as_slice())),
+        Err(Refusal::BadLine)
+    );
+    let blank = padded(alloc, 1_024, "")?;
+    assert_eq!(rt; told(parse_line(&program, blank.as_slice())), Ok(None));
+    let long_blank = padded(alloc, 1_025, "")?;
+    assert_eq!(rt;
+        told(parse_line(&program, long_blank.as_slice())),
+        Err(Refusal::BadLine)
+    );
+    Ok(())
+}

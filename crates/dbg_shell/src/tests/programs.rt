@@ -1,0 +1,110 @@
+use super::{TWO, joined};
+use crate::{check, status};
+use std::alloc::{AllocError, Global};
+use std::test::Fail;
+
+// What `check` writes for a text, and the status.
+pub(super) fn checked(alloc: Global, text: &[u8]) -> (Vec<u8>, u8) {
+    let mut reader = text;
+    let mut writer = Vec::new(alloc);
+    let outcome = check(alloc, &mut reader, &mut writer);
+    let code = status(&outcome);
+    (writer, code)
+}
+
+pub(super) const REFUSED: [(&str, &str); 8] = [
+    ("process A {}", "program refused 1 at 8\n"),
+    (
+        "process a { var x = 9223372036854775808; }",
+        "program refused 2 at 20\n",
+    ),
+    ("process a { when true : }", "program refused 3 at 24\n"),
+    (
+        "process a { when x : x := 1; }",
+        "program refused 5 at 17\n",
+    ),
+    (
+        "process a { var x = 0; when true : send a x; }",
+        "program refused 8 at 40\n",
+    ),
+    ("process a {", "program refused 3 at 12\n"),
+    ("process a { } process a { }", "program refused 4 at 22\n"),
+    (
+        "process a { var x = 0; when x : x := 1; }",
+        "program refused 6 at 28\n",
+    ),
+];
+
+#[test]
+fn programs_are_refused(rt: HostRuntime) -> Result<(), Fail> {
+    let alloc = rt.alloc();
+    for (text, want) in &REFUSED {
+        let input = joined(alloc, text, "\n%%\n")?;
+        let (told, code) = checked(alloc, input.as_slice());
+        assert_eq!(rt; told.as_slice(), want.as_bytes(), "at {text:?}");
+        assert_eq!(rt; code, 3);
+    }
+    Ok(())
+}
+
+#[test]
+fn a_program_without_a_process_is_refused(rt: HostRuntime) {
+    let (told, code) = checked(rt.alloc(), b"%%\n");
+    assert_eq!(rt; told.as_slice(), b"program refused 3 at 0\n".as_slice());
+    assert_eq!(rt; code, 3);
+}
+
+const ENDS: [&str; 6] = ["", "%%\n", "%%", "%%\r\n", "%%\r", "%%\n%% \nprocess\n"];
+
+#[test]
+fn a_text_ends_with_its_line_or_the_input(rt: HostRuntime) -> Result<(), Fail> {
+    let alloc = rt.alloc();
+    for end in &ENDS {
+        let input = joined(alloc, TWO, end)?;
+        let (told, code) = checked(alloc, input.as_slice());
+        assert_eq!(rt;
+            told.as_slice(),
+            b"ok 2 processes 3 commands\n".as_slice(),
+            "at {end:?}"
+        );
+        assert_eq!(rt; code, 0);
+    }
+    Ok(())
+}
+
+#[test]
+fn counts_are_plural(rt: HostRuntime) {
+    let (told, code) = checked(rt.alloc(), b"process a { }\n");
+    assert_eq!(rt; told.as_slice(), b"ok 1 processes 0 commands\n".as_slice());
+    assert_eq!(rt; code, 0);
+}
+
+// A program with blank lines behind it, so many bytes in all, and an end.
+fn long(alloc: Global, bytes: usize, end: &str) -> Result<Vec<u8>, AllocError> {
+    let mut all = Vec::from_slice(alloc, b"process a { }")?;
+    all.resize(bytes, b'\n')?;
+    all.extend_from_slice(end.as_bytes())?;
+    Ok(all)
+}
+
+#[test]
+fn a_text_ends_within_the_input_that_may_be(rt: HostRuntime) -> Result<(), Fail> {
+    let alloc = rt.alloc();
+    let most = long(alloc, 1_048_573, "%%\nrest")?;
+    let (told, code) = checked(alloc, most.as_slice());
+    assert_eq!(rt; told.as_slice(), b"ok 1 processes 0 commands\n".as_slice());
+    assert_eq!(rt; code, 0);
+    let whole = long(alloc, 1_048_576, "")?;
+    let (told, code) = checked(alloc, whole.as_slice());
+    assert_eq!(rt; told.as_slice(), b"ok 1 processes 0 commands\n".as_slice());
+    assert_eq!(rt; code, 0);
+    let late = long(alloc, 1_048_574, "%%\n")?;
+    let (told, code) = checked(alloc, late.as_slice());
+    assert_eq!(rt; told.as_slice(), b"input too long\n".as_slice());
+    assert_eq!(rt; code, 1);
+    let more = long(alloc, 1_048_577, "")?;
+    let (told, code) = checked(alloc, more.as_slice());
+    assert_eq!(rt; told.as_slice(), b"input too long\n".as_slice());
+    assert_eq!(rt; code, 1);
+    Ok(())
+}

@@ -1,0 +1,9 @@
+use Rattle.std.proofs.Common.{◌≡◌, drop}
+use Rattle.dbg_base.specs.Firing.{assigned, effect_with}
+use Rattle.local_eval.specs.Changes.{assignment_trees}
+use Rattle.local_eval.proofs.change.assign.Given as goal
+
+abbrev pub invariant-loop-assignment : goal.invariant-loop-assignment
+invariant-loop-assignment l =
+    effect_with l.fn.sets.items l.message (assigned (assignment_trees l.assignments) l.env)
+    ≡ effect_with l.sets.items l.message (assigned (assignment_trees (drop l.assignment-index l.assignments)) l.env)

@@ -1,0 +1,22 @@
+-- What a command did, as the model says it.
+use Rattle.std.specs.Prelude.{◌≡◌, ℕ, List, map, Option, Some, None, Result, Ok, Err}
+use Rattle.dbg_base.specs.Trees.{Tree, tree_of}
+use Rattle.dbg_base.specs.Firing.{Effect}
+use Rattle.proc_lang.specs.declared.program.Assignment.{Assignment}
+use Rattle.local_eval.specs.declared.change.Change.{Change}
+use Rattle.local_eval.specs.declared.fault.EvalError.{EvalError}
+use Rattle.local_eval.specs.declared.fault.EvalError.TheVariants.{Fault, Memory}
+
+-- assignments of the code
+abbrev pub assignment_trees : List Assignment → List (ℕ × Tree)
+assignment_trees assignments = map (λ a. (a.variable, tree_of a.value)) assignments
+
+-- a change of the code
+abbrev pub effect_of_change : Change → Effect
+effect_of_change change = record { sets = change.sets; message = change.message }
+
+-- What a function returned is this effect, or a fault exactly where there is none, unless memory ran out.
+abbrev pub Gives : Result Change EvalError → Option Effect → Type 0
+Gives (Ok change) known = known ≡ Some (effect_of_change change)
+Gives (Err Fault) known = known ≡ None
+Gives (Err Memory) known = Unit {0}

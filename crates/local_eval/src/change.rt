@@ -1,0 +1,80 @@
+//! What a command does to its process.
+
+ghost use Rattle.std.specs.Prelude.{◌≡◌, IfOk, slice_set};
+ghost use Rattle.dbg_base.specs.Firing.{assigned, effect_with, effect_of};
+ghost use Rattle.proc_lang.specs.Programs.{command_tree};
+ghost use Rattle.local_eval.specs.Changes.{Gives, assignment_trees};
+
+use crate::env::Env;
+use crate::evaluation::eval;
+use crate::fault::EvalError;
+use crate::value::number;
+use dbg_base::Sequence;
+use proc_lang::{Action, Assignment, Guarded};
+use std::alloc::{AllocError, Global};
+
+/// What a command does where it fires.
+#[derive(Debug, Drop)]
+pub struct Change {
+    /// The variables that are set, each with its new value, in the order in which they are set.
+    pub sets: Sequence<(u32, i64)>,
+    /// The value that is sent, if any.
+    pub message: Option<i64>,
+}
+
+// The values with one variable set, where it is there.
+fn with_value(env: &Env, index: u32, value: i64) -> Result<Env, AllocError>
+    ensures { IfOk result (λ taken. taken ≡ slice_set env.now index value) }
+{
+    let mut taken = env.copy()?;
+    if (index as usize) < taken.len() {
+        taken.set(index, value);
+    }
+    Ok(taken)
+}
+
+// The assignments, each evaluated at these values, behind the variables that are set already.
+fn assign(
+    mut sets: Vec<(u32, i64)>,
+    message: Option<i64>,
+    assignments: &[Assignment],
+    env: &Env,
+) -> Result<Change, EvalError>
+    ensures { Gives result (effect_with sets.items message (assigned (assignment_trees assignments.now) env.now)) }
+{
+    for assignment in assignments {
+        let value = number(eval(&assignment.value, env)?)?;
+        sets.push((assignment.variable, value))?;
+    }
+    Ok(Change {
+        sets: Sequence::new(sets),
+        message,
+    })
+}
+
+/// What the command does at these values, where it takes this message if it receives (with none it takes none, and any other
+/// command does without it): the variables that it sets and the value that it sends. A value to send is evaluated at the old values, an assignment at the old values with the message already
+/// taken, and the guard not at all. It is refused as a fault exactly where an evaluation faults, and as memory where that runs
+/// out, which may come in place of either.
+pub fn effect(
+    alloc: Global,
+    command: &Guarded,
+    env: &Env,
+    message: Option<i64>,
+) -> Result<Change, EvalError>
+    ensures { Gives result (effect_of (command_tree command.now) env.now message) }
+{
+    let mut sets = Vec::new(alloc);
+    match (&command.action, message) {
+        (Action::Send { value, .. }, _) => {
+            let sent = number(eval(value, env)?)?;
+            assign(sets, Some(sent), command.assignments.items(), env)
+        }
+        (Action::Receive { variable, .. }, Some(message)) => {
+            let taken = with_value(env, *variable, message)?;
+            sets.push((*variable, message))?;
+            assign(sets, None, command.assignments.items(), &taken)
+        }
+        _ => assign(sets, None, command.assignments.items(), env),
+    }
+}

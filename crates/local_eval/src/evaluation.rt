@@ -1,0 +1,98 @@
+//! Expressions, evaluated.
+
+ghost use Rattle.std.specs.Prelude.{◌≡◌, pos, ◌-ℤ◌, slice_get};
+ghost use Rattle.std.specs.Option.{option_map};
+ghost use Rattle.dbg_base.specs.Trees.{tree_of};
+ghost use Rattle.dbg_base.specs.Evaluation.{Num, ranged, on_numbers, evaluate};
+ghost use Rattle.dbg_base.specs.Firing.{truth_of};
+ghost use Rattle.local_eval.specs.Outcomes.{value_of, outcome};
+
+use crate::env::Env;
+use crate::fault::EvalFault;
+use crate::value::{Value, number, truth};
+use dbg_base::{Expr, Operator};
+
+// The number, or a fault where it left its range.
+fn in_range(number: Option<i64>) -> Result<Value, EvalFault>
+    ensures { outcome value_of result ≡ option_map Num number }
+{
+    match number {
+        Some(number) => Ok(Value::Num(number)),
+        None => Err(EvalFault),
+    }
+}
+
+// The value of a variable, or a fault where it is not there.
+fn variable(env: &Env, index: u32) -> Result<Value, EvalFault>
+    ensures { outcome value_of result ≡ option_map Num (slice_get env.now index) }
+{
+    in_range(env.values().get(index as usize).copied())
+}
+
+// The negative of a number, or a fault where it leaves its range.
+fn negate(number: i64) -> Result<Value, EvalFault>
+    ensures { outcome value_of result ≡ ranged (pos 0 -ℤ number) }
+{
+    in_range(number.checked_neg())
+}
+
+// An operator on two numbers.
+fn calculate(operator: Operator, x: i64, y: i64) -> Result<Value, EvalFault>
+    ensures { outcome value_of result ≡ on_numbers operator x y }
+{
+    match operator {
+        Operator::Add => in_range(x.checked_add(y)),
+        Operator::Subtract => in_range(x.checked_sub(y)),
+        Operator::Multiply => in_range(x.checked_mul(y)),
+        Operator::Divide => in_range(x.checked_div(y)),
+        Operator::Remainder => in_range(x.checked_rem(y)),
+        Operator::Equal => Ok(Value::Truth(x == y)),
+        Operator::NotEqual => Ok(Value::Truth(x != y)),
+        Operator::Less => Ok(Value::Truth(x < y)),
+        Operator::LessOrEqual => Ok(Value::Truth(x <= y)),
+        Operator::Greater => Ok(Value::Truth(x > y)),
+        Operator::GreaterOrEqual => Ok(Value::Truth(x >= y)),
+        Operator::And | Operator::Or => Err(EvalFault),
+    }
+}
+
+/// The value of the expression at these values, or a fault: a number that leaves its range, a divisor 0, an operand of the
+/// wrong type or a variable that is not there. Of `and` and `or` the right operand is evaluated only where the left one does
+/// not decide. It takes no memory.
+pub fn eval(expr: &Expr, env: &Env) -> Result<Value, EvalFault>
+    ensures { outcome value_of result ≡ evaluate (tree_of expr.now) env.now }
+{
+    match expr {
+        Expr::Number(number) => Ok(Value::Num(*number)),
+        Expr::Variable(index) => variable(env, *index),
+        Expr::Truth(truth) => Ok(Value::Truth(*truth)),
+        Expr::Not(operand) => Ok(Value::Truth(!truth(eval(operand, env)?)?)),
+        Expr::Negate(operand) => negate(number(eval(operand, env)?)?),
+        Expr::Binary(Operator::And, left, right) => {
+            if truth(eval(left, env)?)? {
+                eval(right, env)
+            } else {
+                Ok(Value::Truth(false))
+            }
+        }
+        Expr::Binary(Operator::Or, left, right) => {
+            if truth(eval(left, env)?)? {
+                Ok(Value::Truth(true))
+            } else {
+                eval(right, env)
+            }
+        }
+        Expr::Binary(operator, left, right) => {
+            let x = number(eval(left, env)?)?;
+            let y = number(eval(right, env)?)?;
+            calculate(*operator, x, y)
+        }
+    }
+}
+
+/// Whether the guard is true at these values, or a fault: its evaluation faults, or it is no truth value. It takes no memory.
+pub fn guard(expr: &Expr, env: &Env) -> Result<bool, EvalFault>
+    ensures { outcome (λ b. b) result ≡ truth_of (evaluate (tree_of expr.now) env.now) }
+{
+    truth(eval(expr, env)?)
+}

@@ -1,0 +1,190 @@
+use super::*;
+use dbg_base::{Expr, Operator, Pid, Sequence};
+use proc_lang::{Action, Assignment, Guarded};
+use std::alloc::{AllocError, Global};
+use std::test::Fail;
+
+fn binary(alloc: Global, operator: Operator, left: Expr, right: Expr) -> Result<Expr, AllocError> {
+    Ok(Expr::Binary(operator, Box::new(alloc, left)?, Box::new(alloc, right)?))
+}
+
+// `((x = n) CONNECTIVE ((x / 0) = 1))` of the first variable x.
+fn beside_a_fault(alloc: Global, connective: Operator, n: i64) -> Result<Expr, AllocError> {
+    let left = binary(alloc, Operator::Equal, Expr::Variable(0), Expr::Number(n))?;
+    let quotient = binary(alloc, Operator::Divide, Expr::Variable(0), Expr::Number(0))?;
+    let right = binary(alloc, Operator::Equal, quotient, Expr::Number(1))?;
+    binary(alloc, connective, left, right)
+}
+
+#[test]
+fn operators_on_numbers(rt: HostRuntime) -> Result<(), Fail> {
+    let env = Env::new(Vec::new(rt.alloc()));
+    let table = [
+        (Operator::Add, 2, 3, Ok(Value::Num(5))),
+        (Operator::Add, i64::MAX, 1, Err(EvalFault)),
+        (Operator::Add, i64::MIN, -1, Err(EvalFault)),
+        (Operator::Subtract, 2, 3, Ok(Value::Num(-1))),
+        (Operator::Subtract, i64::MIN, 1, Err(EvalFault)),
+        (Operator::Multiply, -4, 3, Ok(Value::Num(-12))),
+        (Operator::Multiply, 4294967296, 2147483648, Err(EvalFault)),
+        (Operator::Divide, -7, 2, Ok(Value::Num(-3))),
+        (Operator::Divide, i64::MIN, -1, Err(EvalFault)),
+        (Operator::Divide, i64::MIN, 0, Err(EvalFault)),
+        (Operator::Remainder, -7, 2, Ok(Value::Num(-1))),
+        (Operator::Remainder, i64::MIN, -1, Err(EvalFault)),
+        (Operator::Remainder, i64::MIN, 0, Err(EvalFault)),
+        (Operator::Equal, 3, 3, Ok(Value::Truth(true))),
+        (Operator::NotEqual, 3, 3, Ok(Value::Truth(false))),
+        (Operator::Less, 3, 3, Ok(Value::Truth(false))),
+        (Operator::LessOrEqual, 3, 3, Ok(Value::Truth(true))),
+        (Operator::Greater, -3, -4, Ok(Value::Truth(true))),
+        (Operator::GreaterOrEqual, -4, -3, Ok(Value::Truth(false))),
+        (Operator::And, 1, 1, Err(EvalFault)),
+        (Operator::Or, 1, 1, Err(EvalFault)),
+    ];
+    for (operator, x, y, want) in &table {
+        let expr = binary(rt.alloc(), *operator, Expr::Number(*x), Expr::Number(*y))?;
+        assert_eq!(rt; eval(&expr, &env), *want, "{operator:?} of {x} and {y}");
+    }
+    Ok(())
+}
+
+#[test]
+fn other_expressions(rt: HostRuntime) -> Result<(), Fail> {
+    let env = Env::new([7, i64::MIN].to_vec(rt.alloc())?);
+    let table = [
+        (Expr::Variable(0), Ok(Value::Num(7))),
+        (Expr::Variable(2), Err(EvalFault)),
+        (
+            Expr::Not(Box::new(rt.alloc(), Expr::Truth(false))?),
+            Ok(Value::Truth(true)),
+        ),
+        (
+            Expr::Not(Box::new(rt.alloc(), Expr::Number(0))?),
+            Err(EvalFault),
+        ),
+        (
+            Expr::Negate(Box::new(rt.alloc(), Expr::Variable(0))?),
+            Ok(Value::Num(-7)),
+        ),
+        (
+            Expr::Negate(Box::new(rt.alloc(), Expr::Variable(1))?),
+            Err(EvalFault),
+        ),
+        (
+            Expr::Negate(Box::new(rt.alloc(), Expr::Truth(true))?),
+            Err(EvalFault),
+        ),
+        (
+            binary(
+                rt.alloc(),
+                Operator::Equal,
+                Expr::Truth(true),
+                Expr::Truth(true),
+            )?,
+            Err(EvalFault),
+        ),
+    ];
+    for (expr, want) in &table {
+        assert_eq!(rt; eval(expr, &env), *want, "{expr:?}");
+    }
+    Ok(())
+}
+
+#[test]
+fn right_operands_that_do_not_count(rt: HostRuntime) -> Result<(), Fail> {
+    let env = Env::new([0].to_vec(rt.alloc())?);
+    let table = [
+        (Operator::Or, 0, Ok(true)),
+        (Operator::Or, 1, Err(EvalFault)),
+        (Operator::And, 1, Ok(false)),
+        (Operator::And, 0, Err(EvalFault)),
+    ];
+    for (connective, n, want) in &table {
+        let expr = beside_a_fault(rt.alloc(), *connective, *n)?;
+        assert_eq!(rt; guard(&expr, &env), *want, "{connective:?} at {n}");
+    }
+    assert_eq!(rt; guard(&Expr::Number(1), &env), Err(EvalFault));
+    Ok(())
+}
+
+#[test]
+fn values_of_variables(rt: HostRuntime) -> Result<(), Fail> {
+    let mut env = Env::new([4, 5].to_vec(rt.alloc())?);
+    let before = env.copy()?;
+    assert_eq!(rt; env.len(), 2);
+    env.set(1, -6);
+    assert_eq!(rt; (env.value(0), env.value(1)), (4, -6));
+    assert_eq!(rt; before.values(), [4, 5].as_slice());
+    assert!(rt; !env.is_empty());
+    Ok(())
+}
+
+#[test]
+fn a_swap_with_a_send(rt: HostRuntime) -> Result<(), Fail> {
+    let env = Env::new([3, 8].to_vec(rt.alloc())?);
+    let mut assignments = Vec::new(rt.alloc());
+    assignments.push(Assignment {
+        variable: 0,
+        value: Expr::Variable(1),
+    })?;
+    assignments.push(Assignment {
+        variable: 1,
+        value: Expr::Variable(0),
+    })?;
+    let command = Guarded {
+        guard: Expr::Truth(true),
+        action: Action::Send {
+            target: Pid(1),
+            value: binary(
+                rt.alloc(),
+                Operator::Add,
+                Expr::Variable(0),
+                Expr::Variable(1),
+            )?,
+        },
+        assignments: Sequence::new(assignments),
+    };
+    let change = effect(rt.alloc(), &command, &env, None)
+        .ok()
+        .ok_or("no fault and ample memory")?;
+    assert_eq!(rt; change.sets.items(), [(0, 8), (1, 3)].as_slice());
+    assert_eq!(rt; change.message, Some(11));
+    Ok(())
+}
+
+#[test]
+fn a_receive_before_an_assignment(rt: HostRuntime) -> Result<(), Fail> {
+    let env = Env::new([1, 20].to_vec(rt.alloc())?);
+    let mut assignments = Vec::new(rt.alloc());
+    let sum = binary(
+        rt.alloc(),
+        Operator::Add,
+        Expr::Variable(0),
+        Expr::Variable(1),
+    )?;
+    assignments.push(Assignment {
+        variable: 1,
+        value: sum,
+    })?;
+    let command = Guarded {
+        guard: Expr::Truth(true),
+        action: Action::Receive {
+            source: Pid(0),
+            variable: 0,
+        },
+        assignments: Sequence::new(assignments),
+    };
+    let change = effect(rt.alloc(), &command, &env, Some(5))
+        .ok()
+        .ok_or("no fault and ample memory")?;
+    assert_eq!(rt; change.sets.items(), [(0, 5), (1, 25)].as_slice());
+    assert_eq!(rt; change.message, None);
+    assert!(rt;
+        matches!(
+            effect(rt.alloc(), &command, &env, Some(i64::MAX)),
+            Err(EvalError::Fault)
+        )
+    );
+    Ok(())
+}

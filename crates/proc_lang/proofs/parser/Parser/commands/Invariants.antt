@@ -1,0 +1,16 @@
+use Rattle.std.proofs.Common.{◌≡◌, ◌≤◌, true, length, map, codes}
+use Rattle.proc_lang.specs.Scanning.{placed_of}
+use Rattle.proc_lang.specs.Writing.{command_of}
+use Rattle.proc_lang.specs.Parsing.{read_many, begins_word, read_command}
+use Rattle.proc_lang.proofs.Repeats.{with_front}
+use Rattle.proc_lang.proofs.parser.Parser.commands.Given as goal
+
+abbrev pub invariant-loop-self : goal.invariant-loop-self
+invariant-loop-self l = record {
+  shorter : length l.self.rest.now ≤ length l.fn.self.rest.now;
+  reading : with_front (map command_of l.commands.items) (read_many (begins_word (codes "when")) (read_command true) (map placed_of l.self.rest.now))
+      ≡ read_many (begins_word (codes "when")) (read_command true) (map placed_of l.fn.self.rest.now);
+}
+
+abbrev pub decreases-loop-self : goal.decreases-loop-self
+decreases-loop-self l = length l.self.rest.now

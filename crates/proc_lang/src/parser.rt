@@ -1,0 +1,232 @@
+//! From tokens to a written program, one token at a time.
+
+ghost use Rattle.std.specs.Prelude.{◌≡◌, ◌<◌, Bool, true, map, length, OnOk};
+ghost use Rattle.std.specs.List.{list_any};
+ghost use Rattle.std.specs.Str.{bytes_eq};
+ghost use Rattle.dbg_base.specs.Grammar.{reserved_words};
+ghost use Rattle.proc_lang.specs.Scanning.{sign_of, token_of, placed_of};
+ghost use Rattle.proc_lang.specs.Writing.{named_of};
+ghost use Rattle.proc_lang.specs.Parsing.{begins_word, begins_sign, operator_in, read_word, read_sign, read_name, read_number, read_operator};
+ghost use Rattle.proc_lang.specs.Reading.{Gives};
+ghost use Rattle.proc_lang.specs.declared.parser.Stop.TheVariants.{Memory};
+
+mod grammar;
+
+use crate::syntax::Named;
+use crate::token::{Magnitude, Placed, Sign, Token};
+use dbg_base::{Name, Operator};
+pub(crate) use grammar::program;
+use std::alloc::{AllocError, AllocFailed, Global};
+
+/// Why tokens were not read.
+#[derive(Clone, Copy, Debug, PartialEq, Eq)]
+pub(crate) enum Stop {
+    Memory,
+    /// A token cannot stand where it stands: so many tokens are left from it on, none where the text ends too early.
+    Unexpected { left: usize },
+}
+
+impl From<AllocError> for Stop {
+    ghost from_gives = { λ _ stop. stop ≡ Memory };
+
+    fn from(_error: AllocError) -> Stop {
+        Stop::Memory
+    }
+}
+
+impl<T: Drop> From<AllocFailed<T>> for Stop {
+    ghost from_gives = { λ _ stop. stop ≡ Memory };
+
+    fn from(_error: AllocFailed<T>) -> Stop {
+        Stop::Memory
+    }
+}
+
+// Is the word one that is no name?
+fn is_reserved(name: &Name) -> bool
+    ensures { result ≡ list_any (bytes_eq name.now) reserved_words }
+{
+    let word = name.bytes();
+    word == b"process".as_slice()
+        || word == b"var".as_slice()
+        || word == b"when".as_slice()
+        || word == b"send".as_slice()
+        || word == b"recv".as_slice()
+        || word == b"true".as_slice()
+        || word == b"false".as_slice()
+        || word == b"and".as_slice()
+        || word == b"or".as_slice()
+        || word == b"not".as_slice()
+        || word == b"sent".as_slice()
+        || word == b"got".as_slice()
+}
+
+// The operator that a token writes, if it writes one.
+fn operator_of(token: &Token) -> Option<Operator>
+    ensures { result ≡ operator_in true (token_of token.now) }
+{
+    match token {
+        Token::Symbol(Sign::Plus) => Some(Operator::Add),
+        Token::Symbol(Sign::Minus) => Some(Operator::Subtract),
+        Token::Symbol(Sign::LessThan) => Some(Operator::Less),
+        Token::Symbol(Sign::GreaterThan) => Some(Operator::Greater),
+        _ => None,
+    }
+}
+
+/// Reads a program from its tokens. Each method reads what it is named for and leaves the tokens behind it.
+#[derive(Drop)]
+struct Parser<'a> {
+    alloc: Global,
+    rest: &'a [Placed],
+}
+
+impl Parser<'_> {
+    // The next token cannot stand here.
+    fn unexpected(&self) -> Stop
+        ensures { result ≡ Stop.Unexpected (length self.now.rest.now) }
+    {
+        Stop::Unexpected {
+            left: self.rest.len(),
+        }
+    }
+
+    // Is this word the next token?
+    fn is_at_word(&self, word: &[u8]) -> bool
+        ensures { result ≡ begins_word word.now (map placed_of self.now.rest.now) }
+    {
+        match self.rest {
+            [
+                Placed {
+                    token: Token::Word(name),
+                    ..
+                },
+                ..
+            ] => name.bytes() == word,
+            _ => false,
+        }
+    }
+
+    // Is this sign the next token?
+    fn is_at_sign(&self, sign: Sign) -> bool
+        ensures { result ≡ begins_sign (sign_of sign) (map placed_of self.now.rest.now) }
+    {
+        match self.rest {
+            [
+                Placed {
+                    token: Token::Symbol(found),
+                    ..
+                },
+                ..
+            ] => *found == sign,
+            _ => false,
+        }
+    }
+
+    // This word, and the offset of its first byte.
+    #[tactic(auto, unfolding(crate::specs::Parsing::read_word))]
+    fn word(&mut self, word: &[u8]) -> Result<usize, Stop>
+        ensures shorter { OnOk result (length self.new.rest.now < length self.old.rest.now) }
+        ensures read { Gives (λ at. at) result (map placed_of self.new.rest.now)
+            (read_word word.now (map placed_of self.old.rest.now)) }
+    {
+        match self.rest {
+            [
+                Placed {
+                    at,
+                    token: Token::Word(name),
+                },
+                rest @ ..,
+            ] if name.bytes() == word => {
+                self.rest = rest;
+                Ok(*at)
+            }
+            _ => Err(self.unexpected()),
+        }
+    }
+
+    // This sign, and its offset.
+    #[tactic(auto, unfolding(crate::specs::Parsing::read_sign))]
+    fn sign(&mut self, sign: Sign) -> Result<usize, Stop>
+        ensures shorter { OnOk result (length self.new.rest.now < length self.old.rest.now) }
+        ensures read { Gives (λ at. at) result (map placed_of self.new.rest.now)
+            (read_sign (sign_of sign) (map placed_of self.old.rest.now)) }
+    {
+        match self.rest {
+            [
+                Placed {
+                    at,
+                    token: Token::Symbol(found),
+                },
+                rest @ ..,
+            ] if *found == sign => {
+                self.rest = rest;
+                Ok(*at)
+            }
+            _ => Err(self.unexpected()),
+        }
+    }
+
+    #[tactic(auto, unfolding(crate::specs::Parsing::read_name))]
+    fn name(&mut self) -> Result<Named, Stop>
+        ensures shorter { OnOk result (length self.new.rest.now < length self.old.rest.now) }
+        ensures read { Gives named_of result (map placed_of self.new.rest.now)
+            (read_name (map placed_of self.old.rest.now)) }
+    {
+        match self.rest {
+            [
+                Placed {
+                    at,
+                    token: Token::Word(name),
+                },
+                rest @ ..,
+            ] if !is_reserved(name) => {
+                self.rest = rest;
+                Ok(Named {
+                    at: *at,
+                    name: *name,
+                })
+            }
+            _ => Err(self.unexpected()),
+        }
+    }
+
+    #[tactic(auto, unfolding(crate::specs::Parsing::read_number))]
+    fn number(&mut self) -> Result<Magnitude, Stop>
+        ensures shorter { OnOk result (length self.new.rest.now < length self.old.rest.now) }
+        ensures read { Gives (λ number. number.value) result (map placed_of self.new.rest.now)
+            (read_number (map placed_of self.old.rest.now)) }
+    {
+        match self.rest {
+            [
+                Placed {
+                    token: Token::Number(number),
+                    ..
+                },
+                rest @ ..,
+            ] => {
+                self.rest = rest;
+                Ok(*number)
+            }
+            _ => Err(self.unexpected()),
+        }
+    }
+
+    #[tactic(auto, unfolding(crate::specs::Parsing::read_operator))]
+    fn operator(&mut self) -> Result<Operator, Stop>
+        ensures shorter { OnOk result (length self.new.rest.now < length self.old.rest.now) }
+        ensures read { Gives (λ operator. operator) result (map placed_of self.new.rest.now)
+            (read_operator true (map placed_of self.old.rest.now)) }
+    {
+        match self.rest {
+            [first, rest @ ..] => match operator_of(&first.token) {
+                Some(operator) => {
+                    self.rest = rest;
+                    Ok(operator)
+                }
+                None => Err(self.unexpected()),
+            },
+            [] => Err(self.unexpected()),
+        }
+    }
+}

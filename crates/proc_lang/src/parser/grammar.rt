@@ -1,0 +1,309 @@
+//! What the grammar names: expressions, variables, commands, processes and programs.
+
+ghost use Rattle.std.specs.Prelude.{◌≡◌, ◌<◌, ◌≤◌, true, map, length, codes, OnOk};
+ghost use Rattle.dbg_base.specs.Tokens as model;
+ghost use Rattle.proc_lang.specs.Scanning.{placed_of};
+ghost use Rattle.proc_lang.specs.Writing.{phrase_of, variable_of, action_of, assignment_of, command_of, process_of};
+ghost use Rattle.proc_lang.specs.Parsing.{begins_word, begins_sign, read_operand, read_expression, read_binary, read_start, read_variable, read_assignment, read_further, read_many, read_send, read_receive, read_local, read_body, read_command, read_process, read_program, is_left};
+ghost use Rattle.proc_lang.specs.Reading.{Gives, Reads};
+
+use super::{Parser, Stop, is_reserved};
+use crate::syntax::{
+    Phrase, WrittenAction, WrittenAssignment, WrittenCommand, WrittenProcess, WrittenVariable,
+};
+use crate::token::{Placed, Sign, Token};
+use std::alloc::Global;
+
+impl Parser<'_> {
+    // An expression without parentheses: a number, a name or `true`.
+    #[tactic(auto, unfolding(crate::specs::Parsing::read_operand, crate::specs::Parsing::read_word, crate::specs::Parsing::read_name))]
+    fn operand(&mut self) -> Result<Phrase, Stop>
+        ensures shorter { OnOk result (length self.new.rest.now < length self.old.rest.now) }
+        ensures read { Gives phrase_of result (map placed_of self.new.rest.now)
+            (read_operand true (map placed_of self.old.rest.now)) }
+    {
+        match self.rest {
+            [
+                Placed {
+                    at,
+                    token: Token::Number(number),
+                },
+                rest @ ..,
+            ] => {
+                self.rest = rest;
+                Ok(Phrase::Number(*at, *number))
+            }
+            [
+                Placed {
+                    at,
+                    token: Token::Word(name),
+                },
+                rest @ ..,
+            ] => {
+                if name.bytes() == b"true".as_slice() {
+                    self.rest = rest;
+                    return Ok(Phrase::Truth(*at, true));
+                }
+                if is_reserved(name) {
+                    return Err(self.unexpected());
+                }
+                self.rest = rest;
+                Ok(Phrase::Name(*at, *name))
+            }
+            _ => Err(self.unexpected()),
+        }
+    }
+
+    // An initial value: a number, with a minus before it or without.
+    #[tactic(auto, unfolding(crate::specs::Parsing::read_start))]
+    fn start_value(&mut self) -> Result<i64, Stop>
+        ensures shorter { OnOk result (length self.new.rest.now < length self.old.rest.now) }
+        ensures read { Gives (λ z. z) result (map placed_of self.new.rest.now)
+            (read_start (map placed_of self.old.rest.now)) }
+    {
+        if self.is_at_sign(Sign::Minus) {
+            self.sign(Sign::Minus)?;
+            let number = self.number()?;
+            return Ok(-(number.value as i64));
+        }
+        let number = self.number()?;
+        Ok(number.value as i64)
+    }
+
+    #[tactic(auto, unfolding(crate::specs::Parsing::read_variable))]
+    fn variable(&mut self) -> Result<WrittenVariable, Stop>
+        ensures shorter { OnOk result (length self.new.rest.now < length self.old.rest.now) }
+        ensures read { Gives variable_of result (map placed_of self.new.rest.now)
+            (read_variable (map placed_of self.old.rest.now)) }
+    {
+        self.word(b"var")?;
+        let name = self.name()?;
+        self.sign(Sign::Equals)?;
+        let start = self.start_value()?;
+        self.sign(Sign::Semicolon)?;
+        Ok(WrittenVariable { name, start })
+    }
+
+    #[cycle(expressions)]
+    #[tactic(auto, using(crate::proofs::Expressions::expression_parts))]
+    fn expression(&mut self) -> Result<Phrase, Stop>
+        ensures shorter { OnOk result (length self.new.rest.now < length self.old.rest.now) }
+        ensures read { Gives phrase_of result (map placed_of self.new.rest.now)
+            (read_expression true (map placed_of self.old.rest.now)) }
+    {
+        if self.is_at_sign(Sign::OpenParenthesis) {
+            let at = self.sign(Sign::OpenParenthesis)?;
+            return self.binary(at);
+        }
+        self.operand()
+    }
+
+    // Two operands and the operator between them, behind the parenthesis that opened at this offset, and the one that closes.
+    #[cycle(expressions)]
+    #[tactic(auto, unfolding(crate::specs::Parsing::read_binary))]
+    fn binary(&mut self, at: usize) -> Result<Phrase, Stop>
+        ensures shorter { OnOk result (length self.new.rest.now < length self.old.rest.now) }
+        ensures read { Gives phrase_of result (map placed_of self.new.rest.now)
+            (read_binary true (read_expression true) at (map placed_of self.old.rest.now)) }
+    {
+        let left = self.expression()?;
+        let operator = self.operator()?;
+        let right = self.expression()?;
+        self.sign(Sign::CloseParenthesis)?;
+        let left = Box::new(self.alloc, left)?;
+        let right = Box::new(self.alloc, right)?;
+        Ok(Phrase::Binary(at, operator, left, right))
+    }
+
+    #[tactic(auto, unfolding(crate::specs::Parsing::read_assignment))]
+    fn assignment(&mut self) -> Result<WrittenAssignment, Stop>
+        ensures shorter { OnOk result (length self.new.rest.now < length self.old.rest.now) }
+        ensures read { Gives assignment_of result (map placed_of self.new.rest.now)
+            (read_assignment true (map placed_of self.old.rest.now)) }
+    {
+        let variable = self.name()?;
+        self.sign(Sign::Becomes)?;
+        let value = self.expression()?;
+        Ok(WrittenAssignment { variable, value })
+    }
+
+    // An assignment behind a comma.
+    #[tactic(auto, unfolding(crate::specs::Parsing::read_further))]
+    fn further(&mut self) -> Result<WrittenAssignment, Stop>
+        ensures shorter { OnOk result (length self.new.rest.now < length self.old.rest.now) }
+        ensures read { Gives assignment_of result (map placed_of self.new.rest.now)
+            (read_further true (map placed_of self.old.rest.now)) }
+    {
+        self.sign(Sign::Comma)?;
+        self.assignment()
+    }
+
+    // All variables that come next.
+    fn variables(&mut self) -> Result<Vec<WrittenVariable>, Stop>
+        ensures shorter { OnOk result (length self.new.rest.now ≤ length self.old.rest.now) }
+        ensures read { Gives (λ v. map variable_of v.items) result (map placed_of self.new.rest.now)
+            (read_many (begins_word (codes "var")) read_variable (map placed_of self.old.rest.now)) }
+    {
+        let mut variables = Vec::new(self.alloc);
+        while self.is_at_word(b"var") {
+            let variable = self.variable()?;
+            variables.push(variable)?;
+        }
+        Ok(variables)
+    }
+
+    // All assignments that come next, each behind a comma.
+    fn all_further(&mut self) -> Result<Vec<WrittenAssignment>, Stop>
+        ensures shorter { OnOk result (length self.new.rest.now ≤ length self.old.rest.now) }
+        ensures read { Gives (λ v. map assignment_of v.items) result (map placed_of self.new.rest.now)
+            (read_many (begins_sign model.Comma) (read_further true) (map placed_of self.old.rest.now)) }
+    {
+        let mut assignments = Vec::new(self.alloc);
+        while self.is_at_sign(Sign::Comma) {
+            let assignment = self.further()?;
+            assignments.push(assignment)?;
+        }
+        Ok(assignments)
+    }
+
+    #[tactic(auto, unfolding(crate::specs::Parsing::read_send))]
+    fn send(&mut self) -> Result<(WrittenAction, Vec<WrittenAssignment>), Stop>
+        ensures shorter { OnOk result (length self.new.rest.now < length self.old.rest.now) }
+        ensures read { Gives (λ body. (action_of body.0, map assignment_of body.1.items)) result (map placed_of self.new.rest.now)
+            (read_send true (map placed_of self.old.rest.now)) }
+    {
+        self.word(b"send")?;
+        let target = self.name()?;
+        let value = self.expression()?;
+        let others = self.all_further()?;
+        Ok((WrittenAction::Send(target, value), others))
+    }
+
+    #[tactic(auto, unfolding(crate::specs::Parsing::read_receive))]
+    fn receive(&mut self) -> Result<(WrittenAction, Vec<WrittenAssignment>), Stop>
+        ensures shorter { OnOk result (length self.new.rest.now < length self.old.rest.now) }
+        ensures read { Gives (λ body. (action_of body.0, map assignment_of body.1.items)) result (map placed_of self.new.rest.now)
+            (read_receive true (map placed_of self.old.rest.now)) }
+    {
+        self.word(b"recv")?;
+        let source = self.name()?;
+        let variable = self.name()?;
+        let others = self.all_further()?;
+        Ok((WrittenAction::Receive(source, variable), others))
+    }
+
+    // Assignments alone, the first without a comma.
+    #[tactic(auto, unfolding(crate::specs::Parsing::read_local))]
+    fn local(&mut self) -> Result<(WrittenAction, Vec<WrittenAssignment>), Stop>
+        ensures shorter { OnOk result (length self.new.rest.now < length self.old.rest.now) }
+        ensures read { Gives (λ body. (action_of body.0, map assignment_of body.1.items)) result (map placed_of self.new.rest.now)
+            (read_local true (map placed_of self.old.rest.now)) }
+    {
+        let first = self.assignment()?;
+        let mut assignments = self.all_further()?;
+        assignments.insert(0, first)?;
+        Ok((WrittenAction::Local, assignments))
+    }
+
+    fn body(&mut self) -> Result<(WrittenAction, Vec<WrittenAssignment>), Stop>
+        ensures shorter { OnOk result (length self.new.rest.now < length self.old.rest.now) }
+        ensures read { Gives (λ body. (action_of body.0, map assignment_of body.1.items)) result (map placed_of self.new.rest.now)
+            (read_body true (map placed_of self.old.rest.now)) }
+    {
+        if self.is_at_word(b"send") {
+            return self.send();
+        }
+        if self.is_at_word(b"recv") {
+            return self.receive();
+        }
+        self.local()
+    }
+
+    #[tactic(auto, unfolding(crate::specs::Parsing::read_command))]
+    fn command(&mut self) -> Result<WrittenCommand, Stop>
+        ensures shorter { OnOk result (length self.new.rest.now < length self.old.rest.now) }
+        ensures read { Gives command_of result (map placed_of self.new.rest.now)
+            (read_command true (map placed_of self.old.rest.now)) }
+    {
+        let at = self.word(b"when")?;
+        let guard = self.expression()?;
+        self.sign(Sign::Colon)?;
+        let (action, assignments) = self.body()?;
+        self.sign(Sign::Semicolon)?;
+        Ok(WrittenCommand {
+            at,
+            guard,
+            action,
+            assignments,
+        })
+    }
+
+    // All commands that come next.
+    fn commands(&mut self) -> Result<Vec<WrittenCommand>, Stop>
+        ensures shorter { OnOk result (length self.new.rest.now ≤ length self.old.rest.now) }
+        ensures read { Gives (λ v. map command_of v.items) result (map placed_of self.new.rest.now)
+            (read_many (begins_word (codes "when")) (read_command true) (map placed_of self.old.rest.now)) }
+    {
+        let mut commands = Vec::new(self.alloc);
+        while self.is_at_word(b"when") {
+            let command = self.command()?;
+            commands.push(command)?;
+        }
+        Ok(commands)
+    }
+
+    #[tactic(auto, unfolding(crate::specs::Parsing::read_process))]
+    fn process(&mut self) -> Result<WrittenProcess, Stop>
+        ensures shorter { OnOk result (length self.new.rest.now < length self.old.rest.now) }
+        ensures read { Gives process_of result (map placed_of self.new.rest.now)
+            (read_process true (map placed_of self.old.rest.now)) }
+    {
+        self.word(b"process")?;
+        let name = self.name()?;
+        self.sign(Sign::OpenBrace)?;
+        let variables = self.variables()?;
+        let commands = self.commands()?;
+        self.sign(Sign::CloseBrace)?;
+        Ok(WrittenProcess {
+            name,
+            variables,
+            commands,
+        })
+    }
+
+    // Is a token left?
+    fn is_left(&self) -> bool
+        ensures { result ≡ is_left (map placed_of self.now.rest.now) }
+    {
+        !self.rest.is_empty()
+    }
+
+    // All processes that come next, to the end of the tokens.
+    fn all_processes(&mut self) -> Result<Vec<WrittenProcess>, Stop>
+        ensures shorter { OnOk result (length self.new.rest.now ≤ length self.old.rest.now) }
+        ensures read { Gives (λ v. map process_of v.items) result (map placed_of self.new.rest.now)
+            (read_many is_left (read_process true) (map placed_of self.old.rest.now)) }
+    {
+        let mut processes = Vec::new(self.alloc);
+        while self.is_left() {
+            let process = self.process()?;
+            processes.push(process)?;
+        }
+        Ok(processes)
+    }
+}
+
+/// The processes that these tokens, all of them, write.
+#[tactic(auto, unfolding(crate::specs::Parsing::read_program))]
+pub(crate) fn program(alloc: Global, tokens: &[Placed]) -> Result<Vec<WrittenProcess>, Stop>
+    ensures { Reads result (read_program true (map placed_of tokens.now)) }
+{
+    let mut parser = Parser {
+        alloc,
+        rest: tokens,
+    };
+    let first = parser.process()?;
+    let mut processes = parser.all_processes()?;
+    processes.insert(0, first)?;
+    Ok(processes)
+}

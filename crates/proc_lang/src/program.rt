@@ -1,0 +1,161 @@
+//! Programs, and what can be read of them.
+
+ghost use Rattle.std.specs.Prelude.{◌≤◌, vec_len};
+ghost use Rattle.dbg_base.specs.declared.limits.TheConstants.{PROCESSES, VARIABLES, COMMANDS};
+
+use dbg_base::{Choice, Expr, Name, Pid, Sequence};
+
+/// What a command does beside its assignments.
+#[derive(Debug, Drop)]
+pub enum Action {
+    /// Nothing.
+    Local,
+    /// The value goes to the back of the channel to the target.
+    Send { target: Pid, value: Expr },
+    /// The variable takes the front of the channel from the source.
+    Receive { source: Pid, variable: u32 },
+}
+
+/// A variable, by its place in the process, and the expression of its new value.
+#[derive(Debug, Drop)]
+pub struct Assignment {
+    pub variable: u32,
+    pub value: Expr,
+}
+
+/// A guarded command.
+#[derive(Debug, Drop)]
+pub struct Guarded {
+    pub guard: Expr,
+    pub action: Action,
+    pub assignments: Sequence<Assignment>,
+}
+
+/// A variable of a process.
+#[derive(Clone, Copy, Debug)]
+pub(crate) struct Variable {
+    pub(crate) name: Name,
+    pub(crate) start: i64,
+}
+
+/// A process.
+#[derive(Debug, Drop)]
+pub(crate) struct Process {
+    pub(crate) name: Name,
+    pub(crate) variables: Vec<Variable>,
+    pub(crate) commands: Vec<Guarded>,
+    ghost few_variables: { vec_len variables ≤ VARIABLES },
+    ghost few_commands: { vec_len commands ≤ COMMANDS },
+}
+
+/// A program that has passed all checks. `program_of` is the tree that contracts see.
+#[derive(Debug, Drop)]
+pub struct Program {
+    pub(crate) processes: Vec<Process>,
+    ghost few_processes: { vec_len processes ≤ PROCESSES },
+}
+
+impl Program {
+    ghost use Rattle.std.specs.Prelude.{◌≡◌, ◌≤◌, length, slice_get, MatchOption};
+    ghost use Rattle.std.specs.Option.{option_map, option_copied};
+    ghost use Rattle.dbg_base.specs.Names.{place_of};
+    ghost use Rattle.dbg_base.specs.Trees.{no_process, process_of, command_of, names_of};
+    ghost use Rattle.proc_lang.specs.Programs.{program_of, process_tree, command_tree};
+
+    fn process(&self, pid: Pid) -> Option<&Process>
+        ensures value { option_copied result ≡ slice_get self.now.processes.items pid.0 }
+        ensures found { MatchOption result (process_of (program_of self.now) pid.0 ≡ no_process)
+            (λ process. process_of (program_of self.now) pid.0 ≡ process_tree process.now) }
+    {
+        self.processes.get(pid.0 as usize)
+    }
+
+    /// How many processes the program has, 1 to 16. It takes no memory, as all readers do.
+    pub fn processes(&self) -> u32
+        ensures value { result ≡ length (program_of self.now) }
+        ensures few { result ≤ 16 }
+    {
+        self.processes.len() as u32
+    }
+
+    /// The name of the process, or None where there is no such process.
+    pub fn process_name(&self, pid: Pid) -> Option<Name>
+        ensures { result ≡ option_map (λ process. process.name) (slice_get (program_of self.now) pid.0) }
+    {
+        match self.process(pid) {
+            Some(process) => Some(process.name),
+            None => None,
+        }
+    }
+
+    /// The process of that name, or None where none has it.
+    pub fn find_process(&self, name: Name) -> Option<Pid>
+        ensures { option_map (λ pid. pid.0) result ≡ place_of name (names_of (program_of self.now)) }
+    {
+        for (i, process) in self.processes.iter().enumerate() {
+            if process.name == name {
+                return Some(Pid(i as u32));
+            }
+        }
+        None
+    }
+
+    /// How many variables the process has, 0 where there is no such process.
+    pub fn variables(&self, pid: Pid) -> u32
+        ensures value { result ≡ length (process_of (program_of self.now) pid.0).variables }
+        ensures few { result ≤ 32 }
+    {
+        match self.process(pid) {
+            Some(process) => process.variables.len() as u32,
+            None => 0,
+        }
+    }
+
+    fn variable(&self, pid: Pid, index: u32) -> Option<Variable>
+        ensures { option_map (λ v. (v.name, v.start)) result
+            ≡ slice_get (process_of (program_of self.now) pid.0).variables index }
+    {
+        let process = self.process(pid)?;
+        process.variables.get(index as usize).copied()
+    }
+
+    /// The name of a variable, or None where the process has no such variable.
+    pub fn variable_name(&self, pid: Pid, index: u32) -> Option<Name>
+        ensures { result ≡ option_map (λ v. v.0) (slice_get (process_of (program_of self.now) pid.0).variables index) }
+    {
+        match self.variable(pid, index) {
+            Some(variable) => Some(variable.name),
+            None => None,
+        }
+    }
+
+    /// The initial value of a variable, or None where the process has no such variable.
+    pub fn start_value(&self, pid: Pid, index: u32) -> Option<i64>
+        ensures { result ≡ option_map (λ v. v.1) (slice_get (process_of (program_of self.now) pid.0).variables index) }
+    {
+        match self.variable(pid, index) {
+            Some(variable) => Some(variable.start),
+            None => None,
+        }
+    }
+
+    /// How many commands the process has, 0 where there is no such process.
+    pub fn commands(&self, pid: Pid) -> u32
+        ensures value { result ≡ length (process_of (program_of self.now) pid.0).commands }
+        ensures few { result ≤ 64 }
+    {
+        match self.process(pid) {
+            Some(process) => process.commands.len() as u32,
+            None => 0,
+        }
+    }
+
+    /// A command, or None where the process has no such command.
+    pub fn command(&self, pid: Pid, choice: Choice) -> Option<&Guarded>
+        ensures { option_map (λ g. command_tree g.now) result
+            ≡ command_of (program_of self.now) pid.0 choice.0 }
+    {
+        let process = self.process(pid)?;
+        process.commands.get(choice.0 as usize)
+    }
+}

@@ -1,0 +1,200 @@
+//! What stands at the front of some bytes.
+
+ghost use Rattle.std.specs.Prelude.{◌≡◌, ℕ, ◌≤◌, ◌<◌, ◌+◌, ◌^◌, ◌∷◌, [], length, take, MatchOption, MatchResult, IsTrue};
+ghost use Rattle.std.specs.List.{list_all, prefix_len};
+ghost use Rattle.std.specs.Str.Parse.{digits_value};
+ghost use Rattle.dbg_base.specs.Tokens.{is_space, is_digit, is_word_byte, sign_bytes, BeginsWithNoToken, Spells, IsWithinLimits};
+ghost use Rattle.proc_lang.specs.Scanning.{sign_of, token_of, token_in, token_by, IsNoSign, BeginsWithNoSign, StandsInFront, IsSignPiece, IsFrontToken, IsFrontFault};
+
+use crate::fault::FaultKind;
+use crate::token::{Magnitude, Sign, Token};
+use dbg_base::Name;
+
+/// The longest token at the front of some bytes: its kind, and how many bytes it takes.
+#[derive(Clone, Copy, Debug)]
+pub(crate) struct Piece {
+    pub(crate) kind: Kind,
+    pub(crate) length: usize,
+}
+
+#[derive(Clone, Copy, Debug)]
+pub(crate) enum Kind {
+    Word,
+    Number,
+    Symbol(Sign),
+}
+
+fn is_space(b: u8) -> bool
+    ensures { result ≡ is_space b }
+{
+    b == b' ' || b == b'\t' || b == b'\n' || b == b'\r'
+}
+
+fn is_word_byte(b: u8) -> bool
+    ensures { result ≡ is_word_byte b }
+{
+    b.is_ascii_lowercase() || b.is_ascii_digit() || b == b'_'
+}
+
+/// How many spaces stand at the front.
+pub(crate) fn space_length(bytes: &[u8]) -> usize
+    ensures { result ≡ prefix_len is_space bytes.now }
+{
+    for (i, b) in bytes.iter().enumerate() {
+        if !is_space(*b) {
+            return i;
+        }
+    }
+    bytes.len()
+}
+
+// How many bytes at the front may stand in a word.
+fn word_length(bytes: &[u8]) -> usize
+    ensures { result ≡ prefix_len is_word_byte bytes.now }
+{
+    for (i, b) in bytes.iter().enumerate() {
+        if !is_word_byte(*b) {
+            return i;
+        }
+    }
+    bytes.len()
+}
+
+// How many digits stand at the front.
+fn digit_length(bytes: &[u8]) -> usize
+    ensures { result ≡ prefix_len is_digit bytes.now }
+{
+    for (i, b) in bytes.iter().enumerate() {
+        if !b.is_ascii_digit() {
+            return i;
+        }
+    }
+    bytes.len()
+}
+
+// The sign of one byte, if it is one.
+fn single_sign(b: u8) -> Option<Sign>
+    ensures { MatchOption result (IsNoSign (b ∷ [])) (λ sign. sign_bytes (sign_of sign) ≡ b ∷ []) }
+{
+    match b {
+        b'{' => Some(Sign::OpenBrace),
+        b'}' => Some(Sign::CloseBrace),
+        b'(' => Some(Sign::OpenParenthesis),
+        b')' => Some(Sign::CloseParenthesis),
+        b';' => Some(Sign::Semicolon),
+        b':' => Some(Sign::Colon),
+        b',' => Some(Sign::Comma),
+        b'=' => Some(Sign::Equals),
+        b'<' => Some(Sign::LessThan),
+        b'>' => Some(Sign::GreaterThan),
+        b'+' => Some(Sign::Plus),
+        b'-' => Some(Sign::Minus),
+        b'*' => Some(Sign::Star),
+        b'/' => Some(Sign::Slash),
+        b'%' => Some(Sign::Percent),
+        _ => None,
+    }
+}
+
+// The sign of this byte and `=`, if it is one.
+fn double_sign(b: u8) -> Option<Sign>
+    ensures { MatchOption result (IsNoSign (b ∷ 61 ∷ [])) (λ sign. sign_bytes (sign_of sign) ≡ b ∷ 61 ∷ []) }
+{
+    match b {
+        b':' => Some(Sign::Becomes),
+        b'!' => Some(Sign::NotEquals),
+        b'<' => Some(Sign::AtMost),
+        b'>' => Some(Sign::AtLeast),
+        _ => None,
+    }
+}
+
+// The longest sign at the front, and how many bytes it takes.
+fn front_sign(bytes: &[u8]) -> Option<Piece>
+    ensures { MatchOption result (BeginsWithNoSign bytes.now) (λ piece. IsSignPiece piece bytes.now) }
+{
+    let first = *bytes.first()?;
+    if bytes.len() > 1 && bytes[1] == b'=' {
+        if let Some(sign) = double_sign(first) {
+            return Some(Piece {
+                kind: Kind::Symbol(sign),
+                length: 2,
+            });
+        }
+    }
+    let sign = single_sign(first)?;
+    Some(Piece {
+        kind: Kind::Symbol(sign),
+        length: 1,
+    })
+}
+
+// The longest token at the front, if one stands there.
+fn front_piece(bytes: &[u8]) -> Option<Piece>
+    ensures { MatchOption result (BeginsWithNoToken bytes.now)
+        (λ piece. StandsInFront (token_in piece bytes.now) piece.length bytes.now) }
+{
+    let first = *bytes.first()?;
+    if first.is_ascii_lowercase() {
+        return Some(Piece {
+            kind: Kind::Word,
+            length: word_length(bytes),
+        });
+    }
+    if first.is_ascii_digit() {
+        return Some(Piece {
+            kind: Kind::Number,
+            length: digit_length(bytes),
+        });
+    }
+    front_sign(bytes)
+}
+
+// The number that these digits write, or None where it is above the largest i64.
+fn number_value(digits: &[u8]) -> Option<Magnitude>
+    requires { IsTrue (list_all is_digit digits.now) }
+    ensures { MatchOption result (2 ^ 63 ≤ digits_value 10 digits.now)
+        (λ number. number.value ≡ digits_value 10 digits.now) }
+{
+    let mut value: u64 = 0;
+    for b in digits {
+        let digit = u64::from(*b - b'0');
+        if value > (i64::MAX as u64 - digit) / 10 {
+            return None;
+        }
+        value = value * 10 + digit;
+    }
+    Some(Magnitude { value })
+}
+
+// The token that these bytes write, or None where it is beyond its limit.
+fn limited_token(kind: Kind, bytes: &[u8]) -> Option<Token>
+    requires { Spells (token_by kind bytes.now) bytes.now }
+    ensures { MatchOption result (¬ IsWithinLimits (token_by kind bytes.now))
+        (λ token. (token_of token ≡ token_by kind bytes.now) × IsWithinLimits (token_by kind bytes.now)) }
+{
+    match kind {
+        Kind::Word => match Name::new(bytes) {
+            Some(name) => Some(Token::Word(name)),
+            None => None,
+        },
+        Kind::Number => match number_value(bytes) {
+            Some(number) => Some(Token::Number(number)),
+            None => None,
+        },
+        Kind::Symbol(sign) => Some(Token::Symbol(sign)),
+    }
+}
+
+/// The token at the front and how many bytes it takes, or what is wrong there.
+pub(crate) fn front_token(bytes: &[u8]) -> Result<(Token, usize), FaultKind>
+    ensures { MatchResult result (λ found. IsFrontToken found.0 found.1 bytes.now) (λ kind. IsFrontFault kind bytes.now) }
+{
+    let Some(piece) = front_piece(bytes) else {
+        return Err(FaultKind::Byte);
+    };
+    match limited_token(piece.kind, &bytes[..piece.length]) {
+        Some(token) => Ok((token, piece.length)),
+        None => Err(FaultKind::Token),
+    }
+}

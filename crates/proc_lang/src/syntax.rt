@@ -1,0 +1,55 @@
+//! A program as it is written: names are not looked up yet, and what a fault may name keeps its offset.
+
+use crate::token::Magnitude;
+use dbg_base::{Name, Operator};
+
+/// A name where it stands.
+#[derive(Clone, Copy, Debug)]
+pub(crate) struct Named {
+    pub(crate) at: usize,
+    pub(crate) name: Name,
+}
+
+/// An expression, each part with the offset of its first byte.
+#[derive(Debug, Drop)]
+pub(crate) enum Phrase {
+    Number(usize, Magnitude),
+    Name(usize, Name),
+    Truth(usize, bool),
+    Binary(usize, Operator, Box<Phrase>, Box<Phrase>),
+}
+
+#[derive(Clone, Copy, Debug)]
+pub(crate) struct WrittenVariable {
+    pub(crate) name: Named,
+    pub(crate) start: i64,
+}
+
+#[derive(Debug, Drop)]
+pub(crate) enum WrittenAction {
+    Local,
+    Send(Named, Phrase),
+    Receive(Named, Named),
+}
+
+#[derive(Debug, Drop)]
+pub(crate) struct WrittenAssignment {
+    pub(crate) variable: Named,
+    pub(crate) value: Phrase,
+}
+
+/// A command, with the offset of its word `when`.
+#[derive(Debug, Drop)]
+pub(crate) struct WrittenCommand {
+    pub(crate) at: usize,
+    pub(crate) guard: Phrase,
+    pub(crate) action: WrittenAction,
+    pub(crate) assignments: Vec<WrittenAssignment>,
+}
+
+#[derive(Debug, Drop)]
+pub(crate) struct WrittenProcess {
+    pub(crate) name: Named,
+    pub(crate) variables: Vec<WrittenVariable>,
+    pub(crate) commands: Vec<WrittenCommand>,
+}

@@ -1,0 +1,51 @@
+//! Tokens.
+
+ghost use Rattle.std.specs.Prelude.{◌<◌, ◌^◌};
+
+use dbg_base::Name;
+
+/// A mark of the language.
+#[derive(Clone, Copy, Debug, PartialEq, Eq)]
+pub(crate) enum Sign {
+    OpenBrace,
+    CloseBrace,
+    OpenParenthesis,
+    CloseParenthesis,
+    Semicolon,
+    Colon,
+    Becomes,
+    Comma,
+    Equals,
+    NotEquals,
+    LessThan,
+    AtMost,
+    GreaterThan,
+    AtLeast,
+    Plus,
+    Minus,
+    Star,
+    Slash,
+    Percent,
+}
+
+/// A number as it is written: from 0 to the largest i64.
+#[derive(Clone, Copy, Debug)]
+pub(crate) struct Magnitude {
+    pub(crate) value: u64,
+    ghost in_range: { value < 2 ^ 63 },
+}
+
+/// A word, a number or a sign.
+#[derive(Clone, Copy, Debug)]
+pub(crate) enum Token {
+    Word(Name),
+    Number(Magnitude),
+    Symbol(Sign),
+}
+
+/// A token, and the offset of its first byte.
+#[derive(Clone, Copy, Debug)]
+pub(crate) struct Placed {
+    pub(crate) at: usize,
+    pub(crate) token: Token,
+}
