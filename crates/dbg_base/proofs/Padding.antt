@@ -1,5 +1,5 @@
 -- A name's bytes with zeros behind them.
-use Rattle.std.proofs.Common.{◌≡◌, ℕ, ◌-◌, ◌≤◌, List, ◌++◌, length, take, drop, replicate, arith, ap, sym, ◌∙◌}
+use Rattle.std.proofs.Common.{◌≡◌, ℕ, ◌-◌, ◌≤◌, List, ◌++◌, length, drop, replicate, arith, ap, sym, ◌∙◌}
 use Rattle.std.proofs.lemmas.List.{drop-replicate, length-append, length-replicate}
 use Rattle.std.proofs.Math.Seq.{take-append_seam}
 use Rattle.dbg_base.specs.Names.{padded_name, IsPadded}

@@ -1,19 +1,19 @@
 -- Worked rows, computed from the definitions: a counter that feeds a consumer.
-use Rattle.std.proofs.Common.{◌≡◌, ℕ, ℤ, pos, negsuc, List, [], ◌∷◌, ◌++◌, Option, Some, None, Result, Ok, Err, true, false, refl}
+use Rattle.std.proofs.Common.{◌≡◌, ℕ, pos, negsuc, List, [], ◌∷◌, ◌++◌, Some, None, Ok, Err, true, refl}
 use Rattle.std.specs.Prelude.{codes}
-use Rattle.dbg_base.specs.declared.expr.Operator.TheVariants.{Add, Subtract, Divide, Remainder, Less, Greater, And, Or, Equal}
+use Rattle.dbg_base.specs.declared.expr.Operator.TheVariants.{Add, Subtract, Divide, Remainder, Less, Greater, Or, Equal}
 use Rattle.dbg_base.specs.declared.call.Call.TheVariants.{Give, Ask}
 use Rattle.dbg_base.specs.declared.call.Plan.TheVariants.{Next}
 use Rattle.dbg_base.specs.declared.call.Query.TheVariants.{Vars}
 use Rattle.dbg_base.specs.declared.refusal.Refusal.TheVariants.{UnknownProcess, BadLine}
-use Rattle.dbg_base.specs.Trees.{Tree, Number, Variable, Truth, Not, Negate, Binary, Action, Local, Sends, Receives, Command, Process, Program}
+use Rattle.dbg_base.specs.Trees.{Number, Variable, Truth, Binary, Local, Sends, Receives, Process, Program}
 use Rattle.dbg_base.specs.Evaluation.{Num, Tru, evaluate}
-use Rattle.dbg_base.specs.Configurations.{Configuration, start_of}
-use Rattle.dbg_base.specs.Firing.{GuardFalse, Fault, ChannelEmpty, fire}
+use Rattle.dbg_base.specs.Configurations.{start_of}
+use Rattle.dbg_base.specs.Firing.{GuardFalse, ChannelEmpty, fire}
 use Rattle.dbg_base.specs.Histories.{play, local_state, progress_of}
-use Rattle.dbg_base.specs.ModelStates.{ModelState, opening_state, after_choice, history_of, configuration_of}
+use Rattle.dbg_base.specs.ModelStates.{opening_state, after_choice, configuration_of}
 use Rattle.dbg_base.specs.Acts.{lowest_enabled}
-use Rattle.dbg_base.specs.CommandLines.{parsed_line, words_of}
+use Rattle.dbg_base.specs.CommandLines.{parsed_line}
 use Rattle.dbg_base.specs.Shell.{parts_of, read_lines}
 
 abbrev counter : Process

@@ -1,7 +1,6 @@
 -- What a command does: accepted it changes the state, and refused it changes nothing.
-use Rattle.std.specs.Prelude.{◌≡◌, ℕ, ◌+◌, Bool, true, false, List, [], ◌∷◌, length, Option, Some, None, Result, Ok, Err, nat_lt, ◌==◌}
+use Rattle.std.specs.Prelude.{◌≡◌, ℕ, ◌+◌, List, [], ◌∷◌, length, Option, Some, None, Result, Ok, Err, nat_lt}
 use Rattle.std.specs.Bool.{MatchBool}
-use Rattle.dbg_base.specs.declared.ids.Pid.{Pid}
 use Rattle.dbg_base.specs.declared.call.Plan.{Plan}
 use Rattle.dbg_base.specs.declared.call.Plan.TheVariants.{Next}
 use Rattle.dbg_base.specs.declared.said.Said.{Said}

@@ -1,5 +1,5 @@
 -- The checks of a written program, the tree that it says, and which text reads as which program.
-use Rattle.std.specs.Prelude.{◌≡◌, ℕ, ◌+◌, ◌<◌, ◌≤◌, Bool, true, false, List, [], ◌∷◌, ◌++◌, length, map, not, take, drop, if◌then◌else◌, ◌⊎◌, Contains, pos, unwrap_or}
+use Rattle.std.specs.Prelude.{◌≡◌, ℕ, ◌<◌, ◌≤◌, Bool, true, false, List, [], ◌∷◌, ◌++◌, length, map, not, take, drop, if◌then◌else◌, ◌⊎◌, Contains, pos, unwrap_or}
 use Rattle.std.specs.List.{list_any, flat_map, AllByRecursion}
 use Rattle.std.specs.Str.{bytes_eq}
 use Rattle.dbg_base.specs.declared.expr.Operator.{Operator}
@@ -8,7 +8,7 @@ use Rattle.dbg_base.specs.declared.limits.TheConstants.{PROCESSES, VARIABLES, CO
 use Rattle.dbg_base.specs.Names.{place_of}
 use Rattle.dbg_base.specs.Trees as tree
 use Rattle.dbg_base.specs.Tokens.{Placed, HasTokens, IsTokenFault, Fault, FaultKind, NameTaken, NameUnknown, TypeWrong, LimitFault, SelfSend, SetTwice, kind_number}
-use Rattle.dbg_base.specs.Grammar.{Named, Phrase, Number, Name, Truth, Not, Negate, Binary, WrittenAction, Local, Sends, Receives, WrittenAssignment, WrittenVariable, WrittenCommand, WrittenProcess, DerivesProgram, IsGrammarFault}
+use Rattle.dbg_base.specs.Grammar.{Named, Phrase, Number, Name, Truth, Not, Negate, Binary, WrittenAction, Local, Sends, Receives, WrittenAssignment, WrittenCommand, WrittenProcess, DerivesProgram, IsGrammarFault}
 
 -- a number or a truth value, by the outermost form alone
 pub data Sort : Type 0 where

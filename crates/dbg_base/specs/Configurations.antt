@@ -1,5 +1,5 @@
 -- Where a system of processes stands: the values of each process's variables, and the messages on their way.
-use Rattle.std.specs.Prelude.{ℕ, ℤ, List, [], ◌∷◌, ◌++◌, length, map, replicate, slice_index_or, slice_set}
+use Rattle.std.specs.Prelude.{ℕ, ℤ, List, [], length, map, replicate, slice_index_or, slice_set}
 use Rattle.dbg_base.specs.Trees.{Program, Process}
 
 -- a list of values for each process, and for each ordered pair of processes the messages from the first to the second, the

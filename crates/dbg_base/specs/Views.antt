@@ -1,5 +1,5 @@
 -- What a session shows.
-use Rattle.std.specs.Prelude.{ℕ, length, nat_lt, if◌then◌else◌}
+use Rattle.std.specs.Prelude.{length, nat_lt, if◌then◌else◌}
 use Rattle.dbg_base.specs.declared.call.Query.{Query}
 use Rattle.dbg_base.specs.declared.call.Query.TheVariants.{Vars}
 use Rattle.dbg_base.specs.declared.said.Said.{Said}

@@ -13,6 +13,7 @@ use Rattle.proc_lang.specs.declared.fault.ProgFault.{ProgFault}
 use Rattle.proc_lang.specs.declared.fault.ProgError.TheVariants.{Bad}
 use Rattle.dbg_shell.specs.declared.framing.Span.{Span}
 use Rattle.dbg_shell.specs.declared.outcome.Served.{Served}
+use Rattle.dbg_shell.specs.declared.outcome.ServeFault.{ServeFault}
 use Rattle.dbg_shell.specs.declared.outcome.Served.TheVariants as outcomes
 use Rattle.dbg_shell.specs.declared.program_text.TextEnd.{TextEnd}
 use Rattle.dbg_shell.specs.declared.program_text.TextEnd.TheVariants as ends
@@ -36,7 +37,7 @@ count_on P i h =
     ap command_count (take_on P i h) ∙ sum_by-append (λ process. length process.commands) (take i P) (process_of P i ∷ [])
     ∙ ap (λ (n : ℕ). command_count (take i P) + n) one
 
-pub tells_size : {E : Type 0} (P : Program) (text : List ℕ) (processes commands : ℕ) (r : Result Served E) (old out : Option (List ℕ)) → Reads text P → IsSmall P
+pub tells_size : (P : Program) (text : List ℕ) (processes commands : ℕ) (r : Result Served ServeFault) (old out : Option (List ℕ)) → Reads text P → IsSmall P
     → processes ≡ length P → commands ≡ command_count P → Writes old out r (size_text processes commands) → IfOk r (λ served. served ≡ outcomes.Done)
     → IfOk r (λ served. ChecksText text served old out)
 tells_size P text processes commands (Err e) old out reads small few count wrote same = tt
@@ -46,7 +47,7 @@ tells_size P text processes commands (Ok served) old out reads small few count w
   wrote.whole,
 )
 
-pub tells_fault : {E : Type 0} (fault : ProgFault) (text : List ℕ) (r : Result Served E) (old out : Option (List ℕ)) → IsRefusal text (Bad fault)
+pub tells_fault : (fault : ProgFault) (text : List ℕ) (r : Result Served ServeFault) (old out : Option (List ℕ)) → IsRefusal text (Bad fault)
     → ((P : Program) → Reads text P → IsSmall P → ⊥) → Writes old out r (fault_text (fault_of fault)) → IfOk r (λ served. served ≡ outcomes.Refused)
     → IfOk r (λ served. ChecksText text served old out)
 tells_fault fault text (Err e) old out refused none wrote same = tt
@@ -91,7 +92,7 @@ module _ (first bytes : List ℕ) (begin new : ℕ) (end : TextEnd) (empty : fir
       subst (λ (o : Option Parts). ChecksInput xs o served old out) (sym parts)
       (rw short (subst (λ (t : List ℕ). ChecksText t served old out) (seen ∙ whole) checked))
 
-  pub checks_too_long : {E : Type 0} (known : Option (List ℕ)) (r : Result Served E) (old out : Option (List ℕ))
+  pub checks_too_long : (known : Option (List ℕ)) (r : Result Served ServeFault) (old out : Option (List ℕ))
       → IfSome (prepend_known first known) (λ whole. Splits whole bytes begin new end) → end ≡ ends.TooLong → Writes old out r too_long_text
       → IfOk r (λ served. served ≡ outcomes.TooLong) → ChecksKnown known r old out
   checks_too_long known (Err e) old out splits is wrote same = tt

@@ -9,6 +9,7 @@ use Rattle.dbg_base.specs.Shell.{Parts, parts_of, read_lines, lines_within, is_t
 use Rattle.proc_lang.specs.Small.{IsSmall}
 use Rattle.dbg_shell.specs.declared.framing.Span.{Span}
 use Rattle.dbg_shell.specs.declared.outcome.Served.{Served}
+use Rattle.dbg_shell.specs.declared.outcome.ServeFault.{ServeFault}
 use Rattle.dbg_shell.specs.declared.outcome.Served.TheVariants as outcomes
 use Rattle.dbg_shell.specs.declared.program_text.TextEnd.{TextEnd}
 use Rattle.dbg_shell.specs.declared.program_text.TextEnd.TheVariants as ends
@@ -84,7 +85,7 @@ serves_no_fault (Some xs) first bytes text begin new end span (Ok served) old ou
     let small = subst HasSmallText parts is_served in
     absurd (none small.0 (subst (λ (t : List ℕ). Reads t small.0) (sym (text_from_start bytes text span.from (seen here.1))) small.1) small.2)
 
-pub serves_no_end_line : {E : Type 0} (known : Option (List ℕ)) (first bytes : List ℕ) (begin new : ℕ) (end : TextEnd) (r : Result Served E)
+pub serves_no_end_line : (known : Option (List ℕ)) (first bytes : List ℕ) (begin new : ℕ) (end : TextEnd) (r : Result Served ServeFault)
     (old out : Option (List ℕ)) → first ≡ [] → begin ≡ 0 → IfSome (prepend_known first known) (λ whole. Splits whole bytes begin new end) → end ≡ ends.End
     → Writes old out r (as_line (codes "program refused: no end line")) → IfOk r (λ served. served ≡ outcomes.Refused) → ServesKnown known r old out
 serves_no_end_line known first bytes begin new end (Err e) old out empty begun splits is wrote same = tt
@@ -100,7 +101,7 @@ serves_no_end_line (Some xs) first bytes begin new end (Ok served) old out empty
     λ is_served.
     (same ∙ sym (ap (served_by xs) parts ∙ rw no refl), (text, subst (λ (o : Option Parts). TextOfParts xs o text) (sym parts) (rw no refl), wrote.whole))
 
-pub serves_too_long : {E : Type 0} (known : Option (List ℕ)) (first bytes : List ℕ) (begin new : ℕ) (end : TextEnd) (r : Result Served E)
+pub serves_too_long : (known : Option (List ℕ)) (first bytes : List ℕ) (begin new : ℕ) (end : TextEnd) (r : Result Served ServeFault)
     (old out : Option (List ℕ)) → first ≡ [] → begin ≡ 0 → IfSome (prepend_known first known) (λ whole. Splits whole bytes begin new end) → end ≡ ends.TooLong
     → Writes old out r too_long_text → IfOk r (λ served. served ≡ outcomes.TooLong) → ServesKnown known r old out
 serves_too_long known first bytes begin new end (Err e) old out empty begun splits is wrote same = tt

@@ -10,6 +10,7 @@ use Rattle.dbg_shell.specs.declared.framing.Span.{Span}
 use Rattle.dbg_shell.specs.declared.framing.Next.{Next}
 use Rattle.dbg_shell.specs.declared.framing.Next.TheVariants as nexts
 use Rattle.dbg_shell.specs.declared.outcome.Served.{Served}
+use Rattle.dbg_shell.specs.declared.outcome.ServeFault.{ServeFault}
 use Rattle.dbg_shell.specs.declared.outcome.Served.TheVariants as ends
 use Rattle.dbg_shell.specs.Spans.{lines_from, Tells}
 use Rattle.dbg_shell.specs.Writing.{Writes}
@@ -47,11 +48,11 @@ answered_on P whole line from at new M next a b c text answered here answers wri
       (text, others, next, answers, more, refl)));
 }
 
-pub known_answers_on : {A E : Type 0} (P : Program) (a b : Option (List ℕ)) (bytes line : List ℕ) (from at new : ℕ) (next : Next) (span : Span) (M M' : ModelState)
+pub known_answers_on : {A : Type 0} (P : Program) (a b : Option (List ℕ)) (bytes line : List ℕ) (from at new : ℕ) (next : Next) (span : Span) (M M' : ModelState)
     (old mid out : Option (List ℕ)) (u : A) → Keeps a b → IfSome a (λ whole. Answered P whole from at M old mid)
     → IfSome b (λ whole. Tells whole bytes at new next) → next ≡ nexts.Line span
     → (span.from ≤ span.to → span.to ≤ length bytes → line ≡ slice_range bytes span.from span.to)
-    → WritesAnswer {A = A} {E = E} P line M mid (Ok u) out M' → IfSome a (λ whole. Answered P whole from new M' old out)
+    → WritesAnswer {A = A} P line M mid (Ok u) out M' → IfSome a (λ whole. Answered P whole from new M' old out)
 known_answers_on P None b bytes line from at new next span M M' old mid out u keeps answered told is seen wrote = tt
 known_answers_on P (Some xs) None bytes line from at new next span M M' old mid out u keeps answered told is seen wrote = absurd keeps
 known_answers_on P (Some xs) (Some ys) bytes line from at new next span M M' old mid out u keeps answered told is seen wrote =
@@ -81,8 +82,8 @@ known_answers_end P (Some xs) (Some ys) bytes from at new next M old mid keeps a
     let no : is_too_long xs ≡ false = here.1 in
     (rw no refl, answered_ends P xs from at M old mid mid [] answered here.0 (appends_nothing mid) (rw no refl))
 
-pub known_answers_too_long : {E : Type 0} (P : Program) (a b : Option (List ℕ)) (bytes : List ℕ) (from at new : ℕ) (next : Next) (M : ModelState)
-    (r : Result Served E) (old mid out : Option (List ℕ)) → Keeps a b → IfSome a (λ whole. Answered P whole from at M old mid)
+pub known_answers_too_long : (P : Program) (a b : Option (List ℕ)) (bytes : List ℕ) (from at new : ℕ) (next : Next) (M : ModelState)
+    (r : Result Served ServeFault) (old mid out : Option (List ℕ)) → Keeps a b → IfSome a (λ whole. Answered P whole from at M old mid)
     → IfSome b (λ whole. Tells whole bytes at new next) → next ≡ nexts.TooLong → Writes mid out r too_long_text → IfOk r (λ served. served ≡ ends.TooLong)
     → IfOk r (λ served. IfSome a (λ whole. (served ≡ end_of whole) × WritesSome old out (RepliesTo P (lines_from from whole) whole)))
 known_answers_too_long P a b bytes from at new next M (Err e) old mid out keeps answered told is wrote same = tt

@@ -1,6 +1,6 @@
 -- Texts that are written one behind the other.
 use Rattle.std.proofs.Common.{◌≡◌, ℕ, List, [], ◌++◌, Option, Some, None, Result, Ok, Err, refl, sym, ◌∙◌, ap, append_assoc, subst, take, drop}
-use Rattle.std.specs.Prelude.{IsErr, true, false}
+use Rattle.std.specs.Prelude.{IsErr, IsErrAnd, IfErr, true, false}
 use Rattle.std.specs.Io.KnownBytes.{Appends, Keeps}
 use Rattle.std.proofs.KnownBytes.{Appends-kept}
 use Rattle.std.proofs.lemmas.List.{append-nil, take-append-drop}
@@ -9,6 +9,8 @@ use Rattle.dbg_base.specs.declared.said.Done.{Done}
 use Rattle.dbg_base.specs.declared.said.Done.TheVariants.{Played, Undone, Places, Plain}
 use Rattle.dbg_base.specs.Trees.{Program}
 use Rattle.dbg_base.specs.Replies.{done_text}
+use Rattle.dbg_shell.specs.declared.outcome.ServeFault.{ServeFault}
+use Rattle.dbg_shell.specs.declared.outcome.ServeFault.TheVariants.{Write}
 use Rattle.dbg_shell.specs.Writing.{AppendsFront, Writes, deed_text}
 
 pub appends_then : (a b c : Option (List ℕ)) (x y : List ℕ) → Appends a b x → Appends b c y → Appends a c (x ++ y)
@@ -33,14 +35,15 @@ pub front_longer : (a b : Option (List ℕ)) (x y : List ℕ) → AppendsFront a
 front_longer a b x y h = (h.0, h.1 ++ y, ap (λ t. t ++ y) h.2 ∙ append_assoc h.0 h.1 y, h.3)
 
 -- one text was written whole, and then another was written or not
-pub writes_then : {A B E F : Type 0} {u : A} {a b c : Option (List ℕ)} {r : Result B F} {x y : List ℕ} → Writes {A = A} {E = E} a b (Ok u) x → Writes b c r y → Writes a c r (x ++ y)
-writes_then {a = a} {b = b} {c = c} {r = Ok v} {x = x} {y = y} h k = record { whole = appends_then a b c x y h.whole k.whole; part = tt }
-writes_then {a = a} {b = b} {c = c} {r = Err e} {x = x} {y = y} h k = record { whole = tt; part = front_then a b c x y h.whole k.part }
+pub writes_then : {A B : Type 0} {u : A} {a b c : Option (List ℕ)} {r : Result B ServeFault} {x y : List ℕ} → Writes {A = A} a b (Ok u) x → Writes b c r y → Writes a c r (x ++ y)
+writes_then {a = a} {b = b} {c = c} {r = Ok v} {x = x} {y = y} h k = record { whole = appends_then a b c x y h.whole k.whole; part = tt; fault = tt }
+writes_then {a = a} {b = b} {c = c} {r = Err e} {x = x} {y = y} h k = record { whole = tt; part = front_then a b c x y h.whole k.part; fault = k.fault }
 
 -- a text was not written whole, and nothing behind it is
-pub stopped : {A B E F : Type 0} {e : E} {r : Result B F} {a b : Option (List ℕ)} {x : List ℕ} (y : List ℕ) → Writes {A = A} a b (Err e) x → IsErr r → Writes a b r (x ++ y)
-stopped {r = Ok v} y h k = let bad : false ≡ true = k in absurd cc
-stopped {r = Err f} {a = a} {b = b} {x = x} y h k = record { whole = tt; part = front_longer a b x y h.part }
+pub stopped : {A B : Type 0} {e : ServeFault} {r : Result B ServeFault} {a b : Option (List ℕ)} {x : List ℕ} (y : List ℕ) → Writes {A = A} a b (Err e) x → IsErrAnd r (λ f. f ≡ e)
+    → Writes a b r (x ++ y)
+stopped {r = Ok v} y h k = absurd k
+stopped {r = Err f} {a = a} {b = b} {x = x} y h k = record { whole = tt; part = front_longer a b x y h.part; fault = k ∙ h.fault }
 
 -- how far the bytes are written
 pub record Progress (a b : Option (List ℕ)) (bytes rest : List ℕ) : Type 0 where
@@ -58,28 +61,30 @@ progress_goes_on a b c bytes rest others n p h e = record {
   appends = appends_then a b c p.done (take n rest) p.appends h;
 }
 
-pub progress_ends : {A E : Type 0} {u : A} (a b : Option (List ℕ)) (bytes rest : List ℕ) → Progress a b bytes rest → rest ≡ [] → Writes {E = E} a b (Ok u) bytes
+pub progress_ends : {A : Type 0} {u : A} (a b : Option (List ℕ)) (bytes rest : List ℕ) → Progress a b bytes rest → rest ≡ [] → Writes a b (Ok u) bytes
 progress_ends a b bytes rest p e =
     let whole : bytes ≡ p.done = p.all ∙ ap (λ t. p.done ++ t) e ∙ append-nil p.done in
     let P : List ℕ → Type 0 = λ t. Appends a b t in
-    record { whole = subst P (sym whole) p.appends; part = tt }
+    record { whole = subst P (sym whole) p.appends; part = tt; fault = tt }
 
-pub progress_stops_behind : {A E : Type 0} {e : E} (a b c : Option (List ℕ)) (bytes rest : List ℕ) (n : ℕ) → Progress a b bytes rest → Appends b c (take n rest) → Writes {A = A} a c (Err e) bytes
+pub progress_stops_behind : {A : Type 0} (a b c : Option (List ℕ)) (bytes rest : List ℕ) (n : ℕ) → Progress a b bytes rest → Appends b c (take n rest) → Writes {A = A} a c (Err Write) bytes
 progress_stops_behind a b c bytes rest n p h =
     let q = progress_goes_on a b c bytes rest (drop n rest) n p h refl in
-    record { whole = tt; part = (q.done, drop n rest, q.all, q.appends) }
+    record { whole = tt; part = (q.done, drop n rest, q.all, q.appends); fault = refl }
 
 -- the first of three texts was not written whole
-pub stopped_first : {A B E F : Type 0} {e : E} {r : Result B F} {a b : Option (List ℕ)} {x : List ℕ} (y z : List ℕ) → Writes {A = A} a b (Err e) x → IsErr r → Writes a b r (x ++ y ++ z)
+pub stopped_first : {A B : Type 0} {e : ServeFault} {r : Result B ServeFault} {a b : Option (List ℕ)} {x : List ℕ} (y z : List ℕ) → Writes {A = A} a b (Err e) x → IsErrAnd r (λ f. f ≡ e)
+    → Writes a b r (x ++ y ++ z)
 stopped_first {x = x} y z h k = rw (append_assoc x y z) (stopped (y ++ z) h k)
 
 -- what was written is handed on
-pub writes_kept : {A B E F : Type 0} {u : A} {a b c : Option (List ℕ)} {r : Result B F} {x : List ℕ} → Writes {A = A} {E = E} a b (Ok u) x → Keeps b c → Writes a c r x
-writes_kept {a = a} {b = b} {c = c} {r = Ok v} {x = x} h k = record { whole = Appends-kept a b c x h.whole k; part = tt }
-writes_kept {a = a} {b = b} {c = c} {r = Err e} {x = x} h k = record { whole = tt; part = (x, [], sym (append-nil x), Appends-kept a b c x h.whole k) }
+pub writes_kept : {A B : Type 0} {u : A} {a b c : Option (List ℕ)} {r : Result B ServeFault} {x : List ℕ} → Writes {A = A} a b (Ok u) x → Keeps b c → IfErr r (λ f. f ≡ Write)
+    → Writes a c r x
+writes_kept {a = a} {b = b} {c = c} {r = Ok v} {x = x} h k e = record { whole = Appends-kept a b c x h.whole k; part = tt; fault = tt }
+writes_kept {a = a} {b = b} {c = c} {r = Err f} {x = x} h k e = record { whole = tt; part = (x, [], sym (append-nil x), Appends-kept a b c x h.whole k); fault = e }
 
 -- the next part of a text is written
-pub progress_more : {A E : Type 0} {u : A} (a b c : Option (List ℕ)) (bytes rest part others : List ℕ) → Progress a b bytes rest → rest ≡ part ++ others → Writes {E = E} b c (Ok u) part → Progress a c bytes others
+pub progress_more : {A : Type 0} {u : A} (a b c : Option (List ℕ)) (bytes rest part others : List ℕ) → Progress a b bytes rest → rest ≡ part ++ others → Writes b c (Ok u) part → Progress a c bytes others
 progress_more a b c bytes rest part others p e h = record {
   done = p.done ++ part;
   all = p.all ∙ ap (λ t. p.done ++ t) e ∙ sym (append_assoc p.done part others);
@@ -87,16 +92,17 @@ progress_more a b c bytes rest part others p e h = record {
 }
 
 -- the next part of a text was not written whole
-pub progress_fails : {A B E F : Type 0} {e : E} {r : Result B F} (a b c : Option (List ℕ)) (bytes rest part others : List ℕ) → Progress a b bytes rest → rest ≡ part ++ others → Writes {A = A} b c (Err e) part → IsErr r → Writes a c r bytes
-progress_fails {r = Ok v} a b c bytes rest part others p e h k = let bad : false ≡ true = k in absurd cc
+pub progress_fails : {A B : Type 0} {e : ServeFault} {r : Result B ServeFault} (a b c : Option (List ℕ)) (bytes rest part others : List ℕ) → Progress a b bytes rest → rest ≡ part ++ others
+    → Writes {A = A} b c (Err e) part → IsErrAnd r (λ f. f ≡ e) → Writes a c r bytes
+progress_fails {r = Ok v} a b c bytes rest part others p e h k = absurd k
 progress_fails {r = Err f} a b c bytes rest part others p e h k =
     let front = front_then a b c p.done part p.appends h.part in
     let longer = front_longer a c (p.done ++ part) others front in
     let whole : bytes ≡ p.done ++ part ++ others = p.all ∙ ap (λ t. p.done ++ t) e ∙ sym (append_assoc p.done part others) in
-    record { whole = tt; part = (longer.0, longer.1, whole ∙ longer.2, longer.3) }
+    record { whole = tt; part = (longer.0, longer.1, whole ∙ longer.2, longer.3); fault = k ∙ h.fault }
 
 -- the same text, said in another way
-pub writes_same : {A E : Type 0} {a b : Option (List ℕ)} {r : Result A E} {x y : List ℕ} → x ≡ y → Writes a b r x → Writes a b r y
+pub writes_same : {A : Type 0} {a b : Option (List ℕ)} {r : Result A ServeFault} {x y : List ℕ} → x ≡ y → Writes a b r x → Writes a b r y
 writes_same {a = a} {b = b} {r = r} e h = subst (λ (t : List ℕ). Writes a b r t) e h
 
 -- behind `ok` stands what the command did
@@ -107,6 +113,6 @@ done_is P (Places cut) = refl
 done_is P Plain = refl
 
 -- nothing more is written behind a text that was not written whole
-pub stopped_before : {A E : Type 0} {r : Result A E} {a b : Option (List ℕ)} {x : List ℕ} (y : List ℕ) → Writes a b r x → IsErr r → Writes a b r (x ++ y)
+pub stopped_before : {A : Type 0} {r : Result A ServeFault} {a b : Option (List ℕ)} {x : List ℕ} (y : List ℕ) → Writes a b r x → IsErr r → Writes a b r (x ++ y)
 stopped_before {r = Ok v} y h k = let bad : false ≡ true = k in absurd cc
-stopped_before {r = Err f} {a = a} {b = b} {x = x} y h k = record { whole = tt; part = front_longer a b x y h.part }
+stopped_before {r = Err f} {a = a} {b = b} {x = x} y h k = record { whole = tt; part = front_longer a b x y h.part; fault = h.fault }

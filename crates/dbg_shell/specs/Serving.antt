@@ -7,6 +7,7 @@ use Rattle.dbg_base.specs.ModelStates.{ModelState, opening_state}
 use Rattle.dbg_base.specs.Shell.{Parts, parts_of, read_lines, is_too_long, AnswersLine, AnswersLines, end_text, Text}
 use Rattle.proc_lang.specs.Small.{IsSmall}
 use Rattle.dbg_shell.specs.declared.outcome.Served.{Served}
+use Rattle.dbg_shell.specs.declared.outcome.ServeFault.{ServeFault}
 use Rattle.dbg_shell.specs.declared.outcome.Served.TheVariants.{Done, Refused, TooLong}
 use Rattle.dbg_shell.specs.declared.program_text.TextEnd.{TextEnd}
 use Rattle.dbg_shell.specs.declared.program_text.TextEnd.TheVariants.{Before}
@@ -57,7 +58,7 @@ Splits input bytes at new ends.End = (parts_of (lines_from at input) ≡ None) �
 Splits input bytes at new ends.TooLong = (parts_of (lines_from at input) ≡ None) × (is_too_long input ≡ true)
 
 -- the answer to the line was written, or where the writer failed a front of it
-pub record WritesAnswer {A E : Type 0} (P : Program) (line : List ℕ) (M : ModelState) (old : Option (List ℕ)) (result : Result A E)
+pub record WritesAnswer {A : Type 0} (P : Program) (line : List ℕ) (M : ModelState) (old : Option (List ℕ)) (result : Result A ServeFault)
     (new : Option (List ℕ)) (M' : ModelState) : Type 0 where
   pub text : List ℕ
   pub answers : AnswersLine P line M text M'

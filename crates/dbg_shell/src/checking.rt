@@ -1,8 +1,10 @@
 //! A program text alone.
 
-ghost use Rattle.std.specs.Prelude.{◌≡◌, IfOk, IfSome};
+ghost use Rattle.std.specs.Prelude.{◌≡◌, ◌≢◌, IfOk, IfErr, IfSome};
+ghost use Rattle.std.specs.Io.KnownBytes.{Keeps};
 ghost use Rattle.dbg_base.specs.Shell.{parts_of, read_lines};
 ghost use Rattle.proc_lang.specs.Programs.{program_of};
+ghost use Rattle.dbg_shell.specs.declared.outcome.ServeFault.TheVariants.{Write};
 ghost use Rattle.dbg_shell.specs.Checking.{command_count, ChecksText, ChecksInput};
 
 use crate::framing::Input;
@@ -26,7 +28,8 @@ fn command_count(program: &Program) -> u32
 }
 
 fn check_text<W: Write>(alloc: Global, text: &[u8], writer: &mut W) -> Result<Served, ServeFault>
-    ensures { IfOk result (λ served. ChecksText text.now served (W.contents writer.old) (W.contents writer.new)) }
+    ensures checked { IfOk result (λ served. ChecksText text.now served (W.contents writer.old) (W.contents writer.new)) }
+    ensures silent { IfErr result (λ fault. fault ≢ Write → Keeps (W.contents writer.old) (W.contents writer.new)) }
 {
     match parse_program(alloc, text) {
         Ok(program) => tell_size(program.processes(), command_count(&program), writer),
@@ -44,8 +47,10 @@ pub fn check<R: Read, W: Write>(
     writer: &mut W,
 ) -> Result<Served, ServeFault>
     // Where the reader tells its bytes, and nothing fails.
-    ensures { IfOk result (λ served. IfSome (R.remaining reader.old)
+    ensures checked { IfOk result (λ served. IfSome (R.remaining reader.old)
         (λ input. ChecksInput input (parts_of (read_lines input)) served (W.contents writer.old) (W.contents writer.new))) }
+    // A fault of the reader, and want of memory, write nothing.
+    ensures silent { IfErr result (λ fault. fault ≢ Write → Keeps (W.contents writer.old) (W.contents writer.new)) }
 {
     let mut input = Input::new(alloc).map_err(|_| ServeFault::Memory)?;
     match read_program_text(&mut input, reader)? {

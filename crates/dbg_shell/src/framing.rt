@@ -1,11 +1,12 @@
 //! Bytes become lines.
 
-ghost use Rattle.std.specs.Prelude.{◌≡◌, ◌+◌, ◌<◌, ◌≤◌, [], true, false, min, take, vec_len, vec_capacity, length, slice_range, OnOk, MatchOption, IfOk, IfSome, ◌⊎◌};
+ghost use Rattle.std.specs.Prelude.{◌≡◌, ◌+◌, ◌<◌, ◌≤◌, [], true, false, min, take, vec_len, vec_capacity, length, slice_range, OnOk, MatchOption, IfOk, IfErr, IfSome, ◌⊎◌};
 ghost use Rattle.std.specs.List.{prefix_len};
 ghost use Rattle.std.specs.Io.KnownBytes.{prepend_known};
 ghost use Rattle.dbg_shell.specs.Spans.{AdvancesAt, is_inside, is_unended, Tells, TellsAny, EndsWith, KeepsInput};
 ghost use Rattle.dbg_shell.specs.declared.framing.TheConstants.{ROOM};
 ghost use Rattle.dbg_shell.specs.declared.framing.Next.TheVariants.{End};
+ghost use Rattle.dbg_shell.specs.declared.outcome.ServeFault.TheVariants.{Read};
 ghost use Rattle.dbg_base.specs.declared.limits.TheConstants.{INPUT_BYTES};
 
 use crate::outcome::ServeFault;
@@ -114,6 +115,7 @@ impl Input {
         ensures stopped { IfOk result (λ next. next ≡ End → self.new.ended ≡ true) }
         ensures tells { IfOk result (λ next. IfSome (prepend_known self.old.bytes.items (R.remaining reader.old))
             (λ input. Tells input self.new.bytes.items self.old.at self.new.at next)) }
+        ensures fault { IfErr result (λ fault. fault ≡ Read) }
     {
         loop {
             if let Some(next) = self.ready() {
@@ -192,6 +194,7 @@ impl Input {
         ensures ends { EndsWith self.new.ended (R.remaining reader.new) }
         ensures more { OnOk result ((self.new.ended ≡ true) × (vec_len self.new.bytes ≡ vec_len self.old.bytes)
             ⊎ (self.new.ended ≡ false) × (vec_len self.old.bytes < vec_len self.new.bytes)) }
+        ensures fault { IfErr result (λ fault. fault ≡ Read) }
     {
         let mut chunk = [0u8; CHUNK];
         let room = (ROOM - self.bytes.len()).min(CHUNK);

@@ -1,6 +1,6 @@
 //! What is told beside the replies.
 
-ghost use Rattle.std.specs.Prelude.{◌≡◌, ◌++◌, codes, IfOk};
+ghost use Rattle.std.specs.Prelude.{◌≡◌, ◌++◌, codes, IfOk, IfErr};
 ghost use Rattle.std.specs.Fmt.{decimal};
 ghost use Rattle.std.specs.Io.KnownBytes.{Keeps};
 ghost use Rattle.dbg_base.specs.Shell.{too_long_text, as_line, fault_text};
@@ -8,6 +8,7 @@ ghost use Rattle.proc_lang.specs.Faults.{fault_of};
 ghost use Rattle.dbg_shell.specs.Writing.{Writes};
 ghost use Rattle.dbg_shell.specs.Checking.{size_text};
 ghost use Rattle.dbg_shell.specs.declared.outcome.Served.TheVariants.{Done, Refused, TooLong};
+ghost use Rattle.dbg_shell.specs.declared.outcome.ServeFault.TheVariants.{Write};
 
 use crate::outcome::{ServeFault, Served};
 use crate::parts::{write_count, write_size, write_whole};
@@ -16,7 +17,8 @@ use std::io::Write;
 
 // Hands on all that was written.
 pub(crate) fn flush<W: Write>(writer: &mut W) -> Result<(), ServeFault>
-    ensures { Keeps (W.contents writer.old) (W.contents writer.new) }
+    ensures kept { Keeps (W.contents writer.old) (W.contents writer.new) }
+    ensures fault { IfErr result (λ fault. fault ≡ Write) }
 {
     match writer.flush() {
         Ok(()) => Ok(()),

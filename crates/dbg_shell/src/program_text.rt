@@ -1,11 +1,12 @@
 //! The program text, which stands in front of the input.
 
-ghost use Rattle.std.specs.Prelude.{◌≡◌, true, IfOk, IfSome};
+ghost use Rattle.std.specs.Prelude.{◌≡◌, true, IfOk, IfErr, IfSome};
 ghost use Rattle.std.specs.Io.KnownBytes.{prepend_known};
 ghost use Rattle.dbg_base.specs.Shell.{is_end_line};
 ghost use Rattle.dbg_shell.specs.Spans.{EndsWith, KeepsInput};
 ghost use Rattle.dbg_shell.specs.Serving.{Splits};
 ghost use Rattle.dbg_shell.specs.declared.program_text.TextEnd.TheVariants.{End};
+ghost use Rattle.dbg_shell.specs.declared.outcome.ServeFault.TheVariants.{Read};
 
 use crate::command_line::without_return;
 use crate::framing::{Input, Next, Span};
@@ -40,6 +41,7 @@ pub(crate) fn read_program_text<R: Read>(
     ensures stopped { IfOk result (λ end. end ≡ End → input.new.ended ≡ true) }
     ensures splits { IfOk result (λ end. IfSome (prepend_known input.old.bytes.items (R.remaining reader.old))
         (λ whole. Splits whole input.new.bytes.items input.old.at input.new.at end)) }
+    ensures fault { IfErr result (λ fault. fault ≡ Read) }
 {
     loop {
         match input.next_line(reader)? {

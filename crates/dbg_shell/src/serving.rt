@@ -1,8 +1,9 @@
 //! A program text and the command lines behind it.
 
-ghost use Rattle.std.specs.Prelude.{◌≡◌, IfOk, IfSome};
-ghost use Rattle.std.specs.Io.KnownBytes.{prepend_known};
+ghost use Rattle.std.specs.Prelude.{◌≡◌, IfOk, IfErr, IfSome};
+ghost use Rattle.std.specs.Io.KnownBytes.{prepend_known, Keeps};
 ghost use Rattle.proc_lang.specs.Programs.{program_of};
+ghost use Rattle.dbg_shell.specs.declared.outcome.ServeFault.TheVariants.{Memory};
 ghost use Rattle.dbg_shell.specs.Spans.{EndsWith, lines_from};
 ghost use Rattle.dbg_shell.specs.Sessions.{state_of, IsSized};
 ghost use Rattle.dbg_shell.specs.Serving.{IsServed, ServesInput, WritesAnswer, WritesSome, RepliesTo, end_of};
@@ -54,9 +55,10 @@ fn serve_lines<R: Read, W: Write>(
     writer: &mut W,
 ) -> Result<Served, ServeFault>
     requires { EndsWith input.old.ended (R.remaining reader.old) }
-    ensures { IfOk result (λ served. IfSome (prepend_known input.old.bytes.items (R.remaining reader.old)) (λ whole.
+    ensures served { IfOk result (λ served. IfSome (prepend_known input.old.bytes.items (R.remaining reader.old)) (λ whole.
         (served ≡ end_of whole) × WritesSome (W.contents writer.old) (W.contents writer.new)
         (RepliesTo (program_of program.now) (lines_from input.old.at whole) whole))) }
+    ensures memory { IfErr result (λ fault. fault ≡ Memory → Keeps (W.contents writer.old) (W.contents writer.new)) }
 {
     let mut session = Session::new(alloc, program).map_err(|_| ServeFault::Memory)?;
     loop {
@@ -82,8 +84,10 @@ pub fn serve<R: Read, W: Write>(
 ) -> Result<Served, ServeFault>
     // Where the reader tells its bytes, and these have no end line or a small program in front of it, and nothing fails: the run ends
     // as the input is, and what is written is the text of the input.
-    ensures { IfOk result (λ served. IfSome (R.remaining reader.old)
+    ensures served { IfOk result (λ served. IfSome (R.remaining reader.old)
         (λ input. IsServed input → ServesInput input served (W.contents writer.old) (W.contents writer.new))) }
+    // Where memory to begin is wanting, nothing is written.
+    ensures memory { IfErr result (λ fault. fault ≡ Memory → Keeps (W.contents writer.old) (W.contents writer.new)) }
 {
     let mut input = Input::new(alloc).map_err(|_| ServeFault::Memory)?;
     match read_program_text(&mut input, reader)? {

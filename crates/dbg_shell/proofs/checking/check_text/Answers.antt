@@ -4,9 +4,9 @@ use Rattle.proc_lang.specs.Small.{Answers, IsRefusal}
 use Rattle.dbg_shell.proofs.CheckTexts.{tells_size, tells_fault}
 use Rattle.dbg_shell.proofs.checking.check_text.Goals as goal
 
-pub returns-in-Ok : goal.returns-in-Ok
-returns-in-Ok g c = tells_size _ _ _ _ _ _ _ c.in-Ok.ensures.accepted.0 c.in-Ok.ensures.accepted.1 c.processes.ensures.value c.command_count.ensures c.tell_size.ensures.written c.tell_size.ensures.served
+pub returns-in-Ok-clause-checked : goal.returns-in-Ok-clause-checked
+returns-in-Ok-clause-checked g c = tells_size _ _ _ _ _ _ _ c.in-Ok.ensures.accepted.0 c.in-Ok.ensures.accepted.1 c.processes.ensures.value c.command_count.ensures c.tell_size.ensures.written c.tell_size.ensures.served
 
-pub returns-in-Err-Bad : goal.returns-in-Err-Bad
-returns-in-Err-Bad g c =
+pub returns-in-Err-Bad-clause-checked : goal.returns-in-Err-Bad-clause-checked
+returns-in-Err-Bad-clause-checked g c =
     tells_fault c.in-Err-Bad.fault _ _ _ _ (subst (λ (e : ProgError). IsRefusal c.args.text.now e) c.in-Err-Bad.field-0-is c.in-Err-Bad.ensures.refused) (λ P reads small. subst (λ (e : ProgError). Answers (Err e) P) c.in-Err-Bad.field-0-is (c.in-Err-Bad.ensures.only P reads small)) c.tell_fault.ensures.written c.tell_fault.ensures.served

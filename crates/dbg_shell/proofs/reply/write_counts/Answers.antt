@@ -12,7 +12,7 @@ returns-in_default-count_at g c =
 
 pub returns-in_err-write_count_pair : goal.returns-in_err-write_count_pair
 returns-in_err-write_count_pair g c =
-    progress_fails _ _ _ _ _ _ _ c.loop-p.invariant (pairs_next (λ (process : Process). process.name) (decimal) (program_of c.args.program.now) (c.args.counts.now) c.loop-p.p c.in-Some.name c.in-Some-count_at.count c.in-Some.ensures (sym c.in-Some-count_at.ensures)) c.in_err-write_count_pair.ensures c.from_residual.ensures.0
+    progress_fails _ _ _ _ _ _ _ c.loop-p.invariant (pairs_next (λ (process : Process). process.name) (decimal) (program_of c.args.program.now) (c.args.counts.now) c.loop-p.p c.in-Some.name c.in-Some-count_at.count c.in-Some.ensures (sym c.in-Some-count_at.ensures)) c.in_err-write_count_pair.ensures c.from_residual.ensures.1
 
 pub loop-p-preserved : goal.loop-p-preserved
 loop-p-preserved g c =

@@ -12,7 +12,7 @@ returns-in_default-head_at g c =
 
 pub returns-in_err-write_head_pair : goal.returns-in_err-write_head_pair
 returns-in_err-write_head_pair g c =
-    progress_fails _ _ _ _ _ _ _ c.loop-p.invariant (pairs_next (λ (process : Process). process.name) (head_text) (program_of c.args.program.now) (c.args.heads.now) c.loop-p.p c.in-Some.name c.in-Some-head_at.head c.in-Some.ensures (sym c.in-Some-head_at.ensures)) c.in_err-write_head_pair.ensures c.from_residual.ensures.0
+    progress_fails _ _ _ _ _ _ _ c.loop-p.invariant (pairs_next (λ (process : Process). process.name) (head_text) (program_of c.args.program.now) (c.args.heads.now) c.loop-p.p c.in-Some.name c.in-Some-head_at.head c.in-Some.ensures (sym c.in-Some-head_at.ensures)) c.in_err-write_head_pair.ensures c.from_residual.ensures.1
 
 pub loop-p-preserved : goal.loop-p-preserved
 loop-p-preserved g c =

@@ -12,7 +12,7 @@ returns-in_err-write_mark g c =
     let rest : List ℕ = flat_map mark_part (drop (c.loop-name.name-index + 1) c.args.marks.now) in
     let next : flat_map mark_part (drop c.loop-name.name-index c.args.marks.now) ≡ mark_part item ++ rest =
     at_drop_more (flat_map mark_part) c.args.marks.now c.loop-name.name-index item c.loop-name-test.true ∙ ap (λ (m : List ℕ × Bool). mark_part m ++ rest) here in
-    progress_fails _ _ _ _ _ _ _ c.loop-name.invariant next c.in_err-write_mark.ensures c.from_residual.ensures.0
+    progress_fails _ _ _ _ _ _ _ c.loop-name.invariant next c.in_err-write_mark.ensures c.from_residual.ensures.1
 
 pub loop-name-preserved : goal.loop-name-preserved
 loop-name-preserved g c =

@@ -10,7 +10,7 @@ returns-in_err-write_number_part g c =
     let m : ℤ = get_or c.args.messages.now c.loop-message.message-index (pos 0) in
     let number : to_z w64 (of_z w64 m) ≡ m = search rules in
     let next : flat_map number_part (drop c.loop-message.message-index c.args.messages.now) ≡ number_part m ++ flat_map number_part (drop (c.loop-message.message-index + 1) c.args.messages.now) = at_drop_more (flat_map number_part) c.args.messages.now c.loop-message.message-index (pos 0) c.loop-message-test.true in
-    progress_fails _ _ _ _ _ _ _ c.loop-message.invariant next (writes_same (ap number_part number) c.in_err-write_number_part.ensures) c.from_residual.ensures.0
+    progress_fails _ _ _ _ _ _ _ c.loop-message.invariant next (writes_same (ap number_part number) c.in_err-write_number_part.ensures) c.from_residual.ensures.1
 
 pub loop-message-preserved : goal.loop-message-preserved
 loop-message-preserved g c =

@@ -15,7 +15,7 @@ pub returns-in_err-write_number_pair : goal.returns-in_err-write_number_pair
 returns-in_err-write_number_pair g c =
     let number : to_z w64 (of_z w64 c.in-Some-value_at.value) ≡ c.in-Some-value_at.value = search rules in
     let same = ap (λ (z : ℤ). pair_part (c.in-Some.name, signed_decimal z)) number in
-    progress_fails _ _ _ _ _ _ _ c.loop-v.invariant (pairs_next (λ (variable : List ℕ × ℤ). variable.0) (signed_decimal) ((process_of (program_of c.args.program.now) c.args.pid.0).variables) (c.args.values.now) c.loop-v.v c.in-Some.name c.in-Some-value_at.value c.in-Some.ensures (sym c.in-Some-value_at.ensures)) (writes_same same c.in_err-write_number_pair.ensures) c.from_residual.ensures.0
+    progress_fails _ _ _ _ _ _ _ c.loop-v.invariant (pairs_next (λ (variable : List ℕ × ℤ). variable.0) (signed_decimal) ((process_of (program_of c.args.program.now) c.args.pid.0).variables) (c.args.values.now) c.loop-v.v c.in-Some.name c.in-Some-value_at.value c.in-Some.ensures (sym c.in-Some-value_at.ensures)) (writes_same same c.in_err-write_number_pair.ensures) c.from_residual.ensures.1
 
 pub loop-v-preserved : goal.loop-v-preserved
 loop-v-preserved g c =

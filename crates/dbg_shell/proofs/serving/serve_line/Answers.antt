@@ -35,7 +35,7 @@ returns-in_ok-print_reply-in-Ok-Some-clause-answers g c =
       text = text;
       answers = subst (λ (r : Result (Option (ℕ × Call)) Refusal). AnswersParsed P r (state_of c.args.session.now) text (state_of c.answer-said.new.self))
           (parsed_so _ c.in-Ok-Some.field-0 c.in-Ok-Some.line c.in-Ok-Some.field-0-is c.in-Ok-Some.ensures) (c.answer-said.result, c.answer-said.ensures, refl);
-      written = writes_kept c.in_ok-print_reply-in-Ok-Some.ensures c.flush.ensures;
+      written = writes_kept c.in_ok-print_reply-in-Ok-Some.ensures c.flush.ensures.kept c.flush.ensures.fault;
     }
 
 pub returns-in_ok-print_refusal-in-Err-clause-answers : goal.returns-in_ok-print_refusal-in-Err-clause-answers
@@ -45,5 +45,5 @@ returns-in_ok-print_refusal-in-Err-clause-answers g c =
     record {
       text = text;
       answers = subst (λ (r : Result (Option (ℕ × Call)) Refusal). AnswersParsed P r (state_of c.args.session.now) text (state_of c.args.session.now)) c.in-Err.ensures (refl, refl);
-      written = writes_kept c.in_ok-print_refusal-in-Err.ensures c.flush-in-Err.ensures;
+      written = writes_kept c.in_ok-print_refusal-in-Err.ensures c.flush-in-Err.ensures.kept c.flush-in-Err.ensures.fault;
     }

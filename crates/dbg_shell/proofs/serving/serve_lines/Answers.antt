@@ -10,8 +10,8 @@ loop-session-preserved g c = record {
   answered = known_answers_on _ _ _ c.next_line.new.self.bytes.items c.line.result.now _ _ _ _ c.in-Line.span _ _ _ _ _ c.in_ok-serve_line-in-Line.field-0 c.loop-session.invariant.keeps c.loop-session.invariant.answered c.in_ok-span.ensures.tells c.in-Line.is c.line.ensures c.in_ok-serve_line-in-Line.ensures.answers;
 }
 
-pub returns-in-End : goal.returns-in-End
-returns-in-End g c = known_answers_end _ _ _ c.next_line.new.self.bytes.items _ _ c.next_line.new.self.at _ _ _ _ c.loop-session.invariant.keeps c.loop-session.invariant.answered c.in_ok-span.ensures.tells c.in-End.is
+pub returns-in-End-clause-served : goal.returns-in-End-clause-served
+returns-in-End-clause-served g c = known_answers_end _ _ _ c.next_line.new.self.bytes.items _ _ c.next_line.new.self.at _ _ _ _ c.loop-session.invariant.keeps c.loop-session.invariant.answered c.in_ok-span.ensures.tells c.in-End.is
 
-pub returns-in-TooLong : goal.returns-in-TooLong
-returns-in-TooLong g c = known_answers_too_long _ _ _ c.next_line.new.self.bytes.items _ _ c.next_line.new.self.at _ _ _ _ _ _ c.loop-session.invariant.keeps c.loop-session.invariant.answered c.in_ok-span.ensures.tells c.in-TooLong.is c.tell_too_long.ensures.written c.tell_too_long.ensures.served
+pub returns-in-TooLong-clause-served : goal.returns-in-TooLong-clause-served
+returns-in-TooLong-clause-served g c = known_answers_too_long _ _ _ c.next_line.new.self.bytes.items _ _ c.next_line.new.self.at _ _ _ _ _ _ c.loop-session.invariant.keeps c.loop-session.invariant.answered c.in_ok-span.ensures.tells c.in-TooLong.is c.tell_too_long.ensures.written c.tell_too_long.ensures.served

@@ -1,5 +1,4 @@
-use Rattle.std.proofs.Common.{ℕ, List, ◌++◌, length, drop, replicate, subst, arith}
-use Rattle.dbg_base.specs.Names.{IsPadded}
+use Rattle.std.proofs.Common.{arith}
 use Rattle.dbg_base.proofs.Padding.{padded}
 use Rattle.dbg_base.proofs.name.Name.new.Goals as goal
 
