@@ -21,7 +21,7 @@ use Rattle.dbg_shell.specs.Spans.{lines_from, EndsWith}
 use Rattle.dbg_shell.specs.Writing.{Writes}
 use Rattle.dbg_shell.specs.Serving.{Splits}
 use Rattle.dbg_shell.specs.Checking.{size_text, command_count, ChecksText, ChecksInput}
-use Rattle.dbg_shell.proofs.InputTexts.{all_from_start, text_from_start}
+use Rattle.dbg_shell.proofs.InputTexts.{all_from_start, text_from_start, split_here}
 
 take_on : (P : Program) (i : ℕ) → i < length P → take (i + 1) P ≡ take i P ++ process_of P i ∷ []
 take_on [] i h = absurd (omega arith)
@@ -60,10 +60,7 @@ ChecksKnown known r old out = IfOk r (λ served. IfSome known (λ input. ChecksI
 
 module _ (first bytes : List ℕ) (begin new : ℕ) (end : TextEnd) (empty : first ≡ []) (begun : begin ≡ 0) where
   here : (xs : List ℕ) (to : TextEnd) → end ≡ to → Splits (first ++ xs) bytes begin new end → Splits xs bytes 0 new to
-  here xs to is splits =
-      subst (λ (n : ℕ). Splits xs bytes n new to) begun
-      (subst (λ (e : TextEnd). Splits xs bytes begin new e) is
-      (subst (λ (t : List ℕ). Splits (t ++ xs) bytes begin new end) empty splits))
+  here xs to is splits = split_here first bytes begin new end empty begun xs to is splits
 
   pub checks_before : {E : Type 0} (known : Option (List ℕ)) (text : List ℕ) (span : Span) (r : Result Served E) (old out : Option (List ℕ))
       → IfSome (prepend_known first known) (λ whole. Splits whole bytes begin new end) → end ≡ ends.Before span

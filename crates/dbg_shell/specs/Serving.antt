@@ -13,7 +13,7 @@ use Rattle.dbg_shell.specs.declared.program_text.TextEnd.{TextEnd}
 use Rattle.dbg_shell.specs.declared.program_text.TextEnd.TheVariants.{Before}
 use Rattle.dbg_shell.specs.declared.program_text.TextEnd.TheVariants as ends
 use Rattle.dbg_shell.specs.Spans.{lines_from}
-use Rattle.dbg_shell.specs.Writing.{Writes}
+use Rattle.dbg_shell.specs.Writing.{AppendsFront, Writes}
 
 -- the text is a small program
 abbrev pub IsSmallText : List ℕ → Type 0
@@ -39,6 +39,10 @@ served_of input = served_by input (parts_of (read_lines input))
 -- a text of this form was written
 abbrev pub WritesSome : Option (List ℕ) → Option (List ℕ) → (List ℕ → Type 0) → Type 0
 WritesSome old new IsOut = (out : List ℕ) × IsOut out × Appends old new out
+
+-- a front of a text of this form was written
+abbrev pub WritesFront : Option (List ℕ) → Option (List ℕ) → (List ℕ → Type 0) → Type 0
+WritesFront old new IsOut = (out : List ℕ) × IsOut out × AppendsFront old new out
 
 -- the run ended as the input is, and what it wrote is the text of the input
 abbrev pub ServesInput : List ℕ → Served → Option (List ℕ) → Option (List ℕ) → Type 0

@@ -3,10 +3,11 @@
 ghost use Rattle.std.specs.Prelude.{◌≡◌, IfOk, IfErr, IfSome};
 ghost use Rattle.std.specs.Io.KnownBytes.{prepend_known, Keeps};
 ghost use Rattle.proc_lang.specs.Programs.{program_of};
-ghost use Rattle.dbg_shell.specs.declared.outcome.ServeFault.TheVariants.{Memory};
+ghost use Rattle.dbg_shell.specs.declared.outcome.ServeFault.TheVariants.{Memory, Write};
+ghost use Rattle.dbg_base.specs.Shell.{Text};
 ghost use Rattle.dbg_shell.specs.Spans.{EndsWith, lines_from};
 ghost use Rattle.dbg_shell.specs.Sessions.{state_of, IsSized};
-ghost use Rattle.dbg_shell.specs.Serving.{IsServed, ServesInput, WritesAnswer, WritesSome, RepliesTo, end_of};
+ghost use Rattle.dbg_shell.specs.Serving.{IsServed, ServesInput, WritesAnswer, WritesSome, WritesFront, RepliesTo, end_of};
 
 use crate::command_line::parse_line;
 use crate::framing::{Input, Next};
@@ -58,6 +59,9 @@ fn serve_lines<R: Read, W: Write>(
     ensures served { IfOk result (λ served. IfSome (prepend_known input.old.bytes.items (R.remaining reader.old)) (λ whole.
         (served ≡ end_of whole) × WritesSome (W.contents writer.old) (W.contents writer.new)
         (RepliesTo (program_of program.now) (lines_from input.old.at whole) whole))) }
+    ensures stopped { IfErr result (λ fault. fault ≡ Write → IfSome (prepend_known input.old.bytes.items (R.remaining reader.old)) (λ whole.
+        WritesFront (W.contents writer.old) (W.contents writer.new)
+        (RepliesTo (program_of program.now) (lines_from input.old.at whole) whole))) }
     ensures memory { IfErr result (λ fault. fault ≡ Memory → Keeps (W.contents writer.old) (W.contents writer.new)) }
 {
     let mut session = Session::new(alloc, program).map_err(|_| ServeFault::Memory)?;
@@ -86,6 +90,9 @@ pub fn serve<R: Read, W: Write>(
     // as the input is, and what is written is the text of the input.
     ensures served { IfOk result (λ served. IfSome (R.remaining reader.old)
         (λ input. IsServed input → ServesInput input served (W.contents writer.old) (W.contents writer.new))) }
+    // Where the writer fails, what is written is a front of a text of the input.
+    ensures stopped { IfErr result (λ fault. fault ≡ Write → IfSome (R.remaining reader.old)
+        (λ input. IsServed input → WritesFront (W.contents writer.old) (W.contents writer.new) (Text input))) }
     // Where memory to begin is wanting, nothing is written.
     ensures memory { IfErr result (λ fault. fault ≡ Memory → Keeps (W.contents writer.old) (W.contents writer.new)) }
 {
