@@ -137,6 +137,16 @@ abbrev pub TextOfParts : List ℕ → Option Parts → List ℕ → Type 0
 TextOfParts input None out = out ≡ no_end_text input
 TextOfParts input (Some parts) out = AnswersCommands input parts out ⊎ RefusesProgram parts out
 
+-- what is written for some lines of the input: the replies to those behind the program text, and nothing where no line ends it
+abbrev pub AnswersParts : Option Parts → List ℕ → Type 0
+AnswersParts None out = out ≡ []
+AnswersParts (Some parts) out =
+    (P : Program) × Reads parts.program P × (M : ModelState) × AnswersLines P parts.commands (opening_state P) out M
+
+-- what is written where no more of the input can be read than these bytes: the replies to the whole lines among them
+abbrev pub WholeText : List ℕ → List ℕ → Type 0
+WholeText bytes out = AnswersParts (parts_of (lines_of bytes).whole) out
+
 -- what is written for the input
 abbrev pub Text : List ℕ → List ℕ → Type 0
 Text input out = TextOfParts input (parts_of (read_lines input)) out

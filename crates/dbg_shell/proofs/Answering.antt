@@ -3,7 +3,7 @@ use Rattle.std.proofs.Common.{◌≡◌, ℕ, Bool, true, false, cond, List, [],
 use Rattle.std.specs.Prelude.{nat_lt}
 use Rattle.std.specs.Bool.{MatchBool}
 use Rattle.std.proofs.Common.{inl, inr}
-use Rattle.std.proofs.lemmas.List.{length-set}
+use Rattle.std.proofs.lemmas.List.{length-set, length-replicate}
 use Rattle.dbg_base.specs.declared.call.Call.{Call}
 use Rattle.dbg_base.specs.declared.call.Call.TheVariants.{Give, Ask}
 use Rattle.dbg_base.specs.declared.call.Plan.TheVariants.{Next}
@@ -14,7 +14,7 @@ use Rattle.dbg_base.specs.declared.limits.TheConstants.{LINE_BYTES, EVENTS}
 use Rattle.dbg_base.specs.Names.{place_of}
 use Rattle.dbg_base.specs.Trees.{Program, names_of}
 use Rattle.dbg_base.specs.CommandLines.{Form, NextForm, VarsForm, process_found, call_of, by_seat, shaped_line, line_of_words, parsed_line, seat_word, form_of, words_of, without_return}
-use Rattle.dbg_base.specs.ModelStates.{ModelState, place_at, configuration_of, after_choice}
+use Rattle.dbg_base.specs.ModelStates.{ModelState, opening_state, place_at, configuration_of, after_choice}
 use Rattle.dbg_base.specs.Acts.{PlaysChosen, ActsNext, lowest_enabled}
 use Rattle.dbg_base.specs.Shell.{SaysOrRefuses}
 use Rattle.dbg_shell.specs.Sessions.{IsSized, IsAsked}
@@ -53,6 +53,10 @@ cond_asked P false refusal words = words_asked P words
 pub line_asked : (P : Program) (bytes : List ℕ) (seat : ℕ) (call : Call) → Ok (Some (seat, call)) ≡ parsed_line P bytes → IsAsked call
 line_asked P bytes seat call e =
     subst IsAskedIn (sym e) (cond_asked P (nat_lt LINE_BYTES (length bytes)) _ (words_of (without_return bytes)))
+
+-- an empty line and a place for each process
+pub opening_sized : (P : Program) → IsSized P (opening_state P)
+opening_sized P = record { lines = length-replicate (length P) []; places = length-replicate (length P) 0 }
 
 kept_sized : (P : Program) (M M' : ModelState) → IsSized P M → M' ≡ M → IsSized P M'
 kept_sized P M M' s e = subst (IsSized P) (sym e) s

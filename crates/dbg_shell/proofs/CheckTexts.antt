@@ -1,12 +1,11 @@
 -- What the check of a program text writes.
 use Rattle.std.proofs.Common.{◌≡◌, ℕ, suc, ◌+◌, ◌<◌, ◌≤◌, Bool, true, false, List, [], ◌∷◌, ◌++◌, length, take, Option, Some, None, refl, sym, ap, ◌∙◌, subst, inl, inr, arith}
-use Rattle.std.specs.Prelude.{slice_range, IfSome, IfOk, Result, Ok, Err}
-use Rattle.std.specs.Io.KnownBytes.{prepend_known, Keeps}
+use Rattle.std.specs.Prelude.{IfSome, IfOk, IfErr, Result, Ok, Err}
 use Rattle.std.proofs.lemmas.List.{append-nil}
 use Rattle.std.proofs.lemmas.List.Sums.{sum_by-append}
 use Rattle.dbg_base.specs.Trees.{Program, process_of}
 use Rattle.dbg_base.specs.Checks.{Reads}
-use Rattle.dbg_base.specs.Shell.{Parts, parts_of, read_lines, is_too_long, too_long_text, fault_text}
+use Rattle.dbg_base.specs.Shell.{Parts, is_too_long, too_long_text, fault_text}
 use Rattle.proc_lang.specs.Small.{IsSmall, IsRefusal}
 use Rattle.proc_lang.specs.Faults.{fault_of}
 use Rattle.proc_lang.specs.declared.fault.ProgFault.{ProgFault}
@@ -14,13 +13,14 @@ use Rattle.proc_lang.specs.declared.fault.ProgError.TheVariants.{Bad}
 use Rattle.dbg_shell.specs.declared.framing.Span.{Span}
 use Rattle.dbg_shell.specs.declared.outcome.Served.{Served}
 use Rattle.dbg_shell.specs.declared.outcome.ServeFault.{ServeFault}
+use Rattle.dbg_shell.specs.declared.outcome.ServeFault.TheVariants.{Write}
 use Rattle.dbg_shell.specs.declared.outcome.Served.TheVariants as outcomes
 use Rattle.dbg_shell.specs.declared.program_text.TextEnd.{TextEnd}
 use Rattle.dbg_shell.specs.declared.program_text.TextEnd.TheVariants as ends
-use Rattle.dbg_shell.specs.Spans.{lines_from, EndsWith}
+use Rattle.dbg_shell.specs.Spans.{MayBe}
 use Rattle.dbg_shell.specs.Writing.{Writes}
-use Rattle.dbg_shell.specs.Serving.{Splits}
-use Rattle.dbg_shell.specs.Checking.{size_text, command_count, ChecksText, ChecksInput}
+use Rattle.dbg_shell.specs.Serving.{WritesSome, WritesFront, Splits, SplitsAny}
+use Rattle.dbg_shell.specs.Checking.{size_text, command_count, ChecksText, ChecksParts, ChecksInput}
 use Rattle.dbg_shell.proofs.InputTexts.{all_from_start, text_from_start, split_here}
 
 take_on : (P : Program) (i : ℕ) → i < length P → take (i + 1) P ≡ take i P ++ process_of P i ∷ []
@@ -37,65 +37,120 @@ count_on P i h =
     ap command_count (take_on P i h) ∙ sum_by-append (λ process. length process.commands) (take i P) (process_of P i ∷ [])
     ∙ ap (λ (n : ℕ). command_count (take i P) + n) one
 
-pub tells_size : (P : Program) (text : List ℕ) (processes commands : ℕ) (r : Result Served ServeFault) (old out : Option (List ℕ)) → Reads text P → IsSmall P
-    → processes ≡ length P → commands ≡ command_count P → Writes old out r (size_text processes commands) → IfOk r (λ served. served ≡ outcomes.Done)
-    → IfOk r (λ served. ChecksText text served old out)
-tells_size P text processes commands (Err e) old out reads small few count wrote same = tt
-tells_size P text processes commands (Ok served) old out reads small few count wrote same = (
-  size_text processes commands,
-  inl (P, reads, small, same, ap (λ (n : ℕ). size_text n commands) few ∙ ap (λ (n : ℕ). size_text (length P) n) count),
-  wrote.whole,
-)
+-- the writer failed in telling of a text
+abbrev pub StopsText : List ℕ → Result Served ServeFault → Option (List ℕ) → Option (List ℕ) → Type 0
+StopsText text r old out = IfErr r (λ fault. fault ≡ Write → (served : Served) × WritesFront old out (ChecksText text served))
 
-pub tells_fault : (fault : ProgFault) (text : List ℕ) (r : Result Served ServeFault) (old out : Option (List ℕ)) → IsRefusal text (Bad fault)
-    → ((P : Program) → Reads text P → IsSmall P → ⊥) → Writes old out r (fault_text (fault_of fault)) → IfOk r (λ served. served ≡ outcomes.Refused)
-    → IfOk r (λ served. ChecksText text served old out)
-tells_fault fault text (Err e) old out refused none wrote same = tt
-tells_fault fault text (Ok served) old out refused none wrote same =
-    (fault_text (fault_of fault), inr (fault, refused, none, same, refl), wrote.whole)
+-- the text is a small program
+module _ (P : Program) (text : List ℕ) (processes commands : ℕ) (reads : Reads text P) (small : IsSmall P) (few : processes ≡ length P)
+    (count : commands ≡ command_count P) (old out : Option (List ℕ)) where
+  size_here : ChecksText text outcomes.Done (size_text processes commands)
+  size_here = inl (P, reads, small, refl, ap (λ (n : ℕ). size_text n commands) few ∙ ap (λ (n : ℕ). size_text (length P) n) count)
+
+  pub tells_size : (r : Result Served ServeFault) → Writes old out r (size_text processes commands) → IfOk r (λ served. served ≡ outcomes.Done)
+      → IfOk r (λ served. WritesSome old out (ChecksText text served))
+  tells_size (Err fault) wrote same = tt
+  tells_size (Ok served) wrote same =
+      (size_text processes commands, subst (λ (s : Served). ChecksText text s (size_text processes commands)) (sym same) size_here, wrote.whole)
+
+  pub stops_size : (r : Result Served ServeFault) → Writes old out r (size_text processes commands) → StopsText text r old out
+  stops_size (Ok served) wrote = tt
+  stops_size (Err fault) wrote = λ is_write. (outcomes.Done, (size_text processes commands, size_here, wrote.part))
+
+-- the text is refused
+module _ (fault : ProgFault) (text : List ℕ) (refused : IsRefusal text (Bad fault)) (none : (P : Program) → Reads text P → IsSmall P → ⊥)
+    (old out : Option (List ℕ)) where
+  fault_here : ChecksText text outcomes.Refused (fault_text (fault_of fault))
+  fault_here = inr (fault, refused, none, refl, refl)
+
+  pub tells_fault : (r : Result Served ServeFault) → Writes old out r (fault_text (fault_of fault)) → IfOk r (λ served. served ≡ outcomes.Refused)
+      → IfOk r (λ served. WritesSome old out (ChecksText text served))
+  tells_fault (Err e) wrote same = tt
+  tells_fault (Ok served) wrote same =
+      (fault_text (fault_of fault), subst (λ (s : Served). ChecksText text s (fault_text (fault_of fault))) (sym same) fault_here, wrote.whole)
+
+  pub stops_fault : (r : Result Served ServeFault) → Writes old out r (fault_text (fault_of fault)) → StopsText text r old out
+  stops_fault (Ok served) wrote = tt
+  stops_fault (Err e) wrote = λ is_write. (outcomes.Refused, (fault_text (fault_of fault), fault_here, wrote.part))
 
 -- what the check is of, where the reader's bytes are known
-abbrev pub ChecksKnown : {E : Type 0} → Option (List ℕ) → Result Served E → Option (List ℕ) → Option (List ℕ) → Type 0
-ChecksKnown known r old out = IfOk r (λ served. IfSome known (λ input. ChecksInput input (parts_of (read_lines input)) served old out))
+abbrev pub ChecksKnown : Option (List ℕ) → Result Served ServeFault → Option (List ℕ) → Option (List ℕ) → Type 0
+ChecksKnown known r old out = IfOk r (λ served. IfSome known (λ input. WritesSome old out (ChecksInput input served)))
 
-module _ (first bytes : List ℕ) (begin new : ℕ) (end : TextEnd) (empty : first ≡ []) (begun : begin ≡ 0) where
-  here : (xs : List ℕ) (to : TextEnd) → end ≡ to → Splits (first ++ xs) bytes begin new end → Splits xs bytes 0 new to
-  here xs to is splits = split_here first bytes begin new end empty begun xs to is splits
+-- and where the writer failed
+abbrev pub CutKnown : Option (List ℕ) → Result Served ServeFault → Option (List ℕ) → Option (List ℕ) → Type 0
+CutKnown known r old out = IfErr r (λ fault. fault ≡ Write → IfSome known (λ input. (served : Served) × WritesFront old out (ChecksInput input served)))
 
-  pub checks_before : {E : Type 0} (known : Option (List ℕ)) (text : List ℕ) (span : Span) (r : Result Served E) (old out : Option (List ℕ))
-      → IfSome (prepend_known first known) (λ whole. Splits whole bytes begin new end) → end ≡ ends.Before span
-      → (span.from ≤ length bytes → text ≡ take span.from bytes) → IfOk r (λ served. ChecksText text served old out) → ChecksKnown known r old out
-  checks_before known text span (Err e) old out splits is seen checked = tt
-  checks_before None text span (Ok served) old out splits is seen checked = tt
-  checks_before (Some xs) text span (Ok served) old out splits is seen checked =
-      let told : Splits xs bytes 0 new (ends.Before span) = here xs (ends.Before span) is splits in
-      let parts : parts_of (read_lines xs) ≡ Some (record { program = slice_range bytes 0 span.from; commands = lines_from new xs }) = all_from_start xs ∙ told.0 in
-      subst (λ (o : Option Parts). ChecksInput xs o served old out) (sym parts)
-      (subst (λ (t : List ℕ). ChecksText t served old out) (text_from_start bytes text span.from (seen told.1)) checked)
+module _ (bytes : List ℕ) (ended : Bool) (begin new : ℕ) (end : TextEnd) (begun : begin ≡ 0) (splits : SplitsAny bytes ended begin new end) where
+  here : (to : TextEnd) → end ≡ to → (input : List ℕ) → MayBe bytes ended input → Splits input bytes 0 new to
+  here to is input may = split_here bytes ended begin new end begun splits to is input may
 
-  pub checks_all : {E : Type 0} (known after : Option (List ℕ)) (text : List ℕ) (ended : Bool) (r : Result Served E) (old out : Option (List ℕ))
-      → Keeps (prepend_known first known) (prepend_known bytes after) → EndsWith ended after → ended ≡ true
-      → IfSome (prepend_known first known) (λ whole. Splits whole bytes begin new end) → end ≡ ends.End
-      → text ≡ bytes → IfOk r (λ served. ChecksText text served old out) → ChecksKnown known r old out
-  checks_all known after text ended (Err e) old out keeps at_end stopped splits is seen checked = tt
-  checks_all None after text ended (Ok served) old out keeps at_end stopped splits is seen checked = tt
-  checks_all (Some xs) None text ended (Ok served) old out keeps at_end stopped splits is seen checked = absurd keeps
-  checks_all (Some xs) (Some ys) text ended (Ok served) old out keeps at_end stopped splits is seen checked =
-      let told : Splits xs bytes 0 new ends.End = here xs ends.End is splits in
-      let parts : parts_of (read_lines xs) ≡ None = all_from_start xs ∙ told.0 in
-      let none : ys ≡ [] = at_end stopped in
-      let whole : bytes ≡ xs = sym (append-nil bytes) ∙ ap (λ (t : List ℕ). bytes ++ t) (sym none) ∙ keeps ∙ ap (λ (t : List ℕ). t ++ xs) empty in
-      let short : is_too_long xs ≡ false = told.1 in
-      subst (λ (o : Option Parts). ChecksInput xs o served old out) (sym parts)
-      (rw short (subst (λ (t : List ℕ). ChecksText t served old out) (seen ∙ whole) checked))
+  -- a line ended the text
+  module _ (text : List ℕ) (span : Span) (is : end ≡ ends.Before span) (seen : span.from ≤ length bytes → text ≡ take span.from bytes) where
+    text_before : (input : List ℕ) → MayBe bytes ended input → (served : Served) (out : List ℕ) → ChecksText text served out → ChecksInput input served out
+    text_before input may served out checks =
+        let told : Splits input bytes 0 new (ends.Before span) = here (ends.Before span) is input may in
+        subst (λ (o : Option Parts). ChecksParts input o served out) (sym (all_from_start input ∙ told.0))
+        (subst (λ (t : List ℕ). ChecksText t served out) (text_from_start bytes text span.from (seen told.1)) checks)
 
-  pub checks_too_long : (known : Option (List ℕ)) (r : Result Served ServeFault) (old out : Option (List ℕ))
-      → IfSome (prepend_known first known) (λ whole. Splits whole bytes begin new end) → end ≡ ends.TooLong → Writes old out r too_long_text
-      → IfOk r (λ served. served ≡ outcomes.TooLong) → ChecksKnown known r old out
-  checks_too_long known (Err e) old out splits is wrote same = tt
-  checks_too_long None (Ok served) old out splits is wrote same = tt
-  checks_too_long (Some xs) (Ok served) old out splits is wrote same =
-      let told : Splits xs bytes 0 new ends.TooLong = here xs ends.TooLong is splits in
-      let parts : parts_of (read_lines xs) ≡ None = all_from_start xs ∙ told.0 in
-      let long : is_too_long xs ≡ true = told.1 in
-      subst (λ (o : Option Parts). ChecksInput xs o served old out) (sym parts) (rw long (same, (too_long_text, refl, wrote.whole)))
+    pub checks_before : (known : Option (List ℕ)) (r : Result Served ServeFault) (old out : Option (List ℕ)) → IfSome known (MayBe bytes ended)
+        → IfOk r (λ served. WritesSome old out (ChecksText text served)) → ChecksKnown known r old out
+    checks_before known (Err fault) old out may wrote = tt
+    checks_before None (Ok served) old out may wrote = tt
+    checks_before (Some input) (Ok served) old out may wrote = (wrote.0, text_before input may served wrote.0 wrote.1, wrote.2)
+
+    pub cut_before : (known : Option (List ℕ)) (r : Result Served ServeFault) (old out : Option (List ℕ)) → IfSome known (MayBe bytes ended)
+        → StopsText text r old out → CutKnown known r old out
+    cut_before known (Ok served) old out may wrote = tt
+    cut_before None (Err fault) old out may wrote = λ is_write. tt
+    cut_before (Some input) (Err fault) old out may wrote =
+        λ is_write.
+        let told = wrote is_write in
+        (told.0, (told.1.0, text_before input may told.0 told.1.0 told.1.1, told.1.2))
+
+  -- the input ended the text
+  module _ (text : List ℕ) (is : end ≡ ends.End) (stopped : ended ≡ true) (seen : text ≡ bytes) where
+    text_whole : (input : List ℕ) → MayBe bytes ended input → (served : Served) (out : List ℕ) → ChecksText text served out → ChecksInput input served out
+    text_whole input may served out checks =
+        let told : Splits input bytes 0 new ends.End = here ends.End is input may in
+        let none : may.0 ≡ [] = may.2 stopped in
+        let whole : bytes ≡ input = sym (append-nil bytes) ∙ ap (λ (t : List ℕ). bytes ++ t) (sym none) ∙ sym may.1 in
+        let short : is_too_long input ≡ false = told.1 in
+        subst (λ (o : Option Parts). ChecksParts input o served out) (sym (all_from_start input ∙ told.0))
+        (rw short (subst (λ (t : List ℕ). ChecksText t served out) (seen ∙ whole) checks))
+
+    pub checks_all : (known : Option (List ℕ)) (r : Result Served ServeFault) (old out : Option (List ℕ)) → IfSome known (MayBe bytes ended)
+        → IfOk r (λ served. WritesSome old out (ChecksText text served)) → ChecksKnown known r old out
+    checks_all known (Err fault) old out may wrote = tt
+    checks_all None (Ok served) old out may wrote = tt
+    checks_all (Some input) (Ok served) old out may wrote = (wrote.0, text_whole input may served wrote.0 wrote.1, wrote.2)
+
+    pub cut_all : (known : Option (List ℕ)) (r : Result Served ServeFault) (old out : Option (List ℕ)) → IfSome known (MayBe bytes ended)
+        → StopsText text r old out → CutKnown known r old out
+    cut_all known (Ok served) old out may wrote = tt
+    cut_all None (Err fault) old out may wrote = λ is_write. tt
+    cut_all (Some input) (Err fault) old out may wrote =
+        λ is_write.
+        let told = wrote is_write in
+        (told.0, (told.1.0, text_whole input may told.0 told.1.0 told.1.1, told.1.2))
+
+  -- the text does not end
+  module _ (is : end ≡ ends.TooLong) where
+    too_long_here : (input : List ℕ) → MayBe bytes ended input → ChecksInput input outcomes.TooLong too_long_text
+    too_long_here input may =
+        let told : Splits input bytes 0 new ends.TooLong = here ends.TooLong is input may in
+        let long : is_too_long input ≡ true = told.1 in
+        subst (λ (o : Option Parts). ChecksParts input o outcomes.TooLong too_long_text) (sym (all_from_start input ∙ told.0)) (rw long (refl, refl))
+
+    pub checks_too_long : (known : Option (List ℕ)) (r : Result Served ServeFault) (old out : Option (List ℕ)) → IfSome known (MayBe bytes ended)
+        → Writes old out r too_long_text → IfOk r (λ served. served ≡ outcomes.TooLong) → ChecksKnown known r old out
+    checks_too_long known (Err fault) old out may wrote same = tt
+    checks_too_long None (Ok served) old out may wrote same = tt
+    checks_too_long (Some input) (Ok served) old out may wrote same =
+        (too_long_text, subst (λ (s : Served). ChecksInput input s too_long_text) (sym same) (too_long_here input may), wrote.whole)
+
+    pub cut_too_long : (known : Option (List ℕ)) (r : Result Served ServeFault) (old out : Option (List ℕ)) → IfSome known (MayBe bytes ended)
+        → Writes old out r too_long_text → CutKnown known r old out
+    cut_too_long known (Ok served) old out may wrote = tt
+    cut_too_long None (Err fault) old out may wrote = λ is_write. tt
+    cut_too_long (Some input) (Err fault) old out may wrote = λ is_write. (outcomes.TooLong, (too_long_text, too_long_here input may, wrote.part))

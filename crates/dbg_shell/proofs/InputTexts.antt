@@ -1,30 +1,47 @@
 -- What a run over the input writes.
-use Rattle.std.proofs.Common.{◌≡◌, ℕ, ◌-◌, ◌≤◌, true, false, List, [], ◌++◌, length, take, drop, Option, Some, None, refl, sym, ap, ◌∙◌, subst, inl, arith}
+use Rattle.std.proofs.Common.{◌≡◌, ℕ, ◌-◌, ◌≤◌, Bool, true, false, List, [], ◌++◌, length, take, drop, Option, Some, None, refl, sym, ap, ◌∙◌, subst, inl, arith}
 use Rattle.std.specs.Prelude.{slice_range, IfSome, IfOk, IfErr, MatchResult, Result, Ok, Err, codes}
-use Rattle.std.specs.Io.KnownBytes.{prepend_known, Keeps}
+use Rattle.std.proofs.KnownBytes.{Appends-nil}
 use Rattle.dbg_base.specs.declared.limits.TheConstants.{INPUT_BYTES}
 use Rattle.dbg_base.specs.Trees.{Program}
 use Rattle.dbg_base.specs.Checks.{Reads}
-use Rattle.dbg_base.specs.Shell.{Parts, parts_of, read_lines, lines_within, is_too_long, TextOfParts, Text, too_long_text, as_line}
+use Rattle.dbg_base.specs.ModelStates.{opening_state}
+use Rattle.dbg_base.specs.Shell.{Parts, lines_of, parts_of, read_lines, lines_within, is_too_long, AnswersLines, AnswersParts, TextOfParts, WholeText, Text, too_long_text, as_line}
 use Rattle.proc_lang.specs.Small.{IsSmall}
 use Rattle.dbg_shell.specs.declared.framing.Span.{Span}
 use Rattle.dbg_shell.specs.declared.outcome.Served.{Served}
 use Rattle.dbg_shell.specs.declared.outcome.ServeFault.{ServeFault}
-use Rattle.dbg_shell.specs.declared.outcome.ServeFault.TheVariants.{Write}
+use Rattle.dbg_shell.specs.declared.outcome.ServeFault.TheVariants.{Read, Write}
 use Rattle.dbg_shell.specs.declared.outcome.Served.TheVariants as outcomes
 use Rattle.dbg_shell.specs.declared.program_text.TextEnd.{TextEnd}
 use Rattle.dbg_shell.specs.declared.program_text.TextEnd.TheVariants as ends
-use Rattle.dbg_shell.specs.Spans.{lines_from}
+use Rattle.dbg_shell.specs.Spans.{lines_from, EndsWith, KeepsInput, MayBe, Narrows}
 use Rattle.dbg_shell.specs.Writing.{Writes}
-use Rattle.dbg_shell.specs.Serving.{IsServed, HasSmallText, ServesInput, WritesSome, WritesFront, RepliesTo, Splits, served_by, end_of}
+use Rattle.dbg_shell.specs.Serving.{IsServed, HasSmallText, ServesInput, BreaksInput, WritesFront, RepliesTo, ServesLines, StopsLines, BreaksLines, Splits, SplitsAny, served_by}
+use Rattle.dbg_shell.proofs.UnderWay.{goes_on}
 
 -- the run is of this form where the reader's bytes are known
 abbrev pub ServesKnown : {E : Type 0} → Option (List ℕ) → Result Served E → Option (List ℕ) → Option (List ℕ) → Type 0
 ServesKnown known r old out = IfOk r (λ served. IfSome known (λ input. IsServed input → ServesInput input served old out))
 
--- and of this form where the writer failed
+-- of this form where the writer failed
 abbrev pub StopsKnown : Option (List ℕ) → Result Served ServeFault → Option (List ℕ) → Option (List ℕ) → Type 0
 StopsKnown known r old out = IfErr r (λ fault. fault ≡ Write → IfSome known (λ input. IsServed input → WritesFront old out (Text input)))
+
+-- and of this form where the reader failed
+abbrev pub BreaksKnown : Option (List ℕ) → Option (List ℕ) → Result Served ServeFault → Option (List ℕ) → Option (List ℕ) → Type 0
+BreaksKnown known left r old out = IfErr r (λ fault. fault ≡ Read → IfSome known (λ input. BreaksInput input left old out))
+
+-- what the reader had is what was read and what is left
+whole_is : (first bytes xs ys : List ℕ) → first ≡ [] → bytes ++ ys ≡ first ++ xs → xs ≡ bytes ++ ys
+whole_is first bytes xs ys empty keeps = sym (keeps ∙ ap (λ (t : List ℕ). t ++ xs) empty)
+
+-- and one of those that the input may be
+pub known_may : (first : List ℕ) (known : Option (List ℕ)) (bytes : List ℕ) (left : Option (List ℕ)) (ended : Bool) → first ≡ []
+    → KeepsInput first known bytes left → EndsWith ended left → IfSome known (MayBe bytes ended)
+known_may first None bytes left ended empty keeps at_end = tt
+known_may first (Some xs) bytes None ended empty keeps at_end = absurd keeps
+known_may first (Some xs) bytes (Some ys) ended empty keeps at_end = (ys, whole_is first bytes xs ys empty keeps, at_end)
 
 within_all : (limit : ℕ) (input : List ℕ) → lines_within limit input ≡ lines_within (limit - 0) (drop 0 input)
 within_all limit input =
@@ -67,100 +84,128 @@ text_too_long input bytes new splits =
     let long : is_too_long input ≡ true = splits.1 in
     subst (λ (o : Option Parts). TextOfParts input o too_long_text) (sym (all_from_start input ∙ splits.0)) (rw long refl)
 
-module _ (first bytes : List ℕ) (begin new : ℕ) (end : TextEnd) (empty : first ≡ []) (begun : begin ≡ 0) where
-  -- what is known of the input from the first byte on
-  pub split_here : (xs : List ℕ) (to : TextEnd) → end ≡ to → Splits (first ++ xs) bytes begin new end → Splits xs bytes 0 new to
-  split_here xs to is splits =
-      subst (λ (n : ℕ). Splits xs bytes n new to) begun
-      (subst (λ (e : TextEnd). Splits xs bytes begin new e) is
-      (subst (λ (t : List ℕ). Splits (t ++ xs) bytes begin new end) empty splits))
+module _ (bytes : List ℕ) (ended : Bool) (begin new : ℕ) (end : TextEnd) (begun : begin ≡ 0) (splits : SplitsAny bytes ended begin new end) where
+  -- what splits the input from the first byte on
+  pub split_here : (to : TextEnd) → end ≡ to → (input : List ℕ) → MayBe bytes ended input → Splits input bytes 0 new to
+  split_here to is input may =
+      subst (λ (n : ℕ). Splits input bytes n new to) begun (subst (λ (e : TextEnd). Splits input bytes begin new e) is (splits input may))
 
-  whole_here : (xs ys : List ℕ) → bytes ++ ys ≡ first ++ xs → bytes ++ ys ≡ xs
-  whole_here xs ys same = same ∙ ap (λ (t : List ℕ). t ++ xs) empty
+  -- a program was read, and the lines behind it were answered
+  module _ (P : Program) (text : List ℕ) (span : Span) (is : end ≡ ends.Before span) (seen : span.from ≤ length bytes → text ≡ take span.from bytes)
+      (reads : Reads text P) (more : List ℕ) (over : Bool) (narrows : Narrows bytes ended more over) where
+    program_here : (input : List ℕ) → MayBe more over input → Splits input bytes 0 new (ends.Before span)
+    program_here input may = split_here (ends.Before span) is input (narrows input may)
 
-  pub serves_program : {E : Type 0} (P : Program) (known after : Option (List ℕ)) (text : List ℕ) (span : Span) (r : Result Served E) (old out : Option (List ℕ))
-      → Keeps (prepend_known first known) (prepend_known bytes after) → IfSome (prepend_known first known) (λ whole. Splits whole bytes begin new end)
-      → end ≡ ends.Before span → (span.from ≤ length bytes → text ≡ take span.from bytes) → Reads text P
-      → IfOk r (λ served. IfSome (prepend_known bytes after) (λ whole. (served ≡ end_of whole) × WritesSome old out (RepliesTo P (lines_from new whole) whole)))
-      → ServesKnown known r old out
-  serves_program P known after text span (Err e) old out keeps splits is seen reads wrote = tt
-  serves_program P None after text span (Ok served) old out keeps splits is seen reads wrote = tt
-  serves_program P (Some xs) None text span (Ok served) old out keeps splits is seen reads wrote = absurd keeps
-  serves_program P (Some xs) (Some ys) text span (Ok served) old out keeps splits is seen reads wrote =
-      let here : Splits xs bytes 0 new (ends.Before span) = split_here xs (ends.Before span) is splits in
-      let told : (served ≡ end_of xs) × WritesSome old out (RepliesTo P (lines_from new xs) xs) =
-      subst (λ (w : List ℕ). (served ≡ end_of w) × WritesSome old out (RepliesTo P (lines_from new w) w)) (whole_here xs ys keeps) wrote in
-      λ is_served. (
-        told.0 ∙ sym (ap (served_by xs) (all_from_start xs ∙ here.0)),
-        (told.1.0, text_of P xs bytes text told.1.0 new span here seen reads told.1.1, told.1.2),
-      )
+    pub serves_program : {E : Type 0} (known : Option (List ℕ)) (r : Result Served E) (old out : Option (List ℕ)) → IfSome known (MayBe more over)
+        → IfOk r (λ served. ServesLines P more over new served old out) → ServesKnown known r old out
+    serves_program known (Err e) old out may wrote = tt
+    serves_program None (Ok served) old out may wrote = tt
+    serves_program (Some input) (Ok served) old out may wrote =
+        let here : Splits input bytes 0 new (ends.Before span) = program_here input may in
+        let told = wrote input may in
+        λ is_served. (
+          told.0 ∙ sym (ap (served_by input) (all_from_start input ∙ here.0)),
+          (told.1.0, text_of P input bytes text told.1.0 new span here seen reads told.1.1, told.1.2),
+        )
 
-  pub stops_program : (P : Program) (known after : Option (List ℕ)) (text : List ℕ) (span : Span) (r : Result Served ServeFault) (old out : Option (List ℕ))
-      → Keeps (prepend_known first known) (prepend_known bytes after) → IfSome (prepend_known first known) (λ whole. Splits whole bytes begin new end)
-      → end ≡ ends.Before span → (span.from ≤ length bytes → text ≡ take span.from bytes) → Reads text P
-      → IfErr r (λ fault. fault ≡ Write → IfSome (prepend_known bytes after) (λ whole. WritesFront old out (RepliesTo P (lines_from new whole) whole)))
-      → StopsKnown known r old out
-  stops_program P known after text span (Ok served) old out keeps splits is seen reads wrote = tt
-  stops_program P None after text span (Err fault) old out keeps splits is seen reads wrote = λ is_write. tt
-  stops_program P (Some xs) None text span (Err fault) old out keeps splits is seen reads wrote = absurd keeps
-  stops_program P (Some xs) (Some ys) text span (Err fault) old out keeps splits is seen reads wrote =
-      let here : Splits xs bytes 0 new (ends.Before span) = split_here xs (ends.Before span) is splits in
-      λ is_write is_served.
-      let told : WritesFront old out (RepliesTo P (lines_from new xs) xs) =
-      subst (λ (w : List ℕ). WritesFront old out (RepliesTo P (lines_from new w) w)) (whole_here xs ys keeps) (wrote is_write) in
-      (told.0, text_of P xs bytes text told.0 new span here seen reads told.1, told.2)
+    pub stops_program : (known : Option (List ℕ)) (r : Result Served ServeFault) (old out : Option (List ℕ)) → IfSome known (MayBe more over)
+        → IfErr r (λ fault. fault ≡ Write → StopsLines P more over new old out) → StopsKnown known r old out
+    stops_program known (Ok served) old out may wrote = tt
+    stops_program None (Err fault) old out may wrote = λ is_write. tt
+    stops_program (Some input) (Err fault) old out may wrote =
+        λ is_write is_served.
+        let told = wrote is_write input may in
+        (told.0, text_of P input bytes text told.0 new span (program_here input may) seen reads told.1, told.2)
 
-  pub serves_no_fault : {E : Type 0} (known : Option (List ℕ)) (text : List ℕ) (span : Span) (r : Result Served E) (old out : Option (List ℕ))
-      → IfSome (prepend_known first known) (λ whole. Splits whole bytes begin new end) → end ≡ ends.Before span
-      → (span.from ≤ length bytes → text ≡ take span.from bytes) → ((P : Program) → Reads text P → IsSmall P → ⊥) → ServesKnown known r old out
-  serves_no_fault known text span (Err e) old out splits is seen none = tt
-  serves_no_fault None text span (Ok served) old out splits is seen none = tt
-  serves_no_fault (Some xs) text span (Ok served) old out splits is seen none =
-      λ is_served. absurd (not_served xs bytes text new span (split_here xs (ends.Before span) is splits) seen none is_served)
+    -- the replies to the whole lines
+    text_so_far : (old out : Option (List ℕ)) (broken : BreaksLines P more over new old out) → WholeText more broken.wrote.0
+    text_so_far old out broken =
+        let on = goes_on more over broken.at broken.under_way in
+        let here : Splits on.input bytes 0 new (ends.Before span) = program_here on.input on.may in
+        let held : broken.at ≤ length more = broken.under_way.begun in
+        let from : new ≤ broken.at = broken.begun in
+        let out : List ℕ = broken.wrote.0 in
+        subst (λ (o : Option Parts). AnswersParts o out) (sym (ap parts_of (sym (on.whole 0 (omega arith))) ∙ here.0))
+        (
+          P,
+          subst (λ (t : List ℕ). Reads t P) (text_from_start bytes text span.from (seen here.1)) reads,
+          broken.wrote.1.0,
+          subst (λ (lines : List (List ℕ)). AnswersLines P lines (opening_state P) out broken.wrote.1.0) (sym (on.whole new (omega arith))) broken.wrote.1.1,
+        )
 
-  pub stops_no_fault : (known : Option (List ℕ)) (text : List ℕ) (span : Span) (r : Result Served ServeFault) (old out : Option (List ℕ))
-      → IfSome (prepend_known first known) (λ whole. Splits whole bytes begin new end) → end ≡ ends.Before span
-      → (span.from ≤ length bytes → text ≡ take span.from bytes) → ((P : Program) → Reads text P → IsSmall P → ⊥) → StopsKnown known r old out
-  stops_no_fault known text span (Ok served) old out splits is seen none = tt
-  stops_no_fault None text span (Err fault) old out splits is seen none = λ is_write. tt
-  stops_no_fault (Some xs) text span (Err fault) old out splits is seen none =
-      λ is_write is_served. absurd (not_served xs bytes text new span (split_here xs (ends.Before span) is splits) seen none is_served)
+    pub breaks_program : (first : List ℕ) (known left : Option (List ℕ)) (r : Result Served ServeFault) (old out : Option (List ℕ)) → first ≡ []
+        → KeepsInput first known more left → IfErr r (λ fault. fault ≡ Read → BreaksLines P more over new old out) → BreaksKnown known left r old out
+    breaks_program first known left (Ok served) old out empty keeps wrote = tt
+    breaks_program first None left (Err fault) old out empty keeps wrote = λ is_read. tt
+    breaks_program first (Some xs) None (Err fault) old out empty keeps wrote = absurd keeps
+    breaks_program first (Some xs) (Some ys) (Err fault) old out empty keeps wrote =
+        λ is_read.
+        let broken : BreaksLines P more over new old out = wrote is_read in
+        (more, ys, refl, whole_is first more xs ys empty keeps, (broken.wrote.0, text_so_far old out broken, broken.wrote.2))
 
-  pub serves_no_end_line : (known : Option (List ℕ)) (r : Result Served ServeFault) (old out : Option (List ℕ))
-      → IfSome (prepend_known first known) (λ whole. Splits whole bytes begin new end) → end ≡ ends.End
-      → Writes old out r no_end_line → IfOk r (λ served. served ≡ outcomes.Refused) → ServesKnown known r old out
-  serves_no_end_line known (Err e) old out splits is wrote same = tt
-  serves_no_end_line None (Ok served) old out splits is wrote same = tt
-  serves_no_end_line (Some xs) (Ok served) old out splits is wrote same =
-      let here : Splits xs bytes 0 new ends.End = split_here xs ends.End is splits in
-      let no : is_too_long xs ≡ false = here.1 in
+  -- no small program was read
+  module _ (text : List ℕ) (span : Span) (is : end ≡ ends.Before span) (seen : span.from ≤ length bytes → text ≡ take span.from bytes)
+      (none : (P : Program) → Reads text P → IsSmall P → ⊥) where
+    pub serves_no_fault : {E : Type 0} (known : Option (List ℕ)) (r : Result Served E) (old out : Option (List ℕ)) → IfSome known (MayBe bytes ended)
+        → ServesKnown known r old out
+    serves_no_fault known (Err e) old out may = tt
+    serves_no_fault None (Ok served) old out may = tt
+    serves_no_fault (Some input) (Ok served) old out may =
+        λ is_served. absurd (not_served input bytes text new span (split_here (ends.Before span) is input may) seen none is_served)
+
+    pub stops_no_fault : (known : Option (List ℕ)) (r : Result Served ServeFault) (old out : Option (List ℕ)) → IfSome known (MayBe bytes ended)
+        → StopsKnown known r old out
+    stops_no_fault known (Ok served) old out may = tt
+    stops_no_fault None (Err fault) old out may = λ is_write. tt
+    stops_no_fault (Some input) (Err fault) old out may =
+        λ is_write is_served. absurd (not_served input bytes text new span (split_here (ends.Before span) is input may) seen none is_served)
+
+  pub serves_no_end_line : (known : Option (List ℕ)) (r : Result Served ServeFault) (old out : Option (List ℕ)) → IfSome known (MayBe bytes ended)
+      → end ≡ ends.End → Writes old out r no_end_line → IfOk r (λ served. served ≡ outcomes.Refused) → ServesKnown known r old out
+  serves_no_end_line known (Err e) old out may is wrote same = tt
+  serves_no_end_line None (Ok served) old out may is wrote same = tt
+  serves_no_end_line (Some input) (Ok served) old out may is wrote same =
+      let here : Splits input bytes 0 new ends.End = split_here ends.End is input may in
+      let no : is_too_long input ≡ false = here.1 in
       λ is_served.
-      (same ∙ sym (ap (served_by xs) (all_from_start xs ∙ here.0) ∙ rw no refl), (no_end_line, text_without_end xs bytes new here, wrote.whole))
+      (same ∙ sym (ap (served_by input) (all_from_start input ∙ here.0) ∙ rw no refl), (no_end_line, text_without_end input bytes new here, wrote.whole))
 
-  pub stops_no_end_line : (known : Option (List ℕ)) (r : Result Served ServeFault) (old out : Option (List ℕ))
-      → IfSome (prepend_known first known) (λ whole. Splits whole bytes begin new end) → end ≡ ends.End → Writes old out r no_end_line → StopsKnown known r old out
-  stops_no_end_line known (Ok served) old out splits is wrote = tt
-  stops_no_end_line None (Err fault) old out splits is wrote = λ is_write. tt
-  stops_no_end_line (Some xs) (Err fault) old out splits is wrote =
-      λ is_write is_served. (no_end_line, text_without_end xs bytes new (split_here xs ends.End is splits), wrote.part)
+  pub stops_no_end_line : (known : Option (List ℕ)) (r : Result Served ServeFault) (old out : Option (List ℕ)) → IfSome known (MayBe bytes ended)
+      → end ≡ ends.End → Writes old out r no_end_line → StopsKnown known r old out
+  stops_no_end_line known (Ok served) old out may is wrote = tt
+  stops_no_end_line None (Err fault) old out may is wrote = λ is_write. tt
+  stops_no_end_line (Some input) (Err fault) old out may is wrote =
+      λ is_write is_served. (no_end_line, text_without_end input bytes new (split_here ends.End is input may), wrote.part)
 
-  pub serves_too_long : (known : Option (List ℕ)) (r : Result Served ServeFault) (old out : Option (List ℕ))
-      → IfSome (prepend_known first known) (λ whole. Splits whole bytes begin new end) → end ≡ ends.TooLong
-      → Writes old out r too_long_text → IfOk r (λ served. served ≡ outcomes.TooLong) → ServesKnown known r old out
-  serves_too_long known (Err e) old out splits is wrote same = tt
-  serves_too_long None (Ok served) old out splits is wrote same = tt
-  serves_too_long (Some xs) (Ok served) old out splits is wrote same =
-      let here : Splits xs bytes 0 new ends.TooLong = split_here xs ends.TooLong is splits in
-      let long : is_too_long xs ≡ true = here.1 in
+  pub serves_too_long : (known : Option (List ℕ)) (r : Result Served ServeFault) (old out : Option (List ℕ)) → IfSome known (MayBe bytes ended)
+      → end ≡ ends.TooLong → Writes old out r too_long_text → IfOk r (λ served. served ≡ outcomes.TooLong) → ServesKnown known r old out
+  serves_too_long known (Err e) old out may is wrote same = tt
+  serves_too_long None (Ok served) old out may is wrote same = tt
+  serves_too_long (Some input) (Ok served) old out may is wrote same =
+      let here : Splits input bytes 0 new ends.TooLong = split_here ends.TooLong is input may in
+      let long : is_too_long input ≡ true = here.1 in
       λ is_served.
-      (same ∙ sym (ap (served_by xs) (all_from_start xs ∙ here.0) ∙ rw long refl), (too_long_text, text_too_long xs bytes new here, wrote.whole))
+      (same ∙ sym (ap (served_by input) (all_from_start input ∙ here.0) ∙ rw long refl), (too_long_text, text_too_long input bytes new here, wrote.whole))
 
-  pub stops_too_long : (known : Option (List ℕ)) (r : Result Served ServeFault) (old out : Option (List ℕ))
-      → IfSome (prepend_known first known) (λ whole. Splits whole bytes begin new end) → end ≡ ends.TooLong → Writes old out r too_long_text → StopsKnown known r old out
-  stops_too_long known (Ok served) old out splits is wrote = tt
-  stops_too_long None (Err fault) old out splits is wrote = λ is_write. tt
-  stops_too_long (Some xs) (Err fault) old out splits is wrote =
-      λ is_write is_served. (too_long_text, text_too_long xs bytes new (split_here xs ends.TooLong is splits), wrote.part)
+  pub stops_too_long : (known : Option (List ℕ)) (r : Result Served ServeFault) (old out : Option (List ℕ)) → IfSome known (MayBe bytes ended)
+      → end ≡ ends.TooLong → Writes old out r too_long_text → StopsKnown known r old out
+  stops_too_long known (Ok served) old out may is wrote = tt
+  stops_too_long None (Err fault) old out may is wrote = λ is_write. tt
+  stops_too_long (Some input) (Err fault) old out may is wrote =
+      λ is_write is_served. (too_long_text, text_too_long input bytes new (split_here ends.TooLong is input may), wrote.part)
+
+-- the reader failed before the program text had ended
+pub breaks_before : (first : List ℕ) (known : Option (List ℕ)) (bytes : List ℕ) (left : Option (List ℕ)) (begin : ℕ) (r : Result Served ServeFault)
+    (old : Option (List ℕ)) → first ≡ [] → begin ≡ 0 → KeepsInput first known bytes left → parts_of (lines_of (drop begin bytes)).whole ≡ None
+    → BreaksKnown known left r old old
+breaks_before first known bytes left begin (Ok served) old empty begun keeps none = tt
+breaks_before first None bytes left begin (Err fault) old empty begun keeps none = λ is_read. tt
+breaks_before first (Some xs) bytes None begin (Err fault) old empty begun keeps none = absurd keeps
+breaks_before first (Some xs) bytes (Some ys) begin (Err fault) old empty begun keeps none =
+    let nowhere : parts_of (lines_of bytes).whole ≡ None =
+    subst (λ (n : ℕ). parts_of (lines_of (drop n bytes)).whole ≡ None) begun none in
+    λ is_read.
+    (bytes, ys, refl, whole_is first bytes xs ys empty keeps, ([], subst (λ (o : Option Parts). AnswersParts o []) (sym nowhere) refl, Appends-nil old))
 
 abbrev value_or : {A E : Type 0} → A → Result A E → A
 value_or x (Ok y) = y

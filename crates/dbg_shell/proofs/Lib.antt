@@ -3,6 +3,7 @@ pub mod Histories
 pub mod Runs
 pub mod Words
 pub mod LineEnds
+pub mod UnderWay
 pub mod Pairs
 pub mod Splits
 pub mod Answering

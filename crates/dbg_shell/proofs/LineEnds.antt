@@ -13,7 +13,7 @@ use Rattle.dbg_base.specs.Shell.{lines_of, with_front, lines_within, all_lines, 
 use Rattle.dbg_shell.specs.declared.framing.Next.{Next}
 use Rattle.dbg_shell.specs.declared.framing.Next.TheVariants.{Line, TooLong}
 use Rattle.std.specs.Io.KnownBytes.{prepend_known}
-use Rattle.dbg_shell.specs.Spans.{is_inside, is_unended, lines_from, Tells, TellsAny, EndsWith, KeepsInput}
+use Rattle.dbg_shell.specs.Spans.{is_inside, is_unended, lines_from, Tells, TellsAny}
 use Rattle.dbg_shell.proofs.Runs.{and_first, and_second, both_true, not_is_true, not_is_false, front_passes}
 
 -- the first line is what stands before the first line end
@@ -25,7 +25,7 @@ first_line_of (b ∷ w) r h =
     ap (with_front b) (first_line_of w r (and_second (is_inside b) (is_unended w) h)) ∙ rw inner refl
 
 -- without a line end there is no whole line
-no_line_of : (w : List ℕ) → is_unended w ≡ true → lines_of w ≡ record { whole = []; rest = w }
+pub no_line_of : (w : List ℕ) → is_unended w ≡ true → lines_of w ≡ record { whole = []; rest = w }
 no_line_of [] h = refl
 no_line_of (b ∷ w) h =
     let front : not (eqb b 10) ≡ true = and_first (is_inside b) (is_unended w) h in
@@ -170,12 +170,8 @@ line_told bytes others ended at from end to new place e f t p told =
     subst (λ (b : List ℕ). P b from to place) (sym e) (subst (λ (i : ℕ). P bytes i to place) (sym f)
     (subst (λ (j : ℕ). P bytes at j place) (sym t) (subst (λ (k : ℕ). P bytes at end k) (sym p) told)))
 
--- what is told at any rest is told at the known one
-pub tells_known : (old : List ℕ) (before after : Option (List ℕ)) (bytes mid : List ℕ) (ended : Bool) (at place new : ℕ) (next : Next)
-    → KeepsInput old before mid after → EndsWith ended after → bytes ≡ mid → place ≡ at → TellsAny bytes ended place new next
-    → IfSome (prepend_known old before) (λ input. Tells input bytes at new next)
-tells_known old None after bytes mid ended at place new next keeps ends same here told = tt
-tells_known old (Some xs) None bytes mid ended at place new next keeps ends same here told = absurd keeps
-tells_known old (Some xs) (Some ys) bytes mid ended at place new next keeps ends same here told =
-    subst (λ (i : ℕ). Tells (old ++ xs) bytes i new next) here
-    (subst (λ (input : List ℕ). Tells input bytes place new next) (ap (λ (t : List ℕ). t ++ ys) same ∙ keeps) (told ys ends))
+-- the same is told, said with other words
+pub told_so : (bytes : List ℕ) (ended over : Bool) (at place new : ℕ) (next : Next) → over ≡ ended → at ≡ place → TellsAny bytes ended at new next
+    → TellsAny bytes over place new next
+told_so bytes ended over at place new next same here told rest none =
+    subst (λ (i : ℕ). Tells (bytes ++ rest) bytes i new next) here (told rest (λ e. none (same ∙ e)))

@@ -1,8 +1,9 @@
 -- What the command lines are answered with.
-use Rattle.std.proofs.Common.{◌≡◌, ℕ, ◌≤◌, true, false, List, [], ◌∷◌, ◌++◌, length, Option, Some, None, refl, sym, ap, ◌∙◌, subst, inr, append_assoc}
-use Rattle.std.specs.Prelude.{slice_range, IfSome, IfOk, IfErr, Result, Ok, Err}
-use Rattle.std.specs.Io.KnownBytes.{Keeps, Appends}
+use Rattle.std.proofs.Common.{◌≡◌, ℕ, ◌≤◌, Bool, true, false, List, [], ◌∷◌, ◌++◌, length, Option, Some, None, refl, sym, ap, ◌∙◌, subst, inr, append_assoc, arith}
+use Rattle.std.specs.Prelude.{slice_range, IfOk, IfErr, Result, Ok, Err}
+use Rattle.std.specs.Io.KnownBytes.{Appends}
 use Rattle.std.proofs.lemmas.List.{append-nil}
+use Rattle.std.proofs.KnownBytes.{Appends-nil, Appends-trans}
 use Rattle.dbg_base.specs.declared.call.Call.{Call}
 use Rattle.dbg_base.specs.declared.said.Said.TheVariants.{Refused}
 use Rattle.dbg_base.specs.declared.refusal.Refusal.{Refusal}
@@ -17,12 +18,14 @@ use Rattle.dbg_shell.specs.declared.framing.Next.{Next}
 use Rattle.dbg_shell.specs.declared.framing.Next.TheVariants as nexts
 use Rattle.dbg_shell.specs.declared.outcome.Served.{Served}
 use Rattle.dbg_shell.specs.declared.outcome.ServeFault.{ServeFault}
-use Rattle.dbg_shell.specs.declared.outcome.ServeFault.TheVariants.{Write}
+use Rattle.dbg_shell.specs.declared.outcome.ServeFault.TheVariants.{Read, Write}
 use Rattle.dbg_shell.specs.declared.outcome.Served.TheVariants as ends
-use Rattle.dbg_shell.specs.Spans.{lines_from, Tells}
+use Rattle.dbg_shell.specs.Spans.{lines_from, Tells, TellsAny, MayBe, Narrows, IsUnderWay}
 use Rattle.dbg_shell.specs.Writing.{AppendsFront, Writes}
-use Rattle.dbg_shell.specs.Serving.{WritesAnswer, WritesSome, WritesFront, RepliesTo, end_of}
-use Rattle.dbg_shell.proofs.Writing.{appends_then, appends_nothing, front_then, front_longer}
+use Rattle.dbg_shell.specs.Serving.{WritesAnswer, WritesSome, WritesFront, RepliesTo, ServesLines, StopsLines, BreaksLines, end_of}
+use Rattle.dbg_shell.proofs.Splits.{told_of}
+use Rattle.dbg_shell.proofs.UnderWay.{goes_on, none_left}
+use Rattle.dbg_shell.proofs.Writing.{front_then, front_longer}
 
 -- Some lines were answered, and what answers the lines from here on completes the answers to all of them.
 pub record Answered (P : Program) (whole : List ℕ) (from at : ℕ) (M : ModelState) (old new : Option (List ℕ)) : Type 0 where
@@ -34,39 +37,21 @@ pub record Answered (P : Program) (whole : List ℕ) (from at : ℕ) (M : ModelS
 pub answered_begins : (P : Program) (whole : List ℕ) (from : ℕ) (M : ModelState) (a : Option (List ℕ)) → M ≡ opening_state P → Answered P whole from from M a a
 answered_begins P whole from M a e = record {
   text = [];
-  written = appends_nothing a;
+  written = Appends-nil a;
   goes_on = λ others last answers. subst (λ (M : ModelState). AnswersLines P (lines_from from whole) M others last) e answers;
 }
-
-pub known_answers_begin : (P : Program) (known : Option (List ℕ)) (from : ℕ) (M : ModelState) (a : Option (List ℕ)) → M ≡ opening_state P
-    → IfSome known (λ whole. Answered P whole from from M a a)
-known_answers_begin P None from M a e = tt
-known_answers_begin P (Some whole) from M a e = answered_begins P whole from M a e
 
 answered_on : (P : Program) (whole line : List ℕ) (from at new : ℕ) (M next : ModelState) (a b c : Option (List ℕ)) (text : List ℕ)
     → Answered P whole from at M a b → lines_from at whole ≡ line ∷ lines_from new whole → AnswersLine P line M text next → Appends b c text
     → Answered P whole from new next a c
 answered_on P whole line from at new M next a b c text answered here answers written = record {
   text = answered.text ++ text;
-  written = appends_then a b c answered.text text answered.written written;
+  written = Appends-trans a b c answered.text text answered.written written;
   goes_on = λ others last more.
       subst (λ (t : List ℕ). AnswersLines P (lines_from from whole) (opening_state P) t last) (sym (append_assoc answered.text text others))
       (answered.goes_on (text ++ others) last (subst (λ (lines : List (List ℕ)). AnswersLines P lines M (text ++ others) last) (sym here)
       (text, others, next, answers, more, refl)));
 }
-
-pub known_answers_on : {A : Type 0} (P : Program) (a b : Option (List ℕ)) (bytes line : List ℕ) (from at new : ℕ) (next : Next) (span : Span) (M M' : ModelState)
-    (old mid out : Option (List ℕ)) (u : A) → Keeps a b → IfSome a (λ whole. Answered P whole from at M old mid)
-    → IfSome b (λ whole. Tells whole bytes at new next) → next ≡ nexts.Line span
-    → (span.from ≤ span.to → span.to ≤ length bytes → line ≡ slice_range bytes span.from span.to)
-    → WritesAnswer {A = A} P line M mid (Ok u) out M' → IfSome a (λ whole. Answered P whole from new M' old out)
-known_answers_on P None b bytes line from at new next span M M' old mid out u keeps answered told is seen wrote = tt
-known_answers_on P (Some xs) None bytes line from at new next span M M' old mid out u keeps answered told is seen wrote = absurd keeps
-known_answers_on P (Some xs) (Some ys) bytes line from at new next span M M' old mid out u keeps answered told is seen wrote =
-    let here : Tells xs bytes at new (nexts.Line span) =
-    subst (λ (whole : List ℕ). Tells whole bytes at new (nexts.Line span)) keeps (subst (λ (n : Next). Tells ys bytes at new n) is told) in
-    let same : line ≡ slice_range bytes span.from span.to = seen here.2 here.3 in
-    answered_on P xs line from at new M M' old mid out wrote.text answered (here.0 ∙ ap (λ (l : List ℕ). l ∷ lines_from new xs) (sym same)) wrote.answers wrote.written.whole
 
 -- no line is left, and this is told at the end
 replies_end : (P : Program) (whole : List ℕ) (from at : ℕ) (M : ModelState) (a b : Option (List ℕ)) (text : List ℕ) (answered : Answered P whole from at M a b)
@@ -81,31 +66,7 @@ replies_end P whole from at M a b text answered none same = (
 answered_ends : (P : Program) (whole : List ℕ) (from at : ℕ) (M : ModelState) (a b c : Option (List ℕ)) (text : List ℕ) → Answered P whole from at M a b
     → lines_from at whole ≡ [] → Appends b c text → text ≡ end_text whole → WritesSome a c (RepliesTo P (lines_from from whole) whole)
 answered_ends P whole from at M a b c text answered none written same =
-    (answered.text ++ text, replies_end P whole from at M a b text answered none same, appends_then a b c answered.text text answered.written written)
-
-pub known_answers_end : (P : Program) (a b : Option (List ℕ)) (bytes : List ℕ) (from at new : ℕ) (next : Next) (M : ModelState) (old mid : Option (List ℕ))
-    → Keeps a b → IfSome a (λ whole. Answered P whole from at M old mid) → IfSome b (λ whole. Tells whole bytes at new next) → next ≡ nexts.End
-    → IfSome a (λ whole. (ends.Done ≡ end_of whole) × WritesSome old mid (RepliesTo P (lines_from from whole) whole))
-known_answers_end P None b bytes from at new next M old mid keeps answered told is = tt
-known_answers_end P (Some xs) None bytes from at new next M old mid keeps answered told is = absurd keeps
-known_answers_end P (Some xs) (Some ys) bytes from at new next M old mid keeps answered told is =
-    let here : Tells xs bytes at new nexts.End =
-    subst (λ (whole : List ℕ). Tells whole bytes at new nexts.End) keeps (subst (λ (n : Next). Tells ys bytes at new n) is told) in
-    let no : is_too_long xs ≡ false = here.1 in
-    (rw no refl, answered_ends P xs from at M old mid mid [] answered here.0 (appends_nothing mid) (rw no refl))
-
-pub known_answers_too_long : (P : Program) (a b : Option (List ℕ)) (bytes : List ℕ) (from at new : ℕ) (next : Next) (M : ModelState)
-    (r : Result Served ServeFault) (old mid out : Option (List ℕ)) → Keeps a b → IfSome a (λ whole. Answered P whole from at M old mid)
-    → IfSome b (λ whole. Tells whole bytes at new next) → next ≡ nexts.TooLong → Writes mid out r too_long_text → IfOk r (λ served. served ≡ ends.TooLong)
-    → IfOk r (λ served. IfSome a (λ whole. (served ≡ end_of whole) × WritesSome old out (RepliesTo P (lines_from from whole) whole)))
-known_answers_too_long P a b bytes from at new next M (Err e) old mid out keeps answered told is wrote same = tt
-known_answers_too_long P None b bytes from at new next M (Ok served) old mid out keeps answered told is wrote same = tt
-known_answers_too_long P (Some xs) None bytes from at new next M (Ok served) old mid out keeps answered told is wrote same = absurd keeps
-known_answers_too_long P (Some xs) (Some ys) bytes from at new next M (Ok served) old mid out keeps answered told is wrote same =
-    let here : Tells xs bytes at new nexts.TooLong =
-    subst (λ (whole : List ℕ). Tells whole bytes at new nexts.TooLong) keeps (subst (λ (n : Next). Tells ys bytes at new n) is told) in
-    let long : is_too_long xs ≡ true = here.1 in
-    (same ∙ rw long refl, answered_ends P xs from at M old mid out too_long_text answered here.0 wrote.whole (rw long refl))
+    (answered.text ++ text, replies_end P whole from at M a b text answered none same, Appends-trans a b c answered.text text answered.written written)
 
 -- a line has some answer
 some_answer : (P : Program) (r : Result (Option (ℕ × Call)) Refusal) (M : ModelState) → (out : List ℕ) × (M' : ModelState) × AnswersParsed P r M out M'
@@ -138,34 +99,86 @@ answered_stops P whole line from at new M next a b c text answered here answers 
       subst (λ (t : List ℕ). AppendsFront a c t) (regrouped answered.text text more.0 (end_text whole)) longer,
     )
 
-pub known_answers_stop : {A : Type 0} (P : Program) (a b : Option (List ℕ)) (bytes line : List ℕ) (from at new : ℕ) (next : Next) (span : Span) (M M' : ModelState)
-    (old mid out : Option (List ℕ)) (e : ServeFault) (r : Result Served ServeFault) → Keeps a b → IfSome a (λ whole. Answered P whole from at M old mid)
-    → IfSome b (λ whole. Tells whole bytes at new next) → next ≡ nexts.Line span
-    → (span.from ≤ span.to → span.to ≤ length bytes → line ≡ slice_range bytes span.from span.to)
-    → WritesAnswer {A = A} P line M mid (Err e) out M'
-    → IfErr r (λ fault. fault ≡ Write → IfSome a (λ whole. WritesFront old out (RepliesTo P (lines_from from whole) whole)))
-known_answers_stop P a b bytes line from at new next span M M' old mid out e (Ok served) keeps answered told is seen wrote = tt
-known_answers_stop P None b bytes line from at new next span M M' old mid out e (Err fault) keeps answered told is seen wrote = λ _. tt
-known_answers_stop P (Some xs) None bytes line from at new next span M M' old mid out e (Err fault) keeps answered told is seen wrote = absurd keeps
-known_answers_stop P (Some xs) (Some ys) bytes line from at new next span M M' old mid out e (Err fault) keeps answered told is seen wrote =
-    let here : Tells xs bytes at new (nexts.Line span) =
-    subst (λ (whole : List ℕ). Tells whole bytes at new (nexts.Line span)) keeps (subst (λ (n : Next). Tells ys bytes at new n) is told) in
-    let same : line ≡ slice_range bytes span.from span.to = seen here.2 here.3 in
-    λ _. answered_stops P xs line from at new M M' old mid out wrote.text answered (here.0 ∙ ap (λ (l : List ℕ). l ∷ lines_from new xs) (sym same)) wrote.answers wrote.written.part
+-- The lines were answered so far, whatever the input may be.
+abbrev pub AnsweredAny : Program → List ℕ → Bool → ℕ → ℕ → ModelState → Option (List ℕ) → Option (List ℕ) → Type 0
+AnsweredAny P bytes ended from at M old new = (input : List ℕ) → MayBe bytes ended input → Answered P input from at M old new
 
-pub known_answers_cut : (P : Program) (a b : Option (List ℕ)) (bytes : List ℕ) (from at new : ℕ) (next : Next) (M : ModelState)
-    (r : Result Served ServeFault) (old mid out : Option (List ℕ)) → Keeps a b → IfSome a (λ whole. Answered P whole from at M old mid)
-    → IfSome b (λ whole. Tells whole bytes at new next) → next ≡ nexts.TooLong → Writes mid out r too_long_text
-    → IfErr r (λ fault. fault ≡ Write → IfSome a (λ whole. WritesFront old out (RepliesTo P (lines_from from whole) whole)))
-known_answers_cut P a b bytes from at new next M (Ok served) old mid out keeps answered told is wrote = tt
-known_answers_cut P None b bytes from at new next M (Err fault) old mid out keeps answered told is wrote = λ _. tt
-known_answers_cut P (Some xs) None bytes from at new next M (Err fault) old mid out keeps answered told is wrote = absurd keeps
-known_answers_cut P (Some xs) (Some ys) bytes from at new next M (Err fault) old mid out keeps answered told is wrote =
-    let here : Tells xs bytes at new nexts.TooLong =
-    subst (λ (whole : List ℕ). Tells whole bytes at new nexts.TooLong) keeps (subst (λ (n : Next). Tells ys bytes at new n) is told) in
-    let long : is_too_long xs ≡ true = here.1 in
-    λ _. (
-      answered.text ++ too_long_text,
-      replies_end P xs from at M old mid too_long_text answered here.0 (rw long refl),
-      front_then old mid out answered.text too_long_text answered.written wrote.part,
-    )
+pub any_answered : (P : Program) (bytes : List ℕ) (ended : Bool) (from : ℕ) (M : ModelState) (a : Option (List ℕ)) → M ≡ opening_state P
+    → AnsweredAny P bytes ended from from M a a
+any_answered P bytes ended from M a e input may = answered_begins P input from M a e
+
+module _ (P : Program) (before : List ℕ) (was : Bool) (bytes : List ℕ) (ended : Bool) (from at new : ℕ) (next : Next) (M : ModelState) (old mid : Option (List ℕ))
+    (answered : AnsweredAny P before was from at M old mid) (narrows : Narrows before was bytes ended) (told : TellsAny bytes ended at new next) where
+  module _ (line : List ℕ) (span : Span) (M' : ModelState) (out : Option (List ℕ)) (is : next ≡ nexts.Line span)
+      (seen : span.from ≤ span.to → span.to ≤ length bytes → line ≡ slice_range bytes span.from span.to) where
+    line_here : (input : List ℕ) → MayBe bytes ended input → lines_from at input ≡ line ∷ lines_from new input
+    line_here input may =
+        let here : Tells input bytes at new (nexts.Line span) = told_of bytes ended at new next (nexts.Line span) told is input may in
+        let same : line ≡ slice_range bytes span.from span.to = seen here.2 here.3 in
+        here.0 ∙ ap (λ (l : List ℕ). l ∷ lines_from new input) (sym same)
+
+    pub any_goes_on : {A : Type 0} (u : A) → WritesAnswer P line M mid (Ok u) out M' → AnsweredAny P bytes ended from new M' old out
+    any_goes_on u wrote input may =
+        answered_on P input line from at new M M' old mid out wrote.text (answered input (narrows input may)) (line_here input may) wrote.answers wrote.written.whole
+
+    pub any_stops : {A : Type 0} (e : ServeFault) (r : Result Served ServeFault) → WritesAnswer {A = A} P line M mid (Err e) out M'
+        → IfErr r (λ fault. fault ≡ Write → StopsLines P bytes ended from old out)
+    any_stops e (Ok served) wrote = tt
+    any_stops e (Err fault) wrote =
+        λ is_write input may.
+        answered_stops P input line from at new M M' old mid out wrote.text (answered input (narrows input may)) (line_here input may) wrote.answers wrote.written.part
+
+  pub any_ends : next ≡ nexts.End → ServesLines P bytes ended from ends.Done old mid
+  any_ends is input may =
+      let here : Tells input bytes at new nexts.End = told_of bytes ended at new next nexts.End told is input may in
+      let no : is_too_long input ≡ false = here.1 in
+      (rw no refl, answered_ends P input from at M old mid mid [] (answered input (narrows input may)) here.0 (Appends-nil mid) (rw no refl))
+
+  pub any_is_too_long : (r : Result Served ServeFault) (out : Option (List ℕ)) → next ≡ nexts.TooLong → Writes mid out r too_long_text
+      → IfOk r (λ served. served ≡ ends.TooLong) → IfOk r (λ served. ServesLines P bytes ended from served old out)
+  any_is_too_long (Err fault) out is wrote same = tt
+  any_is_too_long (Ok served) out is wrote same =
+      λ input may.
+      let here : Tells input bytes at new nexts.TooLong = told_of bytes ended at new next nexts.TooLong told is input may in
+      let long : is_too_long input ≡ true = here.1 in
+      (same ∙ rw long refl, answered_ends P input from at M old mid out too_long_text (answered input (narrows input may)) here.0 wrote.whole (rw long refl))
+
+  pub any_is_cut : (r : Result Served ServeFault) (out : Option (List ℕ)) → next ≡ nexts.TooLong → Writes mid out r too_long_text
+      → IfErr r (λ fault. fault ≡ Write → StopsLines P bytes ended from old out)
+  any_is_cut (Ok served) out is wrote = tt
+  any_is_cut (Err fault) out is wrote =
+      λ is_write input may.
+      let here : Tells input bytes at new nexts.TooLong = told_of bytes ended at new next nexts.TooLong told is input may in
+      let long : is_too_long input ≡ true = here.1 in
+      let so_far : Answered P input from at M old mid = answered input (narrows input may) in (
+        so_far.text ++ too_long_text,
+        replies_end P input from at M old mid too_long_text so_far here.0 (rw long refl),
+        front_then old mid out so_far.text too_long_text so_far.written wrote.part,
+      )
+
+-- where no more can be read, the whole lines were answered
+pub any_breaks : (P : Program) (before : List ℕ) (was : Bool) (bytes : List ℕ) (ended : Bool) (from at : ℕ) (M : ModelState) (old mid : Option (List ℕ))
+    (r : Result Served ServeFault) → AnsweredAny P before was from at M old mid → Narrows before was bytes ended → from ≤ at → IsUnderWay bytes ended at
+    → IfErr r (λ fault. fault ≡ Read → BreaksLines P bytes ended from old mid)
+any_breaks P before was bytes ended from at M old mid (Ok served) answered narrows begun way = tt
+any_breaks P before was bytes ended from at M old mid (Err fault) answered narrows begun way =
+    λ is_read.
+    let on = goes_on bytes ended at way in
+    let so_far : Answered P on.input from at M old mid = answered on.input (narrows on.input on.may) in
+    let held : at ≤ length bytes = way.begun in
+    let all : AnswersLines P (lines_from from on.input) (opening_state P) (so_far.text ++ []) M =
+    so_far.goes_on [] M (subst (λ (lines : List (List ℕ)). AnswersLines P lines M [] M) (sym (none_left bytes ended at way)) (refl, refl)) in
+    record {
+      at = at;
+      begun = begun;
+      under_way = way;
+      wrote = (
+        so_far.text,
+        (
+          M,
+          subst (λ (lines : List (List ℕ)). AnswersLines P lines (opening_state P) so_far.text M) (on.whole from (omega arith))
+              (subst (λ (t : List ℕ). AnswersLines P (lines_from from on.input) (opening_state P) t M) (append-nil so_far.text) all),
+        ),
+        so_far.written,
+      );
+    }

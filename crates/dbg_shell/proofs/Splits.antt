@@ -1,16 +1,16 @@
 -- Where the program text ends.
 use Rattle.std.proofs.Common.{◌≡◌, ℕ, ◌+◌, ◌-◌, ◌<◌, ◌≤◌, Bool, true, false, List, [], ◌∷◌, ◌++◌, length, take, drop, Option, Some, None, refl, sym, ap, ◌∙◌, subst, inl, inr, ◌⊎◌, append_assoc, arith}
-use Rattle.std.specs.Prelude.{slice_range, IfSome, option_map}
-use Rattle.std.specs.Io.KnownBytes.{prepend_known, Keeps}
+use Rattle.std.specs.Prelude.{slice_range, option_map}
 use Rattle.std.proofs.lemmas.List.{append-nil, drop-drop, drop-append-le, take-append-le, length-drop}
 use Rattle.std.proofs.Math.Seq.{take-add}
-use Rattle.dbg_base.specs.Shell.{Parts, parts_of, is_end_line, line_before}
+use Rattle.dbg_base.specs.Shell.{Parts, lines_of, parts_of, is_end_line, line_before}
 use Rattle.dbg_shell.specs.declared.framing.Span.{Span}
 use Rattle.dbg_shell.specs.declared.framing.Next.{Next}
 use Rattle.dbg_shell.specs.declared.framing.Next.TheVariants as nexts
 use Rattle.dbg_shell.specs.declared.program_text.TextEnd.TheVariants as ends
-use Rattle.dbg_shell.specs.Spans.{lines_from, AdvancesAt, Tells}
-use Rattle.dbg_shell.specs.Serving.{with_text, Splits}
+use Rattle.dbg_shell.specs.Spans.{lines_from, AdvancesAt, Tells, TellsAny, MayBe, Narrows, IsUnderWay}
+use Rattle.dbg_shell.specs.Serving.{with_text, Splits, SplitsAny}
+use Rattle.dbg_shell.proofs.UnderWay.{goes_on, none_left}
 
 slice_on : (xs : List ℕ) (a b c : ℕ) → a ≤ b → b ≤ c → slice_range xs a c ≡ slice_range xs a b ++ slice_range xs b c
 slice_on xs a b c first second =
@@ -99,59 +99,62 @@ split_at whole bytes rest from at new span all so_far told end =
 no_parts : (whole : List ℕ) (from at : ℕ) → SoFar whole from at → lines_from at whole ≡ [] → parts_of (lines_from from whole) ≡ None
 no_parts whole from at so_far none = so_far.split ∙ ap (λ lines. option_map (with_text (slice_range whole from at)) (parts_of lines)) none
 
--- The same, where the bytes that the reader has left are known or not.
-pub known_begins : (known : Option (List ℕ)) (from : ℕ) → IfSome known (λ whole. SoFar whole from from)
-known_begins None from = tt
-known_begins (Some whole) from = so_far_begins whole from
+-- what is told of whatever the input may be
+pub told_of : (bytes : List ℕ) (ended : Bool) (at new : ℕ) (next to : Next) → TellsAny bytes ended at new next → next ≡ to
+    → (input : List ℕ) → MayBe bytes ended input → Tells input bytes at new to
+told_of bytes ended at new next to told is input may =
+    subst (λ (n : Next). Tells input bytes at new n) is (subst (λ (t : List ℕ). Tells t bytes at new next) (sym may.1) (told may.0 may.2))
 
-pub kept : (a b : Option (List ℕ)) (P : List ℕ → Type 0) → Keeps a b → IfSome b P → IfSome a P
-kept None b P keeps p = tt
-kept (Some xs) None P keeps p = absurd keeps
-kept (Some xs) (Some ys) P keeps p = subst P keeps p
+-- behind a line the place is further on
+pub further_on : (from at new : ℕ) (next : Next) (span : Span) → AdvancesAt at new next → next ≡ nexts.Line span → from ≤ at → from ≤ new
+further_on from at new next span on is begun =
+    let less : at < new = subst (λ (n : Next). AdvancesAt at new n) is on in
+    omega arith
 
 -- where the line that was looked at is the one that was told
-line_is : (whole bytes line : List ℕ) (at new : ℕ) (span : Span) (end : Bool) → Tells whole bytes at new (nexts.Line span)
+line_is : (input bytes line : List ℕ) (at new : ℕ) (span : Span) (end : Bool) → Tells input bytes at new (nexts.Line span)
     → (span.from ≤ span.to → span.to ≤ length bytes → line ≡ slice_range bytes span.from span.to) → is_end_line line ≡ end
     → is_end_line (slice_range bytes span.from span.to) ≡ end
-line_is whole bytes line at new span end told seen test = ap is_end_line (sym (seen told.2 told.3)) ∙ test
+line_is input bytes line at new span end told seen test = ap is_end_line (sym (seen told.2 told.3)) ∙ test
 
-pub known_goes_on : (a b : Option (List ℕ)) (bytes line : List ℕ) (from at new : ℕ) (next : Next) (span : Span) → Keeps a b → AdvancesAt at new next
-    → IfSome a (λ whole. SoFar whole from at) → IfSome b (λ whole. Tells whole bytes at new next) → next ≡ nexts.Line span
-    → (span.from ≤ span.to → span.to ≤ length bytes → line ≡ slice_range bytes span.from span.to) → is_end_line line ≡ false
-    → IfSome a (λ whole. SoFar whole from new)
-known_goes_on None b bytes line from at new next span keeps on so_far told is seen other = tt
-known_goes_on (Some xs) None bytes line from at new next span keeps on so_far told is seen other = absurd keeps
-known_goes_on (Some xs) (Some ys) bytes line from at new next span keeps on so_far told is seen other =
-    let here : Tells xs bytes at new (nexts.Line span) =
-    subst (λ (whole : List ℕ). Tells whole bytes at new (nexts.Line span)) keeps (subst (λ (n : Next). Tells ys bytes at new n) is told) in
-    so_far_on xs bytes from at new span (subst (λ (n : Next). AdvancesAt at new n) is on) so_far here (line_is xs bytes line at new span false here seen other)
+-- the parts of whatever the input may be
+abbrev pub SoFarAny : List ℕ → Bool → ℕ → ℕ → Type 0
+SoFarAny bytes ended from at = (input : List ℕ) → MayBe bytes ended input → SoFar input from at
 
-pub known_ends : (a b after : Option (List ℕ)) (bytes line : List ℕ) (from at new : ℕ) (next : Next) (span : Span) → Keeps a b
-    → Keeps b (prepend_known bytes after) → IfSome a (λ whole. SoFar whole from at) → IfSome b (λ whole. Tells whole bytes at new next)
-    → next ≡ nexts.Line span → (span.from ≤ span.to → span.to ≤ length bytes → line ≡ slice_range bytes span.from span.to)
-    → is_end_line line ≡ true → IfSome a (λ whole. Splits whole bytes from new (ends.Before span))
-known_ends None b after bytes line from at new next span keeps stays so_far told is seen end = tt
-known_ends (Some xs) None after bytes line from at new next span keeps stays so_far told is seen end = absurd keeps
-known_ends (Some xs) (Some ys) None bytes line from at new next span keeps stays so_far told is seen end = absurd stays
-known_ends (Some xs) (Some ys) (Some rest) bytes line from at new next span keeps stays so_far told is seen end =
-    let here : Tells xs bytes at new (nexts.Line span) =
-    subst (λ (whole : List ℕ). Tells whole bytes at new (nexts.Line span)) keeps (subst (λ (n : Next). Tells ys bytes at new n) is told) in
-    split_at xs bytes rest from at new span (sym keeps ∙ sym stays) so_far here (line_is xs bytes line at new span true here seen end)
+pub so_far_any : (bytes : List ℕ) (ended : Bool) (from : ℕ) → SoFarAny bytes ended from from
+so_far_any bytes ended from input may = so_far_begins input from
 
-pub known_none : (a b : Option (List ℕ)) (bytes : List ℕ) (from at new : ℕ) (next : Next) → Keeps a b → IfSome a (λ whole. SoFar whole from at)
-    → IfSome b (λ whole. Tells whole bytes at new next) → next ≡ nexts.End → IfSome a (λ whole. Splits whole bytes from new ends.End)
-known_none None b bytes from at new next keeps so_far told is = tt
-known_none (Some xs) None bytes from at new next keeps so_far told is = absurd keeps
-known_none (Some xs) (Some ys) bytes from at new next keeps so_far told is =
-    let here : Tells ys bytes at new nexts.End = subst (λ (n : Next). Tells ys bytes at new n) is told in
-    subst (λ (whole : List ℕ). Splits whole bytes from new ends.End) keeps
-    (no_parts ys from at (subst (λ (whole : List ℕ). SoFar whole from at) (sym keeps) so_far) here.0, here.1)
+module _ (before : List ℕ) (was : Bool) (bytes : List ℕ) (ended : Bool) (from at new : ℕ) (next : Next) (so_far : SoFarAny before was from at)
+    (narrows : Narrows before was bytes ended) (told : TellsAny bytes ended at new next) where
+  module _ (line : List ℕ) (span : Span) (is : next ≡ nexts.Line span)
+      (seen : span.from ≤ span.to → span.to ≤ length bytes → line ≡ slice_range bytes span.from span.to) where
+    pub so_far_goes_on : AdvancesAt at new next → is_end_line line ≡ false → SoFarAny bytes ended from new
+    so_far_goes_on on other input may =
+        let here : Tells input bytes at new (nexts.Line span) = told_of bytes ended at new next (nexts.Line span) told is input may in
+        so_far_on input bytes from at new span (subst (λ (n : Next). AdvancesAt at new n) is on) (so_far input (narrows input may)) here
+        (line_is input bytes line at new span false here seen other)
 
-pub known_too_long : (a b : Option (List ℕ)) (bytes : List ℕ) (from at new : ℕ) (next : Next) → Keeps a b → IfSome a (λ whole. SoFar whole from at)
-    → IfSome b (λ whole. Tells whole bytes at new next) → next ≡ nexts.TooLong → IfSome a (λ whole. Splits whole bytes from new ends.TooLong)
-known_too_long None b bytes from at new next keeps so_far told is = tt
-known_too_long (Some xs) None bytes from at new next keeps so_far told is = absurd keeps
-known_too_long (Some xs) (Some ys) bytes from at new next keeps so_far told is =
-    let here : Tells ys bytes at new nexts.TooLong = subst (λ (n : Next). Tells ys bytes at new n) is told in
-    subst (λ (whole : List ℕ). Splits whole bytes from new ends.TooLong) keeps
-    (no_parts ys from at (subst (λ (whole : List ℕ). SoFar whole from at) (sym keeps) so_far) here.0, here.1)
+    pub splits_here : is_end_line line ≡ true → SplitsAny bytes ended from new (ends.Before span)
+    splits_here end input may =
+        let here : Tells input bytes at new (nexts.Line span) = told_of bytes ended at new next (nexts.Line span) told is input may in
+        split_at input bytes may.0 from at new span may.1 (so_far input (narrows input may)) here (line_is input bytes line at new span true here seen end)
+
+  pub splits_nowhere : next ≡ nexts.End → SplitsAny bytes ended from new ends.End
+  splits_nowhere is input may =
+      let here : Tells input bytes at new nexts.End = told_of bytes ended at new next nexts.End told is input may in
+      (no_parts input from at (so_far input (narrows input may)) here.0, here.1)
+
+  pub splits_too_late : next ≡ nexts.TooLong → SplitsAny bytes ended from new ends.TooLong
+  splits_too_late is input may =
+      let here : Tells input bytes at new nexts.TooLong = told_of bytes ended at new next nexts.TooLong told is input may in
+      (no_parts input from at (so_far input (narrows input may)) here.0, here.1)
+
+-- where no more can be read, the whole lines have no end line
+pub splits_not_yet : (before : List ℕ) (was : Bool) (bytes : List ℕ) (ended : Bool) (from at : ℕ) → SoFarAny before was from at
+    → Narrows before was bytes ended → IsUnderWay bytes ended at → parts_of (lines_of (drop from bytes)).whole ≡ None
+splits_not_yet before was bytes ended from at so_far narrows way =
+    let on = goes_on bytes ended at way in
+    let here : SoFar on.input from at = so_far on.input (narrows on.input on.may) in
+    let begun : from ≤ at = here.begun in
+    let held : at ≤ length bytes = way.begun in
+    ap parts_of (sym (on.whole from (omega arith))) ∙ no_parts on.input from at here (none_left bytes ended at way)

@@ -2,7 +2,7 @@
 use Rattle.std.proofs.Common.{◌≡◌, ℕ, List, [], ◌++◌, Option, Some, None, Result, Ok, Err, refl, sym, ◌∙◌, ap, append_assoc, subst, take, drop}
 use Rattle.std.specs.Prelude.{IsErr, IsErrAnd, IfErr, true, false}
 use Rattle.std.specs.Io.KnownBytes.{Appends, Keeps}
-use Rattle.std.proofs.KnownBytes.{Appends-kept}
+use Rattle.std.proofs.KnownBytes.{Appends-nil, Appends-trans, Appends-kept}
 use Rattle.std.proofs.lemmas.List.{append-nil, take-append-drop}
 use Rattle.std.specs.Prelude.{codes}
 use Rattle.dbg_base.specs.declared.said.Done.{Done}
@@ -13,30 +13,15 @@ use Rattle.dbg_shell.specs.declared.outcome.ServeFault.{ServeFault}
 use Rattle.dbg_shell.specs.declared.outcome.ServeFault.TheVariants.{Write}
 use Rattle.dbg_shell.specs.Writing.{AppendsFront, Writes, deed_text}
 
-pub appends_then : (a b c : Option (List ℕ)) (x y : List ℕ) → Appends a b x → Appends b c y → Appends a c (x ++ y)
-appends_then None b c x y h k = tt
-appends_then (Some xs) None c x y h k = absurd h
-appends_then (Some xs) (Some ys) None x y h k = absurd k
-appends_then (Some xs) (Some ys) (Some zs) x y h k = k ∙ ap (λ t. t ++ y) h ∙ append_assoc xs x y
-
-pub appends_nothing : (a : Option (List ℕ)) → Appends a a []
-appends_nothing None = tt
-appends_nothing (Some xs) = sym (append-nil xs)
-
-pub appends_kept : (a b : Option (List ℕ)) → Keeps a b → Appends a b []
-appends_kept None b h = tt
-appends_kept (Some xs) None h = absurd h
-appends_kept (Some xs) (Some ys) h = h ∙ sym (append-nil xs)
-
 pub front_then : (a b c : Option (List ℕ)) (x y : List ℕ) → Appends a b x → AppendsFront b c y → AppendsFront a c (x ++ y)
-front_then a b c x y h k = (x ++ k.0, k.1, ap (λ t. x ++ t) k.2 ∙ sym (append_assoc x k.0 k.1), appends_then a b c x k.0 h k.3)
+front_then a b c x y h k = (x ++ k.0, k.1, ap (λ t. x ++ t) k.2 ∙ sym (append_assoc x k.0 k.1), Appends-trans a b c x k.0 h k.3)
 
 pub front_longer : (a b : Option (List ℕ)) (x y : List ℕ) → AppendsFront a b x → AppendsFront a b (x ++ y)
 front_longer a b x y h = (h.0, h.1 ++ y, ap (λ t. t ++ y) h.2 ∙ append_assoc h.0 h.1 y, h.3)
 
 -- one text was written whole, and then another was written or not
 pub writes_then : {A B : Type 0} {u : A} {a b c : Option (List ℕ)} {r : Result B ServeFault} {x y : List ℕ} → Writes {A = A} a b (Ok u) x → Writes b c r y → Writes a c r (x ++ y)
-writes_then {a = a} {b = b} {c = c} {r = Ok v} {x = x} {y = y} h k = record { whole = appends_then a b c x y h.whole k.whole; part = tt; fault = tt }
+writes_then {a = a} {b = b} {c = c} {r = Ok v} {x = x} {y = y} h k = record { whole = Appends-trans a b c x y h.whole k.whole; part = tt; fault = tt }
 writes_then {a = a} {b = b} {c = c} {r = Err e} {x = x} {y = y} h k = record { whole = tt; part = front_then a b c x y h.whole k.part; fault = k.fault }
 
 -- a text was not written whole, and nothing behind it is
@@ -52,13 +37,13 @@ pub record Progress (a b : Option (List ℕ)) (bytes rest : List ℕ) : Type 0 w
   pub appends : Appends a b done
 
 pub progress_begins : (a : Option (List ℕ)) (bytes : List ℕ) → Progress a a bytes bytes
-progress_begins a bytes = record { done = []; all = refl; appends = appends_nothing a }
+progress_begins a bytes = record { done = []; all = refl; appends = Appends-nil a }
 
 pub progress_goes_on : (a b c : Option (List ℕ)) (bytes rest others : List ℕ) (n : ℕ) → Progress a b bytes rest → Appends b c (take n rest) → others ≡ drop n rest → Progress a c bytes others
 progress_goes_on a b c bytes rest others n p h e = record {
   done = p.done ++ take n rest;
   all = p.all ∙ ap (λ t. p.done ++ t) (sym (take-append-drop n rest) ∙ ap (λ t. take n rest ++ t) (sym e)) ∙ sym (append_assoc p.done (take n rest) others);
-  appends = appends_then a b c p.done (take n rest) p.appends h;
+  appends = Appends-trans a b c p.done (take n rest) p.appends h;
 }
 
 pub progress_ends : {A : Type 0} {u : A} (a b : Option (List ℕ)) (bytes rest : List ℕ) → Progress a b bytes rest → rest ≡ [] → Writes a b (Ok u) bytes
@@ -88,7 +73,7 @@ pub progress_more : {A : Type 0} {u : A} (a b c : Option (List ℕ)) (bytes rest
 progress_more a b c bytes rest part others p e h = record {
   done = p.done ++ part;
   all = p.all ∙ ap (λ t. p.done ++ t) e ∙ sym (append_assoc p.done part others);
-  appends = appends_then a b c p.done part p.appends h.whole;
+  appends = Appends-trans a b c p.done part p.appends h.whole;
 }
 
 -- the next part of a text was not written whole

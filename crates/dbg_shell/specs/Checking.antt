@@ -4,14 +4,13 @@ use Rattle.std.specs.Bool.{MatchBool}
 use Rattle.std.specs.Fmt.{decimal}
 use Rattle.dbg_base.specs.Trees.{Program}
 use Rattle.dbg_base.specs.Checks.{Reads}
-use Rattle.dbg_base.specs.Shell.{Parts, as_line, fault_text, is_too_long, too_long_text}
+use Rattle.dbg_base.specs.Shell.{Parts, parts_of, read_lines, as_line, fault_text, is_too_long, too_long_text}
 use Rattle.proc_lang.specs.Small.{IsSmall, IsRefusal}
 use Rattle.proc_lang.specs.Faults.{fault_of}
 use Rattle.proc_lang.specs.declared.fault.ProgFault.{ProgFault}
 use Rattle.proc_lang.specs.declared.fault.ProgError.TheVariants.{Bad}
 use Rattle.dbg_shell.specs.declared.outcome.Served.{Served}
 use Rattle.dbg_shell.specs.declared.outcome.Served.TheVariants.{Done, Refused, TooLong}
-use Rattle.dbg_shell.specs.Serving.{WritesSome}
 
 -- how many processes and commands a program has
 abbrev pub size_text : ℕ → ℕ → List ℕ
@@ -33,13 +32,16 @@ TellsFault text served out =
     × (out ≡ fault_text (fault_of fault))
 
 -- what the check of a text writes
-abbrev pub ChecksText : List ℕ → Served → Option (List ℕ) → Option (List ℕ) → Type 0
-ChecksText text served old new = WritesSome old new (λ out. TellsSize text served out ⊎ TellsFault text served out)
+abbrev pub ChecksText : List ℕ → Served → List ℕ → Type 0
+ChecksText text served out = TellsSize text served out ⊎ TellsFault text served out
 
-abbrev pub TellsTooLong : Served → Option (List ℕ) → Option (List ℕ) → Type 0
-TellsTooLong served old new = (served ≡ TooLong) × WritesSome old new (λ out. out ≡ too_long_text)
+abbrev pub TellsTooLong : Served → List ℕ → Type 0
+TellsTooLong served out = (served ≡ TooLong) × (out ≡ too_long_text)
 
 -- What the check of an input writes: the text ends at the first end line, or where the input does.
-abbrev pub ChecksInput : List ℕ → Option Parts → Served → Option (List ℕ) → Option (List ℕ) → Type 0
-ChecksInput input (Some parts) served old new = ChecksText parts.program served old new
-ChecksInput input None served old new = MatchBool (is_too_long input) (TellsTooLong served old new) (ChecksText input served old new)
+abbrev pub ChecksParts : List ℕ → Option Parts → Served → List ℕ → Type 0
+ChecksParts input (Some parts) served out = ChecksText parts.program served out
+ChecksParts input None served out = MatchBool (is_too_long input) (TellsTooLong served out) (ChecksText input served out)
+
+abbrev pub ChecksInput : List ℕ → Served → List ℕ → Type 0
+ChecksInput input served out = ChecksParts input (parts_of (read_lines input)) served out

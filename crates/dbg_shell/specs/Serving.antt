@@ -1,10 +1,10 @@
 -- What serving an input does.
-use Rattle.std.specs.Prelude.{◌≡◌, ℕ, ◌≤◌, true, false, List, ◌++◌, length, slice_range, Option, Some, None, Result, if◌then◌else◌}
+use Rattle.std.specs.Prelude.{◌≡◌, ℕ, ◌≤◌, Bool, true, false, List, ◌++◌, length, drop, slice_range, Option, Some, None, Result, if◌then◌else◌}
 use Rattle.std.specs.Io.KnownBytes.{Appends}
 use Rattle.dbg_base.specs.Trees.{Program}
 use Rattle.dbg_base.specs.Checks.{Reads}
 use Rattle.dbg_base.specs.ModelStates.{ModelState, opening_state}
-use Rattle.dbg_base.specs.Shell.{Parts, parts_of, read_lines, is_too_long, AnswersLine, AnswersLines, end_text, Text}
+use Rattle.dbg_base.specs.Shell.{Parts, lines_of, parts_of, read_lines, is_too_long, AnswersLine, AnswersLines, end_text, WholeText, Text}
 use Rattle.proc_lang.specs.Small.{IsSmall}
 use Rattle.dbg_shell.specs.declared.outcome.Served.{Served}
 use Rattle.dbg_shell.specs.declared.outcome.ServeFault.{ServeFault}
@@ -12,7 +12,7 @@ use Rattle.dbg_shell.specs.declared.outcome.Served.TheVariants.{Done, Refused, T
 use Rattle.dbg_shell.specs.declared.program_text.TextEnd.{TextEnd}
 use Rattle.dbg_shell.specs.declared.program_text.TextEnd.TheVariants.{Before}
 use Rattle.dbg_shell.specs.declared.program_text.TextEnd.TheVariants as ends
-use Rattle.dbg_shell.specs.Spans.{lines_from}
+use Rattle.dbg_shell.specs.Spans.{lines_from, MayBe, IsUnderWay}
 use Rattle.dbg_shell.specs.Writing.{AppendsFront, Writes}
 
 -- the text is a small program
@@ -48,6 +48,11 @@ WritesFront old new IsOut = (out : List ℕ) × IsOut out × AppendsFront old ne
 abbrev pub ServesInput : List ℕ → Served → Option (List ℕ) → Option (List ℕ) → Type 0
 ServesInput input served old new = (served ≡ served_of input) × WritesSome old new (Text input)
 
+-- The reader failed behind some bytes of the input, and what was written is the replies to the whole lines among these.
+abbrev pub BreaksInput : List ℕ → Option (List ℕ) → Option (List ℕ) → Option (List ℕ) → Type 0
+BreaksInput input left old new =
+    (bytes rest : List ℕ) × (left ≡ Some rest) × (input ≡ bytes ++ rest) × WritesSome old new (WholeText bytes)
+
 -- a text in front of a program text
 abbrev pub with_text : List ℕ → Parts → Parts
 with_text text parts = record parts { program = text ++ parts.program }
@@ -60,6 +65,10 @@ Splits input bytes at new (Before span) =
     × (span.from ≤ length bytes)
 Splits input bytes at new ends.End = (parts_of (lines_from at input) ≡ None) × (is_too_long input ≡ false)
 Splits input bytes at new ends.TooLong = (parts_of (lines_from at input) ≡ None) × (is_too_long input ≡ true)
+
+-- the same, whatever the input may be
+abbrev pub SplitsAny : List ℕ → Bool → ℕ → ℕ → TextEnd → Type 0
+SplitsAny bytes ended at new end = (input : List ℕ) → MayBe bytes ended input → Splits input bytes at new end
 
 -- the answer to the line was written, or where the writer failed a front of it
 pub record WritesAnswer {A : Type 0} (P : Program) (line : List ℕ) (M : ModelState) (old : Option (List ℕ)) (result : Result A ServeFault)
@@ -76,3 +85,20 @@ end_of input = if is_too_long input then TooLong else Done
 abbrev pub RepliesTo : Program → List (List ℕ) → List ℕ → List ℕ → Type 0
 RepliesTo P lines input out =
     (replies : List ℕ) × (M : ModelState) × AnswersLines P lines (opening_state P) replies M × (out ≡ replies ++ end_text input)
+
+-- The command lines from a place on were answered, whatever the input may be.
+abbrev pub ServesLines : Program → List ℕ → Bool → ℕ → Served → Option (List ℕ) → Option (List ℕ) → Type 0
+ServesLines P bytes ended from served old new =
+    (input : List ℕ) → MayBe bytes ended input → (served ≡ end_of input) × WritesSome old new (RepliesTo P (lines_from from input) input)
+
+-- The writer failed, whatever the input may be.
+abbrev pub StopsLines : Program → List ℕ → Bool → ℕ → Option (List ℕ) → Option (List ℕ) → Type 0
+StopsLines P bytes ended from old new =
+    (input : List ℕ) → MayBe bytes ended input → WritesFront old new (RepliesTo P (lines_from from input) input)
+
+-- The reader failed, and the whole lines from a place on were answered.
+pub record BreaksLines (P : Program) (bytes : List ℕ) (ended : Bool) (from : ℕ) (old new : Option (List ℕ)) : Type 0 where
+  pub at : ℕ
+  pub begun : from ≤ at
+  pub under_way : IsUnderWay bytes ended at
+  pub wrote : WritesSome old new (λ out. (M : ModelState) × AnswersLines P (lines_of (drop from bytes)).whole (opening_state P) out M)

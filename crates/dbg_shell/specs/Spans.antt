@@ -37,6 +37,21 @@ Tells input bytes at new TooLong = (lines_from at input ≡ []) × (is_too_long 
 abbrev pub TellsAny : List ℕ → Bool → ℕ → ℕ → Next → Type 0
 TellsAny bytes ended at new next = (rest : List ℕ) → (ended ≡ true → rest ≡ []) → Tells (bytes ++ rest) bytes at new next
 
+-- what the input may be where these bytes of it were read: it begins with them, and where it has ended it is them
+abbrev pub MayBe : List ℕ → Bool → List ℕ → Type 0
+MayBe bytes ended input = (rest : List ℕ) × (input ≡ bytes ++ rest) × (ended ≡ true → rest ≡ [])
+
+-- more may have been read, so that the input may be less than before
+abbrev pub Narrows : List ℕ → Bool → List ℕ → Bool → Type 0
+Narrows bytes ended more over = (input : List ℕ) → MayBe more over input → MayBe bytes ended input
+
+-- the input has not ended, and no line end stands in the bytes from this place on
+pub record IsUnderWay (bytes : List ℕ) (ended : Bool) (at : ℕ) : Type 0 where
+  pub unfinished : ended ≡ false
+  pub within : length bytes ≤ INPUT_BYTES
+  pub begun : at ≤ length bytes
+  pub unended : is_unended (drop at bytes) ≡ true
+
 -- where the input has ended the reader has nothing left
 abbrev pub EndsWith : Bool → Option (List ℕ) → Type 0
 EndsWith ended remaining = ended ≡ true → IsAtEnd remaining

@@ -2,9 +2,10 @@
 
 ghost use Rattle.std.specs.Prelude.{◌≡◌, ◌≢◌, IfOk, IfErr, IfSome};
 ghost use Rattle.std.specs.Io.KnownBytes.{Keeps};
-ghost use Rattle.dbg_base.specs.Shell.{parts_of, read_lines};
 ghost use Rattle.proc_lang.specs.Programs.{program_of};
 ghost use Rattle.dbg_shell.specs.declared.outcome.ServeFault.TheVariants.{Write};
+ghost use Rattle.dbg_shell.specs.declared.outcome.Served.{Served};
+ghost use Rattle.dbg_shell.specs.Serving.{WritesSome, WritesFront};
 ghost use Rattle.dbg_shell.specs.Checking.{command_count, ChecksText, ChecksInput};
 
 use crate::framing::Input;
@@ -28,7 +29,9 @@ fn command_count(program: &Program) -> u32
 }
 
 fn check_text<W: Write>(alloc: Global, text: &[u8], writer: &mut W) -> Result<Served, ServeFault>
-    ensures checked { IfOk result (λ served. ChecksText text.now served (W.contents writer.old) (W.contents writer.new)) }
+    ensures checked { IfOk result (λ served. WritesSome (W.contents writer.old) (W.contents writer.new) (ChecksText text.now served)) }
+    ensures stopped { IfErr result (λ fault. fault ≡ Write
+        → (served : Served) × WritesFront (W.contents writer.old) (W.contents writer.new) (ChecksText text.now served)) }
     ensures silent { IfErr result (λ fault. fault ≢ Write → Keeps (W.contents writer.old) (W.contents writer.new)) }
 {
     match parse_program(alloc, text) {
@@ -48,7 +51,10 @@ pub fn check<R: Read, W: Write>(
 ) -> Result<Served, ServeFault>
     // Where the reader tells its bytes, and nothing fails.
     ensures checked { IfOk result (λ served. IfSome (R.remaining reader.old)
-        (λ input. ChecksInput input (parts_of (read_lines input)) served (W.contents writer.old) (W.contents writer.new))) }
+        (λ input. WritesSome (W.contents writer.old) (W.contents writer.new) (ChecksInput input served))) }
+    // Where the writer fails, what is written is a front of that.
+    ensures stopped { IfErr result (λ fault. fault ≡ Write → IfSome (R.remaining reader.old)
+        (λ input. (served : Served) × WritesFront (W.contents writer.old) (W.contents writer.new) (ChecksInput input served))) }
     // A fault of the reader, and want of memory, write nothing.
     ensures silent { IfErr result (λ fault. fault ≢ Write → Keeps (W.contents writer.old) (W.contents writer.new)) }
 {

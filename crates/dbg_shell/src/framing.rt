@@ -1,9 +1,8 @@
 //! Bytes become lines.
 
-ghost use Rattle.std.specs.Prelude.{◌≡◌, ◌+◌, ◌<◌, ◌≤◌, [], true, false, min, take, vec_len, vec_capacity, length, slice_range, OnOk, MatchOption, IfOk, IfErr, IfSome, ◌⊎◌};
+ghost use Rattle.std.specs.Prelude.{◌≡◌, ◌+◌, ◌<◌, ◌≤◌, [], true, false, min, take, vec_len, vec_capacity, length, slice_range, OnOk, OnErr, MatchOption, IfOk, IfErr, IfSome, ◌⊎◌};
 ghost use Rattle.std.specs.List.{prefix_len};
-ghost use Rattle.std.specs.Io.KnownBytes.{prepend_known};
-ghost use Rattle.dbg_shell.specs.Spans.{AdvancesAt, is_inside, is_unended, Tells, TellsAny, EndsWith, KeepsInput};
+ghost use Rattle.dbg_shell.specs.Spans.{AdvancesAt, is_inside, is_unended, TellsAny, EndsWith, KeepsInput, Narrows, IsUnderWay};
 ghost use Rattle.dbg_shell.specs.declared.framing.TheConstants.{ROOM};
 ghost use Rattle.dbg_shell.specs.declared.framing.Next.TheVariants.{End};
 ghost use Rattle.dbg_shell.specs.declared.outcome.ServeFault.TheVariants.{Read};
@@ -112,10 +111,11 @@ impl Input {
         ensures advances { IfOk result (AdvancesAt self.old.at self.new.at) }
         ensures keeps { KeepsInput self.old.bytes.items (R.remaining reader.old) self.new.bytes.items (R.remaining reader.new) }
         ensures ends { EndsWith self.new.ended (R.remaining reader.new) }
+        ensures narrows { Narrows self.old.bytes.items self.old.ended self.new.bytes.items self.new.ended }
         ensures stopped { IfOk result (λ next. next ≡ End → self.new.ended ≡ true) }
-        ensures tells { IfOk result (λ next. IfSome (prepend_known self.old.bytes.items (R.remaining reader.old))
-            (λ input. Tells input self.new.bytes.items self.old.at self.new.at next)) }
+        ensures tells { IfOk result (TellsAny self.new.bytes.items self.new.ended self.old.at self.new.at) }
         ensures fault { IfErr result (λ fault. fault ≡ Read) }
+        ensures under_way { OnErr result (IsUnderWay self.new.bytes.items self.new.ended self.old.at) }
     {
         loop {
             if let Some(next) = self.ready() {
@@ -131,6 +131,7 @@ impl Input {
         ensures bytes { self.new.bytes ≡ self.old.bytes }
         ensures ended { self.new.ended ≡ self.old.ended }
         ensures more { MatchOption result ((self.new.ended ≡ false) × (vec_len self.new.bytes < ROOM)) (λ _. Unit {0}) }
+        ensures under_way { MatchOption result (IsUnderWay self.new.bytes.items self.new.ended self.new.at) (λ _. Unit {0}) }
         ensures stopped { IfSome result (λ next. next ≡ End → self.new.ended ≡ true) }
         ensures tells { IfSome result (TellsAny self.new.bytes.items self.old.ended self.old.at self.new.at) }
     {
@@ -169,6 +170,7 @@ impl Input {
         ensures bytes { self.new.bytes ≡ self.old.bytes }
         ensures ended { self.new.ended ≡ self.old.ended }
         ensures more { MatchOption result ((self.new.ended ≡ false) × (vec_len self.new.bytes < ROOM)) (λ _. Unit {0}) }
+        ensures under_way { MatchOption result (IsUnderWay self.new.bytes.items self.new.ended self.new.at) (λ _. Unit {0}) }
         ensures stopped { IfSome result (λ next. next ≡ End → self.new.ended ≡ true) }
         ensures tells { IfSome result (TellsAny self.new.bytes.items self.old.ended self.old.at self.new.at) }
     {
@@ -194,6 +196,8 @@ impl Input {
         ensures ends { EndsWith self.new.ended (R.remaining reader.new) }
         ensures more { OnOk result ((self.new.ended ≡ true) × (vec_len self.new.bytes ≡ vec_len self.old.bytes)
             ⊎ (self.new.ended ≡ false) × (vec_len self.old.bytes < vec_len self.new.bytes)) }
+        ensures narrows { Narrows self.old.bytes.items self.old.ended self.new.bytes.items self.new.ended }
+        ensures kept { OnErr result ((self.new.bytes ≡ self.old.bytes) × (self.new.ended ≡ self.old.ended)) }
         ensures fault { IfErr result (λ fault. fault ≡ Read) }
     {
         let mut chunk = [0u8; CHUNK];

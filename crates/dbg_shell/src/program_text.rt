@@ -1,10 +1,9 @@
 //! The program text, which stands in front of the input.
 
-ghost use Rattle.std.specs.Prelude.{◌≡◌, true, IfOk, IfErr, IfSome};
-ghost use Rattle.std.specs.Io.KnownBytes.{prepend_known};
-ghost use Rattle.dbg_base.specs.Shell.{is_end_line};
-ghost use Rattle.dbg_shell.specs.Spans.{EndsWith, KeepsInput};
-ghost use Rattle.dbg_shell.specs.Serving.{Splits};
+ghost use Rattle.std.specs.Prelude.{◌≡◌, true, drop, None, IfOk, IfErr, OnErr};
+ghost use Rattle.dbg_base.specs.Shell.{is_end_line, lines_of, parts_of};
+ghost use Rattle.dbg_shell.specs.Spans.{EndsWith, KeepsInput, Narrows};
+ghost use Rattle.dbg_shell.specs.Serving.{SplitsAny};
 ghost use Rattle.dbg_shell.specs.declared.program_text.TextEnd.TheVariants.{End};
 ghost use Rattle.dbg_shell.specs.declared.outcome.ServeFault.TheVariants.{Read};
 
@@ -39,8 +38,9 @@ pub(crate) fn read_program_text<R: Read>(
     ensures keeps { KeepsInput input.old.bytes.items (R.remaining reader.old) input.new.bytes.items (R.remaining reader.new) }
     ensures ends { EndsWith input.new.ended (R.remaining reader.new) }
     ensures stopped { IfOk result (λ end. end ≡ End → input.new.ended ≡ true) }
-    ensures splits { IfOk result (λ end. IfSome (prepend_known input.old.bytes.items (R.remaining reader.old))
-        (λ whole. Splits whole input.new.bytes.items input.old.at input.new.at end)) }
+    ensures narrows { Narrows input.old.bytes.items input.old.ended input.new.bytes.items input.new.ended }
+    ensures splits { IfOk result (SplitsAny input.new.bytes.items input.new.ended input.old.at input.new.at) }
+    ensures none { OnErr result (parts_of (lines_of (drop input.old.at input.new.bytes.items)).whole ≡ None) }
     ensures fault { IfErr result (λ fault. fault ≡ Read) }
 {
     loop {

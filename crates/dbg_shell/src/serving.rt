@@ -1,13 +1,13 @@
 //! A program text and the command lines behind it.
 
 ghost use Rattle.std.specs.Prelude.{◌≡◌, IfOk, IfErr, IfSome};
-ghost use Rattle.std.specs.Io.KnownBytes.{prepend_known, Keeps};
+ghost use Rattle.std.specs.Io.KnownBytes.{Keeps};
 ghost use Rattle.proc_lang.specs.Programs.{program_of};
-ghost use Rattle.dbg_shell.specs.declared.outcome.ServeFault.TheVariants.{Memory, Write};
+ghost use Rattle.dbg_shell.specs.declared.outcome.ServeFault.TheVariants.{Memory, Read, Write};
 ghost use Rattle.dbg_base.specs.Shell.{Text};
-ghost use Rattle.dbg_shell.specs.Spans.{EndsWith, lines_from};
+ghost use Rattle.dbg_shell.specs.Spans.{EndsWith, KeepsInput, Narrows};
 ghost use Rattle.dbg_shell.specs.Sessions.{state_of, IsSized};
-ghost use Rattle.dbg_shell.specs.Serving.{IsServed, ServesInput, WritesAnswer, WritesSome, WritesFront, RepliesTo, end_of};
+ghost use Rattle.dbg_shell.specs.Serving.{IsServed, ServesInput, BreaksInput, WritesAnswer, WritesFront, ServesLines, StopsLines, BreaksLines};
 
 use crate::command_line::parse_line;
 use crate::framing::{Input, Next};
@@ -56,12 +56,15 @@ fn serve_lines<R: Read, W: Write>(
     writer: &mut W,
 ) -> Result<Served, ServeFault>
     requires { EndsWith input.old.ended (R.remaining reader.old) }
-    ensures served { IfOk result (λ served. IfSome (prepend_known input.old.bytes.items (R.remaining reader.old)) (λ whole.
-        (served ≡ end_of whole) × WritesSome (W.contents writer.old) (W.contents writer.new)
-        (RepliesTo (program_of program.now) (lines_from input.old.at whole) whole))) }
-    ensures stopped { IfErr result (λ fault. fault ≡ Write → IfSome (prepend_known input.old.bytes.items (R.remaining reader.old)) (λ whole.
-        WritesFront (W.contents writer.old) (W.contents writer.new)
-        (RepliesTo (program_of program.now) (lines_from input.old.at whole) whole))) }
+    ensures keeps { KeepsInput input.old.bytes.items (R.remaining reader.old) input.new.bytes.items (R.remaining reader.new) }
+    ensures ends { EndsWith input.new.ended (R.remaining reader.new) }
+    ensures narrows { Narrows input.old.bytes.items input.old.ended input.new.bytes.items input.new.ended }
+    ensures served { IfOk result (λ served. ServesLines (program_of program.now) input.new.bytes.items input.new.ended input.old.at served
+        (W.contents writer.old) (W.contents writer.new)) }
+    ensures stopped { IfErr result (λ fault. fault ≡ Write → StopsLines (program_of program.now) input.new.bytes.items input.new.ended
+        input.old.at (W.contents writer.old) (W.contents writer.new)) }
+    ensures broken { IfErr result (λ fault. fault ≡ Read → BreaksLines (program_of program.now) input.new.bytes.items input.new.ended
+        input.old.at (W.contents writer.old) (W.contents writer.new)) }
     ensures memory { IfErr result (λ fault. fault ≡ Memory → Keeps (W.contents writer.old) (W.contents writer.new)) }
 {
     let mut session = Session::new(alloc, program).map_err(|_| ServeFault::Memory)?;
@@ -93,6 +96,9 @@ pub fn serve<R: Read, W: Write>(
     // Where the writer fails, what is written is a front of a text of the input.
     ensures stopped { IfErr result (λ fault. fault ≡ Write → IfSome (R.remaining reader.old)
         (λ input. IsServed input → WritesFront (W.contents writer.old) (W.contents writer.new) (Text input))) }
+    // Where the reader fails, what is written is the replies to the whole lines before it.
+    ensures broken { IfErr result (λ fault. fault ≡ Read → IfSome (R.remaining reader.old)
+        (λ input. BreaksInput input (R.remaining reader.new) (W.contents writer.old) (W.contents writer.new))) }
     // Where memory to begin is wanting, nothing is written.
     ensures memory { IfErr result (λ fault. fault ≡ Memory → Keeps (W.contents writer.old) (W.contents writer.new)) }
 {

@@ -1,7 +1,7 @@
 use Rattle.std.proofs.Common.{ℕ, List, ap, sym, ◌∙◌, subst}
 use Rattle.std.proofs.KnownBytes.{Keeps-trans}
-use Rattle.dbg_shell.specs.Spans.{KeepsInput}
-use Rattle.dbg_shell.proofs.LineEnds.{tells_known}
+use Rattle.dbg_shell.specs.Spans.{KeepsInput, Narrows}
+use Rattle.dbg_shell.proofs.LineEnds.{told_so}
 use Rattle.dbg_shell.proofs.framing.Input.next_line.Goals as goal
 
 pub returns-in-Some-clause-keeps : goal.returns-in-Some-clause-keeps
@@ -16,7 +16,7 @@ returns-in-Some-clause-ends g c = λ e. c.loop-next.invariant.ends (sym c.ready.
 
 pub returns-in-Some-clause-tells : goal.returns-in-Some-clause-tells
 returns-in-Some-clause-tells g c =
-    tells_known _ _ _ _ _ _ _ _ c.ready.new.self.at c.in-Some.next c.loop-next.invariant.keeps c.loop-next.invariant.ends (ap (λ v. v.items) c.ready.ensures.bytes) c.loop-next.invariant.at c.in-Some.ensures.tells
+    told_so _ _ _ _ _ c.ready.new.self.at c.in-Some.next c.ready.ensures.ended c.loop-next.invariant.at c.in-Some.ensures.tells
 
 pub returns-in_err-read_more-clause-keeps : goal.returns-in_err-read_more-clause-keeps
 returns-in_err-read_more-clause-keeps g c =
