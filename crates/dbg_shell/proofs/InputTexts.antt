@@ -1,6 +1,6 @@
 -- What a run over the input writes.
 use Rattle.std.proofs.Common.{◌≡◌, ℕ, ◌-◌, ◌≤◌, Bool, true, false, List, [], ◌++◌, length, take, drop, Option, Some, None, refl, sym, ap, ◌∙◌, subst, inl, arith}
-use Rattle.std.specs.Prelude.{slice_range, IfSome, IfOk, IfErr, MatchResult, Result, Ok, Err, codes}
+use Rattle.std.specs.Prelude.{slice_range, IfSome, IfOk, IfErr, Result, Ok, Err, codes}
 use Rattle.std.proofs.KnownBytes.{Appends-nil}
 use Rattle.dbg_base.specs.declared.limits.TheConstants.{INPUT_BYTES}
 use Rattle.dbg_base.specs.Trees.{Program}
@@ -125,8 +125,7 @@ module _ (bytes : List ℕ) (ended : Bool) (begin new : ℕ) (end : TextEnd) (be
         let held : broken.at ≤ length more = broken.under_way.begun in
         let from : new ≤ broken.at = broken.begun in
         let out : List ℕ = broken.wrote.0 in
-        subst (λ (o : Option Parts). AnswersParts o out) (sym (ap parts_of (sym (on.whole 0 (omega arith))) ∙ here.0))
-        (
+        subst (λ (o : Option Parts). AnswersParts o out) (sym (ap parts_of (sym (on.whole 0 (omega arith))) ∙ here.0)) (
           P,
           subst (λ (t : List ℕ). Reads t P) (text_from_start bytes text span.from (seen here.1)) reads,
           broken.wrote.1.0,
@@ -206,15 +205,3 @@ breaks_before first (Some xs) bytes (Some ys) begin (Err fault) old empty begun 
     subst (λ (n : ℕ). parts_of (lines_of (drop n bytes)).whole ≡ None) begun none in
     λ is_read.
     (bytes, ys, refl, whole_is first bytes xs ys empty keeps, ([], subst (λ (o : Option Parts). AnswersParts o []) (sym nowhere) refl, Appends-nil old))
-
-abbrev value_or : {A E : Type 0} → A → Result A E → A
-value_or x (Ok y) = y
-value_or x (Err e) = x
-
-abbrev pub told_in : {A : Type 0} (F : Type 0) → A → Result A F
-told_in F x = Ok x
-
--- what holds of a value holds of it where an error would have been told otherwise
-pub holds_of_made : {A E : Type 0} (F : Type 0) (r : Result A E) (x : A) (P : A → Type 0) → MatchResult r (λ y. told_in F x ≡ told_in F y) (λ e. ⊥) → IfOk r P → P x
-holds_of_made F (Ok y) x P same p = let e : x ≡ y = ap (value_or x) same in subst P (sym e) p
-holds_of_made F (Err e) x P same p = absurd same

@@ -1,6 +1,6 @@
 -- The next line of the input.
-use Rattle.std.proofs.Common.{◌≡◌, ℕ, suc, ◌+◌, ◌-◌, ◌<◌, ◌≤◌, Bool, true, false, not, cond, eqb, List, [], ◌∷◌, ◌++◌, length, get_or, take, drop, Option, Some, None, refl, sym, ap, ◌∙◌, subst, inl, inr, append_assoc, add-one, one-add, arith}
-use Rattle.std.specs.Prelude.{slice_range, nat_lt, IfSome}
+use Rattle.std.proofs.Common.{◌≡◌, ℕ, suc, ◌+◌, ◌-◌, ◌<◌, ◌≤◌, Bool, true, false, not, cond, eqb, List, [], ◌∷◌, ◌++◌, length, get_or, take, drop, refl, sym, ap, ◌∙◌, subst, inl, inr, append_assoc, add-one, one-add, arith}
+use Rattle.std.specs.Prelude.{slice_range, nat_lt}
 use Rattle.std.specs.List.{prefix_len}
 use Rattle.std.proofs.lemmas.Bool.Decides.{nat_tests}
 use Rattle.std.proofs.lemmas.Bool.{eqb-true}
@@ -12,7 +12,6 @@ use Rattle.dbg_base.specs.declared.limits.TheConstants.{INPUT_BYTES}
 use Rattle.dbg_base.specs.Shell.{lines_of, with_front, lines_within, all_lines, last_line}
 use Rattle.dbg_shell.specs.declared.framing.Next.{Next}
 use Rattle.dbg_shell.specs.declared.framing.Next.TheVariants.{Line, TooLong}
-use Rattle.std.specs.Io.KnownBytes.{prepend_known}
 use Rattle.dbg_shell.specs.Spans.{is_inside, is_unended, lines_from, Tells, TellsAny}
 use Rattle.dbg_shell.proofs.Runs.{and_first, and_second, both_true, not_is_true, not_is_false, front_passes}
 
@@ -69,6 +68,11 @@ some_last_line : (bytes : List ℕ) → 0 < length bytes → last_line bytes ≡
 some_last_line [] some = absurd (omega arith)
 some_last_line (b ∷ bytes) some = refl
 
+-- what is told whatever follows the bytes that were read
+any_input : (bytes : List ℕ) (ended : Bool) (at new : ℕ) (next : Next) → ((rest : List ℕ) → (ended ≡ true → rest ≡ []) → Tells (bytes ++ rest) bytes at new next)
+    → TellsAny bytes ended at new next
+any_input bytes ended at new next told input may = subst (λ (t : List ℕ). Tells t bytes at new next) (sym may.1) (told may.0 may.2)
+
 module _ (bytes : List ℕ) (at seen limit : ℕ) (begun : at ≤ seen) (read : seen ≤ limit) (held : limit ≤ length bytes) (within : limit ≤ INPUT_BYTES)
     (so_far : is_unended (slice_range bytes at seen) ≡ true) where
   -- the bytes that were looked at now have no line end either
@@ -113,7 +117,8 @@ module _ (bytes : List ℕ) (at seen limit : ℕ) (begun : at ≤ seen) (read : 
   -- the line that ends there
   pub line_found : (n : ℕ) → n ≡ prefix_len is_inside (slice_range bytes seen limit) → seen + n < limit → (ended : Bool)
       → TellsAny bytes ended at (seen + n + 1) (Line (record { from = at; to = seen + n }))
-  line_found n e lt ended rest h =
+  line_found n e lt ended =
+      any_input bytes ended at (seen + n + 1) (Line (record { from = at; to = seen + n })) (λ rest h.
       let end : ℕ = seen + n in
       let line : List ℕ = slice_range bytes at end in
       let behind : List ℕ = drop (end + 1) bytes in
@@ -131,22 +136,24 @@ module _ (bytes : List ℕ) (at seen limit : ℕ) (begun : at ≤ seen) (read : 
         omega arith,
         omega arith,
         inl (ap (λ (n : ℕ). take n (drop at (bytes ++ rest))) taken ∙ ap (take (length line + 1 + 0)) cut ∙ take_line line (behind ++ rest) 0),
-      )
+      ))
 
 module _ (bytes : List ℕ) (at : ℕ) (begun : at ≤ length bytes) where
   -- there is more than may be, and no line end in what may be
   pub too_long_found : INPUT_BYTES < length bytes → at ≤ INPUT_BYTES → is_unended (slice_range bytes at INPUT_BYTES) ≡ true → (ended : Bool) → TellsAny bytes ended at at TooLong
-  too_long_found long le run ended rest h =
+  too_long_found long le run ended =
+      any_input bytes ended at at TooLong (λ rest h.
       let from : drop at (bytes ++ rest) ≡ drop at bytes ++ rest = drop-append-le at bytes rest begun in
       let front : take (INPUT_BYTES - at) (drop at bytes ++ rest) ≡ take (INPUT_BYTES - at) (drop at bytes) = take-append-le (INPUT_BYTES - at) (drop at bytes) rest (simp length-drop (omega arith)) in
       let more : INPUT_BYTES - at < length (drop at bytes ++ rest) = simp (length-append, length-drop) (omega arith) in
       let all : INPUT_BYTES < length (bytes ++ rest) = simp length-append (omega arith) in
-      (ap (lines_within (INPUT_BYTES - at)) from ∙ no_line_within (drop at bytes ++ rest) (INPUT_BYTES - at) more (ap is_unended front ∙ run), grind (arith, nat_tests))
+      (ap (lines_within (INPUT_BYTES - at)) from ∙ no_line_within (drop at bytes ++ rest) (INPUT_BYTES - at) more (ap is_unended front ∙ run), grind (arith, nat_tests)))
 
   -- the last line has no line end
   pub last_found : length bytes ≤ INPUT_BYTES → at < length bytes → is_unended (slice_range bytes at (length bytes)) ≡ true → (ended : Bool) → ended ≡ true
       → TellsAny bytes ended at (length bytes) (Line (record { from = at; to = length bytes }))
-  last_found few lt run ended over rest h =
+  last_found few lt run ended over =
+      any_input bytes ended at (length bytes) (Line (record { from = at; to = length bytes })) (λ rest h.
       let none : rest ≡ [] = h over in
       let all : bytes ++ rest ≡ bytes = ap (λ (t : List ℕ). bytes ++ t) none ∙ append-nil bytes in
       let line : List ℕ = slice_range bytes at (length bytes) in
@@ -160,7 +167,7 @@ module _ (bytes : List ℕ) (at : ℕ) (begun : at ≤ length bytes) where
       ap (λ (t : List ℕ). lines_within (INPUT_BYTES - length bytes) (drop (length bytes) t)) all
       ∙ ap (lines_within (INPUT_BYTES - length bytes)) (drop_all (length bytes) bytes (omega arith))
       ∙ last_line_is [] (INPUT_BYTES - length bytes) (omega arith) refl in
-      (first ∙ ap (λ (lines : List (List ℕ)). line ∷ lines) (sym nothing), refl, omega arith, omega arith, inr nothing)
+      (first ∙ ap (λ (lines : List (List ℕ)). line ∷ lines) (sym nothing), refl, omega arith, omega arith, inr nothing))
 
 -- the same line, said with other words
 pub line_told : (bytes others : List ℕ) (ended : Bool) (at from end to new place : ℕ) → others ≡ bytes → from ≡ at → to ≡ end → place ≡ new
@@ -173,5 +180,5 @@ line_told bytes others ended at from end to new place e f t p told =
 -- the same is told, said with other words
 pub told_so : (bytes : List ℕ) (ended over : Bool) (at place new : ℕ) (next : Next) → over ≡ ended → at ≡ place → TellsAny bytes ended at new next
     → TellsAny bytes over place new next
-told_so bytes ended over at place new next same here told rest none =
-    subst (λ (i : ℕ). Tells (bytes ++ rest) bytes i new next) here (told rest (λ e. none (same ∙ e)))
+told_so bytes ended over at place new next same here told input may =
+    subst (λ (i : ℕ). Tells input bytes i new next) here (told input (may.0, may.1, λ e. may.2 (same ∙ e)))

@@ -22,7 +22,7 @@ use Rattle.dbg_shell.specs.declared.outcome.ServeFault.TheVariants.{Read, Write}
 use Rattle.dbg_shell.specs.declared.outcome.Served.TheVariants as ends
 use Rattle.dbg_shell.specs.Spans.{lines_from, Tells, TellsAny, MayBe, Narrows, IsUnderWay}
 use Rattle.dbg_shell.specs.Writing.{AppendsFront, Writes}
-use Rattle.dbg_shell.specs.Serving.{WritesAnswer, WritesSome, WritesFront, RepliesTo, ServesLines, StopsLines, BreaksLines, end_of}
+use Rattle.dbg_shell.specs.Serving.{WritesAnswer, WritesSome, WritesFront, RepliesTo, ServesLines, StopsLines, BreaksLines}
 use Rattle.dbg_shell.proofs.Splits.{told_of}
 use Rattle.dbg_shell.proofs.UnderWay.{goes_on, none_left}
 use Rattle.dbg_shell.proofs.Writing.{front_then, front_longer}

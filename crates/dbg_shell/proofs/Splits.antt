@@ -103,7 +103,7 @@ no_parts whole from at so_far none = so_far.split ∙ ap (λ lines. option_map (
 pub told_of : (bytes : List ℕ) (ended : Bool) (at new : ℕ) (next to : Next) → TellsAny bytes ended at new next → next ≡ to
     → (input : List ℕ) → MayBe bytes ended input → Tells input bytes at new to
 told_of bytes ended at new next to told is input may =
-    subst (λ (n : Next). Tells input bytes at new n) is (subst (λ (t : List ℕ). Tells t bytes at new next) (sym may.1) (told may.0 may.2))
+    subst (λ (n : Next). Tells input bytes at new n) is (told input may)
 
 -- behind a line the place is further on
 pub further_on : (from at new : ℕ) (next : Next) (span : Span) → AdvancesAt at new next → next ≡ nexts.Line span → from ≤ at → from ≤ new

@@ -7,7 +7,7 @@ use Rattle.std.proofs.lemmas.List.{drop-append-le, length-append, length-drop, l
 use Rattle.std.proofs.lemmas.List.Folds.{list_all-append}
 use Rattle.std.proofs.Math.Seq.{take-append-add}
 use Rattle.dbg_base.specs.declared.limits.TheConstants.{INPUT_BYTES}
-use Rattle.dbg_base.specs.Shell.{Lines, lines_of, with_front, byte_before, lines_within}
+use Rattle.dbg_base.specs.Shell.{Lines, lines_of, byte_before, lines_within}
 use Rattle.dbg_shell.specs.Spans.{is_inside, is_unended, lines_from, MayBe, IsUnderWay}
 use Rattle.dbg_shell.proofs.LineEnds.{no_line_of}
 use Rattle.dbg_shell.proofs.Runs.{and_first}

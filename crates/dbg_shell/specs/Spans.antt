@@ -33,13 +33,13 @@ Tells input bytes at new (Line span) =
 Tells input bytes at new End = (lines_from at input ≡ []) × (is_too_long input ≡ false)
 Tells input bytes at new TooLong = (lines_from at input ≡ []) × (is_too_long input ≡ true)
 
--- the same, whatever follows the bytes that were read, which is nothing where the input has ended
-abbrev pub TellsAny : List ℕ → Bool → ℕ → ℕ → Next → Type 0
-TellsAny bytes ended at new next = (rest : List ℕ) → (ended ≡ true → rest ≡ []) → Tells (bytes ++ rest) bytes at new next
-
 -- what the input may be where these bytes of it were read: it begins with them, and where it has ended it is them
 abbrev pub MayBe : List ℕ → Bool → List ℕ → Type 0
 MayBe bytes ended input = (rest : List ℕ) × (input ≡ bytes ++ rest) × (ended ≡ true → rest ≡ [])
+
+-- the same, whatever the input may be
+abbrev pub TellsAny : List ℕ → Bool → ℕ → ℕ → Next → Type 0
+TellsAny bytes ended at new next = (input : List ℕ) → MayBe bytes ended input → Tells input bytes at new next
 
 -- more may have been read, so that the input may be less than before
 abbrev pub Narrows : List ℕ → Bool → List ℕ → Bool → Type 0

@@ -58,7 +58,7 @@ pub fn check<R: Read, W: Write>(
     // A fault of the reader, and want of memory, write nothing.
     ensures silent { IfErr result (λ fault. fault ≢ Write → Keeps (W.contents writer.old) (W.contents writer.new)) }
 {
-    let mut input = Input::new(alloc).map_err(|_| ServeFault::Memory)?;
+    let mut input = Input::new(alloc)?;
     match read_program_text(&mut input, reader)? {
         TextEnd::Before(span) => check_text(alloc, input.before(span), writer),
         TextEnd::End => check_text(alloc, input.bytes(), writer),

@@ -2,7 +2,9 @@
 
 ghost use Rattle.std.specs.Prelude.{◌≡◌};
 ghost use Rattle.dbg_shell.specs.Outcomes.{status_of};
+ghost use Rattle.dbg_shell.specs.declared.outcome.ServeFault.TheVariants.{Memory};
 
+use std::alloc::AllocError;
 use thiserror::Error;
 
 /// How a run ended where nothing failed.
@@ -28,6 +30,14 @@ pub enum ServeFault {
     /// Memory ran out before the first command line.
     #[error("out of memory")]
     Memory,
+}
+
+impl From<AllocError> for ServeFault {
+    ghost from_gives = { λ _ fault. fault ≡ Memory };
+
+    fn from(_error: AllocError) -> ServeFault {
+        ServeFault::Memory
+    }
 }
 
 /// The status with which the program ends: 0 done, 1 a fault of input or output, 3 a refused program, 4 no memory to start.

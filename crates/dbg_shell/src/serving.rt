@@ -67,7 +67,7 @@ fn serve_lines<R: Read, W: Write>(
         input.old.at (W.contents writer.old) (W.contents writer.new)) }
     ensures memory { IfErr result (λ fault. fault ≡ Memory → Keeps (W.contents writer.old) (W.contents writer.new)) }
 {
-    let mut session = Session::new(alloc, program).map_err(|_| ServeFault::Memory)?;
+    let mut session = Session::new(alloc, program)?;
     loop {
         match input.next_line(reader)? {
             Next::Line(span) => serve_line(alloc, program, &mut session, input.line(span), writer)?,
@@ -102,7 +102,7 @@ pub fn serve<R: Read, W: Write>(
     // Where memory to begin is wanting, nothing is written.
     ensures memory { IfErr result (λ fault. fault ≡ Memory → Keeps (W.contents writer.old) (W.contents writer.new)) }
 {
-    let mut input = Input::new(alloc).map_err(|_| ServeFault::Memory)?;
+    let mut input = Input::new(alloc)?;
     match read_program_text(&mut input, reader)? {
         TextEnd::Before(span) => match parse_program(alloc, input.before(span)) {
             Ok(program) => serve_lines(alloc, &program, &mut input, reader, writer),

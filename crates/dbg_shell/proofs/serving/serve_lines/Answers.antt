@@ -1,11 +1,9 @@
-use Rattle.std.proofs.Common.{◌≡◌, sym, subst, arith}
+use Rattle.std.proofs.Common.{sym, subst, arith}
 use Rattle.std.proofs.KnownBytes.{Keeps-refl, Keeps-trans}
 use Rattle.dbg_base.specs.Trees.{Program}
-use Rattle.dbg_base.specs.ModelStates.{opening_state}
 use Rattle.proc_lang.specs.Programs.{program_of}
-use Rattle.dbg_shell.specs.Sessions.{state_of, IsSized}
+use Rattle.dbg_shell.specs.Sessions.{IsSized}
 use Rattle.dbg_shell.proofs.Answering.{opening_sized}
-use Rattle.dbg_shell.proofs.InputTexts.{holds_of_made}
 use Rattle.dbg_shell.proofs.Splits.{further_on}
 use Rattle.dbg_shell.proofs.LineReplies.{any_answered, any_goes_on, any_stops, any_ends, any_is_too_long, any_is_cut, any_breaks}
 use Rattle.dbg_shell.proofs.serving.serve_lines.Goals as goal
@@ -13,14 +11,13 @@ use Rattle.dbg_shell.proofs.serving.serve_lines.Goals as goal
 pub loop-session-init : goal.loop-session-init
 loop-session-init g c =
     let P : Program = program_of c.args.program.now in
-    let opening : state_of c.in_ok-session.session ≡ opening_state P = holds_of_made _ _ _ (λ session. state_of session ≡ opening_state P) c.in_ok-session.ensures.cases c.new.ensures in
     record {
       keeps = Keeps-refl _;
       ends = c.requires;
       narrows = λ input may. may;
       begun = omega arith;
-      sized = subst (IsSized P) (sym opening) (opening_sized P);
-      answered = any_answered P _ _ _ _ _ opening;
+      sized = subst (IsSized P) (sym c.in_ok-session.ensures) (opening_sized P);
+      answered = any_answered P _ _ _ _ _ c.in_ok-session.ensures;
     }
 
 pub loop-session-preserved : goal.loop-session-preserved

@@ -1,6 +1,6 @@
 use Rattle.std.proofs.Common.{ℕ, List, ap, sym, ◌∙◌, subst}
 use Rattle.std.proofs.KnownBytes.{Keeps-trans}
-use Rattle.dbg_shell.specs.Spans.{KeepsInput, Narrows}
+use Rattle.dbg_shell.specs.Spans.{KeepsInput}
 use Rattle.dbg_shell.proofs.LineEnds.{told_so}
 use Rattle.dbg_shell.proofs.framing.Input.next_line.Goals as goal
 
