@@ -1,5 +1,5 @@
 -- What a run over the input writes.
-use Rattle.std.proofs.Common.{◌≡◌, ℕ, ◌-◌, ◌≤◌, Bool, true, false, List, [], ◌++◌, length, take, drop, Option, Some, None, refl, sym, ap, ◌∙◌, subst, inl, arith}
+use Rattle.std.proofs.Common.{◌≡◌, ℕ, ◌+◌, ◌-◌, ◌≤◌, Bool, true, false, List, [], ◌++◌, length, take, drop, Option, Some, None, refl, sym, ap, ◌∙◌, subst, inl, arith}
 use Rattle.std.specs.Prelude.{slice_range, IfSome, IfOk, IfErr, Result, Ok, Err, codes}
 use Rattle.std.proofs.KnownBytes.{Appends-nil}
 use Rattle.dbg_base.specs.declared.limits.TheConstants.{INPUT_BYTES}
@@ -17,7 +17,7 @@ use Rattle.dbg_shell.specs.declared.program_text.TextEnd.{TextEnd}
 use Rattle.dbg_shell.specs.declared.program_text.TextEnd.TheVariants as ends
 use Rattle.dbg_shell.specs.Spans.{lines_from, EndsWith, KeepsInput, MayBe, Narrows}
 use Rattle.dbg_shell.specs.Writing.{Writes}
-use Rattle.dbg_shell.specs.Serving.{IsServed, HasSmallText, ServesInput, BreaksInput, WritesFront, RepliesTo, ServesLines, StopsLines, BreaksLines, Splits, SplitsAny, served_by}
+use Rattle.dbg_shell.specs.Serving.{IsServed, HasSmallText, ServesInput, BreaksInput, ReadsFew, WritesFront, RepliesTo, ServesLines, StopsLines, BreaksLines, Splits, SplitsAny, served_by}
 use Rattle.dbg_shell.proofs.UnderWay.{goes_on}
 
 -- the run is of this form where the reader's bytes are known
@@ -56,6 +56,18 @@ pub text_from_start : (bytes text : List ℕ) (n : ℕ) → text ≡ take n byte
 text_from_start bytes text n e =
     let none : n ≡ n - 0 = omega arith in
     e ∙ ap (λ (k : ℕ). take k bytes) none
+
+-- the bytes that were read are few
+pub few_read : (first : List ℕ) (known : Option (List ℕ)) (bytes : List ℕ) (left : Option (List ℕ)) → first ≡ [] → KeepsInput first known bytes left
+    → length bytes ≤ INPUT_BYTES + 1 → IfSome known (λ input. ReadsFew input left)
+few_read first None bytes left empty keeps few = tt
+few_read first (Some xs) bytes None empty keeps few = absurd keeps
+few_read first (Some xs) bytes (Some ys) empty keeps few = (bytes, ys, refl, whole_is first bytes xs ys empty keeps, few)
+
+-- where nothing was read
+pub none_read : (known : Option (List ℕ)) → IfSome known (λ input. ReadsFew input known)
+none_read None = tt
+none_read (Some xs) = ([], xs, refl, refl, omega arith)
 
 -- the text of a program that was read, and the replies behind it
 text_of : (P : Program) (input bytes text out : List ℕ) (new : ℕ) (span : Span) → Splits input bytes 0 new (ends.Before span)

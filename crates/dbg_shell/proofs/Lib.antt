@@ -1,6 +1,5 @@
 pub mod Writing
 pub mod Histories
-pub mod Runs
 pub mod Words
 pub mod LineEnds
 pub mod UnderWay

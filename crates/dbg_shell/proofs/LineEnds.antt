@@ -3,7 +3,7 @@ use Rattle.std.proofs.Common.{◌≡◌, ℕ, suc, ◌+◌, ◌-◌, ◌<◌, �
 use Rattle.std.specs.Prelude.{slice_range, nat_lt}
 use Rattle.std.specs.List.{prefix_len}
 use Rattle.std.proofs.lemmas.Bool.Decides.{nat_tests}
-use Rattle.std.proofs.lemmas.Bool.{eqb-true}
+use Rattle.std.proofs.lemmas.Bool.{eqb-true, and_from, not-true, not-false}
 use Rattle.std.proofs.lemmas.List.{append-nil, drop-append-le, take-append-le, length-append, length-take, length-drop, drop-drop, drop_all, take-take, take_all, get_or-take, get_or-drop}
 use Rattle.std.proofs.lemmas.List.Folds.{list_all-append, drop_split}
 use Rattle.std.proofs.lemmas.List.Sums.{prefix_len_stops, prefix_len-le-length}
@@ -13,14 +13,14 @@ use Rattle.dbg_base.specs.Shell.{lines_of, with_front, lines_within, all_lines, 
 use Rattle.dbg_shell.specs.declared.framing.Next.{Next}
 use Rattle.dbg_shell.specs.declared.framing.Next.TheVariants.{Line, TooLong}
 use Rattle.dbg_shell.specs.Spans.{is_inside, is_unended, lines_from, Tells, TellsAny}
-use Rattle.dbg_shell.proofs.Runs.{and_first, and_second, both_true, not_is_true, not_is_false, front_passes}
+use Rattle.proc_lang.proofs.Runs.{and_first, and_second, front_passes}
 
 -- the first line is what stands before the first line end
 first_line_of : (w r : List ℕ) → is_unended w ≡ true → lines_of (w ++ 10 ∷ r) ≡ record { whole = w ∷ (lines_of r).whole; rest = (lines_of r).rest }
 first_line_of [] r h = refl
 first_line_of (b ∷ w) r h =
     let front : not (eqb b 10) ≡ true = and_first (is_inside b) (is_unended w) h in
-    let inner : eqb b 10 ≡ false = not_is_true (eqb b 10) front in
+    let inner : eqb b 10 ≡ false = not-true (eqb b 10) front in
     ap (with_front b) (first_line_of w r (and_second (is_inside b) (is_unended w) h)) ∙ rw inner refl
 
 -- without a line end there is no whole line
@@ -28,7 +28,7 @@ pub no_line_of : (w : List ℕ) → is_unended w ≡ true → lines_of w ≡ rec
 no_line_of [] h = refl
 no_line_of (b ∷ w) h =
     let front : not (eqb b 10) ≡ true = and_first (is_inside b) (is_unended w) h in
-    let inner : eqb b 10 ≡ false = not_is_true (eqb b 10) front in
+    let inner : eqb b 10 ≡ false = not-true (eqb b 10) front in
     ap (with_front b) (no_line_of w (and_second (is_inside b) (is_unended w) h)) ∙ rw inner refl
 
 take_line : (w r : List ℕ) (k : ℕ) → take (length w + 1 + k) (w ++ 10 ∷ r) ≡ w ++ 10 ∷ take k r
@@ -85,7 +85,7 @@ module _ (bytes : List ℕ) (at seen limit : ℕ) (begun : at ≤ seen) (read : 
       let inner : take n (slice_range bytes seen limit) ≡ take n (drop s from) = take-take n (limit - seen) (drop seen bytes) le ∙ ap (take n) (sym there) in
       ap is_unended (longer ∙ take-add s n from)
       ∙ list_all-append is_inside (take s from) (take n (drop s from))
-      ∙ both_true (is_unended (take s from)) (is_unended (take n (drop s from))) so_far (ap is_unended (sym inner) ∙ h)
+      ∙ and_from (is_unended (take s from)) (is_unended (take n (drop s from))) so_far (ap is_unended (sym inner) ∙ h)
 
   part_length : length (slice_range bytes seen limit) ≡ limit - seen
   part_length = simp (length-take, length-drop) (omega arith)
@@ -108,7 +108,7 @@ module _ (bytes : List ℕ) (at seen limit : ℕ) (begun : at ≤ seen) (read : 
       let part : List ℕ = slice_range bytes seen limit in
       let inside : prefix_len is_inside part < length part = omega (arith, part_length, e) in
       let stops : not (eqb (get_or part n 0) 10) ≡ false = ap (λ (m : ℕ). is_inside (get_or part m 0)) e ∙ prefix_len_stops is_inside part 0 inside in
-      let byte : get_or part n 0 ≡ 10 = eqb-true (get_or part n 0) 10 (not_is_false (eqb (get_or part n 0) 10) stops) in
+      let byte : get_or part n 0 ≡ 10 = eqb-true (get_or part n 0) 10 (not-false (eqb (get_or part n 0) 10) stops) in
       let there : get_or part n 0 ≡ get_or bytes (seen + n) 0 = get_or-take (limit - seen) (drop seen bytes) n 0 (omega arith) ∙ get_or-drop seen bytes n 0 in
       drop-cons bytes (seen + n) 0 (omega arith)
       ∙ ap (λ (b : ℕ). b ∷ drop (suc (seen + n)) bytes) (sym there ∙ byte)

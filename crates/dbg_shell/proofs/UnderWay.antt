@@ -10,7 +10,7 @@ use Rattle.dbg_base.specs.declared.limits.TheConstants.{INPUT_BYTES}
 use Rattle.dbg_base.specs.Shell.{Lines, lines_of, byte_before, lines_within}
 use Rattle.dbg_shell.specs.Spans.{is_inside, is_unended, lines_from, MayBe, IsUnderWay}
 use Rattle.dbg_shell.proofs.LineEnds.{no_line_of}
-use Rattle.dbg_shell.proofs.Runs.{and_first}
+use Rattle.proc_lang.proofs.Runs.{and_first}
 
 -- the whole lines behind one byte more in front
 abbrev whole_by : Bool → ℕ → List (List ℕ) → List (List ℕ)

@@ -1,10 +1,9 @@
 -- The words of a line, from its front.
 use Rattle.std.proofs.Common.{◌≡◌, ◌≢◌, ℕ, zero, suc, ◌-◌, ◌<◌, Bool, true, false, not, eqb, List, [], ◌∷◌, length, get_or, take, drop, Some, None, refl, sym, ap, ◌∙◌, arith, one-add}
 use Rattle.std.specs.List.{prefix_len}
-use Rattle.std.proofs.lemmas.Bool.{eqb-true}
+use Rattle.std.proofs.lemmas.Bool.{eqb-true, not-true}
 use Rattle.std.proofs.lemmas.Grind.{common_steps}
 use Rattle.dbg_base.specs.CommandLines.{is_blank, words_of, before_first_word, without_return, form_of}
-use Rattle.dbg_shell.proofs.Runs.{not_is_true}
 use Rattle.dbg_shell.specs.Lines.{begins_word, only}
 
 -- a byte of a word
@@ -34,7 +33,7 @@ pub first_word_is : (bytes : List ℕ) → begins_word bytes ≡ true → 0 < le
     → words_of bytes ≡ take (prefix_len is_inner bytes) bytes ∷ words_of (drop (prefix_len is_inner bytes) bytes)
 first_word_is [] begun some = absurd (omega arith)
 first_word_is (b ∷ bytes) begun some =
-    let inner : is_blank b ≡ false = not_is_true (is_blank b) begun in
+    let inner : is_blank b ≡ false = not-true (is_blank b) begun in
     let length_is : prefix_len is_inner (b ∷ bytes) ≡ suc (prefix_len is_inner bytes) = rw inner (one-add _) in
     inner_word b bytes inner
     ∙ ap (λ n. take n (b ∷ bytes) ∷ words_of (drop n (b ∷ bytes))) (sym length_is)

@@ -1,6 +1,7 @@
 -- What serving an input does.
-use Rattle.std.specs.Prelude.{◌≡◌, ℕ, ◌≤◌, Bool, true, false, List, ◌++◌, length, drop, slice_range, Option, Some, None, Result, if◌then◌else◌}
+use Rattle.std.specs.Prelude.{◌≡◌, ℕ, ◌+◌, ◌≤◌, Bool, true, false, List, ◌++◌, length, drop, slice_range, Option, Some, None, Result, if◌then◌else◌}
 use Rattle.std.specs.Io.KnownBytes.{Appends}
+use Rattle.dbg_base.specs.declared.limits.TheConstants.{INPUT_BYTES}
 use Rattle.dbg_base.specs.Trees.{Program}
 use Rattle.dbg_base.specs.Checks.{Reads}
 use Rattle.dbg_base.specs.ModelStates.{ModelState, opening_state}
@@ -47,6 +48,10 @@ WritesFront old new IsOut = (out : List ℕ) × IsOut out × AppendsFront old ne
 -- the run ended as the input is, and what it wrote is the text of the input
 abbrev pub ServesInput : List ℕ → Served → Option (List ℕ) → Option (List ℕ) → Type 0
 ServesInput input served old new = (served ≡ served_of input) × WritesSome old new (Text input)
+
+-- At most one byte more than may be was read.
+abbrev pub ReadsFew : List ℕ → Option (List ℕ) → Type 0
+ReadsFew input left = (bytes rest : List ℕ) × (left ≡ Some rest) × (input ≡ bytes ++ rest) × (length bytes ≤ INPUT_BYTES + 1)
 
 -- The reader failed behind some bytes of the input, and what was written is the replies to the whole lines among these.
 abbrev pub BreaksInput : List ℕ → Option (List ℕ) → Option (List ℕ) → Option (List ℕ) → Type 0

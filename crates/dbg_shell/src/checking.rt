@@ -5,7 +5,7 @@ ghost use Rattle.std.specs.Io.KnownBytes.{Keeps};
 ghost use Rattle.proc_lang.specs.Programs.{program_of};
 ghost use Rattle.dbg_shell.specs.declared.outcome.ServeFault.TheVariants.{Write};
 ghost use Rattle.dbg_shell.specs.declared.outcome.Served.{Served};
-ghost use Rattle.dbg_shell.specs.Serving.{WritesSome, WritesFront};
+ghost use Rattle.dbg_shell.specs.Serving.{WritesSome, WritesFront, ReadsFew};
 ghost use Rattle.dbg_shell.specs.Checking.{command_count, ChecksText, ChecksInput};
 
 use crate::framing::Input;
@@ -57,6 +57,8 @@ pub fn check<R: Read, W: Write>(
         (λ input. (served : Served) × WritesFront (W.contents writer.old) (W.contents writer.new) (ChecksInput input served))) }
     // A fault of the reader, and want of memory, write nothing.
     ensures silent { IfErr result (λ fault. fault ≢ Write → Keeps (W.contents writer.old) (W.contents writer.new)) }
+    // However it ends, at most 1,048,577 bytes were read.
+    ensures few { IfSome (R.remaining reader.old) (λ input. ReadsFew input (R.remaining reader.new)) }
 {
     let mut input = Input::new(alloc)?;
     match read_program_text(&mut input, reader)? {

@@ -7,7 +7,7 @@ ghost use Rattle.dbg_shell.specs.declared.outcome.ServeFault.TheVariants.{Memory
 ghost use Rattle.dbg_base.specs.Shell.{Text};
 ghost use Rattle.dbg_shell.specs.Spans.{EndsWith, KeepsInput, Narrows};
 ghost use Rattle.dbg_shell.specs.Sessions.{state_of, IsSized};
-ghost use Rattle.dbg_shell.specs.Serving.{IsServed, ServesInput, BreaksInput, WritesAnswer, WritesFront, ServesLines, StopsLines, BreaksLines};
+ghost use Rattle.dbg_shell.specs.Serving.{IsServed, ServesInput, BreaksInput, ReadsFew, WritesAnswer, WritesFront, ServesLines, StopsLines, BreaksLines};
 
 use crate::command_line::parse_line;
 use crate::framing::{Input, Next};
@@ -101,6 +101,8 @@ pub fn serve<R: Read, W: Write>(
         (λ input. BreaksInput input (R.remaining reader.new) (W.contents writer.old) (W.contents writer.new))) }
     // Where memory to begin is wanting, nothing is written.
     ensures memory { IfErr result (λ fault. fault ≡ Memory → Keeps (W.contents writer.old) (W.contents writer.new)) }
+    // However it ends, at most 1,048,577 bytes were read.
+    ensures few { IfSome (R.remaining reader.old) (λ input. ReadsFew input (R.remaining reader.new)) }
 {
     let mut input = Input::new(alloc)?;
     match read_program_text(&mut input, reader)? {

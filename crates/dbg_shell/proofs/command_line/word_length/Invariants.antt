@@ -1,4 +1,4 @@
-use Rattle.dbg_shell.proofs.Runs.{PassedSoFar}
+use Rattle.proc_lang.proofs.Runs.{PassedSoFar}
 use Rattle.dbg_shell.proofs.Words.{is_inner}
 use Rattle.dbg_shell.proofs.command_line.word_length.Given as goal
 
