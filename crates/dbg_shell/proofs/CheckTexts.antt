@@ -61,7 +61,7 @@ module _ (P : Program) (text : List ℕ) (processes commands : ℕ) (reads : Rea
 module _ (fault : ProgFault) (text : List ℕ) (refused : IsRefusal text (Bad fault)) (none : (P : Program) → Reads text P → IsSmall P → ⊥)
     (old out : Option (List ℕ)) where
   fault_here : ChecksText text outcomes.Refused (fault_text (fault_of fault))
-  fault_here = inr (fault, refused, none, refl, refl)
+  fault_here = inr (λ small. none small.0 small.1 small.2, refl, (fault, refused, refl))
 
   pub tells_fault : (r : Result Served ServeFault) → Writes old out r (fault_text (fault_of fault)) → IfOk r (λ served. served ≡ outcomes.Refused)
       → IfOk r (λ served. WritesSome old out (ChecksText text served))

@@ -6,8 +6,11 @@ use Rattle.dbg_base.specs.declared.limits.TheConstants.{INPUT_BYTES}
 use Rattle.dbg_base.specs.Trees.{Program}
 use Rattle.dbg_base.specs.Checks.{Reads}
 use Rattle.dbg_base.specs.ModelStates.{opening_state}
-use Rattle.dbg_base.specs.Shell.{Parts, lines_of, parts_of, read_lines, lines_within, is_too_long, AnswersLines, AnswersParts, TextOfParts, WholeText, Text, too_long_text, as_line}
-use Rattle.proc_lang.specs.Small.{IsSmall}
+use Rattle.dbg_base.specs.Shell.{Parts, lines_of, parts_of, read_lines, lines_within, is_too_long, AnswersLines, AnswersParts, TextOfParts, WholeText, Text, fault_text, too_long_text, as_line}
+use Rattle.proc_lang.specs.Small.{IsSmall, IsRefusal}
+use Rattle.proc_lang.specs.Faults.{fault_of}
+use Rattle.proc_lang.specs.declared.fault.ProgFault.{ProgFault}
+use Rattle.proc_lang.specs.declared.fault.ProgError.TheVariants.{Bad}
 use Rattle.dbg_shell.specs.declared.framing.Span.{Span}
 use Rattle.dbg_shell.specs.declared.outcome.Served.{Served}
 use Rattle.dbg_shell.specs.declared.outcome.ServeFault.{ServeFault}
@@ -17,12 +20,16 @@ use Rattle.dbg_shell.specs.declared.program_text.TextEnd.{TextEnd}
 use Rattle.dbg_shell.specs.declared.program_text.TextEnd.TheVariants as ends
 use Rattle.dbg_shell.specs.Spans.{lines_from, EndsWith, KeepsInput, MayBe, Narrows}
 use Rattle.dbg_shell.specs.Writing.{Writes}
-use Rattle.dbg_shell.specs.Serving.{IsServed, HasSmallText, ServesInput, BreaksInput, ReadsFew, WritesFront, RepliesTo, ServesLines, StopsLines, BreaksLines, Splits, SplitsAny, served_by}
+use Rattle.dbg_shell.specs.Serving.{IsServed, HasSmallText, ServesInput, RefusesInput, BreaksInput, ReadsFew, WritesFront, RepliesTo, ServesLines, StopsLines, BreaksLines, Splits, SplitsAny, served_by}
 use Rattle.dbg_shell.proofs.UnderWay.{goes_on}
 
 -- the run is of this form where the reader's bytes are known
 abbrev pub ServesKnown : {E : Type 0} → Option (List ℕ) → Result Served E → Option (List ℕ) → Option (List ℕ) → Type 0
 ServesKnown known r old out = IfOk r (λ served. IfSome known (λ input. IsServed input → ServesInput input served old out))
+
+-- of this form where the program text is no small program
+abbrev pub RefusesKnown : {E : Type 0} → Option (List ℕ) → Result Served E → Option (List ℕ) → Option (List ℕ) → Type 0
+RefusesKnown known r old out = IfOk r (λ served. IfSome known (λ input. ¬ IsServed input → RefusesInput input served old out))
 
 -- of this form where the writer failed
 abbrev pub StopsKnown : Option (List ℕ) → Result Served ServeFault → Option (List ℕ) → Option (List ℕ) → Type 0
@@ -120,6 +127,16 @@ module _ (bytes : List ℕ) (ended : Bool) (begin new : ℕ) (end : TextEnd) (be
           (told.1.0, text_of P input bytes text told.1.0 new span here seen reads told.1.1, told.1.2),
         )
 
+    pub accepts_program : {E : Type 0} (known : Option (List ℕ)) (r : Result Served E) (old out : Option (List ℕ)) → IfSome known (MayBe more over)
+        → IsSmall P → RefusesKnown known r old out
+    accepts_program known (Err e) old out may small = tt
+    accepts_program None (Ok served) old out may small = tt
+    accepts_program (Some input) (Ok served) old out may small =
+        let here : Splits input bytes 0 new (ends.Before span) = program_here input may in
+        λ unserved.
+        absurd (unserved (subst HasSmallText (sym (all_from_start input ∙ here.0))
+        (P, subst (λ (t : List ℕ). Reads t P) (text_from_start bytes text span.from (seen here.1)) reads, small)))
+
     pub stops_program : (known : Option (List ℕ)) (r : Result Served ServeFault) (old out : Option (List ℕ)) → IfSome known (MayBe more over)
         → IfErr r (λ fault. fault ≡ Write → StopsLines P more over new old out) → StopsKnown known r old out
     stops_program known (Ok served) old out may wrote = tt
@@ -164,6 +181,23 @@ module _ (bytes : List ℕ) (ended : Bool) (begin new : ℕ) (end : TextEnd) (be
     serves_no_fault (Some input) (Ok served) old out may =
         λ is_served. absurd (not_served input bytes text new span (split_here (ends.Before span) is input may) seen none is_served)
 
+    pub refuses_text : (fault : ProgFault) (known : Option (List ℕ)) (r : Result Served ServeFault) (old out : Option (List ℕ)) → IfSome known (MayBe bytes ended)
+        → IsRefusal text (Bad fault) → Writes old out r (fault_text (fault_of fault)) → IfOk r (λ served. served ≡ outcomes.Refused) → RefusesKnown known r old out
+    refuses_text fault known (Err e) old out may refused wrote same = tt
+    refuses_text fault None (Ok served) old out may refused wrote same = tt
+    refuses_text fault (Some input) (Ok served) old out may refused wrote same =
+        let here : Splits input bytes 0 new (ends.Before span) = split_here (ends.Before span) is input may in
+        λ unserved. (
+          record { program = slice_range bytes 0 span.from; commands = lines_from new input },
+          all_from_start input ∙ here.0,
+          same,
+          (
+            fault_text (fault_of fault),
+            (fault, subst (λ (t : List ℕ). IsRefusal t (Bad fault)) (text_from_start bytes text span.from (seen here.1)) refused, refl),
+            wrote.whole,
+          ),
+        )
+
     pub stops_no_fault : (known : Option (List ℕ)) (r : Result Served ServeFault) (old out : Option (List ℕ)) → IfSome known (MayBe bytes ended)
         → StopsKnown known r old out
     stops_no_fault known (Ok served) old out may = tt
@@ -180,6 +214,22 @@ module _ (bytes : List ℕ) (ended : Bool) (begin new : ℕ) (end : TextEnd) (be
       let no : is_too_long input ≡ false = here.1 in
       λ is_served.
       (same ∙ sym (ap (served_by input) (all_from_start input ∙ here.0) ∙ rw no refl), (no_end_line, text_without_end input bytes new here, wrote.whole))
+
+  -- without a line that ends it, no program text is refused by its faults
+  none_here : (input : List ℕ) → parts_of (lines_from 0 input) ≡ None → IsServed input
+  none_here input none = subst HasSmallText (sym (all_from_start input ∙ none)) tt
+
+  pub accepts_no_end_line : {E : Type 0} (known : Option (List ℕ)) (r : Result Served E) (old out : Option (List ℕ)) → IfSome known (MayBe bytes ended)
+      → end ≡ ends.End → RefusesKnown known r old out
+  accepts_no_end_line known (Err e) old out may is = tt
+  accepts_no_end_line None (Ok served) old out may is = tt
+  accepts_no_end_line (Some input) (Ok served) old out may is = λ unserved. absurd (unserved (none_here input (split_here ends.End is input may).0))
+
+  pub accepts_too_long : {E : Type 0} (known : Option (List ℕ)) (r : Result Served E) (old out : Option (List ℕ)) → IfSome known (MayBe bytes ended)
+      → end ≡ ends.TooLong → RefusesKnown known r old out
+  accepts_too_long known (Err e) old out may is = tt
+  accepts_too_long None (Ok served) old out may is = tt
+  accepts_too_long (Some input) (Ok served) old out may is = λ unserved. absurd (unserved (none_here input (split_here ends.TooLong is input may).0))
 
   pub stops_no_end_line : (known : Option (List ℕ)) (r : Result Served ServeFault) (old out : Option (List ℕ)) → IfSome known (MayBe bytes ended)
       → end ≡ ends.End → Writes old out r no_end_line → StopsKnown known r old out

@@ -4,13 +4,11 @@ use Rattle.std.specs.Bool.{MatchBool}
 use Rattle.std.specs.Fmt.{decimal}
 use Rattle.dbg_base.specs.Trees.{Program}
 use Rattle.dbg_base.specs.Checks.{Reads}
-use Rattle.dbg_base.specs.Shell.{Parts, parts_of, read_lines, as_line, fault_text, is_too_long, too_long_text}
-use Rattle.proc_lang.specs.Small.{IsSmall, IsRefusal}
-use Rattle.proc_lang.specs.Faults.{fault_of}
-use Rattle.proc_lang.specs.declared.fault.ProgFault.{ProgFault}
-use Rattle.proc_lang.specs.declared.fault.ProgError.TheVariants.{Bad}
+use Rattle.dbg_base.specs.Shell.{Parts, parts_of, read_lines, as_line, is_too_long, too_long_text}
+use Rattle.proc_lang.specs.Small.{IsSmall}
 use Rattle.dbg_shell.specs.declared.outcome.Served.{Served}
 use Rattle.dbg_shell.specs.declared.outcome.Served.TheVariants.{Done, Refused, TooLong}
+use Rattle.dbg_shell.specs.Serving.{IsSmallText, TellsRefusal}
 
 -- how many processes and commands a program has
 abbrev pub size_text : ℕ → ℕ → List ℕ
@@ -27,9 +25,7 @@ TellsSize text served out =
 
 -- the text is no small program, and why it is refused is told
 abbrev pub TellsFault : List ℕ → Served → List ℕ → Type 0
-TellsFault text served out =
-    (fault : ProgFault) × IsRefusal text (Bad fault) × ((P : Program) → Reads text P → IsSmall P → ⊥) × (served ≡ Refused)
-    × (out ≡ fault_text (fault_of fault))
+TellsFault text served out = ¬ IsSmallText text × (served ≡ Refused) × TellsRefusal text out
 
 -- what the check of a text writes
 abbrev pub ChecksText : List ℕ → Served → List ℕ → Type 0

@@ -5,8 +5,11 @@ use Rattle.dbg_base.specs.declared.limits.TheConstants.{INPUT_BYTES}
 use Rattle.dbg_base.specs.Trees.{Program}
 use Rattle.dbg_base.specs.Checks.{Reads}
 use Rattle.dbg_base.specs.ModelStates.{ModelState, opening_state}
-use Rattle.dbg_base.specs.Shell.{Parts, lines_of, parts_of, read_lines, is_too_long, AnswersLine, AnswersLines, end_text, WholeText, Text}
-use Rattle.proc_lang.specs.Small.{IsSmall}
+use Rattle.dbg_base.specs.Shell.{Parts, lines_of, parts_of, read_lines, is_too_long, AnswersLine, AnswersLines, end_text, fault_text, WholeText, Text}
+use Rattle.proc_lang.specs.Small.{IsSmall, IsRefusal}
+use Rattle.proc_lang.specs.Faults.{fault_of}
+use Rattle.proc_lang.specs.declared.fault.ProgFault.{ProgFault}
+use Rattle.proc_lang.specs.declared.fault.ProgError.TheVariants.{Bad}
 use Rattle.dbg_shell.specs.declared.outcome.Served.{Served}
 use Rattle.dbg_shell.specs.declared.outcome.ServeFault.{ServeFault}
 use Rattle.dbg_shell.specs.declared.outcome.Served.TheVariants.{Done, Refused, TooLong}
@@ -48,6 +51,15 @@ WritesFront old new IsOut = (out : List ℕ) × IsOut out × AppendsFront old ne
 -- the run ended as the input is, and what it wrote is the text of the input
 abbrev pub ServesInput : List ℕ → Served → Option (List ℕ) → Option (List ℕ) → Type 0
 ServesInput input served old new = (served ≡ served_of input) × WritesSome old new (Text input)
+
+-- a text is refused by one of its faults, and that is told
+abbrev pub TellsRefusal : List ℕ → List ℕ → Type 0
+TellsRefusal text out = (fault : ProgFault) × IsRefusal text (Bad fault) × (out ≡ fault_text (fault_of fault))
+
+-- The program text was refused, and nothing else was written.
+abbrev pub RefusesInput : List ℕ → Served → Option (List ℕ) → Option (List ℕ) → Type 0
+RefusesInput input served old new =
+    (parts : Parts) × (parts_of (read_lines input) ≡ Some parts) × (served ≡ Refused) × WritesSome old new (TellsRefusal parts.program)
 
 -- At most one byte more than may be was read.
 abbrev pub ReadsFew : List ℕ → Option (List ℕ) → Type 0

@@ -7,7 +7,7 @@ ghost use Rattle.dbg_shell.specs.declared.outcome.ServeFault.TheVariants.{Memory
 ghost use Rattle.dbg_base.specs.Shell.{Text};
 ghost use Rattle.dbg_shell.specs.Spans.{EndsWith, KeepsInput, Narrows};
 ghost use Rattle.dbg_shell.specs.Sessions.{state_of, IsSized};
-ghost use Rattle.dbg_shell.specs.Serving.{IsServed, ServesInput, BreaksInput, ReadsFew, WritesAnswer, WritesFront, ServesLines, StopsLines, BreaksLines};
+ghost use Rattle.dbg_shell.specs.Serving.{IsServed, ServesInput, RefusesInput, BreaksInput, ReadsFew, WritesAnswer, WritesFront, ServesLines, StopsLines, BreaksLines};
 
 use crate::command_line::parse_line;
 use crate::framing::{Input, Next};
@@ -93,6 +93,9 @@ pub fn serve<R: Read, W: Write>(
     // as the input is, and what is written is the text of the input.
     ensures served { IfOk result (λ served. IfSome (R.remaining reader.old)
         (λ input. IsServed input → ServesInput input served (W.contents writer.old) (W.contents writer.new))) }
+    // Where the program text is no small program, it is refused by one of its faults, and nothing else is written.
+    ensures refused { IfOk result (λ served. IfSome (R.remaining reader.old)
+        (λ input. ¬ IsServed input → RefusesInput input served (W.contents writer.old) (W.contents writer.new))) }
     // Where the writer fails, what is written is a front of a text of the input.
     ensures stopped { IfErr result (λ fault. fault ≡ Write → IfSome (R.remaining reader.old)
         (λ input. IsServed input → WritesFront (W.contents writer.old) (W.contents writer.new) (Text input))) }
