@@ -52,7 +52,7 @@ WritesFront old new IsOut = (out : List ℕ) × IsOut out × AppendsFront old ne
 abbrev pub ServesInput : List ℕ → Served → Option (List ℕ) → Option (List ℕ) → Type 0
 ServesInput input served old new = (served ≡ served_of input) × WritesSome old new (Text input)
 
--- a text is refused by one of its faults, and that is told
+-- the line that tells why a text is refused
 abbrev pub TellsRefusal : List ℕ → List ℕ → Type 0
 TellsRefusal text out = (fault : ProgFault) × IsRefusal text (Bad fault) × (out ≡ fault_text (fault_of fault))
 

@@ -93,7 +93,7 @@ pub fn serve<R: Read, W: Write>(
     // as the input is, and what is written is the text of the input.
     ensures served { IfOk result (λ served. IfSome (R.remaining reader.old)
         (λ input. IsServed input → ServesInput input served (W.contents writer.old) (W.contents writer.new))) }
-    // Where the program text is no small program, it is refused by one of its faults, and nothing else is written.
+    // Where the program text is no small program, it is refused, and what is written is one line that tells why.
     ensures refused { IfOk result (λ served. IfSome (R.remaining reader.old)
         (λ input. ¬ IsServed input → RefusesInput input served (W.contents writer.old) (W.contents writer.new))) }
     // Where the writer fails, what is written is a front of a text of the input.
