@@ -1,17 +1,16 @@
 -- Worked rows, computed from the definitions: a counter that feeds a consumer.
-use Rattle.std.proofs.Common.{◌≡◌, ℕ, pos, negsuc, List, [], ◌∷◌, ◌++◌, Some, None, Ok, Err, true, refl}
+use Rattle.std.proofs.Common.{◌≡◌, ℕ, pos, negsuc, List, [], ◌∷◌, ◌++◌, Some, None, Ok, Err, true, false, refl}
 use Rattle.std.specs.Prelude.{codes}
 use Rattle.dbg_base.specs.declared.expr.Operator.TheVariants.{Add, Subtract, Divide, Remainder, Less, Greater, Or, Equal}
-use Rattle.dbg_base.specs.declared.call.Call.TheVariants.{Give, Ask}
-use Rattle.dbg_base.specs.declared.call.Plan.TheVariants.{Next}
-use Rattle.dbg_base.specs.declared.call.Query.TheVariants.{Vars}
-use Rattle.dbg_base.specs.declared.refusal.Refusal.TheVariants.{UnknownProcess, BadLine}
+use Rattle.dbg_base.specs.declared.refusal.Refusal.TheVariants.{GuardFalse, ChannelEmpty, UnknownProcess, BadLine}
 use Rattle.dbg_base.specs.Trees.{Number, Variable, Truth, Binary, Local, Sends, Receives, Process, Program}
 use Rattle.dbg_base.specs.Evaluation.{Num, Tru, evaluate}
 use Rattle.dbg_base.specs.Configurations.{start_of}
-use Rattle.dbg_base.specs.Firing.{GuardFalse, ChannelEmpty, fire}
+use Rattle.dbg_base.specs.Firing.{fire}
 use Rattle.dbg_base.specs.Histories.{play, local_state, progress_of}
 use Rattle.dbg_base.specs.ModelStates.{opening_state, after_choice, configuration_of}
+use Rattle.dbg_base.specs.Calls.{Give, Next, Ask, Vars}
+use Rattle.dbg_base.specs.WellFormed.{is_well_formed}
 use Rattle.dbg_base.specs.Acts.{lowest_enabled}
 use Rattle.dbg_base.specs.CommandLines.{parsed_line}
 use Rattle.dbg_base.specs.Shell.{parts_of, read_lines}
@@ -101,11 +100,18 @@ orphan_stays_unplayed = refl
 after_next : (configuration_of system (after_choice (opening_state system) 0 0)).values ≡ (pos 1 ∷ []) ∷ (pos 0 ∷ pos 0 ∷ []) ∷ []
 after_next = refl
 
+-- the system is as each program that is read; the counter beside itself is not: names differ, and it would send to itself
+system_is_well_formed : is_well_formed system ≡ true
+system_is_well_formed = refl
+
+twice_is_not : is_well_formed (counter ∷ counter ∷ []) ≡ false
+twice_is_not = refl
+
 -- command lines
-reads_next : parsed_line system (codes "1 next a") ≡ Ok (Some (1, Give (Next (record { 0 = 0 }))))
+reads_next : parsed_line system (codes "1 next a") ≡ Ok (Some (record { seat = 1; call = Give (Next 0) }))
 reads_next = refl
 
-reads_vars : parsed_line system (codes "  16 vars b ") ≡ Ok (Some (16, Ask (Vars (record { 0 = 1 }))))
+reads_vars : parsed_line system (codes "  16 vars b ") ≡ Ok (Some (record { seat = 16; call = Ask (Vars 1) }))
 reads_vars = refl
 
 unknown_process : parsed_line system (codes "1 next d") ≡ Err UnknownProcess
@@ -116,6 +122,13 @@ no_seat = refl
 
 seat_too_large : parsed_line system (codes "17 next a") ≡ Err BadLine
 seat_too_large = refl
+
+-- the shape of the whole line comes before the names in it
+unknown_word : parsed_line system (codes "1 jump d") ≡ Err BadLine
+unknown_word = refl
+
+one_word_too_many : parsed_line system (codes "1 next d a") ≡ Err BadLine
+one_word_too_many = refl
 
 blank_line : parsed_line system (codes "   ") ≡ Ok None
 blank_line = refl

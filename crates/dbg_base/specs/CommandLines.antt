@@ -1,17 +1,13 @@
 -- Command lines: what a line asks for, or why it is refused.
-use Rattle.std.specs.Prelude.{ℕ, Bool, ◌&&◌, ◌||◌, ◌==◌, List, [], ◌∷◌, length, Option, Some, None, Result, Ok, Err, nat_le, nat_lt, codes, if◌then◌else◌}
-use Rattle.std.specs.Option.{option_map, option_and_then}
+use Rattle.std.specs.Prelude.{ℕ, Bool, ◌&&◌, ◌||◌, ◌==◌, List, [], ◌∷◌, length, Option, Some, None, ok_or, Result, Ok, Err, nat_le, nat_lt, codes, if◌then◌else◌}
+use Rattle.std.specs.Option.{option_and_then}
 use Rattle.std.specs.Str.{bytes_eq}
 use Rattle.std.specs.Str.Parse.{digits_value}
-use Rattle.dbg_base.specs.declared.ids.Pid.{Pid}
-use Rattle.dbg_base.specs.declared.call.Call.{Call}
-use Rattle.dbg_base.specs.declared.call.Call.TheVariants.{Give, Ask}
-use Rattle.dbg_base.specs.declared.call.Plan.TheVariants.{Next}
-use Rattle.dbg_base.specs.declared.call.Query.TheVariants.{Vars}
 use Rattle.dbg_base.specs.declared.refusal.Refusal.{Refusal}
 use Rattle.dbg_base.specs.declared.refusal.Refusal.TheVariants.{UnknownProcess, BadLine}
 use Rattle.dbg_base.specs.declared.limits.TheConstants.{LINE_BYTES, NAME_BYTES, SEATS}
 use Rattle.dbg_base.specs.Names.{place_of}
+use Rattle.dbg_base.specs.Calls.{Call, Give, Next, Ask, Vars}
 use Rattle.dbg_base.specs.Trees.{Program, names_of}
 use Rattle.dbg_base.specs.Tokens.{is_word, is_numeral}
 
@@ -55,49 +51,48 @@ seat_word word = option_and_then seat_in_range (number_word word)
 abbrev pub name_word : List ℕ → Option (List ℕ)
 name_word word = if is_word word && nat_le (length word) NAME_BYTES then Some word else None
 
--- what a line asks for, with processes by their names
-pub data Form : Type 0 where
-  NextForm : (process : List ℕ) → Form
-  VarsForm : (process : List ℕ) → Form
-
--- a command word and its arguments
-abbrev pub form_of : List (List ℕ) → Option Form
-form_of (word ∷ process ∷ []) =
-    if bytes_eq word (codes "next") then option_map NextForm (name_word process)
-    else (if bytes_eq word (codes "vars") then option_map VarsForm (name_word process) else None)
-form_of words = None
-
--- the call on a process, or a refusal where no process has the name
-abbrev pub process_found : Option ℕ → (Pid → Call) → Result Call Refusal
-process_found None call = Err UnknownProcess
-process_found (Some p) call = Ok (call (record { 0 = p }))
+-- goes on with what was found
+abbrev pub map_ok : {X Y E : Type 0} → (X → Y) → Result X E → Result Y E
+map_ok f (Ok x) = Ok (f x)
+map_ok f (Err e) = Err e
 
 -- a process by its name
-abbrev pub named_process : Program → List ℕ → (Pid → Call) → Result Call Refusal
-named_process P name call = process_found (place_of name (names_of P)) call
+abbrev pub named_process : Program → List ℕ → Result ℕ Refusal
+named_process P name = ok_or (place_of name (names_of P)) UnknownProcess
 
--- the call of a form
-abbrev pub call_of : Program → Form → Result Call Refusal
-call_of P (NextForm process) = named_process P process (λ pid. Give (Next pid))
-call_of P (VarsForm process) = named_process P process (λ pid. Ask (Vars pid))
+-- the call of a word that is about a process
+abbrev pub process_call : List ℕ → Result ℕ Refusal → Result Call Refusal
+process_call word process =
+    if bytes_eq word (codes "next") then map_ok (λ p. Give (Next p)) process
+    else (if bytes_eq word (codes "vars") then map_ok (λ p. Ask (Vars p)) process
+    else Err BadLine)
 
--- a seat's call
-abbrev pub by_seat : ℕ → Result Call Refusal → Result (Option (ℕ × Call)) Refusal
-by_seat seat (Ok call) = Ok (Some (seat, call))
-by_seat seat (Err refusal) = Err refusal
+-- goes on with a name, and a word that is none makes the line a bad one
+abbrev pub with_name : Option (List ℕ) → (List ℕ → Result Call Refusal) → Result Call Refusal
+with_name None go = Err BadLine
+with_name (Some name) go = go name
 
--- the shape of the whole line comes first, and then the names in it
-abbrev pub shaped_line : Program → Option ℕ → Option Form → Result (Option (ℕ × Call)) Refusal
-shaped_line P None form = Err BadLine
-shaped_line P (Some seat) None = Err BadLine
-shaped_line P (Some seat) (Some form) = by_seat seat (call_of P form)
+-- The call of a command word and its arguments. The shape of all of them comes first, and then what they name.
+abbrev pub call_of_words : Program → List (List ℕ) → Result Call Refusal
+call_of_words P (word ∷ process ∷ []) = with_name (name_word process) (λ name. process_call word (named_process P name))
+call_of_words P words = Err BadLine
+
+-- a call, and the seat that makes it
+pub record Request : Type 0 where
+  pub seat : ℕ
+  pub call : Call
+
+-- a seat's call, where there is such a seat
+abbrev pub by_seat : Option ℕ → Result Call Refusal → Result (Option Request) Refusal
+by_seat None call = Err BadLine
+by_seat (Some seat) call = map_ok (λ made. Some (record { seat = seat; call = made })) call
 
 -- a blank line asks for nothing
-abbrev pub line_of_words : Program → List (List ℕ) → Result (Option (ℕ × Call)) Refusal
+abbrev pub line_of_words : Program → List (List ℕ) → Result (Option Request) Refusal
 line_of_words P [] = Ok None
-line_of_words P (seat ∷ words) = shaped_line P (seat_word seat) (form_of words)
+line_of_words P (seat ∷ words) = by_seat (seat_word seat) (call_of_words P words)
 
--- The seat and the call of a line, nothing for a blank one, or why the line is refused. The line is without its line end, and may
+-- What a line asks for, nothing for a blank one, or why the line is refused. The line is without its line end, and may
 -- have a carriage return at its end, which its length counts.
-abbrev pub parsed_line : Program → List ℕ → Result (Option (ℕ × Call)) Refusal
+abbrev pub parsed_line : Program → List ℕ → Result (Option Request) Refusal
 parsed_line P line = if nat_lt LINE_BYTES (length line) then Err BadLine else line_of_words P (words_of (without_return line))

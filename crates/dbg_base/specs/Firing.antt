@@ -1,14 +1,10 @@
--- One command of one process fires, or why it doesn't.
+-- One command of one process fires, or it is told why it doesn't: its guard is false, an evaluation faults, or there is nothing to receive.
 use Rattle.std.specs.Prelude.{ℕ, ℤ, Bool, true, false, List, [], ◌∷◌, ◌++◌, Option, Some, None, Result, Ok, Err, slice_set}
 use Rattle.dbg_base.specs.Trees.{Tree, Action, Local, Sends, Receives, Command, Program, command_of}
 use Rattle.dbg_base.specs.Evaluation.{Value, Num, Tru, evaluate, number_of}
+use Rattle.dbg_base.specs.declared.refusal.Refusal.{Refusal}
+use Rattle.dbg_base.specs.declared.refusal.Refusal.TheVariants.{GuardFalse, Fault, ChannelEmpty}
 use Rattle.dbg_base.specs.Configurations.{Configuration, values_of, channel_of, with_channel, with_values}
-
--- why a command does not fire
-pub data Cause : Type 0 where
-  GuardFalse : Cause
-  Fault : Cause
-  ChannelEmpty : Cause
 
 -- the guard's truth, or none where its evaluation faults
 abbrev pub truth_of : Option Value → Option Bool
@@ -78,37 +74,37 @@ after_effect c p (Sends target value) effect =
 after_effect c p action effect = with_values c p (set_all (values_of c p) effect.sets)
 
 -- the effect is made, unless an evaluation faulted
-abbrev pub complete : Configuration → ℕ → Action → Option Effect → Result Configuration Cause
+abbrev pub complete : Configuration → ℕ → Action → Option Effect → Result Configuration Refusal
 complete c p action None = Err Fault
 complete c p action (Some effect) = Ok (after_effect c p action effect)
 
 -- a receive takes the front of its channel, and any other command goes on as it is
-abbrev pub receive : Command → Configuration → ℕ → ℕ → List ℤ → Result Configuration Cause
+abbrev pub receive : Command → Configuration → ℕ → ℕ → List ℤ → Result Configuration Refusal
 receive command c p source [] = Err ChannelEmpty
 receive command c p source (message ∷ messages) =
     complete (with_channel c source p messages) p command.action (effect_of command (values_of c p) (Some message))
 
-abbrev pub proceed : Command → Action → Configuration → ℕ → Result Configuration Cause
+abbrev pub proceed : Command → Action → Configuration → ℕ → Result Configuration Refusal
 proceed command (Receives source variable) c p = receive command c p source (channel_of c source p)
 proceed command action c p = complete c p action (effect_of command (values_of c p) None)
 
 -- goes on where the guard is true
-abbrev pub where_true : Option Bool → Result Configuration Cause → Result Configuration Cause
+abbrev pub where_true : Option Bool → Result Configuration Refusal → Result Configuration Refusal
 where_true None next = Err Fault
 where_true (Some false) next = Err GuardFalse
 where_true (Some true) next = next
 
 -- Process p makes this command: its guard is evaluated first; then a receive needs a message; then the value to send and the
 -- assigned values are evaluated; then all variables are set at once and the sent value goes on its way.
-abbrev pub fire_command : Command → Configuration → ℕ → Result Configuration Cause
+abbrev pub fire_command : Command → Configuration → ℕ → Result Configuration Refusal
 fire_command command c p =
     where_true (truth_of (evaluate command.guard (values_of c p))) (proceed command command.action c p)
 
 -- the command, if there is one
-abbrev pub fire_if : Option Command → Configuration → ℕ → Result Configuration Cause
+abbrev pub fire_if : Option Command → Configuration → ℕ → Result Configuration Refusal
 fire_if None c p = Err GuardFalse
 fire_if (Some command) c p = fire_command command c p
 
 -- Command k of process p; a command that the process has not counts as one whose guard is false.
-abbrev pub fire : Program → Configuration → ℕ → ℕ → Result Configuration Cause
+abbrev pub fire : Program → Configuration → ℕ → ℕ → Result Configuration Refusal
 fire P c p k = fire_if (command_of P p k) c p

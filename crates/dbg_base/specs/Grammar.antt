@@ -4,7 +4,11 @@ use Rattle.std.specs.List.{list_any}
 use Rattle.std.specs.Str.{bytes_eq}
 use Rattle.dbg_base.specs.declared.expr.Operator.{Operator}
 use Rattle.dbg_base.specs.declared.expr.Operator.TheVariants.{Add, Subtract, Multiply, Divide, Remainder, Equal, NotEqual, Less, LessOrEqual, Greater, GreaterOrEqual, And, Or}
-use Rattle.dbg_base.specs.Tokens.{Sign, OpenBrace, CloseBrace, OpenParenthesis, CloseParenthesis, Semicolon, Colon, Becomes, Comma, Equals, NotEquals, LessThan, AtMost, GreaterThan, AtLeast, Plus, Minus, Star, Slash, Percent, Token, Word, Symbol, Placed, Fault, GrammarFault}
+use Rattle.dbg_base.specs.declared.sign.Sign.{Sign}
+use Rattle.dbg_base.specs.declared.sign.Sign.TheVariants.{OpenBrace, CloseBrace, OpenParenthesis, CloseParenthesis, Semicolon, Colon, Becomes, Comma, Equals, NotEquals, LessThan, AtMost, GreaterThan, AtLeast, Plus, Minus, Star, Slash, Percent}
+use Rattle.dbg_base.specs.declared.fault.ProgFault.{ProgFault}
+use Rattle.dbg_base.specs.declared.fault.FaultKind.TheVariants as fault
+use Rattle.dbg_base.specs.Tokens.{Token, Word, Symbol, Placed}
 use Rattle.dbg_base.specs.Tokens as token
 
 -- a name where it stands
@@ -167,18 +171,19 @@ abbrev pub DerivesProgram : List Placed → List WrittenProcess → Type 0
 DerivesProgram tokens [] = ⊥
 DerivesProgram tokens (process ∷ processes) = DeriveInTurn DerivesProcess tokens (process ∷ processes)
 
--- some tokens that begin so are a program
-abbrev pub BeginsProgram : List Placed → Type 0
-BeginsProgram tokens = (more : List Placed) × (written : List WrittenProcess) × DerivesProgram (tokens ++ more) written
+-- Some tokens that begin so derive what is written, where these tokens derive such a thing. The start symbol is given, since a text may
+-- be a program or something else.
+abbrev pub Begins : {A : Type 0} → (List Placed → A → Type 0) → List Placed → Type 0
+Begins {A} Derives tokens = (more : List Placed) × (written : A) × Derives (tokens ++ more) written
 
--- these tokens are no program
-abbrev pub IsNoProgram : List Placed → Type 0
-IsNoProgram tokens = (written : List WrittenProcess) → DerivesProgram tokens written → ⊥
+-- these tokens derive nothing
+abbrev pub DerivesNothing : {A : Type 0} → (List Placed → A → Type 0) → List Placed → Type 0
+DerivesNothing {A} Derives tokens = (written : A) → Derives tokens written → ⊥
 
--- the first token with which the tokens so far are no front of a program, or the end of the text where each front is one
-abbrev pub IsGrammarFault : ℕ → List Placed → Fault → Type 0
-IsGrammarFault text_length tokens fault =
-    (fault.kind ≡ GrammarFault)
-    × (((front others : List Placed) × (p : Placed) × (tokens ≡ front ++ p ∷ others) × BeginsProgram front
-    × ¬ BeginsProgram (front ++ p ∷ []) × (fault.at ≡ p.at))
-    ⊎ (BeginsProgram tokens × IsNoProgram tokens × (fault.at ≡ text_length)))
+-- the first token with which the tokens so far are no front of what can be derived, or the end of the text where each front is one
+abbrev pub IsGrammarFault : {A : Type 0} → (List Placed → A → Type 0) → ℕ → List Placed → ProgFault → Type 0
+IsGrammarFault Derives text_length tokens found =
+    (found.kind ≡ fault.Grammar)
+    × (((front others : List Placed) × (p : Placed) × (tokens ≡ front ++ p ∷ others) × Begins Derives front
+    × ¬ Begins Derives (front ++ p ∷ []) × (found.at ≡ p.at))
+    ⊎ (Begins Derives tokens × DerivesNothing Derives tokens × (found.at ≡ text_length)))

@@ -3,7 +3,8 @@ use Rattle.std.specs.Prelude.{◌≡◌, ℕ, zero, suc, ◌+◌, ℤ, List, [],
 use Rattle.std.specs.List.{AllByRecursion}
 use Rattle.dbg_base.specs.Trees.{Program}
 use Rattle.dbg_base.specs.Configurations.{Configuration, start_of, values_of}
-use Rattle.dbg_base.specs.Firing.{Cause, fire}
+use Rattle.dbg_base.specs.declared.refusal.Refusal.{Refusal}
+use Rattle.dbg_base.specs.Firing.{fire}
 
 -- the choices that each process has made, first to last: a choice is the number of a command
 abbrev pub History : Type 0
@@ -33,9 +34,9 @@ moved at p rest c = record {
 }
 
 -- the move of process p, or else what the other processes can do
-abbrev pub first_move : Result Configuration Cause → Progress → ℕ → List ℕ → Option Progress → Option Progress
+abbrev pub first_move : Result Configuration Refusal → Progress → ℕ → List ℕ → Option Progress → Option Progress
 first_move (Ok c) at p rest others = Some (moved at p rest c)
-first_move (Err cause) at p rest others = others
+first_move (Err refusal) at p rest others = others
 
 -- the move of the first process, from process p on, whose next choice fires; the last argument has the unplayed choices from p on
 abbrev pub move_from : Program → Progress → ℕ → History → Option Progress

@@ -1,11 +1,15 @@
 pub mod Names
 pub mod Refusals
+pub mod Faults
+pub mod Sorts
 pub mod Trees
+pub mod WellFormed
 pub mod Evaluation
 pub mod Configurations
 pub mod Firing
 pub mod Histories
 pub mod ModelStates
+pub mod Calls
 pub mod Acts
 pub mod Views
 pub mod Tokens

@@ -1,5 +1,5 @@
 -- What a session is, apart from the code that keeps it.
-use Rattle.std.specs.Prelude.{ℕ, ◌+◌, List, [], ◌∷◌, ◌++◌, length, replicate, take, slice_index, slice_index_or, slice_set}
+use Rattle.std.specs.Prelude.{ℕ, ◌+◌, List, [], ◌∷◌, ◌++◌, length, replicate, take, Option, None, slice_index, slice_index_or, slice_set}
 use Rattle.dbg_base.specs.Trees.{Program}
 use Rattle.dbg_base.specs.Configurations.{Configuration}
 use Rattle.dbg_base.specs.Histories.{History, play}
@@ -36,7 +36,11 @@ configuration_of P M = play P (history_of M)
 
 -- process p made choice k: its line is cut at its place, the choice is appended, and the place moves on by one
 abbrev pub after_choice : ModelState → ℕ → ℕ → ModelState
-after_choice M p k = record {
+after_choice M p k = record M {
   lines = slice_set M.lines p (take (place_at M p) (line_of M p) ++ k ∷ []);
   places = slice_set M.places p (place_at M p + 1);
 }
+
+-- the breakpoint that halts the session, if one does: none can be set yet
+abbrev pub halted_of : Program → ModelState → Option (List ℕ)
+halted_of P M = None

@@ -3,8 +3,6 @@ use Rattle.std.specs.Prelude.{ℕ, ℤ, Bool, true, false, List, [], ◌++◌, m
 use Rattle.std.specs.List.{flat_map, zip}
 use Rattle.std.specs.Fmt.{decimal, signed_decimal}
 use Rattle.dbg_base.specs.declared.ids.Pid.{Pid}
-use Rattle.dbg_base.specs.declared.call.Call.{Call}
-use Rattle.dbg_base.specs.declared.call.Call.TheVariants.{Ask}
 use Rattle.dbg_base.specs.declared.call.Query.{Query}
 use Rattle.dbg_base.specs.declared.call.Query.TheVariants.{Vars, Chan, Clock, Place, Can, CutOf, Why, Breaks}
 use Rattle.dbg_base.specs.declared.said.Said.{Said}
@@ -111,13 +109,13 @@ answer_text P query (CutIs cut) = cut_text P cut
 answer_text P query (Frontier heads) = pair_parts (names_of P) (map head_text heads)
 answer_text P query (Marks marks) = flat_map (λ m. part m.0 ++ part (mark_text m.1)) marks
 
--- the query of a call that asks
-abbrev pub asked_text : Program → Call → Answer → List ℕ
-asked_text P (Ask query) given = query_text P query ++ answer_text P query given
-asked_text P call given = []
+-- the query's words and its answer; a command is not answered so
+abbrev pub asked_text : Program → Option Query → Answer → List ℕ
+asked_text P (Some query) given = query_text P query ++ answer_text P query given
+asked_text P None given = []
 
--- the line that answers a call
-abbrev pub reply_text : Program → Call → Said → List ℕ
-reply_text P call (Accepted reply) = done_text P reply.done ++ halted_text reply.halted
-reply_text P call (Answered given) = asked_text P call given
-reply_text P call (Refused refusal) = refusal_text P refusal
+-- the line that answers a call, where this query was asked, if one was
+abbrev pub reply_text : Program → Option Query → Said → List ℕ
+reply_text P query (Accepted reply) = done_text P reply.done ++ halted_text reply.halted
+reply_text P query (Answered given) = asked_text P query given
+reply_text P query (Refused refusal) = refusal_text P refusal

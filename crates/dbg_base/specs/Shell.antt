@@ -3,19 +3,19 @@ use Rattle.std.specs.Prelude.{◌≡◌, ℕ, Bool, List, [], ◌∷◌, ◌++�
 use Rattle.std.specs.Option.{option_map}
 use Rattle.std.specs.Str.{bytes_eq}
 use Rattle.std.specs.Fmt.{decimal}
-use Rattle.dbg_base.specs.declared.call.Call.{Call}
-use Rattle.dbg_base.specs.declared.call.Call.TheVariants.{Give, Ask}
 use Rattle.dbg_base.specs.declared.said.Said.{Said}
 use Rattle.dbg_base.specs.declared.refusal.Refusal.{Refusal}
 use Rattle.dbg_base.specs.declared.refusal.Refusal.TheVariants.{Memory}
 use Rattle.dbg_base.specs.declared.limits.TheConstants.{INPUT_BYTES}
 use Rattle.dbg_base.specs.Trees.{Program}
-use Rattle.dbg_base.specs.Tokens.{Fault, kind_number}
+use Rattle.dbg_base.specs.declared.fault.ProgFault.{ProgFault}
+use Rattle.dbg_base.specs.Faults.{kind_number}
 use Rattle.dbg_base.specs.Checks.{Reads, IsFault}
+use Rattle.dbg_base.specs.Calls.{Call, Give, Ask, asked_by}
 use Rattle.dbg_base.specs.ModelStates.{ModelState, opening_state}
 use Rattle.dbg_base.specs.Acts.{Refuses, Acts}
 use Rattle.dbg_base.specs.Views.{answer}
-use Rattle.dbg_base.specs.CommandLines.{without_return, parsed_line}
+use Rattle.dbg_base.specs.CommandLines.{Request, without_return, parsed_line}
 use Rattle.dbg_base.specs.Replies.{reply_text, refusal_text}
 
 -- The whole lines of some bytes, without their line ends, and the bytes behind the last line end.
@@ -82,21 +82,21 @@ parts_of (line ∷ lines) =
 abbrev pub as_line : List ℕ → List ℕ
 as_line text = text ++ 10 ∷ []
 
--- a call was made at M, was answered so, and left M'
-abbrev pub Says : Program → Call → ModelState → Said → ModelState → Type 0
-Says P (Give plan) M said M' = Acts P plan M said M'
-Says P (Ask query) M said M' = (said ≡ answer P M query) × (M' ≡ M)
-Says P call M said M' = ⊥
+-- A seat's call was made at M, was answered so, and left M'. What is said may depend on the seat.
+abbrev pub Says : Program → ℕ → Call → ModelState → Said → ModelState → Type 0
+Says P seat (Give plan) M said M' = Acts P plan M said M'
+Says P seat (Ask query) M said M' = (said ≡ answer P M query) × (M' ≡ M)
 
 -- a call was answered at M, or refused for want of memory, which changes nothing
-abbrev pub SaysOrRefuses : Program → Call → ModelState → Said → ModelState → Type 0
-SaysOrRefuses P call M said M' = Says P call M said M' ⊎ Refuses Memory M said M'
+abbrev pub SaysOrRefuses : Program → ℕ → Call → ModelState → Said → ModelState → Type 0
+SaysOrRefuses P seat call M said M' = Says P seat call M said M' ⊎ Refuses Memory M said M'
 
 -- what is written for a line at M, and the state that it leaves
-abbrev pub AnswersParsed : Program → Result (Option (ℕ × Call)) Refusal → ModelState → List ℕ → ModelState → Type 0
+abbrev pub AnswersParsed : Program → Result (Option Request) Refusal → ModelState → List ℕ → ModelState → Type 0
 AnswersParsed P (Err refusal) M out M' = (out ≡ as_line (refusal_text P refusal)) × (M' ≡ M)
 AnswersParsed P (Ok None) M out M' = (out ≡ []) × (M' ≡ M)
-AnswersParsed P (Ok (Some line)) M out M' = (said : Said) × SaysOrRefuses P line.1 M said M' × (out ≡ as_line (reply_text P line.1 said))
+AnswersParsed P (Ok (Some request)) M out M' =
+    (said : Said) × SaysOrRefuses P request.seat request.call M said M' × (out ≡ as_line (reply_text P (asked_by request.call) said))
 
 abbrev pub AnswersLine : Program → List ℕ → ModelState → List ℕ → ModelState → Type 0
 AnswersLine P line M out M' = AnswersParsed P (parsed_line P line) M out M'
@@ -120,7 +120,7 @@ abbrev pub no_end_text : List ℕ → List ℕ
 no_end_text input = if is_too_long input then too_long_text else as_line (codes "program refused: no end line")
 
 -- how a program fault is told
-abbrev pub fault_text : Fault → List ℕ
+abbrev pub fault_text : ProgFault → List ℕ
 fault_text fault = as_line (codes "program refused " ++ decimal (kind_number fault.kind) ++ codes " at " ++ decimal fault.at)
 
 -- the program was read, and each line behind it was answered in turn
@@ -131,7 +131,7 @@ AnswersCommands input parts out =
 
 -- the program was refused, and nothing else is written
 abbrev pub RefusesProgram : Parts → List ℕ → Type 0
-RefusesProgram parts out = (fault : Fault) × IsFault parts.program fault × (out ≡ fault_text fault)
+RefusesProgram parts out = (fault : ProgFault) × IsFault parts.program fault × (out ≡ fault_text fault)
 
 abbrev pub TextOfParts : List ℕ → Option Parts → List ℕ → Type 0
 TextOfParts input None out = out ≡ no_end_text input

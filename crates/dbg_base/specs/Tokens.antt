@@ -3,28 +3,11 @@ use Rattle.std.specs.Prelude.{◌≡◌, ℕ, ◌+◌, ◌-◌, ◌^◌, ◌<◌
 use Rattle.std.specs.List.{list_all, AllByRecursion}
 use Rattle.std.specs.Str.Parse.{digits_value}
 use Rattle.dbg_base.specs.declared.limits.TheConstants.{NAME_BYTES, OPEN_PARENTHESES, INPUT_BYTES}
-
--- a mark of the language
-pub data Sign : Type 0 where
-  OpenBrace : Sign
-  CloseBrace : Sign
-  OpenParenthesis : Sign
-  CloseParenthesis : Sign
-  Semicolon : Sign
-  Colon : Sign
-  Becomes : Sign
-  Comma : Sign
-  Equals : Sign
-  NotEquals : Sign
-  LessThan : Sign
-  AtMost : Sign
-  GreaterThan : Sign
-  AtLeast : Sign
-  Plus : Sign
-  Minus : Sign
-  Star : Sign
-  Slash : Sign
-  Percent : Sign
+use Rattle.dbg_base.specs.declared.sign.Sign.{Sign}
+use Rattle.dbg_base.specs.declared.sign.Sign.TheVariants.{OpenBrace, CloseBrace, OpenParenthesis, CloseParenthesis, Semicolon, Colon, Becomes, Comma, Equals, NotEquals, LessThan, AtMost, GreaterThan, AtLeast, Plus, Minus, Star, Slash, Percent}
+use Rattle.dbg_base.specs.declared.fault.ProgFault.{ProgFault}
+use Rattle.dbg_base.specs.declared.fault.FaultKind.{FaultKind}
+use Rattle.dbg_base.specs.declared.fault.FaultKind.TheVariants as fault
 
 -- a word, a number or a sign
 pub data Token : Type 0 where
@@ -105,7 +88,7 @@ BeginsWith at text (p ∷ tokens) end rest =
     (gap piece more : List ℕ) × IsTrue (list_all is_space gap) × (text ≡ gap ++ piece ++ more) × (p.at ≡ at + length gap)
     × Spells p.token piece × IsLongest piece more × BeginsWith (p.at + length piece) more tokens end rest
 
--- a word has at most 32 bytes, and a number is at most the largest signed number of 64 bits
+-- a word is no longer than a name may be, and a number is at most the largest signed number of 64 bits
 abbrev pub IsWithinLimits : Token → Type 0
 IsWithinLimits (Word bytes) = length bytes ≤ NAME_BYTES
 IsWithinLimits (Number value) = value < 2 ^ 63
@@ -122,7 +105,7 @@ abbrev pub open_after : ℕ → List Placed → ℕ
 open_after depth [] = depth
 open_after depth (p ∷ tokens) = open_after (open_behind depth p.token) tokens
 
--- at most 32 parentheses are open at once
+-- no more parentheses are open at once than may be
 abbrev pub StaysShallow : ℕ → List Placed → Type 0
 StaysShallow depth [] = Unit {0}
 StaysShallow depth (p ∷ tokens) = (open_behind depth p.token ≤ OPEN_PARENTHESES) × StaysShallow (open_behind depth p.token) tokens
@@ -135,34 +118,6 @@ AreWithinLimits tokens = AllByRecursion (λ p. IsWithinLimits p.token) tokens ×
 abbrev pub HasTokens : List ℕ → List Placed → Type 0
 HasTokens text tokens =
     (length text ≤ INPUT_BYTES) × BeginsWith 0 text tokens (length text) [] × AreWithinLimits tokens
-
--- what a program text has wrong, by its kinds in the order of their numbers
-pub data FaultKind : Type 0 where
-  ByteFault : FaultKind
-  TokenFault : FaultKind
-  GrammarFault : FaultKind
-  NameTaken : FaultKind
-  NameUnknown : FaultKind
-  TypeWrong : FaultKind
-  LimitFault : FaultKind
-  SelfSend : FaultKind
-  SetTwice : FaultKind
-
-abbrev pub kind_number : FaultKind → ℕ
-kind_number ByteFault = 1
-kind_number TokenFault = 2
-kind_number GrammarFault = 3
-kind_number NameTaken = 4
-kind_number NameUnknown = 5
-kind_number TypeWrong = 6
-kind_number LimitFault = 7
-kind_number SelfSend = 8
-kind_number SetTwice = 9
-
--- a fault and the offset at which it is
-pub record Fault : Type 0 where
-  pub kind : FaultKind
-  pub at : ℕ
 
 -- the first byte is no space
 abbrev pub BeginsWithNoSpace : List ℕ → Type 0
@@ -184,13 +139,13 @@ OpensTooDeep depth bytes = (depth ≡ OPEN_PARENTHESES) × (more : List ℕ) × 
 
 -- what is wrong at the front, where so many parentheses are open
 abbrev pub FaultsInFront : FaultKind → ℕ → List ℕ → Type 0
-FaultsInFront ByteFault depth bytes = BeginsWithNoSpace bytes × BeginsWithNoToken bytes
-FaultsInFront TokenFault depth bytes = BeginsWithTooLarge bytes
-FaultsInFront LimitFault depth bytes = OpensTooDeep depth bytes
+FaultsInFront fault.Byte depth bytes = BeginsWithNoSpace bytes × BeginsWithNoToken bytes
+FaultsInFront fault.Token depth bytes = BeginsWithTooLarge bytes
+FaultsInFront fault.Limit depth bytes = OpensTooDeep depth bytes
 FaultsInFront kind depth bytes = ⊥
 
 -- the first fault of the tokens: tokens without a fault stand before it
-abbrev pub IsTokenFault : List ℕ → Fault → Type 0
-IsTokenFault text fault =
-    (tokens : List Placed) × (rest : List ℕ) × BeginsWith 0 text tokens fault.at rest × AreWithinLimits tokens
-    × FaultsInFront fault.kind (open_after 0 tokens) rest
+abbrev pub IsTokenFault : List ℕ → ProgFault → Type 0
+IsTokenFault text found =
+    (tokens : List Placed) × (rest : List ℕ) × BeginsWith 0 text tokens found.at rest × AreWithinLimits tokens
+    × FaultsInFront found.kind (open_after 0 tokens) rest

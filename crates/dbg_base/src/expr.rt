@@ -1,5 +1,12 @@
 //! Expressions of the process language.
 
+/// What an expression gives, by its outermost form alone.
+#[derive(Clone, Copy, Debug, PartialEq, Eq)]
+pub enum Sort {
+    Number,
+    Truth,
+}
+
 /// An operator between two operands.
 #[derive(Clone, Copy, Debug, PartialEq, Eq)]
 pub enum Operator {

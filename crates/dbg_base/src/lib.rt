@@ -6,17 +6,21 @@
 
 mod call;
 mod expr;
+mod fault;
 mod ids;
 pub mod limits;
 mod name;
 mod refusal;
 mod said;
 mod sequence;
+mod sign;
 
 pub use call::{Call, Conjunct, Plan, Query};
-pub use expr::{Expr, Operator};
+pub use expr::{Expr, Operator, Sort};
+pub use fault::{FaultKind, ProgFault};
 pub use ids::{Choice, Cut, Pid};
 pub use name::Name;
 pub use refusal::Refusal;
 pub use said::{Answer, Done, Head, Reply, Said};
 pub use sequence::Sequence;
+pub use sign::Sign;

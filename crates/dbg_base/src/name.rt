@@ -49,7 +49,7 @@ impl Eq for Name {
 impl Name {
     /// The name of these bytes, or None where they are not 1 to 32. It takes no memory.
     pub fn new(bytes: &[u8]) -> Option<Name>
-        ensures some { IsSome result ↔ ((1 ≤ length bytes.now) × (length bytes.now ≤ 32)) }
+        ensures some { IsSome result ↔ ((1 ≤ length bytes.now) × (length bytes.now ≤ NAME_BYTES)) }
         ensures value { IfSome result (λ name. name ≡ bytes.now) }
     {
         if bytes.is_empty() || bytes.len() > NAME_BYTES {
@@ -67,7 +67,7 @@ impl Name {
     pub fn bytes(&self) -> &[u8]
         ensures value { result.now ≡ self.now }
         ensures some { 1 ≤ length self.now }
-        ensures few { length self.now ≤ 32 }
+        ensures few { length self.now ≤ NAME_BYTES }
     {
         &self.bytes[..self.used as usize]
     }

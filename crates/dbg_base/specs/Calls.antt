@@ -1,0 +1,57 @@
+-- Calls: what a seat can ask of a session, by the numbers of processes and without the places in memory that calls of the code have. A
+-- word that no line has yet has no case here.
+use Rattle.std.specs.Prelude.{ℕ, Option, Some, None}
+use Rattle.std.specs.Option.{option_map}
+use Rattle.dbg_base.specs.declared.call.Plan as plan
+use Rattle.dbg_base.specs.declared.call.Plan.TheVariants as plans
+use Rattle.dbg_base.specs.declared.call.Query as query
+use Rattle.dbg_base.specs.declared.call.Query.TheVariants as queries
+use Rattle.dbg_base.specs.declared.call.Call as call
+use Rattle.dbg_base.specs.declared.call.Call.TheVariants as calls
+use Rattle.dbg_base.specs.declared.call.Conjunct as conjunct
+use Rattle.dbg_base.specs.Trees.{Tree, tree_of}
+
+-- a command, which changes the session where it is accepted
+pub data Plan : Type 0 where
+  Next : (process : ℕ) → Plan
+
+-- a question, which changes nothing
+pub data Query : Type 0 where
+  Vars : (process : ℕ) → Query
+
+pub data Call : Type 0 where
+  Give : (plan : Plan) → Call
+  Ask : (query : Query) → Call
+
+-- one part of a breakpoint's predicate: a truth expression over the variables of one process
+pub record Conjunct : Type 0 where
+  pub process : ℕ
+  pub expression : Tree
+
+-- the plan of the code as the model's, and none for one that no line gives yet
+abbrev pub plan_of : plan.Plan → Option Plan
+plan_of (plans.Next pid) = Some (Next pid.0)
+plan_of given = None
+
+-- the same for a query
+abbrev pub query_of : query.Query → Option Query
+query_of (queries.Vars pid) = Some (Vars pid.0)
+query_of asked = None
+
+-- the same for a call
+abbrev pub call_of : call.Call → Option Call
+call_of (calls.Give given) = option_map Give (plan_of given)
+call_of (calls.Ask asked) = option_map Ask (query_of asked)
+call_of calls.Back = None
+
+abbrev pub conjunct_of : conjunct.Conjunct → Conjunct
+conjunct_of given = record { process = given.pid.0; expression = tree_of given.expr }
+
+-- a query as the code has it
+abbrev pub query_told : Query → query.Query
+query_told (Vars p) = queries.Vars (record { 0 = p })
+
+-- the query of a call that asks
+abbrev pub asked_by : Call → Option query.Query
+asked_by (Give given) = None
+asked_by (Ask asked) = Some (query_told asked)

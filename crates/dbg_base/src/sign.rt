@@ -1,0 +1,25 @@
+//! Marks of the process language.
+
+/// A mark of the process language.
+#[derive(Clone, Copy, Debug, PartialEq, Eq)]
+pub enum Sign {
+    OpenBrace,
+    CloseBrace,
+    OpenParenthesis,
+    CloseParenthesis,
+    Semicolon,
+    Colon,
+    Becomes,
+    Comma,
+    Equals,
+    NotEquals,
+    LessThan,
+    AtMost,
+    GreaterThan,
+    AtLeast,
+    Plus,
+    Minus,
+    Star,
+    Slash,
+    Percent,
+}
