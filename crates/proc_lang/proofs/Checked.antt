@@ -8,47 +8,48 @@ use Rattle.std.proofs.lemmas.Bool.{ltb-true}
 use Rattle.std.proofs.lemmas.Cmp.{nat_list_eq_equiv}
 use Rattle.std.proofs.lemmas.Iterator.Adapters.{position_from-zero}
 use Rattle.std.proofs.lemmas.List.Elements.{Contains-append_left, Contains-append_right, Contains-push}
-use Rattle.dbg_base.specs.Names.{place_from, place_of}
-use Rattle.dbg_base.specs.Tokens.{Fault, NameUnknown}
+use Rattle.dbg_base.specs.Names.{place_from, place_of, is_among}
+use Rattle.dbg_base.specs.declared.fault.FaultKind.TheVariants.{NameUnknown}
 use Rattle.dbg_base.specs.declared.expr.Operator.{Operator}
 use Rattle.dbg_base.specs.Grammar.{Named, Phrase, Binary}
-use Rattle.dbg_base.specs.Checks.{Sort, fault_where, is_among, unknown, index_of, operand_sort, wrong_sort, faults_within, expression_faults}
+use Rattle.dbg_base.specs.Checks.{fault_where, unknown, index_of, wrong_sort, faults_within, expression_faults}
+use Rattle.dbg_base.specs.Sorts.{operand_sort}
+use Rattle.dbg_base.specs.declared.expr.Sort.{Sort}
 use Rattle.proc_lang.specs.declared.fault.ProgError.{ProgError}
 use Rattle.proc_lang.specs.declared.fault.ProgError.TheVariants.{Bad, Memory}
-use Rattle.proc_lang.specs.declared.fault.ProgFault.{ProgFault}
-use Rattle.proc_lang.specs.Faults.{fault_of}
+use Rattle.dbg_base.specs.declared.fault.ProgFault.{ProgFault}
 use Rattle.proc_lang.specs.Checking.{IsAmong, Checks}
 
 -- a fault of the first part is one of the whole
-pub among_left : (e : ProgError) (xs ys : List Fault) → IsAmong e xs → IsAmong e (xs ++ ys)
-among_left (Bad fault) xs ys here = Contains-append_left xs ys (fault_of fault) here
+pub among_left : (e : ProgError) (xs ys : List ProgFault) → IsAmong e xs → IsAmong e (xs ++ ys)
+among_left (Bad fault) xs ys here = Contains-append_left xs ys fault here
 among_left Memory xs ys here = tt
 
 -- and so is one of the second
-pub among_right : (e : ProgError) (xs ys : List Fault) → IsAmong e ys → IsAmong e (xs ++ ys)
-among_right (Bad fault) xs ys here = Contains-append_right xs ys (fault_of fault) here
+pub among_right : (e : ProgError) (xs ys : List ProgFault) → IsAmong e ys → IsAmong e (xs ++ ys)
+among_right (Bad fault) xs ys here = Contains-append_right xs ys fault here
 among_right Memory xs ys here = tt
 
 -- a fault that is named, of the first part
-pub among_left_named : (e : ProgError) (fault : ProgFault) (xs ys : List Fault) → e ≡ Bad fault → Contains xs (fault_of fault) → IsAmong e (xs ++ ys)
+pub among_left_named : (e : ProgError) (fault : ProgFault) (xs ys : List ProgFault) → e ≡ Bad fault → Contains xs fault → IsAmong e (xs ++ ys)
 among_left_named e fault xs ys is there =
-    subst (λ (x : ProgError). IsAmong x (xs ++ ys)) (sym is) (Contains-append_left xs ys (fault_of fault) there)
+    subst (λ (x : ProgError). IsAmong x (xs ++ ys)) (sym is) (Contains-append_left xs ys fault there)
 
 -- an error that is passed on
-pub passed_on : {X : Type 0} (r : Result X ProgError) (e : ProgError) (faults : List Fault) (is_so : X → Type 0)
+pub passed_on : {X : Type 0} (r : Result X ProgError) (e : ProgError) (faults : List ProgFault) (is_so : X → Type 0)
     → (x : ProgError) × (r ≡ Err x) × (x ≡ e) → IsAmong e faults → Checks r faults is_so
 passed_on {X} r e faults is_so passed among =
     subst (λ (q : Result X ProgError). Checks q faults is_so) (sym (passed.1 ∙ ap (λ (x : ProgError). Err x) passed.2)) among
 
 -- no fault in either part
-pub none_in_both : (xs ys : List Fault) → xs ≡ [] → ys ≡ [] → xs ++ ys ≡ []
-none_in_both xs ys first second = ap (λ (l : List Fault). l ++ ys) first ∙ second
+pub none_in_both : (xs ys : List ProgFault) → xs ≡ [] → ys ≡ [] → xs ++ ys ≡ []
+none_in_both xs ys first second = ap (λ (l : List ProgFault). l ++ ys) first ∙ second
 
 -- the only fault
-pub among_one : (e : ProgError) (fault : ProgFault) (faults : List Fault) → e ≡ Bad fault → faults ≡ fault_of fault ∷ [] → IsAmong e faults
+pub among_one : (e : ProgError) (fault : ProgFault) (faults : List ProgFault) → e ≡ Bad fault → faults ≡ fault ∷ [] → IsAmong e faults
 among_one e fault faults is same =
     subst (λ (x : ProgError). IsAmong x faults) (sym is)
-    (subst (λ (l : List Fault). Contains l (fault_of fault)) (sym same) (Contains-push [] (fault_of fault)))
+    (subst (λ (l : List ProgFault). Contains l fault) (sym same) (Contains-push [] fault))
 
 -- a fault of the left operand
 pub among_left_operand : (e : ProgError) (variables : List (List ℕ)) (wanted operands : Sort) (at : ℕ) (operator : Operator) (left right read whole : Phrase)

@@ -5,59 +5,62 @@ use Rattle.std.specs.List.{list_any, flat_map}
 use Rattle.std.specs.Str.{bytes_eq}
 use Rattle.std.proofs.lemmas.List.{drop_more, drop_all, at_drop_more, drop-map, length-map, map_push, map_more}
 use Rattle.std.proofs.lemmas.List.Elements.{Contains-append_left, Contains-append_right, Contains-append_cases, Contains-push, Contains-push_cases}
-use Rattle.dbg_base.specs.Tokens.{Fault, FaultKind, NameTaken, LimitFault, SetTwice}
+use Rattle.dbg_base.specs.declared.fault.ProgFault.{ProgFault}
+use Rattle.dbg_base.specs.declared.fault.FaultKind.{FaultKind}
+use Rattle.dbg_base.specs.declared.fault.FaultKind.TheVariants.{NameTaken, Limit, SetTwice}
 use Rattle.dbg_base.specs.Grammar.{Named, WrittenAssignment}
-use Rattle.dbg_base.specs.Checks.{NumberSort, fault_where, is_among, unknown, taken_faults, limit_faults, assignment_faults, expression_faults}
+use Rattle.dbg_base.specs.Checks.{fault_where, unknown, taken_faults, limit_faults, assignment_faults, expression_faults}
+use Rattle.dbg_base.specs.Names.{is_among}
+use Rattle.dbg_base.specs.declared.expr.Sort.TheVariants as sort
 use Rattle.proc_lang.specs.declared.fault.ProgError.{ProgError}
 use Rattle.proc_lang.specs.declared.fault.ProgError.TheVariants.{Bad, Memory}
-use Rattle.proc_lang.specs.Faults.{fault_of}
 use Rattle.proc_lang.specs.Checking.{IsAmong}
 use Rattle.proc_lang.proofs.Checked.{among_left}
 
 -- the faults of the first list are among those of the second
-abbrev pub AreWithin : List Fault → List Fault → Type 0
-AreWithin xs zs = (f : Fault) → Contains xs f → Contains zs f
+abbrev pub AreWithin : List ProgFault → List ProgFault → Type 0
+AreWithin xs zs = (f : ProgFault) → Contains xs f → Contains zs f
 
-pub among_within : (e : ProgError) (xs zs : List Fault) → AreWithin xs zs → IsAmong e xs → IsAmong e zs
-among_within (Bad fault) xs zs within among = within (fault_of fault) among
+pub among_within : (e : ProgError) (xs zs : List ProgFault) → AreWithin xs zs → IsAmong e xs → IsAmong e zs
+among_within (Bad fault) xs zs within among = within fault among
 among_within Memory xs zs within among = tt
 
-both_turn : (zs : List Fault) (xs ys : List Fault) (f : Fault) → AreWithin xs zs → AreWithin ys zs → Contains xs f ⊎ Contains ys f → Contains zs f
+both_turn : (zs : List ProgFault) (xs ys : List ProgFault) (f : ProgFault) → AreWithin xs zs → AreWithin ys zs → Contains xs f ⊎ Contains ys f → Contains zs f
 both_turn zs xs ys f first second (inl here) = first f here
 both_turn zs xs ys f first second (inr here) = second f here
 
-pub both_within : (xs ys zs : List Fault) → AreWithin xs zs → AreWithin ys zs → AreWithin (xs ++ ys) zs
+pub both_within : (xs ys zs : List ProgFault) → AreWithin xs zs → AreWithin ys zs → AreWithin (xs ++ ys) zs
 both_within xs ys zs first second f here = both_turn zs xs ys f first second (Contains-append_cases xs ys f here)
 
-none_contained : (f : Fault) → Contains [] f → ⊥
+none_contained : (f : ProgFault) → Contains [] f → ⊥
 none_contained f here = omega (arith, here.1)
 
-one_turn : (y f : Fault) (zs : List Fault) → Contains zs y → Contains [] f ⊎ (y ≡ f) → Contains zs f
+one_turn : (y f : ProgFault) (zs : List ProgFault) → Contains zs y → Contains [] f ⊎ (y ≡ f) → Contains zs f
 one_turn y f zs there (inl here) = absurd (none_contained f here)
-one_turn y f zs there (inr same) = subst (λ (g : Fault). Contains zs g) same there
+one_turn y f zs there (inr same) = subst (λ (g : ProgFault). Contains zs g) same there
 
 -- the fault of a test, where it is there whenever the test passes
-pub where_within : (b : Bool) (kind : FaultKind) (at : ℕ) (zs : List Fault) → (b ≡ true → Contains zs (record { kind = kind; at = at })) → AreWithin (fault_where b kind at) zs
+pub where_within : (b : Bool) (kind : FaultKind) (at : ℕ) (zs : List ProgFault) → (b ≡ true → Contains zs (record { kind = kind; at = at })) → AreWithin (fault_where b kind at) zs
 where_within true kind at zs there f here =
     one_turn (record { kind = kind; at = at }) f zs (there refl) (Contains-push_cases [] (record { kind = kind; at = at }) f here)
 where_within false kind at zs there f here = absurd (none_contained f here)
 
 -- what is left, after an element without a fault
-pub goes_on : (whole rest here next : List Fault) → whole ≡ rest → rest ≡ here ++ next → here ≡ [] → whole ≡ next
-goes_on whole rest here next so_far step none = so_far ∙ step ∙ ap (λ (l : List Fault). l ++ next) none
+pub goes_on : (whole rest here next : List ProgFault) → whole ≡ rest → rest ≡ here ++ next → here ≡ [] → whole ≡ next
+goes_on whole rest here next so_far step none = so_far ∙ step ∙ ap (λ (l : List ProgFault). l ++ next) none
 
 -- a fault of the next element
-pub among_next : (e : ProgError) (whole rest here next : List Fault) → whole ≡ rest → rest ≡ here ++ next → IsAmong e here → IsAmong e whole
+pub among_next : (e : ProgError) (whole rest here next : List ProgFault) → whole ≡ rest → rest ≡ here ++ next → IsAmong e here → IsAmong e whole
 among_next e whole rest here next so_far step among =
-    subst (λ (l : List Fault). IsAmong e l) (sym (so_far ∙ step)) (among_left e here next among)
+    subst (λ (l : List ProgFault). IsAmong e l) (sym (so_far ∙ step)) (among_left e here next among)
 
 -- no fault in a whole, so none in its parts
-pub none_in_left : (xs ys : List Fault) → xs ++ ys ≡ [] → xs ≡ []
+pub none_in_left : (xs ys : List ProgFault) → xs ++ ys ≡ [] → xs ≡ []
 none_in_left [] ys none = refl
-none_in_left (x ∷ xs) ys none = absurd (let e : ◌≡◌ {A = List Fault} (x ∷ (xs ++ ys)) [] = none in cc)
+none_in_left (x ∷ xs) ys none = absurd (let e : ◌≡◌ {A = List ProgFault} (x ∷ (xs ++ ys)) [] = none in cc)
 
 -- the faults of an element, and those of what is behind it
-pub flat_here : {X Y : Type 0} (faults : Y → List Fault) (h : X → Y) (xs : List X) (i : ℕ) (x : X) → i < length xs → x ≡ get_or xs i x
+pub flat_here : {X Y : Type 0} (faults : Y → List ProgFault) (h : X → Y) (xs : List X) (i : ℕ) (x : X) → i < length xs → x ≡ get_or xs i x
     → flat_map faults (map h (drop i xs)) ≡ faults (h x) ++ flat_map faults (map h (drop (i + 1) xs))
 flat_here {X} {Y} faults h xs i x lt here =
     at_drop_more (λ (rest : List X). flat_map faults (map h rest)) xs i x lt
@@ -110,7 +113,7 @@ module _ {X Y : Type 0} (k : Y → Named) (h : X → Y) where
   abbrev pub seen : List (List ℕ) → ℕ → List X → List (List ℕ)
   seen earlier i xs = pile earlier (map (λ x. (k (h x)).name) (take i xs))
 
-  abbrev pub taken_rest : List (List ℕ) → ℕ → List X → List Fault
+  abbrev pub taken_rest : List (List ℕ) → ℕ → List X → List ProgFault
   taken_rest earlier i xs = taken_faults (seen earlier i xs) (map k (map h (drop i xs)))
 
   taken_suc : (earlier : List (List ℕ)) (xs : List X) (i : ℕ) (d : X) → i < length xs
@@ -133,19 +136,19 @@ module _ {X Y : Type 0} (k : Y → Named) (h : X → Y) where
       → b ≡ list_any (λ y. bytes_eq (k (h x)).name (k (h y)).name) (take i xs)
       → taken_rest [] i xs ≡ fault_where b NameTaken (k (h x)).at ++ taken_rest [] (i + 1) xs
   taken_here xs i x b lt here test =
-      let next : List Fault = taken_rest [] (i + 1) xs in
+      let next : List ProgFault = taken_rest [] (i + 1) xs in
       let same : b ≡ is_among (k (h x)).name (seen [] i xs) = test ∙ sym (pile_any (k (h x)).name [] (λ y. (k (h y)).name) (take i xs)) in
       taken_step [] xs i x lt
       ∙ ap (λ (y : X). fault_where (is_among (k (h y)).name (seen [] i xs)) NameTaken (k (h y)).at ++ next) (sym here)
       ∙ ap (λ (t : Bool). fault_where t NameTaken (k (h x)).at ++ next) (sym same)
 
-first_fault : List ℕ → List Fault
-first_fault places = map (λ at. record { kind = LimitFault; at = at }) (take 1 places)
+first_fault : List ℕ → List ProgFault
+first_fault places = map (λ at. record { kind = Limit; at = at }) (take 1 places)
 
 module _ {X Y : Type 0} (at : Y → ℕ) (h : X → Y) where
   -- the one that is too many
   pub limit_there : (limit : ℕ) (xs : List X) (i : ℕ) (x : X) → i ≤ limit → limit ≤ i → i < length xs → x ≡ get_or xs i x
-      → Contains (limit_faults limit (map at (map h xs))) (record { kind = LimitFault; at = at (h x) })
+      → Contains (limit_faults limit (map at (map h xs))) (record { kind = Limit; at = at (h x) })
   unfolding first_fault
   limit_there limit xs i x le ge lt here =
       let same : limit ≡ i = omega arith in
@@ -153,8 +156,8 @@ module _ {X Y : Type 0} (at : Y → ℕ) (h : X → Y) where
       = ap (λ (n : ℕ). drop n (map at (map h xs))) same ∙ drop-map at i (map h xs) ∙ ap (λ (l : List Y). map at l) (drop-map h i xs)
       ∙ ap (λ (l : List X). map at (map h l)) (drop_more xs i x lt)
       ∙ ap (λ (y : X). at (h y) ∷ map at (map h (drop (i + 1) xs))) (sym here) in
-      let r : Fault = record { kind = LimitFault; at = at (h x) } in
-      subst (λ (l : List Fault). Contains l r) (sym (ap first_fault rest)) (Contains-push [] r)
+      let r : ProgFault = record { kind = Limit; at = at (h x) } in
+      subst (λ (l : List ProgFault). Contains l r) (sym (ap first_fault rest)) (Contains-push [] r)
 
   -- none is too many
   pub limit_kept : (limit : ℕ) (xs : List X) → length xs ≤ limit → limit_faults limit (map at (map h xs)) ≡ []
@@ -167,32 +170,32 @@ module _ {X Y : Type 0} (k : Y → Named) (h : X → Y) where
   pub among_fresh : (e : ProgError) (limit : ℕ) (xs : List X) (i : ℕ) (x : X) (b many : Bool) → i ≤ limit → i < length xs → x ≡ get_or xs i x
       → taken_faults [] (map k (map h xs)) ≡ taken_rest k h [] i xs
       → b ≡ list_any (λ y. bytes_eq (k (h x)).name (k (h y)).name) (take i xs) → (many ≡ true → limit ≤ i)
-      → IsAmong e (fault_where b NameTaken (k (h x)).at ++ fault_where many LimitFault (k (h x)).at)
+      → IsAmong e (fault_where b NameTaken (k (h x)).at ++ fault_where many Limit (k (h x)).at)
       → IsAmong e (taken_faults [] (map k (map h xs)) ++ limit_faults limit (map (λ y. (k y).at) (map h xs)))
   among_fresh e limit xs i x b many le lt here so_far test too_many among =
       let at : ℕ = (k (h x)).at in
-      let taken : List Fault = taken_faults [] (map k (map h xs)) in
-      let limits : List Fault = limit_faults limit (map (λ y. (k y).at) (map h xs)) in
+      let taken : List ProgFault = taken_faults [] (map k (map h xs)) in
+      let limits : List ProgFault = limit_faults limit (map (λ y. (k y).at) (map h xs)) in
       let step : taken ≡ fault_where b NameTaken at ++ taken_rest k h [] (i + 1) xs = so_far ∙ taken_here k h xs i x b lt here test in
       let first : AreWithin (fault_where b NameTaken at) (taken ++ limits)
       = λ f there. Contains-append_left taken limits f
-      (subst (λ (l : List Fault). Contains l f) (sym step) (Contains-append_left (fault_where b NameTaken at) (taken_rest k h [] (i + 1) xs) f there)) in
-      let second : AreWithin (fault_where many LimitFault at) (taken ++ limits)
-      = where_within many LimitFault at (taken ++ limits)
-      (λ is. Contains-append_right taken limits (record { kind = LimitFault; at = at })
+      (subst (λ (l : List ProgFault). Contains l f) (sym step) (Contains-append_left (fault_where b NameTaken at) (taken_rest k h [] (i + 1) xs) f there)) in
+      let second : AreWithin (fault_where many Limit at) (taken ++ limits)
+      = where_within many Limit at (taken ++ limits)
+      (λ is. Contains-append_right taken limits (record { kind = Limit; at = at })
       (limit_there (λ y. (k y).at) h limit xs i x le (too_many is) lt here)) in
-      among_within e (fault_where b NameTaken at ++ fault_where many LimitFault at) (taken ++ limits)
-      (both_within (fault_where b NameTaken at) (fault_where many LimitFault at) (taken ++ limits) first second) among
+      among_within e (fault_where b NameTaken at ++ fault_where many Limit at) (taken ++ limits)
+      (both_within (fault_where b NameTaken at) (fault_where many Limit at) (taken ++ limits) first second) among
 
   -- a name that is free
   pub fresh_goes_on : (xs : List X) (i : ℕ) (x : X) (b many : Bool) → i < length xs → x ≡ get_or xs i x
       → taken_faults [] (map k (map h xs)) ≡ taken_rest k h [] i xs
       → b ≡ list_any (λ y. bytes_eq (k (h x)).name (k (h y)).name) (take i xs)
-      → fault_where b NameTaken (k (h x)).at ++ fault_where many LimitFault (k (h x)).at ≡ []
+      → fault_where b NameTaken (k (h x)).at ++ fault_where many Limit (k (h x)).at ≡ []
       → taken_faults [] (map k (map h xs)) ≡ taken_rest k h [] (i + 1) xs
   fresh_goes_on xs i x b many lt here so_far test none =
       goes_on _ _ _ _ so_far (taken_here k h xs i x b lt here test)
-      (none_in_left (fault_where b NameTaken (k (h x)).at) (fault_where many LimitFault (k (h x)).at) none)
+      (none_in_left (fault_where b NameTaken (k (h x)).at) (fault_where many Limit (k (h x)).at) none)
 
 -- assignments
 module _ {X : Type 0} (h : X → WrittenAssignment) (variables : List (List ℕ)) where
@@ -200,13 +203,13 @@ module _ {X : Type 0} (h : X → WrittenAssignment) (variables : List (List ℕ)
   abbrev pub names_set : List (List ℕ) → ℕ → List X → List (List ℕ)
   names_set earlier i xs = pile earlier (map (λ x. (h x).variable.name) (take i xs))
 
-  abbrev pub set_rest : List (List ℕ) → ℕ → List X → List Fault
+  abbrev pub set_rest : List (List ℕ) → ℕ → List X → List ProgFault
   set_rest earlier i xs = assignment_faults variables (names_set earlier i xs) (map h (drop i xs))
 
   -- the faults of one assignment
-  abbrev pub set_faults : WrittenAssignment → Bool → List Fault
+  abbrev pub set_faults : WrittenAssignment → Bool → List ProgFault
   set_faults a is_set =
-      (unknown variables a.variable ++ fault_where is_set SetTwice a.variable.at) ++ expression_faults variables NumberSort a.value
+      (unknown variables a.variable ++ fault_where is_set SetTwice a.variable.at) ++ expression_faults variables sort.Number a.value
 
   set_suc : (earlier : List (List ℕ)) (xs : List X) (i : ℕ) (d : X) → i < length xs
       → set_rest earlier i xs
@@ -225,7 +228,7 @@ module _ {X : Type 0} (h : X → WrittenAssignment) (variables : List (List ℕ)
       → b ≡ (is_among (h x).variable.name earlier || list_any (λ y. bytes_eq (h x).variable.name (h y).variable.name) (take i xs))
       → set_rest earlier i xs ≡ set_faults (h x) b ++ set_rest earlier (i + 1) xs
   set_here earlier xs i x b lt here test =
-      let next : List Fault = set_rest earlier (i + 1) xs in
+      let next : List ProgFault = set_rest earlier (i + 1) xs in
       let same : b ≡ is_among (h x).variable.name (names_set earlier i xs)
       = test ∙ sym (pile_any (h x).variable.name earlier (λ y. (h y).variable.name) (take i xs)) in
       set_step earlier xs i x lt

@@ -1,17 +1,21 @@
 -- Tokens, names, numbers and operators: what is read from the front is what the grammar derives, and the other way round.
-use Rattle.std.proofs.Common.{◌≡◌, ℕ, Bool, true, false, cond, List, [], ◌∷◌, Some, None, refl, sym, ap, ◌∙◌, subst, eqb, codes, ◌⊎◌, inl, inr}
+use Rattle.std.proofs.Common.{◌≡◌, ℕ, Bool, true, false, cond, List, [], ◌∷◌, Some, None, refl, sym, ap, ◌∙◌, subst, codes, ◌⊎◌, inl, inr}
 use Rattle.std.specs.Bool.{IsTrue}
 use Rattle.std.specs.Option.{option_map}
 use Rattle.std.specs.List.{list_any}
 use Rattle.std.specs.Str.{bytes_eq}
-use Rattle.std.proofs.lemmas.Bool.Decides.{Decides-eqb}
 use Rattle.std.proofs.lemmas.Slice.Eq.{bytes_eq-Decides}
 use Rattle.dbg_base.specs.declared.expr.Operator.{Operator}
 use Rattle.dbg_base.specs.declared.expr.Operator.TheVariants.{Add, Subtract, Multiply, Divide, Remainder, Equal, NotEqual, Less, LessOrEqual, Greater, GreaterOrEqual, And, Or}
-use Rattle.dbg_base.specs.Tokens.{Sign, OpenBrace, CloseBrace, OpenParenthesis, CloseParenthesis, Semicolon, Colon, Becomes, Comma, Equals, NotEquals, LessThan, AtMost, GreaterThan, AtLeast, Plus, Minus, Star, Slash, Percent, Token, Word, Symbol, Placed}
+use Rattle.dbg_base.specs.Tokens.{Token, Word, Symbol, Placed}
+use Rattle.dbg_base.specs.declared.sign.Sign.{Sign}
+use Rattle.dbg_base.specs.declared.sign.Sign.TheVariants.{Equals, NotEquals, LessThan, AtMost, GreaterThan, AtLeast, Plus, Minus, Star, Slash, Percent}
 use Rattle.dbg_base.specs.Tokens as token
 use Rattle.dbg_base.specs.Grammar.{Named, IsName, reserved_words, word_at, number_at, sign_at, operator_token}
-use Rattle.proc_lang.specs.Parsing.{sign_number, same_sign, is_word_token, is_sign_token, read_word, read_sign, name_in, read_name, number_in, read_number, small_operator, sign_operator, word_operator, operator_in, read_operator, is_small_operator}
+use denote.Enum.Bare.{same_true, true_same}
+use Rattle.dbg_base.specs.contracts.sign.Sign.{the_type}
+use Rattle.proc_lang.specs.Parsing.{same_sign, is_word_token, is_sign_token, read_word, read_sign, name_in, read_name, number_in, read_number, small_operator, sign_operator, word_operator, operator_in, read_operator}
+use Rattle.proc_lang.specs.Small.{is_small_operator}
 use Rattle.proc_lang.proofs.Expressions.{map_some}
 
 -- a choice that reads something took its first branch
@@ -19,42 +23,12 @@ pub if_some : {A : Type 0} (b : Bool) (x y : A) → cond b (Some x) None ≡ Som
 if_some true x y e = (refl, cc)
 if_some false x y e = cc
 
--- the sign that a number stands for
-sign_by : ℕ → Sign
-sign_by n =
-    cond (eqb n 0) OpenBrace (cond (eqb n 1) CloseBrace (cond (eqb n 2) OpenParenthesis (cond (eqb n 3) CloseParenthesis
-    (cond (eqb n 4) Semicolon (cond (eqb n 5) Colon (cond (eqb n 6) Becomes (cond (eqb n 7) Comma (cond (eqb n 8) Equals
-    (cond (eqb n 9) NotEquals (cond (eqb n 10) LessThan (cond (eqb n 11) AtMost (cond (eqb n 12) GreaterThan (cond (eqb n 13) AtLeast
-    (cond (eqb n 14) Plus (cond (eqb n 15) Minus (cond (eqb n 16) Star (cond (eqb n 17) Slash Percent)))))))))))))))))
-
-sign_back : (s : Sign) → sign_by (sign_number s) ≡ s
-unfolding sign_by
-sign_back OpenBrace = refl
-sign_back CloseBrace = refl
-sign_back OpenParenthesis = refl
-sign_back CloseParenthesis = refl
-sign_back Semicolon = refl
-sign_back Colon = refl
-sign_back Becomes = refl
-sign_back Comma = refl
-sign_back Equals = refl
-sign_back NotEquals = refl
-sign_back LessThan = refl
-sign_back AtMost = refl
-sign_back GreaterThan = refl
-sign_back AtLeast = refl
-sign_back Plus = refl
-sign_back Minus = refl
-sign_back Star = refl
-sign_back Slash = refl
-sign_back Percent = refl
-
 -- the same sign
 pub same_sign_equal : (a b : Sign) → same_sign a b ≡ true → a ≡ b
-same_sign_equal a b same = sym (sign_back a) ∙ ap sign_by ((Decides-eqb (sign_number a) (sign_number b)).0 same) ∙ sign_back b
+same_sign_equal a b same = same_true the_type tt a b same
 
 pub same_sign_itself : (a : Sign) → same_sign a a ≡ true
-same_sign_itself a = (Decides-eqb (sign_number a) (sign_number a)).1 refl
+same_sign_itself a = true_same the_type a a refl
 
 pub bytes_eq_itself : (word : List ℕ) → bytes_eq word word ≡ true
 bytes_eq_itself word = (bytes_eq-Decides word word).1 refl

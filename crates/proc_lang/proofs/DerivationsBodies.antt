@@ -2,7 +2,8 @@
 use Rattle.std.proofs.Common.{◌≡◌, ℕ, Bool, true, false, cond, List, [], ◌∷◌, ◌++◌, Some, refl, ap, ◌∙◌, subst, codes, append_assoc}
 use Rattle.std.specs.List.{AllByRecursion}
 use Rattle.std.specs.Str.{bytes_eq}
-use Rattle.dbg_base.specs.Tokens.{Semicolon, Colon, Becomes, Comma, Placed}
+use Rattle.dbg_base.specs.Tokens.{Placed}
+use Rattle.dbg_base.specs.declared.sign.Sign.TheVariants.{Semicolon, Colon, Becomes, Comma}
 use Rattle.dbg_base.specs.Grammar.{Named, Phrase, WrittenAction, Local, Sends, Receives, WrittenAssignment, IsName, word_at, sign_at, DerivesAssignment, DerivesFurther, DeriveInTurn, DerivesBody, DerivesCommand}
 use Rattle.proc_lang.specs.Parsing.{Read, Body, begins_word, begins_sign, read_word, read_sign, read_name, read_expression, read_assignment, read_further, read_many, read_send, read_receive, read_local, read_body, read_command, IsSmallAction, IsSmallAssignment, IsSmallCommand}
 use Rattle.proc_lang.proofs.Expressions.{bind_some}

@@ -5,10 +5,12 @@ use Rattle.std.specs.Option.{option_and_then, option_map}
 use Rattle.std.specs.Str.{bytes_eq}
 use Rattle.std.proofs.lemmas.Slice.Eq.{bytes_eq-Decides}
 use Rattle.dbg_base.specs.declared.expr.Operator.{Operator}
-use Rattle.dbg_base.specs.Tokens.{OpenParenthesis, CloseParenthesis, Minus, Token, Word, Symbol, Placed}
+use Rattle.dbg_base.specs.Tokens.{Token, Word, Symbol, Placed}
+use Rattle.dbg_base.specs.declared.sign.Sign.TheVariants.{OpenParenthesis, CloseParenthesis, Minus}
 use Rattle.dbg_base.specs.Tokens as token
 use Rattle.dbg_base.specs.Grammar.{Phrase, Number, Name, Truth, Not, Negate, Binary, IsName, word_at, sign_at, operator_token, DerivesExpression}
-use Rattle.proc_lang.specs.Parsing.{Read, is_sign_token, begins_word, begins_sign, name_in, word_phrase, phrase_by, phrase_in, read_word, read_sign, read_operator, read_operand, read_not, read_negate, read_binary, read_group, read_by, read_within, read_expression, is_small_operator, IsSmallPhrase}
+use Rattle.proc_lang.specs.Parsing.{Read, is_sign_token, begins_word, begins_sign, name_in, word_phrase, phrase_by, phrase_in, read_word, read_sign, read_operator, read_operand, read_not, read_negate, read_binary, read_group, read_by, read_within, read_expression, IsSmallPhrase}
+use Rattle.proc_lang.specs.Small.{is_small_operator}
 use Rattle.proc_lang.proofs.Expressions.{bind_some, map_some, expression_parts}
 use Rattle.proc_lang.proofs.Derivations.{sound_word, complete_word, sound_sign, complete_sign, sound_name_in, complete_name_in, name_is_not, sound_operator, complete_operator}
 

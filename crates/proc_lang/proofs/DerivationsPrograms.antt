@@ -1,7 +1,8 @@
 -- Processes and programs: what is read is what the grammar derives, the other way round, and that tokens derive one program at most.
 use Rattle.std.proofs.Common.{◌≡◌, ℕ, ◌<◌, Bool, true, false, List, [], ◌∷◌, ◌++◌, length, Some, refl, sym, ap, ◌∙◌, subst, codes, arith, append_assoc, append-nil, length-append}
 use Rattle.std.specs.List.{AllByRecursion}
-use Rattle.dbg_base.specs.Tokens.{OpenBrace, CloseBrace, Placed}
+use Rattle.dbg_base.specs.Tokens.{Placed}
+use Rattle.dbg_base.specs.declared.sign.Sign.TheVariants.{OpenBrace, CloseBrace}
 use Rattle.dbg_base.specs.Grammar.{WrittenVariable, WrittenCommand, WrittenProcess, word_at, sign_at, DeriveInTurn, DerivesVariable, DerivesCommand, DerivesProcess, DerivesProgram}
 use Rattle.proc_lang.specs.Parsing.{begins_word, is_left, read_word, read_sign, read_name, read_variable, read_many, read_command, read_process, read_program, IsSmallCommand, IsSmallProcess, IsSmallProgram}
 use Rattle.proc_lang.proofs.Expressions.{Takes, bind_some}

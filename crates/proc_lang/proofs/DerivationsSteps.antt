@@ -3,7 +3,8 @@
 use Rattle.std.proofs.Common.{◌≡◌, ℕ, zero, suc, ◌≤◌, ℤ, pos, neg_ℤ, Bool, true, false, cond, List, [], ◌∷◌, ◌++◌, length, Some, refl, sym, ap, ◌∙◌, subst, codes, arith, append_assoc, inl, inr}
 use Rattle.std.specs.Option.{option_and_then, option_map}
 use Rattle.std.specs.List.{AllByRecursion}
-use Rattle.dbg_base.specs.Tokens.{Equals, Semicolon, Becomes, Minus, Comma, Placed}
+use Rattle.dbg_base.specs.Tokens.{Placed}
+use Rattle.dbg_base.specs.declared.sign.Sign.TheVariants.{Equals, Semicolon, Becomes, Minus, Comma}
 use Rattle.dbg_base.specs.Grammar.{WrittenVariable, word_at, number_at, sign_at, DerivesName, DerivesStart, DerivesVariable, DerivesAssignment, DerivesFurther, DeriveInTurn}
 use Rattle.proc_lang.specs.Parsing.{Read, begins_sign, read_word, read_sign, read_name, read_number, read_start, read_variable, read_assignment, read_further, read_up_to, read_many, read_expression, IsSmallAssignment}
 use Rattle.proc_lang.proofs.Expressions.{Takes, bind_some, map_some}

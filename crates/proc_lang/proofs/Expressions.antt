@@ -1,7 +1,9 @@
 -- An expression is read by its parts: the number of its parentheses does not matter.
 use Rattle.std.proofs.Common.{◌≡◌, ℕ, zero, suc, ◌<◌, ◌≤◌, Bool, true, false, not, ◌&&◌, cond, List, [], ◌∷◌, length, Option, Some, None, refl, ap, ◌∙◌, arith, codes}
 use Rattle.std.specs.Option.{option_and_then, option_map}
-use Rattle.dbg_base.specs.Tokens.{Sign, Placed, OpenParenthesis, CloseParenthesis, Minus}
+use Rattle.dbg_base.specs.Tokens.{Placed}
+use Rattle.dbg_base.specs.declared.sign.Sign.{Sign}
+use Rattle.dbg_base.specs.declared.sign.Sign.TheVariants.{OpenParenthesis, CloseParenthesis, Minus}
 use Rattle.dbg_base.specs.Grammar.{Phrase}
 use Rattle.proc_lang.specs.Parsing.{Read, begins_word, begins_sign, is_word_token, is_sign_token, read_word, read_sign, read_operator, operator_in, phrase_in, read_operand, read_not, read_negate, read_binary, read_group, read_by, read_within, read_expression}
 

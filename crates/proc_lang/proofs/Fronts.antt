@@ -6,7 +6,9 @@ use Rattle.std.specs.Str.Parse.{digits_value}
 use Rattle.std.proofs.lemmas.Bool.{false≢true, leb-true}
 use Rattle.std.proofs.lemmas.List.{length-take-le}
 use Rattle.std.proofs.lemmas.List.Sums.{prefix_len-le-length}
-use Rattle.dbg_base.specs.Tokens.{Sign, OpenBrace, CloseBrace, OpenParenthesis, CloseParenthesis, Semicolon, Colon, Becomes, Comma, Equals, NotEquals, LessThan, AtMost, GreaterThan, AtLeast, Plus, Minus, Star, Slash, Percent, Token, Word, Number, Symbol, sign_bytes, is_space, is_letter, is_digit, is_word_byte, is_word, is_numeral, Spells}
+use Rattle.dbg_base.specs.Tokens.{Token, Word, Number, Symbol, sign_bytes, is_space, is_letter, is_digit, is_word_byte, is_word, is_numeral, Spells}
+use Rattle.dbg_base.specs.declared.sign.Sign.{Sign}
+use Rattle.dbg_base.specs.declared.sign.Sign.TheVariants.{OpenBrace, CloseBrace, OpenParenthesis, CloseParenthesis, Semicolon, Colon, Becomes, Comma, Equals, NotEquals, LessThan, AtMost, GreaterThan, AtLeast, Plus, Minus, Star, Slash, Percent}
 use Rattle.proc_lang.specs.Scanning.{StandsInFront}
 use Rattle.proc_lang.proofs.Runs.{and_first, and_second, both_true, or_first, front_passes, front_is_longest}
 

@@ -3,12 +3,12 @@ use Rattle.std.proofs.Common.{◌≡◌, ℕ, ◌+◌, ◌<◌, ◌≤◌, Bool,
 use Rattle.std.specs.List.{list_all, prefix_len}
 use Rattle.std.proofs.lemmas.List.{length-take-le}
 use Rattle.std.proofs.lemmas.List.Sums.{prefix_len-le-length}
+use Rattle.dbg_base.specs.declared.sign.Sign.TheVariants as sign
 use Rattle.dbg_base.specs.declared.limits.TheConstants.{OPEN_PARENTHESES}
 use Rattle.dbg_base.specs.Tokens as model
 use Rattle.dbg_base.specs.Tokens.{is_space, sign_bytes, open_behind, IsWithinLimits, BeginsWithNoSpace, FaultsInFront}
-use Rattle.proc_lang.specs.declared.fault.FaultKind.{FaultKind}
-use Rattle.proc_lang.specs.declared.fault.FaultKind.TheVariants as fault
-use Rattle.proc_lang.specs.Faults.{kind_of}
+use Rattle.dbg_base.specs.declared.fault.FaultKind.{FaultKind}
+use Rattle.dbg_base.specs.declared.fault.FaultKind.TheVariants as fault
 use Rattle.proc_lang.specs.Scanning.{StandsInFront, IsFrontFault, TakesToken, MeetsFault}
 use Rattle.proc_lang.proofs.Runs.{front_passes}
 
@@ -66,7 +66,7 @@ module _ (left rest : List ℕ) (n : ℕ) (size : n ≡ prefix_len is_space left
       }
 
   -- a fault follows
-  faults_in_front : (kind : FaultKind) (depth : ℕ) → 0 < length rest → IsFrontFault kind rest → FaultsInFront (kind_of kind) depth rest
+  faults_in_front : (kind : FaultKind) (depth : ℕ) → 0 < length rest → IsFrontFault kind rest → FaultsInFront kind depth rest
   faults_in_front fault.Byte depth some found = (begins_with_no_space some, found)
   faults_in_front fault.Token depth some found = found
   faults_in_front fault.Grammar depth some found = absurd found
@@ -78,7 +78,7 @@ module _ (left rest : List ℕ) (n : ℕ) (size : n ≡ prefix_len is_space left
   faults_in_front fault.SetTwice depth some found = absurd found
 
   pub meets_fault : (at mid depth : ℕ) (kind : FaultKind) → mid ≡ at + n → 0 < length rest → IsFrontFault kind rest
-      → MeetsFault left at depth (record { kind = kind_of kind; at = mid })
+      → MeetsFault left at depth (record { kind = kind; at = mid })
   meets_fault at mid depth kind place some found = record {
     gap = take n left;
     rest = rest;
@@ -89,8 +89,8 @@ module _ (left rest : List ℕ) (n : ℕ) (size : n ≡ prefix_len is_space left
   }
 
   -- one parenthesis too many opens
-  pub meets_limit : (at mid depth m : ℕ) (token : model.Token) → mid ≡ at + n → StandsInFront token m rest → token ≡ model.Symbol model.OpenParenthesis
-      → depth ≡ OPEN_PARENTHESES → MeetsFault left at depth (record { kind = model.LimitFault; at = mid })
+  pub meets_limit : (at mid depth m : ℕ) (token : model.Token) → mid ≡ at + n → StandsInFront token m rest → token ≡ model.Symbol sign.OpenParenthesis
+      → depth ≡ OPEN_PARENTHESES → MeetsFault left at depth (record { kind = fault.Limit; at = mid })
   meets_limit at mid depth m token place front opens deep =
       let spelled = subst (λ (t : model.Token). model.Spells t (take m rest)) opens front.spelled in
       record {

@@ -3,18 +3,19 @@ use Rattle.std.proofs.Common.{◌≡◌, ℕ, true, List, [], ◌∷◌, map, So
 use Rattle.std.specs.Prelude.{Contains, IfOk, IfErr}
 use Rattle.std.specs.List.{AllByRecursion}
 use Rattle.dbg_base.specs.Trees as tree
-use Rattle.dbg_base.specs.Tokens.{Placed, Fault, HasTokens}
+use Rattle.dbg_base.specs.Tokens.{Placed, HasTokens}
+use Rattle.dbg_base.specs.declared.fault.ProgFault.{ProgFault}
 use Rattle.dbg_base.specs.Grammar.{Phrase, Number, Name, Truth, Not, Negate, Binary, WrittenAction, Local, Sends, Receives, WrittenAssignment, WrittenCommand, WrittenProcess, DerivesProgram}
 use Rattle.dbg_base.specs.Checks.{Reads, check_faults, program_tree, phrase_tree, action_tree, command_tree, process_tree, process_names, variable_names, index_of}
 use Rattle.proc_lang.specs.declared.fault.ProgError.{ProgError}
 use Rattle.proc_lang.specs.declared.fault.ProgError.TheVariants.{Bad, Memory}
 use Rattle.proc_lang.specs.declared.program.Program.{Program}
 use Rattle.proc_lang.specs.Programs.{program_of}
-use Rattle.proc_lang.specs.Faults.{fault_of}
 use Rattle.proc_lang.specs.Checking.{Checks}
 use Rattle.proc_lang.specs.Scanning.{HasNoTokens}
 use Rattle.proc_lang.specs.Parsing.{read_program, IsSmallPhrase, IsSmallAction, IsSmallAssignment, IsSmallCommand, IsSmallProgram}
-use Rattle.proc_lang.specs.Small.{IsSmallTree, IsSmallSend, IsSmallAssigned, IsSmallGuarded, IsSmall, Answers, WritesNoSmallProgram, IsRefusal}
+use Rattle.proc_lang.specs.Small.{IsSmallTree, IsSmallSend, IsSmallAssigned, IsSmallGuarded, IsSmall}
+use Rattle.proc_lang.specs.Answering.{Answers, WritesNoSmallProgram, IsRefusal}
 use Rattle.proc_lang.proofs.TokenLaws.{one_token_list, no_token_fault}
 use Rattle.proc_lang.proofs.DerivationsPrograms.{sound_program, complete_program, one_tree}
 
@@ -104,10 +105,10 @@ module _ (text : List ℕ) (P : tree.Program) (reads : Reads text P) (small : Is
   pub is_that : (tokens : List Placed) (written : List WrittenProcess) → HasTokens text tokens → read_program true tokens ≡ Some written → written ≡ reads.written
   is_that tokens written has read = let same : Some written ≡ Some reads.written = sym read ∙ known_read tokens has in cc
 
-  pub passes_checks : (tokens : List Placed) (written : List WrittenProcess) (fault : Fault) → HasTokens text tokens → read_program true tokens ≡ Some written
+  pub passes_checks : (tokens : List Placed) (written : List WrittenProcess) (fault : ProgFault) → HasTokens text tokens → read_program true tokens ≡ Some written
       → Contains (check_faults written) fault → ⊥
   passes_checks tokens written fault has read fails =
-      let none : Contains [] fault = subst (λ (faults : List Fault). Contains faults fault) (ap check_faults (is_that tokens written has read) ∙ reads.checks) fails in
+      let none : Contains [] fault = subst (λ (faults : List ProgFault). Contains faults fault) (ap check_faults (is_that tokens written has read) ∙ reads.checks) fails in
       omega (arith, none.1)
 
   pub says_that : (tokens : List Placed) (written : List WrittenProcess) (Q : tree.Program) → HasTokens text tokens → read_program true tokens ≡ Some written
@@ -124,7 +125,7 @@ pub checked_only : (text : List ℕ) (tokens : List Placed) (written : List Writ
     → Checks r (check_faults written) (λ P. program_of P ≡ program_tree written) → (P : tree.Program) → Reads text P → IsSmall P → Answers r P
 checked_only text tokens written (Ok Q) has read passed P reads small = says_that text P reads small tokens written (program_of Q) has read passed.1
 checked_only text tokens written (Err Memory) has read passed P reads small = tt
-checked_only text tokens written (Err (Bad fault)) has read passed P reads small = passes_checks text P reads small tokens written (fault_of fault) has read passed
+checked_only text tokens written (Err (Bad fault)) has read passed P reads small = passes_checks text P reads small tokens written fault has read passed
 
 -- why a text was refused
 pub refused_tokens : (text : List ℕ) (e : ProgError) → HasNoTokens text e → IsRefusal text e

@@ -1,7 +1,8 @@
 -- Each step of the parser takes tokens.
 use Rattle.std.proofs.Common.{◌≡◌, ℕ, ℤ, zero, suc, ◌<◌, ◌≤◌, Bool, true, false, cond, List, [], ◌∷◌, length, Some, ap, arith, codes, pos, neg_ℤ}
 use Rattle.std.specs.Option.{option_and_then, option_map}
-use Rattle.dbg_base.specs.Tokens.{Placed, Comma, Equals, Semicolon, Becomes, Minus, Colon, OpenBrace, CloseBrace}
+use Rattle.dbg_base.specs.Tokens.{Placed}
+use Rattle.dbg_base.specs.declared.sign.Sign.TheVariants.{Comma, Equals, Semicolon, Becomes, Minus, Colon, OpenBrace, CloseBrace}
 use Rattle.dbg_base.specs.Grammar.{WrittenAssignment}
 use Rattle.proc_lang.specs.Parsing.{Read, begins_sign, name_in, number_in, read_word, read_sign, read_name, read_number, read_start, read_variable, read_expression, read_assignment, read_further, read_up_to, read_many, read_send, read_receive, read_local, read_body, read_command, read_process, begins_word}
 use Rattle.proc_lang.proofs.Expressions.{Takes, bind_some, map_some, word_takes, sign_takes, within_takes}

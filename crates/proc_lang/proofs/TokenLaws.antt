@@ -6,7 +6,12 @@ use Rattle.std.specs.Str.{bytes_eq}
 use Rattle.std.proofs.lemmas.Bool.{false≢true, leb-true}
 use Rattle.std.proofs.lemmas.Bool.Decides.{nat_tests}
 use Rattle.dbg_base.specs.declared.limits.TheConstants.{OPEN_PARENTHESES}
-use Rattle.dbg_base.specs.Tokens.{Sign, OpenBrace, CloseBrace, OpenParenthesis, CloseParenthesis, Semicolon, Colon, Becomes, Comma, Equals, NotEquals, LessThan, AtMost, GreaterThan, AtLeast, Plus, Minus, Star, Slash, Percent, Token, Word, Number, Symbol, Placed, Fault, FaultKind, ByteFault, TokenFault, GrammarFault, NameTaken, NameUnknown, TypeWrong, LimitFault, SelfSend, SetTwice, sign_bytes, is_space, is_letter, is_digit, is_word_byte, is_word, is_numeral, Spells, IsLongest, BeginsWith, IsWithinLimits, StaysShallow, HasTokens, IsTokenFault, FaultsInFront, open_after, open_behind}
+use Rattle.dbg_base.specs.Tokens.{Token, Word, Number, Symbol, Placed, sign_bytes, is_space, is_letter, is_digit, is_word_byte, is_word, is_numeral, Spells, IsLongest, BeginsWith, IsWithinLimits, StaysShallow, HasTokens, IsTokenFault, FaultsInFront, open_after, open_behind}
+use Rattle.dbg_base.specs.declared.sign.Sign.{Sign}
+use Rattle.dbg_base.specs.declared.sign.Sign.TheVariants.{OpenBrace, CloseBrace, OpenParenthesis, CloseParenthesis, Semicolon, Colon, Becomes, Comma, Equals, NotEquals, LessThan, AtMost, GreaterThan, AtLeast, Plus, Minus, Star, Slash, Percent}
+use Rattle.dbg_base.specs.declared.fault.ProgFault.{ProgFault}
+use Rattle.dbg_base.specs.declared.fault.FaultKind.{FaultKind}
+use Rattle.dbg_base.specs.declared.fault.FaultKind.TheVariants as kinds
 use Rattle.proc_lang.proofs.Runs.{and_first, and_second}
 use Rattle.proc_lang.proofs.Fronts.{sign_first, letter_is_no_digit, word_first}
 
@@ -190,16 +195,16 @@ one_token_list text tokens others x y = one_list tokens others 0 text (length te
 
 -- what is at fault is no space
 fault_begins : (kind : FaultKind) (depth : ℕ) (rest : List ℕ) → FaultsInFront kind depth rest → BeginsOther rest
-fault_begins ByteFault depth [] found = found.0
-fault_begins ByteFault depth (b ∷ rest) found = found.0
-fault_begins TokenFault depth rest found = subst BeginsOther (sym found.5) (begins_append found.0 found.1 (spells_first found.2 found.0 found.3))
-fault_begins GrammarFault depth rest found = absurd found
-fault_begins NameTaken depth rest found = absurd found
-fault_begins NameUnknown depth rest found = absurd found
-fault_begins TypeWrong depth rest found = absurd found
-fault_begins LimitFault depth rest found = subst BeginsOther (sym found.2) refl
-fault_begins SelfSend depth rest found = absurd found
-fault_begins SetTwice depth rest found = absurd found
+fault_begins kinds.Byte depth [] found = found.0
+fault_begins kinds.Byte depth (b ∷ rest) found = found.0
+fault_begins kinds.Token depth rest found = subst BeginsOther (sym found.5) (begins_append found.0 found.1 (spells_first found.2 found.0 found.3))
+fault_begins kinds.Grammar depth rest found = absurd found
+fault_begins kinds.NameTaken depth rest found = absurd found
+fault_begins kinds.NameUnknown depth rest found = absurd found
+fault_begins kinds.TypeWrong depth rest found = absurd found
+fault_begins kinds.Limit depth rest found = subst BeginsOther (sym found.2) refl
+fault_begins kinds.SelfSend depth rest found = absurd found
+fault_begins kinds.SetTwice depth rest found = absurd found
 
 open_only : (sign : Sign) (more others : List ℕ) → sign_bytes sign ++ more ≡ 40 ∷ others → sign ≡ OpenParenthesis
 open_only OpenBrace more others e = let h : ◌≡◌ {A = ℕ} 123 40 = ap (λ z. slice_index z 0) e in absurd (omega arith)
@@ -241,23 +246,23 @@ opens (Symbol sign) piece more others writes e = ap Symbol (open_only sign more 
 -- a token with nothing wrong where something is at fault
 clear_front : (kind : FaultKind) (depth : ℕ) (token : Token) (piece more rest : List ℕ) → rest ≡ piece ++ more → Spells token piece → IsLongest piece more → IsWithinLimits token
     → open_behind depth token ≤ OPEN_PARENTHESES → FaultsInFront kind depth rest → ⊥
-clear_front ByteFault depth token piece more rest whole writes longest within shallow found = found.1 piece more token writes whole
-clear_front TokenFault depth token piece more rest whole writes longest within shallow found =
+clear_front kinds.Byte depth token piece more rest whole writes longest within shallow found = found.1 piece more token writes whole
+clear_front kinds.Token depth token piece more rest whole writes longest within shallow found =
     let same : found.0 ++ found.1 ≡ piece ++ more = sym found.5 ∙ whole in
     let sizes : length piece ≡ length found.0 = omega (arith, longest found.0 found.1 found.2 found.3 same, found.4 piece more token writes (sym same)) in
     let fronts = front_once piece found.0 more found.1 sizes (sym same) in
     let tokens = spells_once token found.2 found.0 (subst (λ z. Spells token z) fronts.0 writes) found.3 in
     found.6 (subst IsWithinLimits tokens within)
-clear_front LimitFault depth token piece more rest whole writes longest within shallow found =
+clear_front kinds.Limit depth token piece more rest whole writes longest within shallow found =
     let is = opens token piece more found.1 writes (sym whole ∙ found.2) in
     let count : open_behind depth token ≡ depth + 1 = ap (open_behind depth) is in
     omega (arith, count, shallow, found.0)
-clear_front GrammarFault depth token piece more rest whole writes longest within shallow found = found
-clear_front NameTaken depth token piece more rest whole writes longest within shallow found = found
-clear_front NameUnknown depth token piece more rest whole writes longest within shallow found = found
-clear_front TypeWrong depth token piece more rest whole writes longest within shallow found = found
-clear_front SelfSend depth token piece more rest whole writes longest within shallow found = found
-clear_front SetTwice depth token piece more rest whole writes longest within shallow found = found
+clear_front kinds.Grammar depth token piece more rest whole writes longest within shallow found = found
+clear_front kinds.NameTaken depth token piece more rest whole writes longest within shallow found = found
+clear_front kinds.NameUnknown depth token piece more rest whole writes longest within shallow found = found
+clear_front kinds.TypeWrong depth token piece more rest whole writes longest within shallow found = found
+clear_front kinds.SelfSend depth token piece more rest whole writes longest within shallow found = found
+clear_front kinds.SetTwice depth token piece more rest whole writes longest within shallow found = found
 
 -- a text with tokens has no fault among them
 no_fault : (tokens before : List Placed) (at depth : ℕ) (text : List ℕ) (end stop : ℕ) (rest : List ℕ) (kind : FaultKind) → BeginsWith at text tokens end []
@@ -276,6 +281,6 @@ no_fault (p ∷ tokens) (q ∷ before) at depth text end stop rest kind x within
     (moved_begins before (q.at + length y.1) (p.at + length x.1) y.2 x.2 stop rest ends (sym same.rests) y.8)
     (subst (λ t. FaultsInFront kind (open_after (open_behind depth t) before) rest) (sym same.tokens) found)
 
-pub no_token_fault : (text : List ℕ) (tokens : List Placed) (fault : Fault) → HasTokens text tokens → IsTokenFault text fault → ⊥
+pub no_token_fault : (text : List ℕ) (tokens : List Placed) (fault : ProgFault) → HasTokens text tokens → IsTokenFault text fault → ⊥
 no_token_fault text tokens fault x y =
     no_fault tokens y.0 0 0 text (length text) fault.at y.1 fault.kind x.1 x.2.0 x.2.1 y.2 y.4

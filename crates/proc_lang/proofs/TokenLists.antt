@@ -3,7 +3,8 @@ use Rattle.std.proofs.Common.{◌≡◌, ℕ, ◌+◌, ◌≤◌, Bool, true, Li
 use Rattle.std.specs.List.{list_all, AllByRecursion}
 use Rattle.std.proofs.lemmas.List.{length-append}
 use Rattle.dbg_base.specs.declared.limits.TheConstants.{OPEN_PARENTHESES, INPUT_BYTES}
-use Rattle.dbg_base.specs.Tokens.{Placed, Fault, is_space, BeginsWith, IsWithinLimits, StaysShallow, HasTokens, IsTokenFault, FaultsInFront, open_after, open_behind}
+use Rattle.dbg_base.specs.Tokens.{Placed, is_space, BeginsWith, IsWithinLimits, StaysShallow, HasTokens, IsTokenFault, FaultsInFront, open_after, open_behind}
+use Rattle.dbg_base.specs.declared.fault.ProgFault.{ProgFault}
 use Rattle.std.proofs.lemmas.List.{map-append}
 use Rattle.proc_lang.specs.declared.token.Placed as code
 use Rattle.proc_lang.specs.Scanning.{placed_of, TakesToken, MeetsFault}
@@ -92,7 +93,7 @@ has_tokens text tokens at depth rest small is spaces =
     let end_is : at + length rest ≡ length text = omega (arith, begins_length tokens 0 text (at + length rest) begins) in
     (small, subst (λ end. BeginsWith 0 text tokens end []) end_is begins, (is.within, is.shallow))
 
-pub has_fault : (text : List ℕ) (tokens : List Placed) (at depth : ℕ) (rest : List ℕ) (fault : Fault) → IsBehind text tokens at depth rest → MeetsFault rest at depth fault
+pub has_fault : (text : List ℕ) (tokens : List Placed) (at depth : ℕ) (rest : List ℕ) (fault : ProgFault) → IsBehind text tokens at depth rest → MeetsFault rest at depth fault
     → IsTokenFault text fault
 has_fault text tokens at depth rest fault is met =
     let begins = begins_with_gap tokens 0 text at rest met.gap met.rest is.begins met.spaces met.whole in (

@@ -1,8 +1,9 @@
+pub mod ProcessTrees
 pub mod Programs
-pub mod Faults
 pub mod Scanning
 pub mod Writing
+pub mod Small
 pub mod Parsing
 pub mod Reading
 pub mod Checking
-pub mod Small
+pub mod Answering

@@ -1,15 +1,21 @@
 -- What the parser reads from the front of some tokens: what is written there and the tokens behind it, or nothing. `small` says that
 -- only small expressions are read: numbers, names, `true`, and two expressions with `+`, `-`, `<` or `>` between them.
-use Rattle.std.specs.Prelude.{ℕ, zero, suc, ℤ, pos, neg_ℤ, Bool, true, false, not, ◌&&◌, ◌==◌, List, [], ◌∷◌, length, Option, Some, None, codes, IsTrue, if◌then◌else◌}
+use Rattle.std.specs.Prelude.{ℕ, zero, suc, ℤ, pos, neg_ℤ, Bool, true, false, not, ◌&&◌, List, [], ◌∷◌, length, Option, Some, None, codes, if◌then◌else◌}
 use Rattle.std.specs.Option.{option_and_then, option_map}
 use Rattle.std.specs.List.{list_any, AllByRecursion}
 use Rattle.std.specs.Str.{bytes_eq}
 use Rattle.dbg_base.specs.declared.expr.Operator.{Operator}
 use Rattle.dbg_base.specs.declared.expr.Operator.TheVariants.{Add, Subtract, Multiply, Divide, Remainder, Equal, NotEqual, Less, LessOrEqual, Greater, GreaterOrEqual, And, Or}
-use Rattle.dbg_base.specs.Tokens.{Sign, OpenBrace, CloseBrace, OpenParenthesis, CloseParenthesis, Semicolon, Colon, Becomes, Comma, Equals, NotEquals, LessThan, AtMost, GreaterThan, AtLeast, Plus, Minus, Star, Slash, Percent, Token, Word, Symbol, Placed}
+use Rattle.dbg_base.specs.Tokens.{Token, Word, Symbol, Placed}
+use Rattle.dbg_base.specs.declared.sign.Sign.{Sign}
+use Rattle.dbg_base.specs.declared.sign.Sign.TheVariants.{OpenBrace, CloseBrace, OpenParenthesis, CloseParenthesis, Semicolon, Colon, Becomes, Comma, Equals, NotEquals, LessThan, AtMost, GreaterThan, AtLeast, Plus, Minus, Star, Slash, Percent}
 use Rattle.dbg_base.specs.Tokens as token
+use denote.Enum.Bare.{sameb}
+use Rattle.dbg_base.specs.contracts.sign.Sign.{the_type}
+use Rattle.dbg_base.specs.Checks.{phrase_tree, action_tree}
 use Rattle.dbg_base.specs.Grammar.{Named, Phrase, Name, Truth, Not, Negate, Binary, WrittenVariable, WrittenAction, Local, Sends, Receives, WrittenAssignment, WrittenCommand, WrittenProcess, reserved_words}
 use Rattle.dbg_base.specs.Grammar as phrase
+use Rattle.proc_lang.specs.Small.{IsSmallTree, IsSmallSend}
 
 -- what was read, and the tokens behind it
 abbrev pub Read : Type 0 → Type 0
@@ -19,29 +25,9 @@ infixl 10 ◌>>=◌
 abbrev pub ◌>>=◌ : {A B : Type 0} → Option A → (A → Option B) → Option B
 o >>= f = option_and_then f o
 
-abbrev pub sign_number : Sign → ℕ
-sign_number OpenBrace = 0
-sign_number CloseBrace = 1
-sign_number OpenParenthesis = 2
-sign_number CloseParenthesis = 3
-sign_number Semicolon = 4
-sign_number Colon = 5
-sign_number Becomes = 6
-sign_number Comma = 7
-sign_number Equals = 8
-sign_number NotEquals = 9
-sign_number LessThan = 10
-sign_number AtMost = 11
-sign_number GreaterThan = 12
-sign_number AtLeast = 13
-sign_number Plus = 14
-sign_number Minus = 15
-sign_number Star = 16
-sign_number Slash = 17
-sign_number Percent = 18
-
+-- the test of `==` on signs
 abbrev pub same_sign : Sign → Sign → Bool
-same_sign a b = sign_number a == sign_number b
+same_sign = sameb the_type
 
 -- is the token this word
 abbrev pub is_word_token : List ℕ → Token → Bool
@@ -293,26 +279,12 @@ read_program small tokens = do
   others ← read_many is_left (read_process small) first.1
   Some (first.0 ∷ others.0)
 
--- the small expressions, and what is written with no others
-abbrev pub is_small_operator : Operator → Bool
-is_small_operator Add = true
-is_small_operator Subtract = true
-is_small_operator Less = true
-is_small_operator Greater = true
-is_small_operator operator = false
-
+-- what is written with small expressions alone
 abbrev pub IsSmallPhrase : Phrase → Type 0
-IsSmallPhrase (phrase.Number at value) = Unit {0}
-IsSmallPhrase (Name at name) = Unit {0}
-IsSmallPhrase (Truth at value) = IsTrue value
-IsSmallPhrase (Not at operand) = ⊥
-IsSmallPhrase (Negate at operand) = ⊥
-IsSmallPhrase (Binary at operator left right) = IsTrue (is_small_operator operator) × IsSmallPhrase left × IsSmallPhrase right
+IsSmallPhrase phrase = IsSmallTree (phrase_tree [] phrase)
 
 abbrev pub IsSmallAction : WrittenAction → Type 0
-IsSmallAction Local = Unit {0}
-IsSmallAction (Sends target value) = IsSmallPhrase value
-IsSmallAction (Receives source variable) = Unit {0}
+IsSmallAction action = IsSmallSend (action_tree [] [] action)
 
 abbrev pub IsSmallAssignment : WrittenAssignment → Type 0
 IsSmallAssignment assignment = IsSmallPhrase assignment.value

@@ -2,18 +2,17 @@
 use Rattle.std.specs.Prelude.{◌≡◌, ℕ, ◌+◌, ◌≤◌, List, ◌++◌, length, take, drop, IsTrue, Result, Ok, Err, ◌⊎◌, ◌<◌}
 use Rattle.std.specs.List.{list_all}
 use Rattle.std.specs.Str.Parse.{digits_value}
+use Rattle.dbg_base.specs.declared.sign.Sign.TheVariants as sign
 use Rattle.dbg_base.specs.Tokens as model
 use Rattle.dbg_base.specs.Tokens.{Spells, IsLongest, IsWithinLimits, is_space, sign_bytes, open_behind, BeginsWithNoToken, BeginsWithTooLarge, FaultsInFront, IsTokenFault}
 use Rattle.dbg_base.specs.declared.limits.TheConstants.{INPUT_BYTES, OPEN_PARENTHESES}
-use Rattle.proc_lang.specs.Faults.{fault_of}
-use Rattle.proc_lang.specs.declared.fault.ProgFault.{ProgFault}
+use Rattle.dbg_base.specs.declared.fault.ProgFault.{ProgFault}
 use Rattle.proc_lang.specs.declared.fault.ProgError.{ProgError}
 use Rattle.proc_lang.specs.declared.fault.ProgError.TheVariants.{Bad, Memory}
-use Rattle.proc_lang.specs.declared.fault.FaultKind.{FaultKind}
-use Rattle.proc_lang.specs.declared.fault.FaultKind.TheVariants.{Byte}
-use Rattle.proc_lang.specs.declared.fault.FaultKind.TheVariants as fault
-use Rattle.proc_lang.specs.declared.token.Sign.{Sign}
-use Rattle.proc_lang.specs.declared.token.Sign.TheVariants.{OpenBrace, CloseBrace, OpenParenthesis, CloseParenthesis, Semicolon, Colon, Becomes, Comma, Equals, NotEquals, LessThan, AtMost, GreaterThan, AtLeast, Plus, Minus, Star, Slash, Percent}
+use Rattle.dbg_base.specs.declared.fault.FaultKind.{FaultKind}
+use Rattle.dbg_base.specs.declared.fault.FaultKind.TheVariants.{Byte}
+use Rattle.dbg_base.specs.declared.fault.FaultKind.TheVariants as fault
+use Rattle.dbg_base.specs.declared.sign.Sign.{Sign}
 use Rattle.proc_lang.specs.declared.token.Token.{Token}
 use Rattle.proc_lang.specs.declared.token.Token.TheVariants.{Word, Number, Symbol}
 use Rattle.proc_lang.specs.declared.token.Placed.{Placed}
@@ -21,42 +20,21 @@ use Rattle.proc_lang.specs.declared.scan.Kind.{Kind}
 use Rattle.proc_lang.specs.declared.scan.Kind.TheVariants as kind
 use Rattle.proc_lang.specs.declared.scan.Piece.{Piece}
 
-abbrev pub sign_of : Sign → model.Sign
-sign_of OpenBrace = model.OpenBrace
-sign_of CloseBrace = model.CloseBrace
-sign_of OpenParenthesis = model.OpenParenthesis
-sign_of CloseParenthesis = model.CloseParenthesis
-sign_of Semicolon = model.Semicolon
-sign_of Colon = model.Colon
-sign_of Becomes = model.Becomes
-sign_of Comma = model.Comma
-sign_of Equals = model.Equals
-sign_of NotEquals = model.NotEquals
-sign_of LessThan = model.LessThan
-sign_of AtMost = model.AtMost
-sign_of GreaterThan = model.GreaterThan
-sign_of AtLeast = model.AtLeast
-sign_of Plus = model.Plus
-sign_of Minus = model.Minus
-sign_of Star = model.Star
-sign_of Slash = model.Slash
-sign_of Percent = model.Percent
-
 abbrev pub token_of : Token → model.Token
 token_of (Word name) = model.Word name
 token_of (Number number) = model.Number number.value
-token_of (Symbol sign) = model.Symbol (sign_of sign)
+token_of (Symbol sign) = model.Symbol sign
 
 abbrev pub placed_of : Placed → model.Placed
 placed_of p = record { at = p.at; token = token_of p.token }
 
 -- no sign is written so
 abbrev pub IsNoSign : List ℕ → Type 0
-IsNoSign bytes = (sign : model.Sign) → sign_bytes sign ≡ bytes → ⊥
+IsNoSign bytes = (sign : Sign) → sign_bytes sign ≡ bytes → ⊥
 
 -- no sign stands at the front
 abbrev pub BeginsWithNoSign : List ℕ → Type 0
-BeginsWithNoSign bytes = (sign : model.Sign) (more : List ℕ) → sign_bytes sign ++ more ≡ bytes → ⊥
+BeginsWithNoSign bytes = (sign : Sign) (more : List ℕ) → sign_bytes sign ++ more ≡ bytes → ⊥
 
 -- the token that takes so many bytes stands at the front, and no longer one
 pub record StandsInFront (token : model.Token) (n : ℕ) (bytes : List ℕ) : Type 0 where
@@ -65,23 +43,23 @@ pub record StandsInFront (token : model.Token) (n : ℕ) (bytes : List ℕ) : Ty
   pub longest : IsLongest (take n bytes) (drop n bytes)
 
 -- the sign stands at the front, and no longer one
-pub record IsSignInFront (sign : model.Sign) (n : ℕ) (bytes : List ℕ) : Type 0 where
+pub record IsSignInFront (sign : Sign) (n : ℕ) (bytes : List ℕ) : Type 0 where
   pub within : n ≤ length bytes
   pub spelled : take n bytes ≡ sign_bytes sign
-  pub longest : (other : model.Sign) (more : List ℕ) → sign_bytes other ++ more ≡ bytes → length (sign_bytes other) ≤ n
+  pub longest : (other : Sign) (more : List ℕ) → sign_bytes other ++ more ≡ bytes → length (sign_bytes other) ≤ n
 
 -- the token that these bytes write, by its kind
 abbrev pub token_by : Kind → List ℕ → model.Token
 token_by kind.Word bytes = model.Word bytes
 token_by kind.Number bytes = model.Number (digits_value 10 bytes)
-token_by (kind.Symbol sign) bytes = model.Symbol (sign_of sign)
+token_by (kind.Symbol sign) bytes = model.Symbol sign
 
 abbrev pub token_in : Piece → List ℕ → model.Token
 token_in piece bytes = token_by piece.kind (take piece.length bytes)
 
 -- the piece is a sign that stands at the front
 abbrev pub IsSignPiece : Piece → List ℕ → Type 0
-IsSignPiece piece bytes = (sign : Sign) × (piece.kind ≡ kind.Symbol sign) × IsSignInFront (sign_of sign) piece.length bytes
+IsSignPiece piece bytes = (sign : Sign) × (piece.kind ≡ kind.Symbol sign) × IsSignInFront sign piece.length bytes
 
 -- the token stands at the front, takes so many bytes and meets its limit
 abbrev pub IsFrontToken : Token → ℕ → List ℕ → Type 0
@@ -109,7 +87,7 @@ pub record TakesToken (left : List ℕ) (at depth : ℕ) (p : model.Placed) (res
   pub shallow : behind ≤ OPEN_PARENTHESES
 
 -- from there it passed spaces and met a fault
-pub record MeetsFault (left : List ℕ) (at depth : ℕ) (found : model.Fault) : Type 0 where
+pub record MeetsFault (left : List ℕ) (at depth : ℕ) (found : ProgFault) : Type 0 where
   pub gap : List ℕ
   pub rest : List ℕ
   pub spaces : IsTrue (list_all is_space gap)
@@ -121,11 +99,11 @@ pub record MeetsFault (left : List ℕ) (at depth : ℕ) (found : model.Fault) :
 abbrev pub Counts : ℕ → model.Token → ℕ → Result (Unit {0}) ProgFault → ℕ → Type 0
 Counts depth token at (Ok done) behind = (behind ≡ open_behind depth token) × (behind ≤ OPEN_PARENTHESES)
 Counts depth token at (Err found) behind =
-    (found ≡ record { kind = fault.Limit; at = at }) × (token ≡ model.Symbol model.OpenParenthesis) × (depth ≡ OPEN_PARENTHESES)
+    (found ≡ record { kind = fault.Limit; at = at }) × (token ≡ model.Symbol sign.OpenParenthesis) × (depth ≡ OPEN_PARENTHESES)
 
 -- why a text has no tokens, unless memory ran out
 abbrev pub HasNoTokens : List ℕ → ProgError → Type 0
 HasNoTokens text Memory = Unit {0}
 HasNoTokens text (Bad found) =
-    ((INPUT_BYTES < length text) × (fault_of found ≡ record { kind = model.LimitFault; at = INPUT_BYTES }))
-    ⊎ ((length text ≤ INPUT_BYTES) × IsTokenFault text (fault_of found))
+    ((INPUT_BYTES < length text) × (found ≡ record { kind = fault.Limit; at = INPUT_BYTES }))
+    ⊎ ((length text ≤ INPUT_BYTES) × IsTokenFault text found)

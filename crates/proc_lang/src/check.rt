@@ -4,32 +4,30 @@ ghost use Rattle.std.specs.Prelude.{◌≡◌, ◌≤◌, ◌++◌, ◌||◌, le
 ghost use Rattle.std.specs.List.{list_any, position};
 ghost use Rattle.std.specs.Str.{bytes_eq};
 ghost use Rattle.dbg_base.specs.declared.limits.TheConstants.{COMMANDS, VARIABLES};
-ghost use Rattle.dbg_base.specs.Tokens.{NameTaken, LimitFault, TypeWrong, SetTwice};
+ghost use Rattle.dbg_base.specs.declared.fault.FaultKind.TheVariants.{NameTaken, Limit, TypeWrong, SetTwice};
 ghost use Rattle.dbg_base.specs.Trees.{tree_of};
-ghost use Rattle.dbg_base.specs.Checks.{is_same_sort, fault_where, unknown, is_among, expression_faults, target_faults, action_faults, set_by_action, assignment_faults, command_faults, process_faults, check_faults, index_of, phrase_tree, program_tree, NumberSort};
+ghost use Rattle.dbg_base.specs.declared.expr.Sort.TheVariants as sort;
+ghost use Rattle.dbg_base.specs.Names.{is_among};
+ghost use Rattle.dbg_base.specs.Sorts.{is_same_sort, outcome_sort, operand_sort};
+ghost use Rattle.dbg_base.specs.Checks.{fault_where, unknown, expression_faults, target_faults, action_faults, set_by_action, assignment_faults, command_faults, process_faults, check_faults, index_of, phrase_tree, program_tree};
 ghost use Rattle.dbg_base.specs.Checks as model;
 ghost use Rattle.proc_lang.specs.declared.fault.ProgError.TheVariants.{Bad};
-ghost use Rattle.proc_lang.specs.Programs as program;
+ghost use Rattle.proc_lang.specs.ProcessTrees as program;
+ghost use Rattle.proc_lang.specs.ProcessTrees.{assignment_trees, process_trees};
 ghost use Rattle.proc_lang.specs.Programs.{program_of};
 ghost use Rattle.proc_lang.specs.Writing.{named_of, phrase_of, action_of, assignment_of, command_of, process_of, processes_of};
-ghost use Rattle.proc_lang.specs.Checking.{Checks, WhereFew, sort_of, process_names_in, variable_names_in, starts, written_starts, assignment_trees, written_trees, faults_of_variables, faults_of_commands};
+ghost use Rattle.proc_lang.specs.Checking.{Checks, WhereFew, process_names_in, variable_names_in, starts, written_starts, written_trees, faults_of_variables, faults_of_commands};
 
-use crate::fault::{FaultKind, ProgError, ProgFault};
-use crate::program::{Action, Assignment, Guarded, Process, Program, Variable};
+use crate::fault::ProgError;
+use crate::process::{Action, Assignment, Guarded, Process, Variable};
+use crate::program::Program;
 use crate::syntax::{
     Named, Phrase, WrittenAction, WrittenAssignment, WrittenCommand, WrittenProcess,
     WrittenVariable,
 };
 use dbg_base::limits::{COMMANDS, PROCESSES, VARIABLES};
-use dbg_base::{Expr, Name, Operator, Pid, Sequence};
+use dbg_base::{Expr, FaultKind, Name, Operator, Pid, ProgFault, Sequence, Sort};
 use std::alloc::Global;
-
-/// What an expression gives: a number or a truth value.
-#[derive(Clone, Copy, Debug, PartialEq, Eq)]
-enum Sort {
-    Number,
-    Truth,
-}
 
 fn bad(kind: FaultKind, at: usize) -> ProgError
     ensures { result ≡ Bad (record { kind = kind; at = at }) }
@@ -39,7 +37,7 @@ fn bad(kind: FaultKind, at: usize) -> ProgError
 
 // What the operator gives.
 fn outcome_sort(operator: Operator) -> Sort
-    ensures { sort_of result ≡ model.outcome_sort operator }
+    ensures { result ≡ outcome_sort operator }
 {
     match operator {
         Operator::Add
@@ -53,7 +51,7 @@ fn outcome_sort(operator: Operator) -> Sort
 
 // What the operator asks of its operands.
 fn operand_sort(operator: Operator) -> Sort
-    ensures { sort_of result ≡ model.operand_sort operator }
+    ensures { result ≡ operand_sort operator }
 {
     match operator {
         Operator::And | Operator::Or => Sort::Truth,
@@ -68,8 +66,8 @@ fn expression(
     wanted: Sort,
     phrase: &Phrase,
 ) -> Result<Expr, ProgError>
-    requires { length variables.now ≤ 32 }
-    ensures { Checks result (expression_faults (variable_names_in variables.now) (sort_of wanted) (phrase_of phrase.now))
+    requires { length variables.now ≤ VARIABLES }
+    ensures { Checks result (expression_faults (variable_names_in variables.now) wanted (phrase_of phrase.now))
         (λ expr. tree_of expr ≡ phrase_tree (variable_names_in variables.now) (phrase_of phrase.now)) }
 {
     match phrase {
@@ -106,7 +104,7 @@ fn expression(
 
 // The place asks what stands there.
 fn want(wanted: Sort, found: Sort, at: usize) -> Result<(), ProgError>
-    ensures { Checks result (fault_where (not (is_same_sort (sort_of wanted) (sort_of found))) TypeWrong at) (λ _. Unit {0}) }
+    ensures { Checks result (fault_where (not (is_same_sort wanted found)) TypeWrong at) (λ _. Unit {0}) }
 {
     if wanted == found {
         Ok(())
@@ -135,7 +133,7 @@ fn process_place(processes: &[WrittenProcess], name: &Name) -> Option<usize>
 
 // The place of a variable.
 fn known_variable(variables: &[WrittenVariable], named: Named) -> Result<u32, ProgError>
-    requires { length variables.now ≤ 32 }
+    requires { length variables.now ≤ VARIABLES }
     ensures { Checks result (unknown (variable_names_in variables.now) (named_of named))
         (λ index. index ≡ index_of (variable_names_in variables.now) named.name) }
 {
@@ -174,7 +172,7 @@ fn action(
     own: &WrittenProcess,
     written: &WrittenAction,
 ) -> Result<Action, ProgError>
-    requires { length own.now.variables.items ≤ 32 }
+    requires { length own.now.variables.items ≤ VARIABLES }
     ensures { Checks result (action_faults (process_names_in processes.now) own.now.name.name (variable_names_in own.now.variables.items) (action_of written.now))
         (λ action. WhereFew processes.now (program.action_tree action
         ≡ model.action_tree (process_names_in processes.now) (variable_names_in own.now.variables.items) (action_of written.now))) }
@@ -226,10 +224,10 @@ fn assignment(
     written: &WrittenAssignment,
     is_set: bool,
 ) -> Result<Assignment, ProgError>
-    requires { length variables.now ≤ 32 }
+    requires { length variables.now ≤ VARIABLES }
     ensures { Checks result
         ((unknown (variable_names_in variables.now) (named_of written.now.variable) ++ fault_where is_set SetTwice written.now.variable.at)
-        ++ expression_faults (variable_names_in variables.now) NumberSort (phrase_of written.now.value))
+        ++ expression_faults (variable_names_in variables.now) sort.Number (phrase_of written.now.value))
         (λ a. (a.variable ≡ index_of (variable_names_in variables.now) written.now.variable.name)
         × (tree_of a.value ≡ phrase_tree (variable_names_in variables.now) (phrase_of written.now.value))) }
 {
@@ -246,7 +244,7 @@ fn assignments(
     variables: &[WrittenVariable],
     written: &WrittenCommand,
 ) -> Result<Vec<Assignment>, ProgError>
-    requires { length variables.now ≤ 32 }
+    requires { length variables.now ≤ VARIABLES }
     ensures { Checks result (assignment_faults (variable_names_in variables.now) (set_by_action (action_of written.now.action)) (map assignment_of written.now.assignments.items))
         (λ read. assignment_trees read.items ≡ written_trees (variable_names_in variables.now) written.now.assignments.items) }
 {
@@ -266,7 +264,7 @@ fn command(
     own: &WrittenProcess,
     written: &WrittenCommand,
 ) -> Result<Guarded, ProgError>
-    requires { length own.now.variables.items ≤ 32 }
+    requires { length own.now.variables.items ≤ VARIABLES }
     ensures { Checks result (command_faults (process_names_in processes.now) own.now.name.name (variable_names_in own.now.variables.items) (command_of written.now))
         (λ guarded. WhereFew processes.now (program.command_tree guarded
         ≡ model.command_tree (process_names_in processes.now) (variable_names_in own.now.variables.items) (command_of written.now))) }
@@ -297,7 +295,7 @@ fn process_taken(processes: &[WrittenProcess], name: &Name) -> bool
 
 // A name that is not taken, of something that is not one too many.
 fn fresh(named: Named, is_taken: bool, is_too_many: bool) -> Result<Name, ProgError>
-    ensures faults { Checks result (fault_where is_taken NameTaken named.at ++ fault_where is_too_many LimitFault named.at)
+    ensures faults { Checks result (fault_where is_taken NameTaken named.at ++ fault_where is_too_many Limit named.at)
         (λ name. name ≡ named.name) }
     ensures few { IfOk result (λ _. is_too_many ≡ false) }
 {
@@ -332,7 +330,7 @@ fn commands(
     processes: &[WrittenProcess],
     own: &WrittenProcess,
 ) -> Result<Vec<Guarded>, ProgError>
-    requires { length own.now.variables.items ≤ 32 }
+    requires { length own.now.variables.items ≤ VARIABLES }
     ensures faults { Checks result (faults_of_commands (process_names_in processes.now) own.now.name.name (variable_names_in own.now.variables.items) own.now.commands.items)
         (λ commands. WhereFew processes.now (map program.command_tree commands.items
         ≡ map (model.command_tree (process_names_in processes.now) (variable_names_in own.now.variables.items)) (map command_of own.now.commands.items))) }
@@ -367,10 +365,10 @@ fn process(
     })
 }
 
-/// The program that these processes write, or the first check that fails.
-pub(crate) fn checked(alloc: Global, written: &[WrittenProcess]) -> Result<Program, ProgError>
+// All processes.
+fn all_processes(alloc: Global, written: &[WrittenProcess]) -> Result<Vec<Process>, ProgError>
     ensures { Checks result (check_faults (processes_of written.now))
-        (λ P. program_of P ≡ program_tree (processes_of written.now)) }
+        (λ read. process_trees read.items ≡ program_tree (processes_of written.now)) }
 {
     let mut processes = Vec::new(alloc);
     for (i, next) in written.iter().enumerate() {
@@ -379,5 +377,14 @@ pub(crate) fn checked(alloc: Global, written: &[WrittenProcess]) -> Result<Progr
         let read = process(alloc, written, next)?;
         processes.push(read)?;
     }
+    Ok(processes)
+}
+
+/// The program that these processes write, or the first check that fails.
+pub(crate) fn checked(alloc: Global, written: &[WrittenProcess]) -> Result<Program, ProgError>
+    ensures { Checks result (check_faults (processes_of written.now))
+        (λ P. program_of P ≡ program_tree (processes_of written.now)) }
+{
+    let processes = all_processes(alloc, written)?;
     Ok(Program { processes })
 }

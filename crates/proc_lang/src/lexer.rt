@@ -4,13 +4,13 @@ ghost use Rattle.std.specs.Prelude.{◌≡◌, ◌≤◌, ◌+◌, length, drop,
 ghost use Rattle.std.specs.List.{list_all};
 ghost use Rattle.dbg_base.specs.declared.limits.TheConstants.{INPUT_BYTES, OPEN_PARENTHESES};
 ghost use Rattle.dbg_base.specs.Tokens.{is_space, HasTokens};
-ghost use Rattle.proc_lang.specs.Faults.{fault_of};
 ghost use Rattle.proc_lang.specs.Scanning.{token_of, placed_of, TakesToken, MeetsFault, Counts, HasNoTokens};
 
-use crate::fault::{FaultKind, ProgError, ProgFault};
+use crate::fault::ProgError;
 use crate::scan::{front_token, space_length};
-use crate::token::{Placed, Sign, Token};
+use crate::token::{Placed, Token};
 use dbg_base::limits::{INPUT_BYTES, OPEN_PARENTHESES};
+use dbg_base::{FaultKind, ProgFault, Sign};
 use std::alloc::Global;
 
 /// Reads the tokens of a text, one at a time.
@@ -76,7 +76,7 @@ impl<'a> Lexer<'a> {
         ensures { MatchResult result
             (λ next. MatchOption next (IsTrue (list_all is_space self.old.rest.now))
             (λ p. TakesToken self.old.rest.now self.old.at self.old.depth (placed_of p) self.new.rest.now self.new.at self.new.depth))
-            (λ found. MeetsFault self.old.rest.now self.old.at self.old.depth (fault_of found)) }
+            (λ found. MeetsFault self.old.rest.now self.old.at self.old.depth found) }
     {
         self.pass(space_length(self.rest));
         if self.rest.is_empty() {

@@ -7,14 +7,17 @@ pub mod laws;
 mod lexer;
 mod parse;
 mod parser;
+mod process;
 mod program;
 mod scan;
 mod syntax;
 mod token;
 
-pub use fault::{FaultKind, ProgError, ProgFault};
+pub use dbg_base::{FaultKind, ProgFault};
+pub use fault::ProgError;
 pub use parse::parse_program;
-pub use program::{Action, Assignment, Guarded, Program};
+pub use process::{Action, Assignment, Guarded};
+pub use program::Program;
 
 #[cfg(test)]
 mod tests;

@@ -4,14 +4,16 @@ ghost use Rattle.std.specs.Prelude.{IfOk, IfErr};
 ghost use Rattle.dbg_base.specs.Trees as tree;
 ghost use Rattle.dbg_base.specs.Checks.{Reads};
 ghost use Rattle.proc_lang.specs.Programs.{program_of};
-ghost use Rattle.proc_lang.specs.Small.{IsSmall, Answers, IsRefusal};
+ghost use Rattle.proc_lang.specs.Small.{IsSmall};
+ghost use Rattle.proc_lang.specs.Answering.{Answers, IsRefusal};
 
 use crate::check::checked;
-use crate::fault::{FaultKind, ProgError, ProgFault};
+use crate::fault::ProgError;
 use crate::lexer::tokens;
 use crate::parser::{Stop, program};
 use crate::program::Program;
 use crate::token::Placed;
+use dbg_base::{FaultKind, ProgFault};
 use std::alloc::Global;
 
 // Where the token stands from which on so many are left, or the end of the text where none is.

@@ -4,7 +4,7 @@ ghost use Rattle.std.specs.Prelude.{◌≡◌, ◌<◌, Bool, true, map, length,
 ghost use Rattle.std.specs.List.{list_any};
 ghost use Rattle.std.specs.Str.{bytes_eq};
 ghost use Rattle.dbg_base.specs.Grammar.{reserved_words};
-ghost use Rattle.proc_lang.specs.Scanning.{sign_of, token_of, placed_of};
+ghost use Rattle.proc_lang.specs.Scanning.{token_of, placed_of};
 ghost use Rattle.proc_lang.specs.Writing.{named_of};
 ghost use Rattle.proc_lang.specs.Parsing.{begins_word, begins_sign, operator_in, read_word, read_sign, read_name, read_number, read_operator};
 ghost use Rattle.proc_lang.specs.Reading.{Gives};
@@ -13,8 +13,8 @@ ghost use Rattle.proc_lang.specs.declared.parser.Stop.TheVariants.{Memory};
 mod grammar;
 
 use crate::syntax::Named;
-use crate::token::{Magnitude, Placed, Sign, Token};
-use dbg_base::{Name, Operator};
+use crate::token::{Magnitude, Placed, Token};
+use dbg_base::{Name, Operator, Sign};
 pub(crate) use grammar::program;
 use std::alloc::{AllocError, AllocFailed, Global};
 
@@ -109,7 +109,7 @@ impl Parser<'_> {
 
     // Is this sign the next token?
     fn is_at_sign(&self, sign: Sign) -> bool
-        ensures { result ≡ begins_sign (sign_of sign) (map placed_of self.now.rest.now) }
+        ensures { result ≡ begins_sign sign (map placed_of self.now.rest.now) }
     {
         match self.rest {
             [
@@ -150,7 +150,7 @@ impl Parser<'_> {
     fn sign(&mut self, sign: Sign) -> Result<usize, Stop>
         ensures shorter { OnOk result (length self.new.rest.now < length self.old.rest.now) }
         ensures read { Gives (λ at. at) result (map placed_of self.new.rest.now)
-            (read_sign (sign_of sign) (map placed_of self.old.rest.now)) }
+            (read_sign sign (map placed_of self.old.rest.now)) }
     {
         match self.rest {
             [

@@ -1,58 +1,18 @@
 //! Programs, and what can be read of them.
 
-ghost use Rattle.std.specs.Prelude.{◌≤◌, vec_len};
+ghost use Rattle.std.specs.Prelude.{◌≡◌, ◌≤◌, true};
 ghost use Rattle.dbg_base.specs.declared.limits.TheConstants.{PROCESSES, VARIABLES, COMMANDS};
+ghost use Rattle.dbg_base.specs.WellFormed.{is_well_formed};
+ghost use Rattle.proc_lang.specs.ProcessTrees.{process_trees};
 
-use dbg_base::{Choice, Expr, Name, Pid, Sequence};
+use crate::process::{Guarded, Process, Variable};
+use dbg_base::{Choice, Name, Pid};
 
-/// What a command does beside its assignments.
-#[derive(Debug, Drop)]
-pub enum Action {
-    /// Nothing.
-    Local,
-    /// The value goes to the back of the channel to the target.
-    Send { target: Pid, value: Expr },
-    /// The variable takes the front of the channel from the source.
-    Receive { source: Pid, variable: u32 },
-}
-
-/// A variable, by its place in the process, and the expression of its new value.
-#[derive(Debug, Drop)]
-pub struct Assignment {
-    pub variable: u32,
-    pub value: Expr,
-}
-
-/// A guarded command.
-#[derive(Debug, Drop)]
-pub struct Guarded {
-    pub guard: Expr,
-    pub action: Action,
-    pub assignments: Sequence<Assignment>,
-}
-
-/// A variable of a process.
-#[derive(Clone, Copy, Debug)]
-pub(crate) struct Variable {
-    pub(crate) name: Name,
-    pub(crate) start: i64,
-}
-
-/// A process.
-#[derive(Debug, Drop)]
-pub(crate) struct Process {
-    pub(crate) name: Name,
-    pub(crate) variables: Vec<Variable>,
-    pub(crate) commands: Vec<Guarded>,
-    ghost few_variables: { vec_len variables ≤ VARIABLES },
-    ghost few_commands: { vec_len commands ≤ COMMANDS },
-}
-
-/// A program that has passed all checks. `program_of` is the tree that contracts see.
+/// A program that has passed all checks, and is well formed. `program_of` is the tree that contracts see.
 #[derive(Debug, Drop)]
 pub struct Program {
     pub(crate) processes: Vec<Process>,
-    ghost few_processes: { vec_len processes ≤ PROCESSES },
+    pub ghost well_formed: { is_well_formed (process_trees processes.items) ≡ true },
 }
 
 impl Program {
@@ -60,7 +20,8 @@ impl Program {
     ghost use Rattle.std.specs.Option.{option_map, option_copied};
     ghost use Rattle.dbg_base.specs.Names.{place_of};
     ghost use Rattle.dbg_base.specs.Trees.{no_process, process_of, command_of, names_of};
-    ghost use Rattle.proc_lang.specs.Programs.{program_of, process_tree, command_tree};
+    ghost use Rattle.proc_lang.specs.Programs.{program_of};
+    ghost use Rattle.proc_lang.specs.ProcessTrees.{process_tree, command_tree};
 
     fn process(&self, pid: Pid) -> Option<&Process>
         ensures value { option_copied result ≡ slice_get self.now.processes.items pid.0 }
@@ -73,7 +34,7 @@ impl Program {
     /// How many processes the program has, 1 to 16. It takes no memory, as all readers do.
     pub fn processes(&self) -> u32
         ensures value { result ≡ length (program_of self.now) }
-        ensures few { result ≤ 16 }
+        ensures few { result ≤ PROCESSES }
     {
         self.processes.len() as u32
     }
@@ -103,7 +64,7 @@ impl Program {
     /// How many variables the process has, 0 where there is no such process.
     pub fn variables(&self, pid: Pid) -> u32
         ensures value { result ≡ length (process_of (program_of self.now) pid.0).variables }
-        ensures few { result ≤ 32 }
+        ensures few { result ≤ VARIABLES }
     {
         match self.process(pid) {
             Some(process) => process.variables.len() as u32,
@@ -142,7 +103,7 @@ impl Program {
     /// How many commands the process has, 0 where there is no such process.
     pub fn commands(&self, pid: Pid) -> u32
         ensures value { result ≡ length (process_of (program_of self.now) pid.0).commands }
-        ensures few { result ≤ 64 }
+        ensures few { result ≤ COMMANDS }
     {
         match self.process(pid) {
             Some(process) => process.commands.len() as u32,

@@ -4,11 +4,10 @@ ghost use Rattle.std.specs.Prelude.{◌≡◌, ℕ, ◌≤◌, ◌<◌, ◌+◌,
 ghost use Rattle.std.specs.List.{list_all, prefix_len};
 ghost use Rattle.std.specs.Str.Parse.{digits_value};
 ghost use Rattle.dbg_base.specs.Tokens.{is_space, is_digit, is_word_byte, sign_bytes, BeginsWithNoToken, Spells, IsWithinLimits};
-ghost use Rattle.proc_lang.specs.Scanning.{sign_of, token_of, token_in, token_by, IsNoSign, BeginsWithNoSign, StandsInFront, IsSignPiece, IsFrontToken, IsFrontFault};
+ghost use Rattle.proc_lang.specs.Scanning.{token_of, token_in, token_by, IsNoSign, BeginsWithNoSign, StandsInFront, IsSignPiece, IsFrontToken, IsFrontFault};
 
-use crate::fault::FaultKind;
-use crate::token::{Magnitude, Sign, Token};
-use dbg_base::Name;
+use crate::token::{Magnitude, Token};
+use dbg_base::{FaultKind, Name, Sign};
 
 /// The longest token at the front of some bytes: its kind, and how many bytes it takes.
 #[derive(Clone, Copy, Debug)]
@@ -74,7 +73,7 @@ fn digit_length(bytes: &[u8]) -> usize
 
 // The sign of one byte, if it is one.
 fn single_sign(b: u8) -> Option<Sign>
-    ensures { MatchOption result (IsNoSign (b ∷ [])) (λ sign. sign_bytes (sign_of sign) ≡ b ∷ []) }
+    ensures { MatchOption result (IsNoSign (b ∷ [])) (λ sign. sign_bytes sign ≡ b ∷ []) }
 {
     match b {
         b'{' => Some(Sign::OpenBrace),
@@ -98,7 +97,7 @@ fn single_sign(b: u8) -> Option<Sign>
 
 // The sign of this byte and `=`, if it is one.
 fn double_sign(b: u8) -> Option<Sign>
-    ensures { MatchOption result (IsNoSign (b ∷ 61 ∷ [])) (λ sign. sign_bytes (sign_of sign) ≡ b ∷ 61 ∷ []) }
+    ensures { MatchOption result (IsNoSign (b ∷ 61 ∷ [])) (λ sign. sign_bytes sign ≡ b ∷ 61 ∷ []) }
 {
     match b {
         b':' => Some(Sign::Becomes),

@@ -2,31 +2,7 @@
 
 ghost use Rattle.std.specs.Prelude.{◌<◌, ◌^◌};
 
-use dbg_base::Name;
-
-/// A mark of the language.
-#[derive(Clone, Copy, Debug, PartialEq, Eq)]
-pub(crate) enum Sign {
-    OpenBrace,
-    CloseBrace,
-    OpenParenthesis,
-    CloseParenthesis,
-    Semicolon,
-    Colon,
-    Becomes,
-    Comma,
-    Equals,
-    NotEquals,
-    LessThan,
-    AtMost,
-    GreaterThan,
-    AtLeast,
-    Plus,
-    Minus,
-    Star,
-    Slash,
-    Percent,
-}
+use dbg_base::{Name, Sign};
 
 /// A number as it is written: from 0 to the largest i64.
 #[derive(Clone, Copy, Debug)]

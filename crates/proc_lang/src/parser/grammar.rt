@@ -1,6 +1,7 @@
 //! What the grammar names: expressions, variables, commands, processes and programs.
 
 ghost use Rattle.std.specs.Prelude.{◌≡◌, ◌<◌, ◌≤◌, true, map, length, codes, OnOk};
+ghost use Rattle.dbg_base.specs.declared.sign.Sign.TheVariants as sign;
 ghost use Rattle.dbg_base.specs.Tokens as model;
 ghost use Rattle.proc_lang.specs.Scanning.{placed_of};
 ghost use Rattle.proc_lang.specs.Writing.{phrase_of, variable_of, action_of, assignment_of, command_of, process_of};
@@ -11,7 +12,8 @@ use super::{Parser, Stop, is_reserved};
 use crate::syntax::{
     Phrase, WrittenAction, WrittenAssignment, WrittenCommand, WrittenProcess, WrittenVariable,
 };
-use crate::token::{Placed, Sign, Token};
+use crate::token::{Placed, Token};
+use dbg_base::Sign;
 use std::alloc::Global;
 
 impl Parser<'_> {
@@ -156,7 +158,7 @@ impl Parser<'_> {
     fn all_further(&mut self) -> Result<Vec<WrittenAssignment>, Stop>
         ensures shorter { OnOk result (length self.new.rest.now ≤ length self.old.rest.now) }
         ensures read { Gives (λ v. map assignment_of v.items) result (map placed_of self.new.rest.now)
-            (read_many (begins_sign model.Comma) (read_further true) (map placed_of self.old.rest.now)) }
+            (read_many (begins_sign sign.Comma) (read_further true) (map placed_of self.old.rest.now)) }
     {
         let mut assignments = Vec::new(self.alloc);
         while self.is_at_sign(Sign::Comma) {

@@ -1,7 +1,8 @@
 use Rattle.std.proofs.Common.{◌≡◌, map, take}
 use Rattle.dbg_base.specs.Checks.{assignment_faults, set_by_action}
 use Rattle.proc_lang.specs.Writing.{action_of, assignment_of}
-use Rattle.proc_lang.specs.Checking.{variable_names_in, assignment_trees, written_trees}
+use Rattle.proc_lang.specs.ProcessTrees.{assignment_trees}
+use Rattle.proc_lang.specs.Checking.{variable_names_in, written_trees}
 use Rattle.proc_lang.proofs.CheckedLists.{set_rest}
 use Rattle.proc_lang.proofs.check.assignments.Given as goal
 

@@ -1,5 +1,4 @@
 use Rattle.std.proofs.Common.{arith, inr}
-use Rattle.proc_lang.specs.Faults.{fault_of}
 use Rattle.proc_lang.proofs.TokenLists.{behind_pushed, has_tokens, has_fault}
 use Rattle.proc_lang.proofs.lexer.tokens.Goals as goal
 
@@ -13,4 +12,4 @@ returns-in-Ok-None c =
 
 pub returns-in-Err : goal.returns-in-Err
 returns-in-Err c =
-    inr (omega arith, has_fault c.args.text.now _ c.loop-at.lexer.at c.loop-at.lexer.depth c.loop-at.lexer.rest.now (fault_of c.in-Err.found) c.loop-at.invariant c.in-Err.ensures)
+    inr (omega arith, has_fault c.args.text.now _ c.loop-at.lexer.at c.loop-at.lexer.depth c.loop-at.lexer.rest.now c.in-Err.found c.loop-at.invariant c.in-Err.ensures)

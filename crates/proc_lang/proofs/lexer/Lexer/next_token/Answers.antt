@@ -3,7 +3,6 @@ use Rattle.std.proofs.lemmas.Bool.{eqb-true, eqb-false}
 use Rattle.std.proofs.lemmas.List.Sums.{prefix_len-le-length}
 use Rattle.dbg_base.specs.declared.limits.TheConstants.{OPEN_PARENTHESES}
 use Rattle.dbg_base.specs.Tokens.{is_space, open_behind}
-use Rattle.proc_lang.specs.Faults.{fault_of}
 use Rattle.proc_lang.specs.Scanning.{token_of, MeetsFault}
 use Rattle.proc_lang.proofs.Lexing.{only_spaces, takes_token, meets_fault, meets_limit}
 use Rattle.proc_lang.proofs.lexer.Lexer.next_token.Goals as goal
@@ -19,7 +18,7 @@ returns-then-is_empty c =
 pub returns-in-Err-count : goal.returns-in-Err-count
 returns-in-Err-count c =
     let at_limit = c.in-Err-count.ensures.depth in
-    subst (λ f. MeetsFault c.args.self.now.rest.now c.args.self.now.at c.args.self.now.depth (fault_of f)) (sym at_limit.0)
+    subst (λ f. MeetsFault c.args.self.now.rest.now c.args.self.now.at c.args.self.now.depth f) (sym at_limit.0)
     (meets_limit c.args.self.now.rest.now c.pass.new.self.rest.now c.space_length.result c.space_length.ensures c.pass.ensures.rest c.args.self.now.at c.pass.new.self.at c.args.self.now.depth c.in-Ok.length (token_of c.in-Ok.token) c.pass.ensures.at c.in-Ok.ensures.0 at_limit.1 (sym c.pass.ensures.depth ∙ at_limit.2))
 
 pub returns-in-Ok-count : goal.returns-in-Ok-count

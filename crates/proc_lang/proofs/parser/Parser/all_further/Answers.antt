@@ -1,6 +1,6 @@
 use Rattle.std.proofs.Common.{true, map, sym, refl, arith, Vec, Global}
 use Rattle.std.proofs.lemmas.Result.{err_from_is_err_and}
-use Rattle.dbg_base.specs.Tokens.{Comma}
+use Rattle.dbg_base.specs.declared.sign.Sign.TheVariants.{Comma}
 use Rattle.proc_lang.specs.Scanning.{placed_of}
 use Rattle.proc_lang.specs.declared.syntax.WrittenAssignment.{WrittenAssignment}
 use Rattle.proc_lang.specs.Writing.{assignment_of}

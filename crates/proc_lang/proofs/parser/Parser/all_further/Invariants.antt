@@ -1,5 +1,5 @@
 use Rattle.std.proofs.Common.{◌≡◌, ◌≤◌, true, length, map}
-use Rattle.dbg_base.specs.Tokens.{Comma}
+use Rattle.dbg_base.specs.declared.sign.Sign.TheVariants.{Comma}
 use Rattle.proc_lang.specs.Scanning.{placed_of}
 use Rattle.proc_lang.specs.Writing.{assignment_of}
 use Rattle.proc_lang.specs.Parsing.{read_many, begins_sign, read_further}

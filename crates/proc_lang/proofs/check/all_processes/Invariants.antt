@@ -3,10 +3,10 @@ use Rattle.std.specs.List.{flat_map}
 use Rattle.dbg_base.specs.declared.limits.TheConstants.{PROCESSES}
 use Rattle.dbg_base.specs.Checks.{taken_faults, process_faults, process_names}
 use Rattle.dbg_base.specs.Checks as model
-use Rattle.proc_lang.specs.Programs.{process_tree}
+use Rattle.proc_lang.specs.ProcessTrees.{process_tree}
 use Rattle.proc_lang.specs.Writing.{process_of, processes_of}
 use Rattle.proc_lang.proofs.CheckedLists.{taken_rest}
-use Rattle.proc_lang.proofs.check.checked.Given as goal
+use Rattle.proc_lang.proofs.check.all_processes.Given as goal
 
 abbrev pub invariant-loop-i : goal.invariant-loop-i
 invariant-loop-i l = record {
@@ -15,6 +15,6 @@ invariant-loop-i l = record {
   free : taken_faults [] (map (λ process. process.name) (processes_of l.written)) ≡ taken_rest (λ process. process.name) process_of [] l.i l.written;
   left : flat_map (process_faults (process_names (processes_of l.written))) (processes_of l.written)
       ≡ flat_map (process_faults (process_names (processes_of l.written))) (processes_of (drop l.i l.written));
-  read : length l.written ≤ 16 → map process_tree l.processes.items
+  read : length l.written ≤ PROCESSES → map process_tree l.processes.items
       ≡ map (model.process_tree (process_names (processes_of l.written))) (processes_of (take l.i l.written));
 }

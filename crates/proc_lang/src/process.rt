@@ -1,0 +1,49 @@
+//! The processes of a program: their variables and commands.
+
+ghost use Rattle.std.specs.Prelude.{◌≤◌, vec_len};
+ghost use Rattle.dbg_base.specs.declared.limits.TheConstants.{VARIABLES, COMMANDS};
+
+use dbg_base::{Expr, Name, Pid, Sequence};
+
+/// What a command does beside its assignments.
+#[derive(Debug, Drop)]
+pub enum Action {
+    /// Nothing.
+    Local,
+    /// The value goes to the back of the channel to the target.
+    Send { target: Pid, value: Expr },
+    /// The variable takes the front of the channel from the source.
+    Receive { source: Pid, variable: u32 },
+}
+
+/// A variable, by its place in the process, and the expression of its new value.
+#[derive(Debug, Drop)]
+pub struct Assignment {
+    pub variable: u32,
+    pub value: Expr,
+}
+
+/// A guarded command.
+#[derive(Debug, Drop)]
+pub struct Guarded {
+    pub guard: Expr,
+    pub action: Action,
+    pub assignments: Sequence<Assignment>,
+}
+
+/// A variable of a process.
+#[derive(Clone, Copy, Debug)]
+pub(crate) struct Variable {
+    pub(crate) name: Name,
+    pub(crate) start: i64,
+}
+
+/// A process.
+#[derive(Debug, Drop)]
+pub(crate) struct Process {
+    pub(crate) name: Name,
+    pub(crate) variables: Vec<Variable>,
+    pub(crate) commands: Vec<Guarded>,
+    ghost few_variables: { vec_len variables ≤ VARIABLES },
+    ghost few_commands: { vec_len commands ≤ COMMANDS },
+}
