@@ -1,15 +1,9 @@
 -- What a command did, as the model says it.
-use Rattle.std.specs.Prelude.{◌≡◌, ℕ, List, map, Option, Some, None, Result, Ok, Err}
-use Rattle.dbg_base.specs.Trees.{Tree, tree_of}
+use Rattle.std.specs.Prelude.{◌≡◌, Option, Some, None, Result, Ok, Err}
 use Rattle.dbg_base.specs.Firing.{Effect}
-use Rattle.proc_lang.specs.declared.program.Assignment.{Assignment}
 use Rattle.local_eval.specs.declared.change.Change.{Change}
 use Rattle.local_eval.specs.declared.fault.EvalError.{EvalError}
 use Rattle.local_eval.specs.declared.fault.EvalError.TheVariants.{Fault, Memory}
-
--- assignments of the code
-abbrev pub assignment_trees : List Assignment → List (ℕ × Tree)
-assignment_trees assignments = map (λ a. (a.variable, tree_of a.value)) assignments
 
 -- a change of the code
 abbrev pub effect_of_change : Change → Effect

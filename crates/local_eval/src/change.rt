@@ -2,8 +2,8 @@
 
 ghost use Rattle.std.specs.Prelude.{◌≡◌, IfOk, slice_set};
 ghost use Rattle.dbg_base.specs.Firing.{assigned, effect_with, effect_of};
-ghost use Rattle.proc_lang.specs.Programs.{command_tree};
-ghost use Rattle.local_eval.specs.Changes.{Gives, assignment_trees};
+ghost use Rattle.proc_lang.specs.ProcessTrees.{assignment_trees, command_tree};
+ghost use Rattle.local_eval.specs.Changes.{Gives};
 
 use crate::env::Env;
 use crate::evaluation::eval;
