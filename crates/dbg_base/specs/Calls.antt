@@ -47,6 +47,11 @@ call_of calls.Back = None
 abbrev pub conjunct_of : conjunct.Conjunct → Conjunct
 conjunct_of given = record { process = given.pid.0; expression = tree_of given.expr }
 
+-- the query that a call of the code asks, if it asks one
+abbrev pub asked_query : call.Call → Option query.Query
+asked_query (calls.Ask asked) = Some asked
+asked_query given = None
+
 -- a query as the code has it
 abbrev pub query_told : Query → query.Query
 query_told (Vars p) = queries.Vars (record { 0 = p })

@@ -6,9 +6,9 @@ use Rattle.std.proofs.lemmas.List.Sums.{sum_by-append}
 use Rattle.dbg_base.specs.Trees.{Program, process_of}
 use Rattle.dbg_base.specs.Checks.{Reads}
 use Rattle.dbg_base.specs.Shell.{Parts, is_too_long, too_long_text, fault_text}
-use Rattle.proc_lang.specs.Small.{IsSmall, IsRefusal}
-use Rattle.proc_lang.specs.Faults.{fault_of}
-use Rattle.proc_lang.specs.declared.fault.ProgFault.{ProgFault}
+use Rattle.proc_lang.specs.Small.{IsSmall}
+use Rattle.proc_lang.specs.Answering.{IsRefusal}
+use Rattle.dbg_base.specs.declared.fault.ProgFault.{ProgFault}
 use Rattle.proc_lang.specs.declared.fault.ProgError.TheVariants.{Bad}
 use Rattle.dbg_shell.specs.declared.framing.Span.{Span}
 use Rattle.dbg_shell.specs.declared.outcome.Served.{Served}
@@ -60,18 +60,18 @@ module _ (P : Program) (text : List ℕ) (processes commands : ℕ) (reads : Rea
 -- the text is refused
 module _ (fault : ProgFault) (text : List ℕ) (refused : IsRefusal text (Bad fault)) (none : (P : Program) → Reads text P → IsSmall P → ⊥)
     (old out : Option (List ℕ)) where
-  fault_here : ChecksText text outcomes.Refused (fault_text (fault_of fault))
+  fault_here : ChecksText text outcomes.Refused (fault_text fault)
   fault_here = inr (λ small. none small.0 small.1 small.2, refl, (fault, refused, refl))
 
-  pub tells_fault : (r : Result Served ServeFault) → Writes old out r (fault_text (fault_of fault)) → IfOk r (λ served. served ≡ outcomes.Refused)
+  pub tells_fault : (r : Result Served ServeFault) → Writes old out r (fault_text fault) → IfOk r (λ served. served ≡ outcomes.Refused)
       → IfOk r (λ served. WritesSome old out (ChecksText text served))
   tells_fault (Err e) wrote same = tt
   tells_fault (Ok served) wrote same =
-      (fault_text (fault_of fault), subst (λ (s : Served). ChecksText text s (fault_text (fault_of fault))) (sym same) fault_here, wrote.whole)
+      (fault_text fault, subst (λ (s : Served). ChecksText text s (fault_text fault)) (sym same) fault_here, wrote.whole)
 
-  pub stops_fault : (r : Result Served ServeFault) → Writes old out r (fault_text (fault_of fault)) → StopsText text r old out
+  pub stops_fault : (r : Result Served ServeFault) → Writes old out r (fault_text fault) → StopsText text r old out
   stops_fault (Ok served) wrote = tt
-  stops_fault (Err e) wrote = λ is_write. (outcomes.Refused, (fault_text (fault_of fault), fault_here, wrote.part))
+  stops_fault (Err e) wrote = λ is_write. (outcomes.Refused, (fault_text fault, fault_here, wrote.part))
 
 -- what the check is of, where the reader's bytes are known
 abbrev pub ChecksKnown : Option (List ℕ) → Result Served ServeFault → Option (List ℕ) → Option (List ℕ) → Type 0

@@ -6,11 +6,10 @@ use Rattle.std.proofs.lemmas.List.{length-set}
 use Rattle.dbg_base.specs.Trees.{Program, Command, Action, Local, Sends, Receives, process_of, no_process}
 use Rattle.dbg_base.specs.Configurations.{Configuration, values_of, channel_of, with_channel}
 use Rattle.dbg_base.specs.Evaluation.{evaluate}
-use Rattle.dbg_base.specs.Firing as firing
 use Rattle.dbg_base.specs.Firing.{Effect, truth_of, where_true, effect_of, after_effect, deliver, complete, receive, proceed, fire_command, fire_if, fire}
 use Rattle.dbg_base.specs.Acts.{fires_first, lowest_from}
 use Rattle.dbg_base.specs.Histories.{History, Progress, move_from, next_move, first_move, moved, go_on, play_moves, choice_count}
-use Rattle.dbg_shell.specs.declared.firing.Cause.{Cause}
+use Rattle.dbg_base.specs.declared.refusal.Refusal.{Refusal}
 use Rattle.dbg_shell.specs.Standings.{FiresAs}
 use Rattle.dbg_shell.specs.Plays.{at_progress, Moves}
 
@@ -26,20 +25,20 @@ lowest_next P c p k lt =
     let there = drop_there (process_of P p).commands k lt in
     let fired : fire P c p k ≡ fire_command there.0 c p = ap (λ (o : Option Command). fire_if o c p) there.1 in
     ap (λ (xs : List Command). lowest_from k xs c p) there.2
-    ∙ ap (λ (r : Result Configuration firing.Cause). fires_first r k (lowest_from (k + 1) (drop (suc k) (process_of P p).commands) c p)) (sym fired)
+    ∙ ap (λ (r : Result Configuration Refusal). fires_first r k (lowest_from (k + 1) (drop (suc k) (process_of P p).commands) c p)) (sym fired)
     ∙ ap (λ (n : ℕ). fires_first (fire P c p k) k (lowest_from (k + 1) (drop n (process_of P p).commands) c p)) (sym (add-one k))
 
 -- it fires
-pub first_fires : (o : Result (Unit {0}) Cause) (known : Result Configuration firing.Cause) (old new : Configuration) (k : ℕ) (others : Option ℕ)
+pub first_fires : (o : Result (Unit {0}) Refusal) (known : Result Configuration Refusal) (old new : Configuration) (k : ℕ) (others : Option ℕ)
     → is_ok o ≡ true → FiresAs o known old new → fires_first known k others ≡ Some k
 first_fires (Ok done) known old new k others t h = ap (λ r. fires_first r k others) h
-first_fires (Err cause) known old new k others t h = cc
+first_fires (Err refusal) known old new k others t h = cc
 
 -- it does not fire
-pub first_passes : (o : Result (Unit {0}) Cause) (known : Result Configuration firing.Cause) (old new : Configuration) (k : ℕ) (others : Option ℕ)
+pub first_passes : (o : Result (Unit {0}) Refusal) (known : Result Configuration Refusal) (old new : Configuration) (k : ℕ) (others : Option ℕ)
     → is_ok o ≡ false → FiresAs o known old new → (fires_first known k others ≡ others) × (new ≡ old)
 first_passes (Ok done) known old new k others t h = absurd cc
-first_passes (Err cause) known old new k others t h = (ap (λ r. fires_first r k others) h.0, h.1)
+first_passes (Err refusal) known old new k others t h = (ap (λ r. fires_first r k others) h.0, h.1)
 
 delivered_keeps : (c : Configuration) (p target : ℕ) (message : Option ℤ) → length (deliver c p target message).values ≡ length c.values
 delivered_keeps c p target None = refl
@@ -120,19 +119,19 @@ pub next_list : (P : Program) (at : Progress) (p : ℕ) (H : History) (choices :
     → move_from P at p (drop p H) ≡ move_from P at p (choices ∷ drop (p + 1) H)
 next_list P at p H choices h = ap (move_from P at p) (stands_there H p choices h)
 
-pub first_moves : (o : Result (Unit {0}) Cause) (known : Result Configuration firing.Cause) (old new : Configuration) (at : Progress) (p : ℕ) (rest : List ℕ) (others : Option Progress)
+pub first_moves : (o : Result (Unit {0}) Refusal) (known : Result Configuration Refusal) (old new : Configuration) (at : Progress) (p : ℕ) (rest : List ℕ) (others : Option Progress)
     → is_ok o ≡ true → FiresAs o known old new → first_move known at p rest others ≡ Some (moved at p rest new)
 first_moves (Ok done) known old new at p rest others t h = ap (λ r. first_move r at p rest others) h
-first_moves (Err cause) known old new at p rest others t h = cc
+first_moves (Err refusal) known old new at p rest others t h = cc
 
-pub first_stays : (o : Result (Unit {0}) Cause) (known : Result Configuration firing.Cause) (old new : Configuration) (at : Progress) (p : ℕ) (rest : List ℕ) (others : Option Progress)
+pub first_stays : (o : Result (Unit {0}) Refusal) (known : Result Configuration Refusal) (old new : Configuration) (at : Progress) (p : ℕ) (rest : List ℕ) (others : Option Progress)
     → is_ok o ≡ false → FiresAs o known old new → (first_move known at p rest others ≡ others) × (new ≡ old)
 first_stays (Ok done) known old new at p rest others t h = absurd cc
-first_stays (Err cause) known old new at p rest others t h = (ap (λ r. first_move r at p rest others) h.0, h.1)
+first_stays (Err refusal) known old new at p rest others t h = (ap (λ r. first_move r at p rest others) h.0, h.1)
 
-pub fired_keeps : (P : Program) (o : Result (Unit {0}) Cause) (old new : Configuration) (p k : ℕ) → FiresAs o (fire P old p k) old new → length new.values ≡ length old.values
+pub fired_keeps : (P : Program) (o : Result (Unit {0}) Refusal) (old new : Configuration) (p k : ℕ) → FiresAs o (fire P old p k) old new → length new.values ≡ length old.values
 fired_keeps P (Ok done) old new p k h = fire_keeps P old new p k h
-fired_keeps P (Err cause) old new p k h = ap (λ (c : Configuration). length c.values) h.1
+fired_keeps P (Err refusal) old new p k h = ap (λ (c : Configuration). length c.values) h.1
 
 pub none_moves : (o : Option Progress) (c c' : Configuration) (H H' : History) → o ≡ None → c' ≡ c → H' ≡ H → Moves false o c H c' H'
 none_moves None c c' H H' e f h = (refl, f, h)

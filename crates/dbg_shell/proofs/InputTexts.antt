@@ -7,9 +7,9 @@ use Rattle.dbg_base.specs.Trees.{Program}
 use Rattle.dbg_base.specs.Checks.{Reads}
 use Rattle.dbg_base.specs.ModelStates.{opening_state}
 use Rattle.dbg_base.specs.Shell.{Parts, lines_of, parts_of, read_lines, lines_within, is_too_long, AnswersLines, AnswersParts, TextOfParts, WholeText, Text, fault_text, too_long_text, as_line}
-use Rattle.proc_lang.specs.Small.{IsSmall, IsRefusal}
-use Rattle.proc_lang.specs.Faults.{fault_of}
-use Rattle.proc_lang.specs.declared.fault.ProgFault.{ProgFault}
+use Rattle.proc_lang.specs.Small.{IsSmall}
+use Rattle.proc_lang.specs.Answering.{IsRefusal}
+use Rattle.dbg_base.specs.declared.fault.ProgFault.{ProgFault}
 use Rattle.proc_lang.specs.declared.fault.ProgError.TheVariants.{Bad}
 use Rattle.dbg_shell.specs.declared.framing.Span.{Span}
 use Rattle.dbg_shell.specs.declared.outcome.Served.{Served}
@@ -182,7 +182,7 @@ module _ (bytes : List ℕ) (ended : Bool) (begin new : ℕ) (end : TextEnd) (be
         λ is_served. absurd (not_served input bytes text new span (split_here (ends.Before span) is input may) seen none is_served)
 
     pub refuses_text : (fault : ProgFault) (known : Option (List ℕ)) (r : Result Served ServeFault) (old out : Option (List ℕ)) → IfSome known (MayBe bytes ended)
-        → IsRefusal text (Bad fault) → Writes old out r (fault_text (fault_of fault)) → IfOk r (λ served. served ≡ outcomes.Refused) → RefusesKnown known r old out
+        → IsRefusal text (Bad fault) → Writes old out r (fault_text fault) → IfOk r (λ served. served ≡ outcomes.Refused) → RefusesKnown known r old out
     refuses_text fault known (Err e) old out may refused wrote same = tt
     refuses_text fault None (Ok served) old out may refused wrote same = tt
     refuses_text fault (Some input) (Ok served) old out may refused wrote same =
@@ -192,7 +192,7 @@ module _ (bytes : List ℕ) (ended : Bool) (begin new : ℕ) (end : TextEnd) (be
           all_from_start input ∙ here.0,
           same,
           (
-            fault_text (fault_of fault),
+            fault_text fault,
             (fault, subst (λ (t : List ℕ). IsRefusal t (Bad fault)) (text_from_start bytes text span.from (seen here.1)) refused, refl),
             wrote.whole,
           ),

@@ -5,7 +5,7 @@ pub mod LineEnds
 pub mod UnderWay
 pub mod Pairs
 pub mod Splits
-pub mod Answering
+pub mod Requests
 pub mod LineReplies
 pub mod InputTexts
 pub mod CheckTexts

@@ -4,13 +4,13 @@ use Rattle.std.specs.Prelude.{slice_range, IfOk, IfErr, Result, Ok, Err}
 use Rattle.std.specs.Io.KnownBytes.{Appends}
 use Rattle.std.proofs.lemmas.List.{append-nil}
 use Rattle.std.proofs.KnownBytes.{Appends-nil, Appends-trans}
-use Rattle.dbg_base.specs.declared.call.Call.{Call}
 use Rattle.dbg_base.specs.declared.said.Said.TheVariants.{Refused}
 use Rattle.dbg_base.specs.declared.refusal.Refusal.{Refusal}
 use Rattle.dbg_base.specs.declared.refusal.Refusal.TheVariants.{Memory}
 use Rattle.dbg_base.specs.Trees.{Program}
 use Rattle.dbg_base.specs.ModelStates.{ModelState, opening_state}
-use Rattle.dbg_base.specs.CommandLines.{parsed_line}
+use Rattle.dbg_base.specs.Calls.{asked_by}
+use Rattle.dbg_base.specs.CommandLines.{Request, parsed_line}
 use Rattle.dbg_base.specs.Replies.{reply_text, refusal_text}
 use Rattle.dbg_base.specs.Shell.{AnswersParsed, AnswersLine, AnswersLines, as_line, is_too_long, end_text, too_long_text}
 use Rattle.dbg_shell.specs.declared.framing.Span.{Span}
@@ -69,10 +69,11 @@ answered_ends P whole from at M a b c text answered none written same =
     (answered.text ++ text, replies_end P whole from at M a b text answered none same, Appends-trans a b c answered.text text answered.written written)
 
 -- a line has some answer
-some_answer : (P : Program) (r : Result (Option (ℕ × Call)) Refusal) (M : ModelState) → (out : List ℕ) × (M' : ModelState) × AnswersParsed P r M out M'
+some_answer : (P : Program) (r : Result (Option Request) Refusal) (M : ModelState) → (out : List ℕ) × (M' : ModelState) × AnswersParsed P r M out M'
 some_answer P (Err refusal) M = (as_line (refusal_text P refusal), M, (refl, refl))
 some_answer P (Ok None) M = ([], M, (refl, refl))
-some_answer P (Ok (Some line)) M = (as_line (reply_text P line.1 (Refused Memory)), M, (Refused Memory, inr (refl, refl), refl))
+some_answer P (Ok (Some request)) M =
+    (as_line (reply_text P (asked_by request.call) (Refused Memory)), M, (Refused Memory, inr (refl, refl), refl))
 
 some_answers : (P : Program) (lines : List (List ℕ)) (M : ModelState) → (out : List ℕ) × (M' : ModelState) × AnswersLines P lines M out M'
 some_answers P [] M = ([], M, (refl, refl))

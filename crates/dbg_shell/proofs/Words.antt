@@ -1,9 +1,9 @@
 -- The words of a line, from its front.
-use Rattle.std.proofs.Common.{◌≡◌, ◌≢◌, ℕ, zero, suc, ◌-◌, ◌<◌, Bool, true, false, not, eqb, List, [], ◌∷◌, length, get_or, take, drop, Some, None, refl, sym, ap, ◌∙◌, arith, one-add}
+use Rattle.std.proofs.Common.{◌≡◌, ◌≢◌, ℕ, zero, suc, ◌-◌, ◌<◌, Bool, true, false, not, eqb, List, [], ◌∷◌, length, get_or, take, drop, Some, refl, sym, ap, ◌∙◌, arith, one-add}
 use Rattle.std.specs.List.{prefix_len}
 use Rattle.std.proofs.lemmas.Bool.{eqb-true, not-true}
 use Rattle.std.proofs.lemmas.Grind.{common_steps}
-use Rattle.dbg_base.specs.CommandLines.{is_blank, words_of, before_first_word, without_return, form_of}
+use Rattle.dbg_base.specs.CommandLines.{is_blank, words_of, before_first_word, without_return}
 use Rattle.dbg_shell.specs.Lines.{begins_word, only}
 
 -- a byte of a word
@@ -61,12 +61,6 @@ pub only_is : (words : List (List ℕ)) (word : List ℕ) → Some word ≡ only
 only_is [] word e = cc
 only_is (w ∷ []) word e = cc
 only_is (w ∷ v ∷ words) word e = cc
-
--- a form has one argument
-pub not_only : (words : List (List ℕ)) (word : List ℕ) → None ≡ only words → None ≡ form_of (word ∷ words)
-not_only [] word e = refl
-not_only (w ∷ []) word e = cc
-not_only (w ∷ v ∷ words) word e = refl
 
 -- all that is left
 pub drop_whole : (n : ℕ) (bytes : List ℕ) → drop n bytes ≡ take (length bytes - n) (drop n bytes)

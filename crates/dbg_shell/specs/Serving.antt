@@ -6,9 +6,9 @@ use Rattle.dbg_base.specs.Trees.{Program}
 use Rattle.dbg_base.specs.Checks.{Reads}
 use Rattle.dbg_base.specs.ModelStates.{ModelState, opening_state}
 use Rattle.dbg_base.specs.Shell.{Parts, lines_of, parts_of, read_lines, is_too_long, AnswersLine, AnswersLines, end_text, fault_text, WholeText, Text}
-use Rattle.proc_lang.specs.Small.{IsSmall, IsRefusal}
-use Rattle.proc_lang.specs.Faults.{fault_of}
-use Rattle.proc_lang.specs.declared.fault.ProgFault.{ProgFault}
+use Rattle.proc_lang.specs.Small.{IsSmall}
+use Rattle.proc_lang.specs.Answering.{IsRefusal}
+use Rattle.dbg_base.specs.declared.fault.ProgFault.{ProgFault}
 use Rattle.proc_lang.specs.declared.fault.ProgError.TheVariants.{Bad}
 use Rattle.dbg_shell.specs.declared.outcome.Served.{Served}
 use Rattle.dbg_shell.specs.declared.outcome.ServeFault.{ServeFault}
@@ -54,7 +54,7 @@ ServesInput input served old new = (served ≡ served_of input) × WritesSome ol
 
 -- the line that tells why a text is refused
 abbrev pub TellsRefusal : List ℕ → List ℕ → Type 0
-TellsRefusal text out = (fault : ProgFault) × IsRefusal text (Bad fault) × (out ≡ fault_text (fault_of fault))
+TellsRefusal text out = (fault : ProgFault) × IsRefusal text (Bad fault) × (out ≡ fault_text fault)
 
 -- The program text was refused, and nothing else was written.
 abbrev pub RefusesInput : List ℕ → Served → Option (List ℕ) → Option (List ℕ) → Type 0

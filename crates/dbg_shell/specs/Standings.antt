@@ -4,10 +4,9 @@ use Rattle.dbg_base.specs.Trees.{Action, Local, Sends, Receives}
 use Rattle.dbg_base.specs.Configurations as model
 use Rattle.dbg_base.specs.Configurations.{channel_of, values_of, with_channel, with_values}
 use Rattle.dbg_base.specs.Firing.{deliver, set_all}
-use Rattle.dbg_base.specs.Firing as firing
 use Rattle.dbg_shell.specs.declared.configuration.Configuration.{Configuration}
-use Rattle.dbg_shell.specs.declared.firing.Cause.{Cause}
-use Rattle.dbg_shell.specs.declared.firing.Cause.TheVariants.{GuardFalse, Fault, ChannelEmpty}
+use Rattle.dbg_base.specs.declared.refusal.Refusal.{Refusal}
+use Rattle.dbg_base.specs.declared.refusal.Refusal.TheVariants.{ChannelEmpty}
 
 abbrev pub standing : Configuration → model.Configuration
 standing c = record { values = c.values.items; channels = map (λ row. map (λ channel. channel.items) row.items) c.channels.items }
@@ -27,26 +26,21 @@ exchanged c p (Receives source variable) message = with_channel c source p (drop
 abbrev pub made : model.Configuration → ℕ → Action → Option ℤ → List (ℕ × ℤ) → model.Configuration
 made c p action message sets = with_values (exchanged c p action message) p (set_all (values_of c p) sets)
 
-abbrev pub cause_of : Cause → firing.Cause
-cause_of GuardFalse = firing.GuardFalse
-cause_of Fault = firing.Fault
-cause_of ChannelEmpty = firing.ChannelEmpty
-
 -- a command fired as the model says, or did not and nothing changed
-abbrev pub FiresAs : Result (Unit {0}) Cause → Result model.Configuration firing.Cause → model.Configuration → model.Configuration → Type 0
+abbrev pub FiresAs : Result (Unit {0}) Refusal → Result model.Configuration Refusal → model.Configuration → model.Configuration → Type 0
 FiresAs (Ok done) known old new = known ≡ Ok new
-FiresAs (Err cause) known old new = (known ≡ Err (cause_of cause)) × (new ≡ old)
+FiresAs (Err refusal) known old new = (known ≡ Err refusal) × (new ≡ old)
 
 -- the same, and where memory ran out nothing changed
-abbrev pub Fires : {E : Type 0} → Result (Result (Unit {0}) Cause) E → Result model.Configuration firing.Cause → model.Configuration → model.Configuration → Type 0
+abbrev pub Fires : {E : Type 0} → Result (Result (Unit {0}) Refusal) E → Result model.Configuration Refusal → model.Configuration → model.Configuration → Type 0
 Fires (Ok outcome) known old new = FiresAs outcome known old new
 Fires (Err e) known old new = new ≡ old
 
 -- The message that the command takes, if it receives one; where there is none to take it does not fire.
-abbrev pub takes_from : Result (Option ℤ) Cause → List ℤ → Type 0
+abbrev pub takes_from : Result (Option ℤ) Refusal → List ℤ → Type 0
 takes_from taken [] = taken ≡ Err ChannelEmpty
 takes_from taken (message ∷ messages) = taken ≡ Ok (Some message)
 
-abbrev pub Takes : Result (Option ℤ) Cause → Action → model.Configuration → ℕ → Type 0
+abbrev pub Takes : Result (Option ℤ) Refusal → Action → model.Configuration → ℕ → Type 0
 Takes taken (Receives source variable) c p = takes_from taken (channel_of c source p)
 Takes taken action c p = taken ≡ Ok None

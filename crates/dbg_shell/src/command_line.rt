@@ -1,12 +1,12 @@
 //! Command lines become calls.
 
-ghost use Rattle.std.specs.Prelude.{◌≡◌, ◌∷◌, [], not, true, MatchOption};
+ghost use Rattle.std.specs.Prelude.{◌≡◌, ◌∷◌, [], Some, not, true, MatchOption};
 ghost use Rattle.std.specs.List.{list_all, prefix_len};
 ghost use Rattle.std.specs.Option.{option_map};
 ghost use Rattle.dbg_base.specs.Tokens.{is_letter, is_word_byte};
-ghost use Rattle.dbg_base.specs.CommandLines.{is_blank, words_of, without_return, number_word, seat_word, name_word, form_of, call_of, named_process, parsed_line};
+ghost use Rattle.dbg_base.specs.CommandLines.{is_blank, words_of, without_return, number_word, seat_word, name_word, map_ok, named_process, process_call, call_of_words, parsed_line};
 ghost use Rattle.proc_lang.specs.Programs.{program_of};
-ghost use Rattle.dbg_shell.specs.Lines.{begins_word, only, form_said, parsed, found_process};
+ghost use Rattle.dbg_shell.specs.Lines.{begins_word, only, called, asked, requested};
 
 use dbg_base::limits::{LINE_BYTES, NAME_BYTES, SEATS};
 use dbg_base::{Call, Name, Pid, Plan, Query, Refusal};
@@ -141,53 +141,47 @@ fn name_word(word: &[u8]) -> Option<Name>
     Name::new(word)
 }
 
-// What a line asks for, with processes by their names.
-#[derive(Clone, Copy, Debug)]
-enum Form {
-    Next(Name),
-    Vars(Name),
-}
-
-// What a command word with one argument asks for, or None where they have no form.
-fn form_with(word: &[u8], argument: &[u8]) -> Option<Form>
-    ensures { option_map form_said result ≡ form_of (word.now ∷ argument.now ∷ []) }
-{
-    if word == b"next".as_slice() {
-        Some(Form::Next(name_word(argument)?))
-    } else if word == b"vars".as_slice() {
-        Some(Form::Vars(name_word(argument)?))
-    } else {
-        None
-    }
-}
-
-// A command word and its arguments, or None where they have no form.
-fn parse_form(bytes: &[u8]) -> Option<Form>
-    ensures { option_map form_said result ≡ form_of (words_of bytes.now) }
-{
-    let (word, rest) = first_word(bytes)?;
-    form_with(word, only_word(rest)?)
-}
-
-fn process(program: &Program, name: Name) -> Result<Pid, Refusal>
-    ensures { result ≡ found_process (program_of program.now) name }
+// A process by its name.
+fn named_process(program: &Program, name: Name) -> Result<Pid, Refusal>
+    ensures { map_ok (λ pid. pid.0) result ≡ named_process (program_of program.now) name }
 {
     program.find_process(name).ok_or(Refusal::UnknownProcess)
 }
 
-fn call(program: &Program, form: Form) -> Result<Call, Refusal>
-    ensures { result ≡ call_of (program_of program.now) (form_said form) }
+// The call of a word that is about a process, which may be missing. A word that is none of these makes the line a bad one.
+fn process_call(word: &[u8], process: Result<Pid, Refusal>) -> Result<Call, Refusal>
+    ensures { called result ≡ map_ok Some (process_call word.now (map_ok (λ pid. pid.0) process)) }
 {
-    match form {
-        Form::Next(name) => Ok(Call::Give(Plan::Next(process(program, name)?))),
-        Form::Vars(name) => Ok(Call::Ask(Query::Vars(process(program, name)?))),
+    if word == b"next".as_slice() {
+        Ok(Call::Give(Plan::Next(process?)))
+    } else if word == b"vars".as_slice() {
+        Ok(Call::Ask(Query::Vars(process?)))
+    } else {
+        Err(Refusal::BadLine)
     }
+}
+
+// The call of a word and its only argument.
+fn call_with(program: &Program, word: &[u8], argument: &[u8]) -> Result<Call, Refusal>
+    ensures { called result ≡ map_ok Some (call_of_words (program_of program.now) (word.now ∷ argument.now ∷ [])) }
+{
+    let name = name_word(argument).ok_or(Refusal::BadLine)?;
+    process_call(word, named_process(program, name))
+}
+
+// The call of a command word and its arguments.
+fn parse_call(program: &Program, bytes: &[u8]) -> Result<Call, Refusal>
+    ensures { called result ≡ map_ok Some (call_of_words (program_of program.now) (words_of bytes.now)) }
+{
+    let (word, rest) = first_word(bytes).ok_or(Refusal::BadLine)?;
+    let argument = only_word(rest).ok_or(Refusal::BadLine)?;
+    call_with(program, word, argument)
 }
 
 /// The seat and the call of a command line, nothing for a blank one, or why the line is refused. The bytes are the line without its
 /// line end, and may have a carriage return at their end. It takes no memory.
 pub fn parse_line(program: &Program, bytes: &[u8]) -> Result<Option<Line>, Refusal>
-    ensures { parsed result ≡ parsed_line (program_of program.now) bytes.now }
+    ensures { map_ok (option_map asked) result ≡ map_ok (option_map requested) (parsed_line (program_of program.now) bytes.now) }
 {
     if bytes.len() > LINE_BYTES {
         return Err(Refusal::BadLine);
@@ -196,7 +190,6 @@ pub fn parse_line(program: &Program, bytes: &[u8]) -> Result<Option<Line>, Refus
         return Ok(None);
     };
     let seat = seat_word(seat).ok_or(Refusal::BadLine)?;
-    let form = parse_form(rest).ok_or(Refusal::BadLine)?;
-    let call = call(program, form)?;
+    let call = parse_call(program, rest)?;
     Ok(Some(Line { seat, call }))
 }

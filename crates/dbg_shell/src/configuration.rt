@@ -4,7 +4,8 @@ ghost use Rattle.std.specs.Prelude.{◌≡◌, ℕ, ℤ, ◌++◌, ◌∷◌, []
 ghost use Rattle.std.specs.Option.{option_map};
 ghost use Rattle.dbg_base.specs.Configurations.{start_of, channel_of, with_channel};
 ghost use Rattle.dbg_base.specs.Firing.{set_all};
-ghost use Rattle.proc_lang.specs.Programs.{program_of, action_tree};
+ghost use Rattle.proc_lang.specs.Programs.{program_of};
+ghost use Rattle.proc_lang.specs.ProcessTrees.{action_tree};
 ghost use Rattle.dbg_shell.specs.Standings.{standing, first_of, exchanged, made};
 
 use dbg_base::Pid;

@@ -5,32 +5,25 @@ ghost use Rattle.dbg_base.specs.Trees.{process_of};
 ghost use Rattle.dbg_base.specs.Configurations.{channel_of};
 ghost use Rattle.dbg_base.specs.Firing.{fire, fire_command, proceed};
 ghost use Rattle.dbg_base.specs.Acts.{lowest_enabled};
-ghost use Rattle.proc_lang.specs.Programs.{program_of, action_tree, command_tree};
+ghost use Rattle.proc_lang.specs.Programs.{program_of};
+ghost use Rattle.proc_lang.specs.ProcessTrees.{action_tree, command_tree};
 ghost use Rattle.dbg_shell.specs.Standings.{standing, Fires, Takes};
 ghost use Rattle.dbg_shell.specs.Plays.{Chooses};
 
 use crate::configuration::Configuration;
-use dbg_base::{Choice, Pid};
+use dbg_base::{Choice, Pid, Refusal};
 use local_eval::{EvalError, effect, guard};
 use proc_lang::{Action, Guarded, Program};
 use std::alloc::{AllocError, Global};
 
-/// Why a command does not fire.
-#[derive(Clone, Copy, Debug, PartialEq, Eq)]
-pub(crate) enum Cause {
-    GuardFalse,
-    Fault,
-    ChannelEmpty,
-}
-
 // The message that the command takes, if it receives one.
-fn taken(command: &Guarded, configuration: &Configuration, pid: Pid) -> Result<Option<i64>, Cause>
+fn taken(command: &Guarded, configuration: &Configuration, pid: Pid) -> Result<Option<i64>, Refusal>
     ensures { Takes result (action_tree command.now.action) (standing configuration.now) pid.0 }
 {
     match &command.action {
         Action::Receive { source, .. } => match configuration.front(*source, pid) {
             Some(message) => Ok(Some(message)),
-            None => Err(Cause::ChannelEmpty),
+            None => Err(Refusal::ChannelEmpty),
         },
         _ => Ok(None),
     }
@@ -42,24 +35,24 @@ fn proceed(
     command: &Guarded,
     configuration: &mut Configuration,
     pid: Pid,
-) -> Result<Result<(), Cause>, AllocError>
+) -> Result<Result<(), Refusal>, AllocError>
     requires { pid.0 < length (standing configuration.old).values }
     ensures { Fires result (proceed (command_tree command.now) (action_tree command.now.action) (standing configuration.old) pid.0)
         (standing configuration.old) (standing configuration.new) }
 {
     let message = match taken(command, configuration, pid) {
         Ok(message) => message,
-        Err(cause) => return Ok(Err(cause)),
+        Err(refusal) => return Ok(Err(refusal)),
     };
     let Some(env) = configuration.values_of(pid) else {
-        return Ok(Err(Cause::Fault));
+        return Ok(Err(Refusal::Fault));
     };
     match effect(alloc, command, env, message) {
         Ok(change) => {
             configuration.make(pid, &command.action, &change)?;
             Ok(Ok(()))
         }
-        Err(EvalError::Fault) => Ok(Err(Cause::Fault)),
+        Err(EvalError::Fault) => Ok(Err(Refusal::Fault)),
         Err(EvalError::Memory) => Err(AllocError),
     }
 }
@@ -69,18 +62,18 @@ fn fire_command(
     command: &Guarded,
     configuration: &mut Configuration,
     pid: Pid,
-) -> Result<Result<(), Cause>, AllocError>
+) -> Result<Result<(), Refusal>, AllocError>
     requires { pid.0 < length (standing configuration.old).values }
     ensures { Fires result (fire_command (command_tree command.now) (standing configuration.old) pid.0) (standing configuration.old)
         (standing configuration.new) }
 {
     let Some(env) = configuration.values_of(pid) else {
-        return Ok(Err(Cause::Fault));
+        return Ok(Err(Refusal::Fault));
     };
     match guard(&command.guard, env) {
         Ok(true) => proceed(alloc, command, configuration, pid),
-        Ok(false) => Ok(Err(Cause::GuardFalse)),
-        Err(_) => Ok(Err(Cause::Fault)),
+        Ok(false) => Ok(Err(Refusal::GuardFalse)),
+        Err(_) => Ok(Err(Refusal::Fault)),
     }
 }
 
@@ -93,14 +86,14 @@ pub(crate) fn fire(
     configuration: &mut Configuration,
     pid: Pid,
     choice: Choice,
-) -> Result<Result<(), Cause>, AllocError>
+) -> Result<Result<(), Refusal>, AllocError>
     requires { length (standing configuration.old).values ≡ length (program_of program.now) }
     ensures { Fires result (fire (program_of program.now) (standing configuration.old) pid.0 choice.0) (standing configuration.old)
         (standing configuration.new) }
 {
     match program.command(pid, choice) {
         Some(command) => fire_command(alloc, command, configuration, pid),
-        None => Ok(Err(Cause::GuardFalse)),
+        None => Ok(Err(Refusal::GuardFalse)),
     }
 }
 

@@ -4,7 +4,6 @@ ghost use Rattle.std.specs.Prelude.{◌≡◌, ◌++◌, codes, IfOk, IfErr};
 ghost use Rattle.std.specs.Fmt.{decimal};
 ghost use Rattle.std.specs.Io.KnownBytes.{Keeps};
 ghost use Rattle.dbg_base.specs.Shell.{too_long_text, as_line, fault_text};
-ghost use Rattle.proc_lang.specs.Faults.{fault_of};
 ghost use Rattle.dbg_shell.specs.Writing.{Writes};
 ghost use Rattle.dbg_shell.specs.Checking.{size_text};
 ghost use Rattle.dbg_shell.specs.declared.outcome.Served.TheVariants.{Done, Refused, TooLong};
@@ -47,7 +46,7 @@ pub(crate) fn tell_no_end_line<W: Write>(writer: &mut W) -> Result<Served, Serve
 }
 
 fn write_fault<W: Write>(fault: &ProgFault, writer: &mut W) -> Result<(), ServeFault>
-    ensures { Writes (W.contents writer.old) (W.contents writer.new) result (fault_text (fault_of fault.now)) }
+    ensures { Writes (W.contents writer.old) (W.contents writer.new) result (fault_text fault.now) }
 {
     write_whole(writer, b"program refused ")?;
     write_count(writer, fault.kind.number())?;
@@ -58,7 +57,7 @@ fn write_fault<W: Write>(fault: &ProgFault, writer: &mut W) -> Result<(), ServeF
 
 // What is wrong with the program text.
 pub(crate) fn tell_fault<W: Write>(fault: &ProgFault, writer: &mut W) -> Result<Served, ServeFault>
-    ensures written { Writes (W.contents writer.old) (W.contents writer.new) result (fault_text (fault_of fault.now)) }
+    ensures written { Writes (W.contents writer.old) (W.contents writer.new) result (fault_text fault.now) }
     ensures served { IfOk result (λ served. served ≡ Refused) }
 {
     write_fault(fault, writer)?;

@@ -5,6 +5,7 @@ ghost use Rattle.std.specs.List.{flat_map};
 ghost use Rattle.std.specs.Fmt.{decimal, signed_decimal};
 ghost use Rattle.dbg_base.specs.Trees.{names_of};
 ghost use Rattle.dbg_base.specs.Replies.{part, pair_part, pair_parts, name_of, count_parts, value_parts, head_text, carried_text, refusal_text, done_text, halted_text, query_text, subject_of, can_text, answer_text, reply_text};
+ghost use Rattle.dbg_base.specs.Calls.{asked_query};
 ghost use Rattle.dbg_base.specs.Shell.{as_line};
 ghost use Rattle.proc_lang.specs.Programs.{program_of};
 ghost use Rattle.dbg_shell.specs.Writing.{Writes, number_part, mark_part, deed_text};
@@ -337,7 +338,7 @@ fn write_said<W: Write>(
     said: &Said,
     writer: &mut W,
 ) -> Result<(), ServeFault>
-    ensures { Writes (W.contents writer.old) (W.contents writer.new) result (reply_text (program_of program.now) call.now said.now) }
+    ensures { Writes (W.contents writer.old) (W.contents writer.new) result (reply_text (program_of program.now) (asked_query call.now) said.now) }
 {
     match said {
         Said::Accepted(reply) => write_accepted(program, reply, writer),
@@ -357,7 +358,7 @@ pub fn print_reply<W: Write>(
     said: &Said,
     writer: &mut W,
 ) -> Result<(), ServeFault>
-    ensures { Writes (W.contents writer.old) (W.contents writer.new) result (as_line (reply_text (program_of program.now) call.now said.now)) }
+    ensures { Writes (W.contents writer.old) (W.contents writer.new) result (as_line (reply_text (program_of program.now) (asked_query call.now) said.now)) }
 {
     write_said(program, call, said, writer)?;
     write_whole(writer, b"\n")

@@ -1,11 +1,12 @@
 //! A program text and the command lines behind it.
 
-ghost use Rattle.std.specs.Prelude.{◌≡◌, IfOk, IfErr, IfSome};
+ghost use Rattle.std.specs.Prelude.{◌≡◌, ℕ, List, Option, IfOk, IfErr, IfSome};
 ghost use Rattle.std.specs.Io.KnownBytes.{Keeps};
 ghost use Rattle.proc_lang.specs.Programs.{program_of};
 ghost use Rattle.dbg_shell.specs.declared.outcome.ServeFault.TheVariants.{Memory, Read, Write};
 ghost use Rattle.dbg_base.specs.Shell.{Text};
 ghost use Rattle.dbg_shell.specs.Spans.{EndsWith, KeepsInput, Narrows};
+ghost use Rattle.dbg_shell.specs.Writing.{Writes};
 ghost use Rattle.dbg_shell.specs.Sessions.{state_of, IsSized};
 ghost use Rattle.dbg_shell.specs.Serving.{IsServed, ServesInput, RefusesInput, BreaksInput, ReadsFew, WritesAnswer, WritesFront, ServesLines, StopsLines, BreaksLines};
 
@@ -19,6 +20,15 @@ use crate::session::Session;
 use proc_lang::{ProgError, Program, parse_program};
 use std::alloc::Global;
 use std::io::{Read, Write};
+
+// What was written is handed on.
+fn hand_on<W: Write>(written: Result<(), ServeFault>, writer: &mut W) -> Result<(), ServeFault>
+    ensures { (old : Option (List ℕ)) (text : List ℕ) → Writes old (W.contents writer.old) written text
+        → Writes old (W.contents writer.new) result text }
+{
+    written?;
+    flush(writer)
+}
 
 // Answers one command line: what is written is handed on before the next line is asked for.
 fn serve_line<W: Write>(
@@ -35,14 +45,14 @@ fn serve_line<W: Write>(
 {
     match parse_line(program, line) {
         Ok(Some(line)) => {
-            let said = session.answer(alloc, program, &line.call);
-            print_reply(program, &line.call, &said, writer)?;
-            flush(writer)
+            let said = session.answer(alloc, program, &line);
+            let written = print_reply(program, &line.call, &said, writer);
+            hand_on(written, writer)
         }
         Ok(None) => Ok(()),
         Err(refusal) => {
-            print_refusal(program, &refusal, writer)?;
-            flush(writer)
+            let written = print_refusal(program, &refusal, writer);
+            hand_on(written, writer)
         }
     }
 }

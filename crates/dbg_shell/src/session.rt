@@ -1,14 +1,20 @@
 //! The plain session: a line of choices and a place for each process, played anew at each call.
 
-ghost use Rattle.std.specs.Prelude.{◌≡◌, ◌<◌, ◌++◌, ◌∷◌, [], length, map, replicate, take, IfOk, OnOk, OnErr};
+ghost use Rattle.std.specs.Prelude.{◌≡◌, ◌<◌, ◌++◌, ◌∷◌, [], ◌⊎◌, length, map, replicate, take, IfOk, OnOk, OnErr, Some};
 ghost use Rattle.dbg_base.specs.declared.limits.TheConstants.{EVENTS};
 ghost use Rattle.dbg_base.specs.ModelStates.{opening_state, configuration_of, history_of, place_at, after_choice};
+ghost use Rattle.dbg_base.specs.declared.refusal.Refusal.TheVariants.{Memory};
+ghost use Rattle.dbg_base.specs.Calls as model;
+ghost use Rattle.dbg_base.specs.Calls.{Vars, plan_of, query_of, call_of};
+ghost use Rattle.dbg_base.specs.Acts.{Acts, ActsNext, Refuses};
+ghost use Rattle.dbg_base.specs.Views.{answer};
 ghost use Rattle.dbg_base.specs.Shell.{SaysOrRefuses};
 ghost use Rattle.proc_lang.specs.Programs.{program_of};
 ghost use Rattle.dbg_shell.specs.Standings.{standing};
 ghost use Rattle.dbg_shell.specs.Plays.{choices_in};
-ghost use Rattle.dbg_shell.specs.Sessions.{state_of, IsSized, IsAsked, TriesNext, Shows};
+ghost use Rattle.dbg_shell.specs.Sessions.{state_of, IsSized, said_of, Tells};
 
+use crate::command_line::Line;
 use crate::configuration::Configuration;
 use crate::firing::fire_lowest;
 use crate::playing::play;
@@ -61,7 +67,8 @@ fn append_choice(line: &mut Vec<u32>, place: usize, choice: u32) -> Result<(), A
 impl Session {
     /// Empty lines.
     pub(crate) fn new(alloc: Global, program: &Program) -> Result<Session, AllocError>
-        ensures { IfOk result (λ session. state_of session ≡ opening_state (program_of program.now)) }
+        ensures opens { IfOk result (λ session. state_of session ≡ opening_state (program_of program.now)) }
+        ensures sized { IfOk result (λ session. IsSized (program_of program.now) (state_of session)) }
     {
         Ok(Session {
             lines: empty_lines(alloc, program.processes())?,
@@ -106,9 +113,11 @@ impl Session {
     }
 
     // The process makes its first command that fires.
-    fn try_next(&mut self, alloc: Global, program: &Program, pid: Pid) -> Result<Choice, Refusal>
+    fn next(&mut self, alloc: Global, program: &Program, pid: Pid) -> Result<Reply, Refusal>
         requires { IsSized (program_of program.now) (state_of self.old) }
-        ensures { TriesNext (program_of program.now) pid.0 (state_of self.old) result (state_of self.new) }
+        ensures sized { IsSized (program_of program.now) (state_of self.new) }
+        ensures acts { ActsNext (program_of program.now) pid.0 (state_of self.old) (said_of result) (state_of self.new)
+            ⊎ Refuses Memory (state_of self.old) (said_of result) (state_of self.new) }
     {
         if pid.0 >= program.processes() {
             return Err(Refusal::UnknownProcess);
@@ -123,12 +132,29 @@ impl Session {
             .map_err(|_| Refusal::Memory)?
             .ok_or(Refusal::NoneEnabled)?;
         self.append(pid, choice).map_err(|_| Refusal::Memory)?;
-        Ok(choice)
+        Ok(Reply {
+            done: Done::Played(pid, choice),
+            halted: None,
+        })
+    }
+
+    // Gives a command.
+    fn give(&mut self, alloc: Global, program: &Program, plan: &Plan) -> Result<Reply, Refusal>
+        requires { IsSized (program_of program.now) (state_of self.old) }
+        ensures sized { IsSized (program_of program.now) (state_of self.new) }
+        ensures acts { (known : model.Plan) → plan_of plan.now ≡ Some known
+            → Acts (program_of program.now) known (state_of self.old) (said_of result) (state_of self.new)
+            ⊎ Refuses Memory (state_of self.old) (said_of result) (state_of self.new) }
+    {
+        match plan {
+            Plan::Next(pid) => self.next(alloc, program, *pid),
+            _ => Err(Refusal::BadLine),
+        }
     }
 
     // The values of the process's variables.
-    fn values(&self, alloc: Global, program: &Program, pid: Pid) -> Result<Sequence<i64>, Refusal>
-        ensures { Shows (program_of program.now) pid.0 (state_of self.now) result }
+    fn values(&self, alloc: Global, program: &Program, pid: Pid) -> Result<Answer, Refusal>
+        ensures { Tells result (answer (program_of program.now) (state_of self.now) (Vars pid.0)) }
     {
         if pid.0 >= program.processes() {
             return Err(Refusal::UnknownProcess);
@@ -138,29 +164,38 @@ impl Session {
             .map_err(|_| Refusal::Memory)?;
         let env = configuration.values_of(pid).ok_or(Refusal::UnknownProcess)?;
         let values = Vec::from_slice(alloc, env.values()).map_err(|_| Refusal::Memory)?;
-        Ok(Sequence::new(values))
+        Ok(Answer::Values(Sequence::new(values)))
     }
 
-    /// Says what a call gives. A refused call, and want of memory, change nothing. A call that no line gives yet is refused as a bad
-    /// line.
-    pub(crate) fn answer(&mut self, alloc: Global, program: &Program, call: &Call) -> Said
-        requires sized { IsSized (program_of program.now) (state_of self.old) }
-        requires asked { IsAsked call.now }
-        ensures { SaysOrRefuses (program_of program.now) call.now (state_of self.old) result (state_of self.new) }
+    // Answers a question.
+    fn ask(&self, alloc: Global, program: &Program, query: &Query) -> Result<Answer, Refusal>
+        ensures { (known : model.Query) → query_of query.now ≡ Some known
+            → Tells result (answer (program_of program.now) (state_of self.now) known) }
     {
-        match call {
-            Call::Give(Plan::Next(pid)) => match self.try_next(alloc, program, *pid) {
-                Ok(choice) => Said::Accepted(Reply {
-                    done: Done::Played(*pid, choice),
-                    halted: None,
-                }),
+        match query {
+            Query::Vars(pid) => self.values(alloc, program, *pid),
+            _ => Err(Refusal::BadLine),
+        }
+    }
+
+    /// Says what a seat's call gives. A refused call, and want of memory, change nothing. A call that no line gives yet is refused as a
+    /// bad line.
+    pub(crate) fn answer(&mut self, alloc: Global, program: &Program, line: &Line) -> Said
+        requires { IsSized (program_of program.now) (state_of self.old) }
+        ensures sized { IsSized (program_of program.now) (state_of self.new) }
+        ensures says { (known : model.Call) → call_of line.now.call ≡ Some known
+            → SaysOrRefuses (program_of program.now) line.now.seat known (state_of self.old) result (state_of self.new) }
+    {
+        match &line.call {
+            Call::Give(plan) => match self.give(alloc, program, plan) {
+                Ok(reply) => Said::Accepted(reply),
                 Err(refusal) => Said::Refused(refusal),
             },
-            Call::Ask(Query::Vars(pid)) => match self.values(alloc, program, *pid) {
-                Ok(values) => Said::Answered(Answer::Values(values)),
+            Call::Ask(query) => match self.ask(alloc, program, query) {
+                Ok(told) => Said::Answered(told),
                 Err(refusal) => Said::Refused(refusal),
             },
-            _ => Said::Refused(Refusal::BadLine),
+            Call::Back => Said::Refused(Refusal::BadLine),
         }
     }
 }

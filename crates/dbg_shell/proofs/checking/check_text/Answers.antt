@@ -2,7 +2,8 @@ use Rattle.std.proofs.Common.{Err, subst}
 use Rattle.dbg_base.specs.Trees.{Program}
 use Rattle.dbg_base.specs.Checks.{Reads}
 use Rattle.proc_lang.specs.declared.fault.ProgError.{ProgError}
-use Rattle.proc_lang.specs.Small.{Answers, IsRefusal, IsSmall}
+use Rattle.proc_lang.specs.Small.{IsSmall}
+use Rattle.proc_lang.specs.Answering.{Answers, IsRefusal}
 use Rattle.dbg_shell.proofs.CheckTexts.{tells_size, stops_size, tells_fault, stops_fault}
 use Rattle.dbg_shell.proofs.checking.check_text.Goals as goal
 

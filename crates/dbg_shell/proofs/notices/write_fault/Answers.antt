@@ -1,13 +1,12 @@
 use Rattle.std.proofs.Common.{ap, ◌++◌, ◌∷◌, []}
 use Rattle.std.specs.Prelude.{codes}
 use Rattle.std.specs.Fmt.{decimal}
-use Rattle.dbg_base.specs.Tokens.{kind_number}
-use Rattle.proc_lang.specs.Faults.{kind_of}
+use Rattle.dbg_base.specs.Faults.{kind_number}
 use Rattle.dbg_shell.proofs.Writing.{stopped, stopped_before, writes_then, writes_same}
 use Rattle.dbg_shell.proofs.notices.write_fault.Goals as goal
 
 pub returns-in_err-write_whole : goal.returns-in_err-write_whole
-returns-in_err-write_whole g c = stopped_before (10 ∷ []) (stopped_before (decimal c.args.fault.now.at) (stopped_before (codes " at ") (stopped (decimal (kind_number (kind_of c.args.fault.now.kind))) c.in_err-write_whole.ensures c.from_residual.ensures.1) c.from_residual.ensures.0) c.from_residual.ensures.0) c.from_residual.ensures.0
+returns-in_err-write_whole g c = stopped_before (10 ∷ []) (stopped_before (decimal c.args.fault.now.at) (stopped_before (codes " at ") (stopped (decimal (kind_number c.args.fault.now.kind)) c.in_err-write_whole.ensures c.from_residual.ensures.1) c.from_residual.ensures.0) c.from_residual.ensures.0) c.from_residual.ensures.0
 
 pub returns-in_err-write_count : goal.returns-in_err-write_count
 returns-in_err-write_count g c = writes_same (ap (λ n. codes "program refused " ++ decimal n ++ codes " at " ++ decimal c.args.fault.now.at ++ 10 ∷ []) c.number.ensures) (stopped_before (10 ∷ []) (stopped_before (decimal c.args.fault.now.at) (stopped (codes " at ") (writes_then c.in_ok-write_whole.ensures c.in_err-write_count.ensures) c.from_residual-in_err-write_count.ensures.1) c.from_residual-in_err-write_count.ensures.0) c.from_residual-in_err-write_count.ensures.0)

@@ -3,11 +3,11 @@ use Rattle.std.proofs.KnownBytes.{Keeps-trans}
 use Rattle.dbg_base.specs.Trees.{Program}
 use Rattle.dbg_base.specs.Checks.{Reads}
 use Rattle.dbg_base.specs.Shell.{fault_text}
-use Rattle.proc_lang.specs.Faults.{fault_of}
-use Rattle.proc_lang.specs.declared.fault.ProgFault.{ProgFault}
+use Rattle.dbg_base.specs.declared.fault.ProgFault.{ProgFault}
 use Rattle.proc_lang.specs.declared.fault.ProgError.{ProgError}
 use Rattle.dbg_shell.specs.Writing.{Writes}
-use Rattle.proc_lang.specs.Small.{Answers, IsRefusal, IsSmall}
+use Rattle.proc_lang.specs.Small.{IsSmall}
+use Rattle.proc_lang.specs.Answering.{Answers, IsRefusal}
 use Rattle.dbg_shell.proofs.InputTexts.{known_may, serves_program, accepts_program, stops_program, breaks_program, serves_no_fault, refuses_text, stops_no_fault, serves_no_end_line, accepts_no_end_line, stops_no_end_line, serves_too_long, accepts_too_long, stops_too_long, breaks_before}
 use Rattle.dbg_shell.proofs.serving.serve.Goals as goal
 
@@ -65,7 +65,7 @@ pub returns-in-Err-Bad-clause-refused : goal.returns-in-Err-Bad-clause-refused
 returns-in-Err-Bad-clause-refused g c =
     let none : (P : Program) → Reads c.before-in-Before.result.now P → IsSmall P → ⊥ = λ P reads small. subst (λ (e : ProgError). Answers (Err e) P) c.in-Err-Bad.field-0-is (c.in-Err-Bad.ensures.only P reads small) in
     let refused = subst (λ (e : ProgError). IsRefusal c.before-in-Before.result.now e) c.in-Err-Bad.field-0-is c.in-Err-Bad.ensures.refused in
-    refuses_text c.read_program_text.new.input.bytes.items c.read_program_text.new.input.ended _ c.read_program_text.new.input.at _ c.in_ok-input.ensures.at c.in_ok-span.ensures.splits c.before-in-Before.result.now c.in-Before.span c.in-Before.is c.before-in-Before.ensures none c.in-Err-Bad.fault _ _ _ _ (known_may _ _ c.read_program_text.new.input.bytes.items _ _ c.in_ok-input.ensures.bytes c.read_program_text.ensures.keeps c.read_program_text.ensures.ends) refused (subst (λ (f : ProgFault). Writes (g.W.Write.contents c.args.writer.now) (g.W.Write.contents c.tell_fault.new.writer) c.tell_fault.result (fault_text (fault_of f))) c.in-Err-Bad.fault-is c.tell_fault.ensures.written) c.tell_fault.ensures.served
+    refuses_text c.read_program_text.new.input.bytes.items c.read_program_text.new.input.ended _ c.read_program_text.new.input.at _ c.in_ok-input.ensures.at c.in_ok-span.ensures.splits c.before-in-Before.result.now c.in-Before.span c.in-Before.is c.before-in-Before.ensures none c.in-Err-Bad.fault _ _ _ _ (known_may _ _ c.read_program_text.new.input.bytes.items _ _ c.in_ok-input.ensures.bytes c.read_program_text.ensures.keeps c.read_program_text.ensures.ends) refused (subst (λ (f : ProgFault). Writes (g.W.Write.contents c.args.writer.now) (g.W.Write.contents c.tell_fault.new.writer) c.tell_fault.result (fault_text f)) c.in-Err-Bad.fault-is c.tell_fault.ensures.written) c.tell_fault.ensures.served
 
 pub returns-in-End-clause-refused : goal.returns-in-End-clause-refused
 returns-in-End-clause-refused g c =

@@ -1,9 +1,7 @@
-use Rattle.std.proofs.Common.{sym, subst, arith}
+use Rattle.std.proofs.Common.{arith}
 use Rattle.std.proofs.KnownBytes.{Keeps-refl, Keeps-trans}
 use Rattle.dbg_base.specs.Trees.{Program}
 use Rattle.proc_lang.specs.Programs.{program_of}
-use Rattle.dbg_shell.specs.Sessions.{IsSized}
-use Rattle.dbg_shell.proofs.Answering.{opening_sized}
 use Rattle.dbg_shell.proofs.Splits.{further_on}
 use Rattle.dbg_shell.proofs.LineReplies.{any_answered, any_goes_on, any_stops, any_ends, any_is_too_long, any_is_cut, any_breaks}
 use Rattle.dbg_shell.proofs.serving.serve_lines.Goals as goal
@@ -16,8 +14,8 @@ loop-session-init g c =
       ends = c.requires;
       narrows = λ input may. may;
       begun = omega arith;
-      sized = subst (IsSized P) (sym c.in_ok-session.ensures) (opening_sized P);
-      answered = any_answered P _ _ _ _ _ c.in_ok-session.ensures;
+      sized = c.in_ok-session.ensures.sized;
+      answered = any_answered P _ _ _ _ _ c.in_ok-session.ensures.opens;
     }
 
 pub loop-session-preserved : goal.loop-session-preserved
