@@ -15,6 +15,3 @@ mod token;
 pub use fault::{FaultKind, ProgError, ProgFault};
 pub use parse::parse_program;
 pub use program::{Action, Assignment, Guarded, Program};
-
-#[cfg(test)]
-mod tests;
