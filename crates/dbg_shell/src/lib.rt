@@ -27,6 +27,3 @@ pub use outcome::{ServeFault, Served, status};
 pub use reply::print_reply;
 pub use serving::serve;
 pub use usage::job;
-
-#[cfg(test)]
-mod tests;

@@ -14,6 +14,3 @@ pub use env::Env;
 pub use evaluation::{eval, guard};
 pub use fault::{EvalError, EvalFault};
 pub use value::Value;
-
-#[cfg(test)]
-mod tests;

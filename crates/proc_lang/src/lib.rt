@@ -18,6 +18,3 @@ pub use fault::ProgError;
 pub use parse::parse_program;
 pub use process::{Action, Assignment, Guarded};
 pub use program::Program;
-
-#[cfg(test)]
-mod tests;

@@ -1,5 +1,7 @@
-use super::*;
+//! Tests of `proc_lang`.
+
 use dbg_base::{Choice, Expr, Name, Operator, Pid};
+use proc_lang::{Action, ProgError, parse_program};
 use std::test::Fail;
 
 const COUNTER: &[u8] = b"process a {

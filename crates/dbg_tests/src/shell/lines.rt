@@ -1,6 +1,6 @@
 use super::two;
-use crate::{Line, parse_line};
 use dbg_base::{Call, Plan, Query, Refusal};
+use dbg_shell::{Line, parse_line};
 use std::alloc::{AllocError, Global};
 use std::test::Fail;
 

@@ -1,5 +1,5 @@
 use super::{TWO, joined};
-use crate::{check, status};
+use dbg_shell::{check, status};
 use std::alloc::{AllocError, Global};
 use std::test::Fail;
 

@@ -1,4 +1,4 @@
-//! Tests of what no contract says, with expected texts from the tables of the program's documents.
+//! Tests of `dbg_shell`, with expected texts from the tables of the program's documents.
 
 mod faults;
 mod jobs;

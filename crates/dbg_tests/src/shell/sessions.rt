@@ -1,6 +1,6 @@
 use super::programs::REFUSED;
 use super::{TWO, joined};
-use crate::{serve, status};
+use dbg_shell::{serve, status};
 use std::alloc::{AllocError, Global};
 use std::test::Fail;
 

@@ -1,8 +1,8 @@
 use super::two;
-use crate::print_reply;
 use dbg_base::{
     Answer, Call, Choice, Cut, Done, Head, Name, Pid, Plan, Query, Refusal, Reply, Said, Sequence,
 };
+use dbg_shell::print_reply;
 use std::alloc::{AllocError, Global};
 use std::process::Abort;
 use std::test::Fail;

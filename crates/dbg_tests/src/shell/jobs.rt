@@ -1,5 +1,5 @@
-use crate::{Job, job};
 use clap::error::ErrorKind;
+use dbg_shell::{Job, job};
 use std::alloc::Global;
 use std::test::Fail;
 

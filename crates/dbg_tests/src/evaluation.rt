@@ -1,8 +1,27 @@
-use super::*;
+//! Tests of `local_eval`.
+
 use dbg_base::{Expr, Operator, Pid, Sequence};
-use proc_lang::{Action, Assignment, Guarded};
+use local_eval::{Env, EvalError, EvalFault, Value, effect, eval, guard};
+use proc_lang::{Action, Assignment, Guarded, parse_program};
 use std::alloc::{AllocError, Global};
 use std::test::Fail;
+
+// An environment of these values, of which there are at most two.
+fn make_env(alloc: Global, values: &[i64]) -> Result<Env, Fail> {
+    let text = match values.len() {
+        0 => "process a { }",
+        1 => "process a { var x = 0; }",
+        _ => "process a { var x = 0; var y = 0; }",
+    };
+    let program = parse_program(alloc, text.as_bytes())?;
+    let mut env = Env::start(alloc, &program, Pid(0))?;
+    for (index, value) in (0..2u32).zip(values.iter()) {
+        if (index as usize) < env.len() {
+            env.set(index, *value);
+        }
+    }
+    Ok(env)
+}
 
 fn binary(alloc: Global, operator: Operator, left: Expr, right: Expr) -> Result<Expr, AllocError> {
     Ok(Expr::Binary(operator, Box::new(alloc, left)?, Box::new(alloc, right)?))
@@ -18,7 +37,7 @@ fn beside_a_fault(alloc: Global, connective: Operator, n: i64) -> Result<Expr, A
 
 #[test]
 fn operators_on_numbers(rt: HostRuntime) -> Result<(), Fail> {
-    let env = Env::new(Vec::new(rt.alloc()));
+    let env = make_env(rt.alloc(), &[])?;
     let table = [
         (Operator::Add, 2, 3, Ok(Value::Num(5))),
         (Operator::Add, i64::MAX, 1, Err(EvalFault)),
@@ -51,7 +70,7 @@ fn operators_on_numbers(rt: HostRuntime) -> Result<(), Fail> {
 
 #[test]
 fn other_expressions(rt: HostRuntime) -> Result<(), Fail> {
-    let env = Env::new([7, i64::MIN].to_vec(rt.alloc())?);
+    let env = make_env(rt.alloc(), &[7, i64::MIN])?;
     let table = [
         (Expr::Variable(0), Ok(Value::Num(7))),
         (Expr::Variable(2), Err(EvalFault)),
@@ -93,7 +112,7 @@ fn other_expressions(rt: HostRuntime) -> Result<(), Fail> {
 
 #[test]
 fn right_operands_that_do_not_count(rt: HostRuntime) -> Result<(), Fail> {
-    let env = Env::new([0].to_vec(rt.alloc())?);
+    let env = make_env(rt.alloc(), &[0])?;
     let table = [
         (Operator::Or, 0, Ok(true)),
         (Operator::Or, 1, Err(EvalFault)),
@@ -110,9 +129,9 @@ fn right_operands_that_do_not_count(rt: HostRuntime) -> Result<(), Fail> {
 
 #[test]
 fn values_of_variables(rt: HostRuntime) -> Result<(), Fail> {
-    let mut env = Env::new([4, 5].to_vec(rt.alloc())?);
+    let mut env = make_env(rt.alloc(), &[4, 5])?;
     let before = env.copy()?;
-    assert_eq!(rt; env.len(), 2);
+    assert!(rt; env.len() == 2);
     env.set(1, -6);
     assert_eq!(rt; (env.value(0), env.value(1)), (4, -6));
     assert_eq!(rt; before.values(), [4, 5].as_slice());
@@ -122,7 +141,7 @@ fn values_of_variables(rt: HostRuntime) -> Result<(), Fail> {
 
 #[test]
 fn a_swap_with_a_send(rt: HostRuntime) -> Result<(), Fail> {
-    let env = Env::new([3, 8].to_vec(rt.alloc())?);
+    let env = make_env(rt.alloc(), &[3, 8])?;
     let mut assignments = Vec::new(rt.alloc());
     assignments.push(Assignment {
         variable: 0,
@@ -155,7 +174,7 @@ fn a_swap_with_a_send(rt: HostRuntime) -> Result<(), Fail> {
 
 #[test]
 fn a_receive_before_an_assignment(rt: HostRuntime) -> Result<(), Fail> {
-    let env = Env::new([1, 20].to_vec(rt.alloc())?);
+    let env = make_env(rt.alloc(), &[1, 20])?;
     let mut assignments = Vec::new(rt.alloc());
     let sum = binary(
         rt.alloc(),

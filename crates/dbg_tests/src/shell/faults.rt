@@ -1,6 +1,6 @@
 use super::sessions::served;
 use super::{TWO, joined};
-use crate::{check, serve, status};
+use dbg_shell::{check, serve, status};
 use std::alloc::Global;
 use std::cell::Cell;
 use std::io::{Read, Write};

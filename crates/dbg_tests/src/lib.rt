@@ -1,0 +1,9 @@
+//! The tests of the crates below this one, by the crate that they test: what no contract says, over public calls.
+#![tactic(auto)]
+
+#[cfg(test)]
+mod evaluation;
+#[cfg(test)]
+mod language;
+#[cfg(test)]
+mod shell;

@@ -1,0 +1,162 @@
+//! Tests of what no contract says.
+
+use crate::output::Output;
+use crate::words::{WordsFault, words};
+use std::alloc::Global;
+use std::env::{Env, FillError};
+use std::io;
+use std::io::{ErrorKind, Write};
+use std::test::Fail;
+
+// A command line of any bytes.
+#[derive(Drop)]
+struct Line<'a> {
+    words: &'a [&'a [u8]],
+}
+
+impl Env for Line<'_> {
+    fn arg(&self, i: usize, buf: &mut [u8]) -> Result<usize, FillError> {
+        let Some(word) = self.words.get(i) else {
+            return Err(FillError::NotPresent);
+        };
+        if word.len() > buf.len() {
+            return Err(FillError::TooLong);
+        }
+        buf[..word.len()].copy_from_slice(word);
+        Ok(word.len())
+    }
+
+    fn var(&self, _name: &str, _buf: &mut [u8]) -> Result<usize, FillError> {
+        Err(FillError::NotPresent)
+    }
+
+    fn var_at(&self, _i: usize, _buf: &mut [u8]) -> Result<usize, FillError> {
+        Err(FillError::NotPresent)
+    }
+}
+
+#[test]
+fn words_that_are_no_text_are_a_usage_fault(rt: HostRuntime) {
+    let bad: [&[u8]; 4] = [b"\xff", b"ru\xc3", b"\xed\xa0\x80", b"\xc0\xafrun"];
+    for word in bad {
+        let line = [b"rdbg".as_slice(), word];
+        let given = words(&(Line { words: &line }, rt.alloc()));
+        match given {
+            Ok(_) => panic!(rt; "{word:?} is no text"),
+            Err(fault) => {
+                assert_eq!(rt; fault, WordsFault::NotText, "{word:?}");
+                assert_eq!(rt; fault.status(), 2);
+            }
+        }
+    }
+}
+
+#[test]
+fn words_that_are_text_are_given(rt: HostRuntime) {
+    let line = [b"rdbg".as_slice(), b"r\xc3\xbcn", b""];
+    match words(&(Line { words: &line }, rt.alloc())) {
+        Ok(words) => {
+            assert_eq!(rt; words.len(), 3);
+            for (word, given) in words.iter().zip(["rdbg", "r\u{fc}n", ""]) {
+                assert_eq!(rt; word.as_str(), given);
+            }
+        }
+        Err(fault) => panic!(rt; "{fault:?}"),
+    }
+}
+
+// Takes at most four bytes at each write. The `left`-th write fails as `fault` says, or takes nothing, and those behind it go well.
+#[derive(Drop)]
+struct Stumbles {
+    taken: Vec<u8>,
+    left: usize,
+    fault: Option<ErrorKind>,
+    calls: usize,
+    flushes: usize,
+}
+
+impl Write for Stumbles {
+    fn write(&mut self, buf: &[u8]) -> io::Result<usize> {
+        let is_bad = self.calls == self.left;
+        self.calls = self.calls.saturating_add(1);
+        if is_bad {
+            return match self.fault {
+                Some(kind) => Err(io::Error::from(kind)),
+                None => Ok(0),
+            };
+        }
+        let count = buf.len().min(4);
+        self.taken.extend_from_slice(&buf[..count])?;
+        Ok(count)
+    }
+
+    fn flush(&mut self) -> io::Result<()> {
+        self.flushes = self.flushes.saturating_add(1);
+        Ok(())
+    }
+}
+
+fn make_stumbles(alloc: Global, left: usize, fault: Option<ErrorKind>) -> Stumbles {
+    Stumbles {
+        taken: Vec::new(alloc),
+        left,
+        fault,
+        calls: 0,
+        flushes: 0,
+    }
+}
+
+#[test]
+fn a_write_that_failed_is_not_tried_again(rt: HostRuntime) -> Result<(), Fail> {
+    let alloc = rt.alloc();
+    let text = b"ten bytes.";
+    for fault in [Some(ErrorKind::Interrupted), Some(ErrorKind::Other), None] {
+        for (left, taken) in [(0, 0), (1, 4), (2, 8)] {
+            let mut stumbles = make_stumbles(alloc, left, fault);
+            let mut output = Output::new(&mut stumbles);
+            assert_eq!(rt; output.write(text)?, 10);
+            assert!(rt; output.flush().is_err());
+            assert!(rt; output.flush().is_err());
+            assert!(rt; output.write(text).is_err());
+            drop(output);
+            assert_eq!(rt; stumbles.taken.as_slice(), text.get(..taken).unwrap_or(&[]));
+            assert_eq!(rt; stumbles.calls, left + 1);
+            assert_eq!(rt; stumbles.flushes, 0);
+        }
+    }
+    Ok(())
+}
+
+#[test]
+fn dropping_the_output_writes_nothing(rt: HostRuntime) -> Result<(), Fail> {
+    let mut stumbles = make_stumbles(rt.alloc(), 100, None);
+    let mut output = Output::new(&mut stumbles);
+    assert_eq!(rt; output.write(b"lost")?, 4);
+    drop(output);
+    assert_eq!(rt; stumbles.calls, 0);
+    Ok(())
+}
+
+#[test]
+fn bytes_go_out_in_order(rt: HostRuntime) -> Result<(), Fail> {
+    let alloc = rt.alloc();
+    let mut text = Vec::new(alloc);
+    for i in 0..20_000u32 {
+        text.push((i % 251) as u8)?;
+    }
+    let mut stumbles = make_stumbles(alloc, 100_000, None);
+    let mut output = Output::new(&mut stumbles);
+    let mut rest = text.as_slice();
+    for size in [1, 7, 8_192, 9_000, 8_192] {
+        let piece = &rest[..rest.len().min(size)];
+        let count = output.write(piece)?;
+        assert!(rt; count > 0);
+        rest = rest.get(count..).unwrap_or(&[]);
+    }
+    assert!(rt; rest.is_empty());
+    output.flush()?;
+    drop(output);
+    assert_eq!(rt; stumbles.flushes, 1);
+    assert_eq!(rt; stumbles.taken.as_slice(), text.as_slice());
+    Ok(())
+}
