@@ -103,6 +103,24 @@ fn other_expressions(rt: HostRuntime) -> Result<(), Fail> {
             )?,
             Err(EvalFault),
         ),
+        (
+            binary(
+                rt.alloc(),
+                Operator::And,
+                Expr::Truth(true),
+                Expr::Number(5),
+            )?,
+            Ok(Value::Num(5)),
+        ),
+        (
+            binary(
+                rt.alloc(),
+                Operator::Or,
+                Expr::Truth(false),
+                Expr::Number(5),
+            )?,
+            Ok(Value::Num(5)),
+        ),
     ];
     for (expr, want) in &table {
         assert_eq!(rt; eval(expr, &env), *want, "{expr:?}");

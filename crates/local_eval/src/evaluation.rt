@@ -58,7 +58,7 @@ fn calculate(operator: Operator, x: i64, y: i64) -> Result<Value, EvalFault>
 
 /// The value of the expression at these values, or a fault: a number that leaves its range, a divisor 0, an operand of the
 /// wrong type or a variable that is not there. Of `and` and `or` the right operand is evaluated only where the left one does
-/// not decide. It takes no memory.
+/// not decide, and is then the value, whatever its type. It takes no memory.
 pub fn eval(expr: &Expr, env: &Env) -> Result<Value, EvalFault>
     ensures { outcome value_of result ≡ evaluate (tree_of expr.now) env.now }
 {
