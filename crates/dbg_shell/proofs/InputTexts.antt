@@ -1,12 +1,12 @@
 -- What a run over the input writes.
 use Rattle.std.proofs.Common.{◌≡◌, ℕ, ◌+◌, ◌-◌, ◌≤◌, Bool, true, false, List, [], ◌++◌, length, take, drop, Option, Some, None, refl, sym, ap, ◌∙◌, subst, inl, arith}
-use Rattle.std.specs.Prelude.{slice_range, IfSome, IfOk, IfErr, Result, Ok, Err, codes}
+use Rattle.std.specs.Prelude.{slice_range, IfSome, IfOk, IfErr, Result, Ok, Err}
 use Rattle.std.proofs.KnownBytes.{Appends-nil}
 use Rattle.dbg_base.specs.declared.limits.TheConstants.{INPUT_BYTES}
 use Rattle.dbg_base.specs.Trees.{Program}
 use Rattle.dbg_base.specs.Checks.{Reads}
 use Rattle.dbg_base.specs.ModelStates.{opening_state}
-use Rattle.dbg_base.specs.Shell.{Parts, lines_of, parts_of, read_lines, lines_within, is_too_long, AnswersLines, AnswersParts, TextOfParts, WholeText, Text, fault_text, too_long_text, as_line}
+use Rattle.dbg_base.specs.Shell.{Parts, lines_of, parts_of, read_lines, lines_within, is_too_long, AnswersLines, AnswersParts, TextOfParts, WholeText, Text, fault_text, too_long_text, no_end_line_text}
 use Rattle.proc_lang.specs.Small.{IsSmall, IsRefusal}
 use Rattle.proc_lang.specs.Faults.{fault_of}
 use Rattle.proc_lang.specs.declared.fault.ProgFault.{ProgFault}
@@ -90,13 +90,10 @@ not_served input bytes text new span splits seen none is_served =
     let small = subst HasSmallText (all_from_start input ∙ splits.0) is_served in
     none small.0 (subst (λ (t : List ℕ). Reads t small.0) (sym (text_from_start bytes text span.from (seen splits.1))) small.1) small.2
 
-abbrev no_end_line : List ℕ
-no_end_line = as_line (codes "program refused: no end line")
-
-text_without_end : (input bytes : List ℕ) (new : ℕ) → Splits input bytes 0 new ends.End → Text input no_end_line
+text_without_end : (input bytes : List ℕ) (new : ℕ) → Splits input bytes 0 new ends.End → Text input no_end_line_text
 text_without_end input bytes new splits =
     let no : is_too_long input ≡ false = splits.1 in
-    subst (λ (o : Option Parts). TextOfParts input o no_end_line) (sym (all_from_start input ∙ splits.0)) (rw no refl)
+    subst (λ (o : Option Parts). TextOfParts input o no_end_line_text) (sym (all_from_start input ∙ splits.0)) (rw no refl)
 
 text_too_long : (input bytes : List ℕ) (new : ℕ) → Splits input bytes 0 new ends.TooLong → Text input too_long_text
 text_too_long input bytes new splits =
@@ -206,14 +203,14 @@ module _ (bytes : List ℕ) (ended : Bool) (begin new : ℕ) (end : TextEnd) (be
         λ is_write is_served. absurd (not_served input bytes text new span (split_here (ends.Before span) is input may) seen none is_served)
 
   pub serves_no_end_line : (known : Option (List ℕ)) (r : Result Served ServeFault) (old out : Option (List ℕ)) → IfSome known (MayBe bytes ended)
-      → end ≡ ends.End → Writes old out r no_end_line → IfOk r (λ served. served ≡ outcomes.Refused) → ServesKnown known r old out
+      → end ≡ ends.End → Writes old out r no_end_line_text → IfOk r (λ served. served ≡ outcomes.Refused) → ServesKnown known r old out
   serves_no_end_line known (Err e) old out may is wrote same = tt
   serves_no_end_line None (Ok served) old out may is wrote same = tt
   serves_no_end_line (Some input) (Ok served) old out may is wrote same =
       let here : Splits input bytes 0 new ends.End = split_here ends.End is input may in
       let no : is_too_long input ≡ false = here.1 in
       λ is_served.
-      (same ∙ sym (ap (served_by input) (all_from_start input ∙ here.0) ∙ rw no refl), (no_end_line, text_without_end input bytes new here, wrote.whole))
+      (same ∙ sym (ap (served_by input) (all_from_start input ∙ here.0) ∙ rw no refl), (no_end_line_text, text_without_end input bytes new here, wrote.whole))
 
   -- without a line that ends it, no program text is refused by its faults
   none_here : (input : List ℕ) → parts_of (lines_from 0 input) ≡ None → IsServed input
@@ -232,11 +229,11 @@ module _ (bytes : List ℕ) (ended : Bool) (begin new : ℕ) (end : TextEnd) (be
   accepts_too_long (Some input) (Ok served) old out may is = λ unserved. absurd (unserved (none_here input (split_here ends.TooLong is input may).0))
 
   pub stops_no_end_line : (known : Option (List ℕ)) (r : Result Served ServeFault) (old out : Option (List ℕ)) → IfSome known (MayBe bytes ended)
-      → end ≡ ends.End → Writes old out r no_end_line → StopsKnown known r old out
+      → end ≡ ends.End → Writes old out r no_end_line_text → StopsKnown known r old out
   stops_no_end_line known (Ok served) old out may is wrote = tt
   stops_no_end_line None (Err fault) old out may is wrote = λ is_write. tt
   stops_no_end_line (Some input) (Err fault) old out may is wrote =
-      λ is_write is_served. (no_end_line, text_without_end input bytes new (split_here ends.End is input may), wrote.part)
+      λ is_write is_served. (no_end_line_text, text_without_end input bytes new (split_here ends.End is input may), wrote.part)
 
   pub serves_too_long : (known : Option (List ℕ)) (r : Result Served ServeFault) (old out : Option (List ℕ)) → IfSome known (MayBe bytes ended)
       → end ≡ ends.TooLong → Writes old out r too_long_text → IfOk r (λ served. served ≡ outcomes.TooLong) → ServesKnown known r old out

@@ -1,9 +1,9 @@
 pub mod Writing
+pub mod Pairs
 pub mod Histories
 pub mod Words
 pub mod LineEnds
 pub mod UnderWay
-pub mod Pairs
 pub mod Splits
 pub mod Answering
 pub mod LineReplies

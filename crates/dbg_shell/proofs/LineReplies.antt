@@ -11,7 +11,7 @@ use Rattle.dbg_base.specs.declared.refusal.Refusal.TheVariants.{Memory}
 use Rattle.dbg_base.specs.Trees.{Program}
 use Rattle.dbg_base.specs.ModelStates.{ModelState, opening_state}
 use Rattle.dbg_base.specs.CommandLines.{parsed_line}
-use Rattle.dbg_base.specs.Replies.{reply_text, refusal_text}
+use Rattle.dbg_base.specs.Replies.{asked_query, reply_text, refusal_text}
 use Rattle.dbg_base.specs.Shell.{AnswersParsed, AnswersLine, AnswersLines, as_line, is_too_long, end_text, too_long_text}
 use Rattle.dbg_shell.specs.declared.framing.Span.{Span}
 use Rattle.dbg_shell.specs.declared.framing.Next.{Next}
@@ -72,7 +72,7 @@ answered_ends P whole from at M a b c text answered none written same =
 some_answer : (P : Program) (r : Result (Option (ℕ × Call)) Refusal) (M : ModelState) → (out : List ℕ) × (M' : ModelState) × AnswersParsed P r M out M'
 some_answer P (Err refusal) M = (as_line (refusal_text P refusal), M, (refl, refl))
 some_answer P (Ok None) M = ([], M, (refl, refl))
-some_answer P (Ok (Some line)) M = (as_line (reply_text P line.1 (Refused Memory)), M, (Refused Memory, inr (refl, refl), refl))
+some_answer P (Ok (Some line)) M = (as_line (reply_text P (asked_query line.1) (Refused Memory)), M, (Refused Memory, inr (refl, refl), refl))
 
 some_answers : (P : Program) (lines : List (List ℕ)) (M : ModelState) → (out : List ℕ) × (M' : ModelState) × AnswersLines P lines M out M'
 some_answers P [] M = ([], M, (refl, refl))

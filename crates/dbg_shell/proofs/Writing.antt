@@ -1,17 +1,16 @@
 -- Texts that are written one behind the other.
-use Rattle.std.proofs.Common.{◌≡◌, ℕ, List, [], ◌++◌, Option, Result, Ok, Err, refl, sym, ◌∙◌, ap, append_assoc, subst, take, drop}
-use Rattle.std.specs.Prelude.{IsErr, IsErrAnd, IfErr, true, false}
+use Rattle.std.proofs.Common.{◌≡◌, ℕ, List, [], ◌++◌, Option, Result, Ok, Err, refl, sym, ◌∙◌, ap, append_assoc, subst, take, drop, add-one, length, get_or, ◌<◌}
+use Rattle.std.specs.Prelude.{IsErr, IsErrAnd, IfErr, true, false, Some, None, ◌+◌, suc, ◌∷◌, slice_get, codes}
+use Rattle.std.specs.List.{flat_map}
 use Rattle.std.specs.Io.KnownBytes.{Appends, Keeps}
 use Rattle.std.proofs.KnownBytes.{Appends-nil, Appends-trans, Appends-kept}
 use Rattle.std.proofs.lemmas.List.{append-nil, take-append-drop}
-use Rattle.std.specs.Prelude.{codes}
-use Rattle.dbg_base.specs.declared.said.Done.{Done}
-use Rattle.dbg_base.specs.declared.said.Done.TheVariants.{Played, Undone, Places, Plain}
-use Rattle.dbg_base.specs.Trees.{Program}
-use Rattle.dbg_base.specs.Replies.{done_text}
+use Rattle.std.proofs.lemmas.List.Concat.{flat_map-append}
+use Rattle.std.proofs.lemmas.Option.{slice_get_read}
 use Rattle.dbg_shell.specs.declared.outcome.ServeFault.{ServeFault}
 use Rattle.dbg_shell.specs.declared.outcome.ServeFault.TheVariants.{Write}
-use Rattle.dbg_shell.specs.Writing.{AppendsFront, Writes, deed_text}
+use Rattle.dbg_base.specs.Replies.{spaced}
+use Rattle.dbg_shell.specs.Writing.{AppendsFront, Writes, in_a_row}
 
 pub front_then : (a b c : Option (List ℕ)) (x y : List ℕ) → Appends a b x → AppendsFront b c y → AppendsFront a c (x ++ y)
 front_then a b c x y h k = (x ++ k.0, k.1, ap (λ t. x ++ t) k.2 ∙ sym (append_assoc x k.0 k.1), Appends-trans a b c x k.0 h k.3)
@@ -86,18 +85,31 @@ progress_fails {r = Err f} a b c bytes rest part others p e h k =
     let whole : bytes ≡ p.done ++ part ++ others = p.all ∙ ap (λ t. p.done ++ t) e ∙ sym (append_assoc p.done part others) in
     record { whole = tt; part = (longer.0, longer.1, whole ∙ longer.2, longer.3); fault = k ∙ h.fault }
 
--- the same text, said in another way
-pub writes_same : {A : Type 0} {a b : Option (List ℕ)} {r : Result A ServeFault} {x y : List ℕ} → x ≡ y → Writes a b r x → Writes a b r y
-writes_same {a = a} {b = b} {r = r} e h = subst (λ (t : List ℕ). Writes a b r t) e h
+-- what an item of several gives, and what those behind it give
+next_one : {X : Type 0} (f : X → List ℕ) (xs : List X) (i : ℕ) (x : X) → slice_get xs i ≡ Some x
+    → flat_map f (drop i xs) ≡ f x ++ flat_map f (drop (suc i) xs)
+next_one f [] i x h = cc
+next_one f (y ∷ xs) ℕ.zero x h = let same : y ≡ x = cc in ap (λ z. f z ++ flat_map f xs) same
+next_one f (y ∷ xs) (suc i) x h = next_one f xs i x h
 
--- behind `ok` stands what the command did
-pub done_is : (P : Program) (done : Done) → codes "ok" ++ deed_text P done ≡ done_text P done
-done_is P (Played pid choice) = refl
-done_is P (Undone pid choice) = refl
-done_is P (Places cut) = refl
-done_is P Plain = refl
+pub next_of : {X : Type 0} (f : X → List ℕ) (xs : List X) (i : ℕ) (x : X) → slice_get xs i ≡ Some x
+    → flat_map f (drop i xs) ≡ f x ++ flat_map f (drop (i + 1) xs)
+next_of f xs i x h = rw add-one (next_one f xs i x h)
 
--- nothing more is written behind a text that was not written whole
-pub stopped_before : {A : Type 0} {r : Result A ServeFault} {a b : Option (List ℕ)} {x : List ℕ} (y : List ℕ) → Writes a b r x → IsErr r → Writes a b r (x ++ y)
-stopped_before {r = Ok v} y h k = let bad : false ≡ true = k in absurd cc
-stopped_before {r = Err f} {a = a} {b = b} {x = x} y h k = record { whole = tt; part = front_longer a b x y h.part; fault = h.fault }
+pub next_read : {X : Type 0} (f : X → List ℕ) (xs : List X) (i : ℕ) (x : X) → i < length xs → x ≡ get_or xs i x
+    → flat_map f (drop i xs) ≡ f x ++ flat_map f (drop (i + 1) xs)
+next_read f xs i x lt is = next_of f xs i x (slice_get_read xs (length xs) i x refl lt is)
+
+-- past the last item there is nothing
+pub none_of : {X : Type 0} (f : X → List ℕ) (xs : List X) (i : ℕ) → slice_get xs i ≡ None → flat_map f (drop i xs) ≡ []
+none_of f [] ℕ.zero h = refl
+none_of f [] (suc i) h = refl
+none_of f (x ∷ xs) ℕ.zero h = cc
+none_of f (x ∷ xs) (suc i) h = none_of f xs i h
+
+-- the words of several items, each with a space before it
+pub row_spaced : {X : Type 0} (f : X → List (List ℕ)) (xs : List X) → flat_map (λ x. spaced (f x)) xs ≡ spaced (in_a_row f xs)
+row_spaced f [] = refl
+row_spaced f (x ∷ []) = append-nil (spaced (f x))
+row_spaced f (x ∷ y ∷ xs) =
+    ap (λ t. spaced (f x) ++ t) (row_spaced f (y ∷ xs)) ∙ sym (flat_map-append (λ word. codes " " ++ word) (f x) (in_a_row f (y ∷ xs)))

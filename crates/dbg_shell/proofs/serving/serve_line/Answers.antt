@@ -2,7 +2,7 @@ use Rattle.std.proofs.Common.{◌≡◌, ℕ, List, Option, Some, Result, Ok, re
 use Rattle.std.specs.Option.{option_map}
 use Rattle.dbg_base.specs.declared.call.Call.{Call}
 use Rattle.dbg_base.specs.declared.refusal.Refusal.{Refusal}
-use Rattle.dbg_base.specs.Replies.{reply_text, refusal_text}
+use Rattle.dbg_base.specs.Replies.{asked_query, reply_text, refusal_text}
 use Rattle.dbg_base.specs.Shell.{as_line, AnswersParsed}
 use Rattle.proc_lang.specs.Programs.{program_of}
 use Rattle.dbg_shell.specs.declared.command_line.Line.{Line}
@@ -30,7 +30,7 @@ returns-in_ok-print_reply-in-Ok-Some-clause-sized g c =
 pub returns-in_ok-print_reply-in-Ok-Some-clause-answers : goal.returns-in_ok-print_reply-in-Ok-Some-clause-answers
 returns-in_ok-print_reply-in-Ok-Some-clause-answers g c =
     let P = program_of c.args.program.now in
-    let text : List ℕ = as_line (reply_text P c.in-Ok-Some.line.call c.answer-said.result) in
+    let text : List ℕ = as_line (reply_text P (asked_query c.in-Ok-Some.line.call) c.answer-said.result) in
     record {
       text = text;
       answers = subst (λ (r : Result (Option (ℕ × Call)) Refusal). AnswersParsed P r (state_of c.args.session.now) text (state_of c.answer-said.new.self))
