@@ -222,30 +222,6 @@ fn count_word(program: &Program, counts: &[u32], place: usize) -> Option<Word>
     pair(process_at(program, place), count_at(counts, place))
 }
 
-// A value of each variable of the process.
-#[tactic(auto, using(crate::proofs::Pairs::pair_at))]
-fn value_word(program: &Program, pid: Pid, values: &[i64], place: usize) -> Option<Word>
-    ensures { option_map word_text result ≡ slice_get (value_words (program_of program.now) pid values.now) place }
-{
-    pair(variable_at(program, pid, place), number_at(values, place))
-}
-
-// A component of each process.
-#[tactic(auto, using(crate::proofs::Pairs::pair_at))]
-fn head_word(program: &Program, heads: &[Head], place: usize) -> Option<Word>
-    ensures { option_map word_text result ≡ slice_get (head_words (program_of program.now) heads.now) place }
-{
-    pair(process_at(program, place), head_at(heads, place))
-}
-
-fn breakpoint_word(marks: &[(Name, bool)], place: usize) -> Option<Word>
-    ensures { option_map word_text result ≡ slice_get (map mark_word marks.now) place }
-{
-    marks
-        .get(place)
-        .map(|(name, armed)| Word::Mark(*name, *armed))
-}
-
 // The number of a refusal, and what it carries.
 fn refusal_word(program: &Program, refusal: &Refusal, place: usize) -> Option<Word>
     ensures { option_map word_text result ≡ slice_get (refusal_words (program_of program.now) refusal.now) place }
@@ -256,16 +232,6 @@ fn refusal_word(program: &Program, refusal: &Refusal, place: usize) -> Option<Wo
         Refusal::Halted(name) => item_at(&[number, Item::Name(*name)], place),
         Refusal::OtherSeat(seat) => item_at(&[number, Item::Count(*seat)], place),
         _ => item_at(&[number], place),
-    }
-}
-
-fn can_word(program: &Program, outcome: &Result<(), Refusal>, place: usize) -> Option<Word>
-    ensures { option_map word_text result ≡ slice_get (can_words (program_of program.now) outcome.now) place }
-{
-    match outcome {
-        Ok(()) => item_at(&[Item::Term(Term::Yes)], place),
-        Err(_) if place == 0 => Some(Word::Plain(Item::Term(Term::No))),
-        Err(refusal) => refusal_word(program, refusal, place - 1),
     }
 }
 
@@ -280,31 +246,32 @@ fn subject(query: Query) -> Pid
     }
 }
 
+// What was answered, behind the words of the query.
+#[tactic(auto, using(crate::proofs::Pairs::pair_at))]
 fn answer_word(program: &Program, query: Query, answer: &Answer, place: usize) -> Option<Word>
     ensures { option_map word_text result ≡ slice_get (answer_words (program_of program.now) query answer.now) place }
 {
     match answer {
-        Answer::Values(values) => value_word(program, subject(query), values.items(), place),
+        Answer::Values(values) => {
+            let name = variable_at(program, subject(query), place);
+            pair(name, number_at(values.items(), place))
+        }
         Answer::Messages(messages) => number_at(messages.items(), place).map(Word::Plain),
         Answer::Counts(cut) => count_word(program, cut.counts(), place),
         Answer::PlaceOf { at, line } => {
             let items = [Item::Count(*at), Item::Term(Term::Of), Item::Count(*line)];
             item_at(&items, place)
         }
-        Answer::CanUndo(outcome) => can_word(program, outcome, place),
+        Answer::CanUndo(Ok(())) => item_at(&[Item::Term(Term::Yes)], place),
+        Answer::CanUndo(Err(_)) if place == 0 => Some(Word::Plain(Item::Term(Term::No))),
+        Answer::CanUndo(Err(refusal)) => refusal_word(program, refusal, place - 1),
         Answer::CutIs(None) => item_at(&[Item::Term(Term::None)], place),
         Answer::CutIs(Some(cut)) => count_word(program, cut.counts(), place),
-        Answer::Frontier(heads) => head_word(program, heads.items(), place),
-        Answer::Marks(marks) => breakpoint_word(marks.items(), place),
-    }
-}
-
-fn halted_word(halted: Option<Name>, place: usize) -> Option<Word>
-    ensures { option_map word_text result ≡ slice_get (halted_words halted) place }
-{
-    match halted {
-        Some(name) => item_at(&[Item::Term(Term::Halted), Item::Name(name)], place),
-        None => None,
+        Answer::Frontier(heads) => pair(process_at(program, place), head_at(heads.items(), place)),
+        Answer::Marks(marks) => marks
+            .items()
+            .get(place)
+            .map(|(name, armed)| Word::Mark(*name, *armed)),
     }
 }
 
@@ -317,7 +284,10 @@ impl Piece<'_> {
             Piece::Item(item) => item_at(&[*item], place),
             Piece::Process(program, pid) => item_at(&[process_item(program, *pid)], place),
             Piece::Counts(program, counts) => count_word(program, counts, place),
-            Piece::Halted(halted) => halted_word(*halted, place),
+            Piece::Halted(None) => None,
+            Piece::Halted(Some(name)) => {
+                item_at(&[Item::Term(Term::Halted), Item::Name(*name)], place)
+            }
             Piece::Refusal(program, refusal) => refusal_word(program, refusal, place),
             Piece::Answer(program, query, answer) => answer_word(program, *query, answer, place),
         }

@@ -21,24 +21,20 @@ fn print_accepted<'a, W: Write>(
 ) -> Result<(), ServeFault>
     ensures { Writes (W.contents writer.old) (W.contents writer.new) result (as_line (reply_text (program_of program.now) None (Accepted reply.now))) }
 {
+    let halted = Piece::Halted(reply.halted);
     match &reply.done {
-        Done::Played(pid, choice) | Done::Undone(pid, choice) => write_line(
-            b"ok",
-            &[
-                Piece::Process(program, *pid),
-                Piece::Item(Item::Count(choice.0)),
-                Piece::Halted(reply.halted),
-            ],
-            writer,
-        ),
-        Done::Places(cut) => write_line(
-            b"ok",
-            &[
-                Piece::Counts(program, cut.counts()),
-                Piece::Halted(reply.halted),
-            ],
-            writer,
-        ),
+        Done::Played(pid, choice) | Done::Undone(pid, choice) => {
+            let choice = Piece::Item(Item::Count(choice.0));
+            write_line(
+                b"ok",
+                &[Piece::Process(program, *pid), choice, halted],
+                writer,
+            )
+        }
+        Done::Places(cut) => {
+            let places = Piece::Counts(program, cut.counts());
+            write_line(b"ok", &[places, halted], writer)
+        }
         Done::Plain => write_line(b"ok", &[Piece::Halted(reply.halted)], writer),
     }
 }
@@ -52,65 +48,20 @@ fn print_answer<'a, W: Write>(
 ) -> Result<(), ServeFault>
     ensures { Writes (W.contents writer.old) (W.contents writer.new) result (as_line (reply_text (program_of program.now) (Some query.now) (Answered answer.now))) }
 {
+    let told = Piece::Answer(program, *query, answer);
     match query {
-        Query::Vars(pid) => write_line(
-            b"vars",
-            &[
-                Piece::Process(program, *pid),
-                Piece::Answer(program, *query, answer),
-            ],
-            writer,
-        ),
-        Query::Chan(source, target) => write_line(
-            b"chan",
-            &[
-                Piece::Process(program, *source),
-                Piece::Process(program, *target),
-                Piece::Answer(program, *query, answer),
-            ],
-            writer,
-        ),
-        Query::Clock(pid) => write_line(
-            b"clock",
-            &[
-                Piece::Process(program, *pid),
-                Piece::Answer(program, *query, answer),
-            ],
-            writer,
-        ),
-        Query::Place(pid) => write_line(
-            b"place",
-            &[
-                Piece::Process(program, *pid),
-                Piece::Answer(program, *query, answer),
-            ],
-            writer,
-        ),
-        Query::Can(pid) => write_line(
-            b"can",
-            &[
-                Piece::Process(program, *pid),
-                Piece::Answer(program, *query, answer),
-            ],
-            writer,
-        ),
-        Query::CutOf(name) => write_line(
-            b"cut",
-            &[
-                Piece::Item(Item::Name(*name)),
-                Piece::Answer(program, *query, answer),
-            ],
-            writer,
-        ),
-        Query::Why(name) => write_line(
-            b"why",
-            &[
-                Piece::Item(Item::Name(*name)),
-                Piece::Answer(program, *query, answer),
-            ],
-            writer,
-        ),
-        Query::Breaks => write_line(b"breaks", &[Piece::Answer(program, *query, answer)], writer),
+        Query::Vars(pid) => write_line(b"vars", &[Piece::Process(program, *pid), told], writer),
+        Query::Chan(source, target) => {
+            let source = Piece::Process(program, *source);
+            let target = Piece::Process(program, *target);
+            write_line(b"chan", &[source, target, told], writer)
+        }
+        Query::Clock(pid) => write_line(b"clock", &[Piece::Process(program, *pid), told], writer),
+        Query::Place(pid) => write_line(b"place", &[Piece::Process(program, *pid), told], writer),
+        Query::Can(pid) => write_line(b"can", &[Piece::Process(program, *pid), told], writer),
+        Query::CutOf(name) => write_line(b"cut", &[Piece::Item(Item::Name(*name)), told], writer),
+        Query::Why(name) => write_line(b"why", &[Piece::Item(Item::Name(*name)), told], writer),
+        Query::Breaks => write_line(b"breaks", &[told], writer),
     }
 }
 
