@@ -18,7 +18,7 @@ use Rattle.dbg_shell.specs.declared.outcome.ServeFault.TheVariants.{Read, Write}
 use Rattle.dbg_shell.specs.declared.outcome.Served.TheVariants as outcomes
 use Rattle.dbg_shell.specs.declared.program_text.TextEnd.{TextEnd}
 use Rattle.dbg_shell.specs.declared.program_text.TextEnd.TheVariants as ends
-use Rattle.dbg_shell.specs.Spans.{lines_from, EndsWith, KeepsInput, MayBe, Narrows}
+use Rattle.dbg_shell.specs.Spans.{lines_from, KeepsInput, MayBe, Narrows, ReadsOn}
 use Rattle.dbg_shell.specs.Writing.{Writes}
 use Rattle.dbg_shell.specs.Serving.{IsServed, HasSmallText, ServesInput, RefusesInput, BreaksInput, ReadsFew, WritesFront, RepliesTo, ServesLines, StopsLines, BreaksLines, Splits, SplitsAny, served_by}
 use Rattle.dbg_shell.proofs.UnderWay.{goes_on}
@@ -44,11 +44,11 @@ whole_is : (first bytes xs ys : List ℕ) → first ≡ [] → bytes ++ ys ≡ f
 whole_is first bytes xs ys empty keeps = sym (keeps ∙ ap (λ (t : List ℕ). t ++ xs) empty)
 
 -- and one of those that the input may be
-pub known_may : (first : List ℕ) (known : Option (List ℕ)) (bytes : List ℕ) (left : Option (List ℕ)) (ended : Bool) → first ≡ []
-    → KeepsInput first known bytes left → EndsWith ended left → IfSome known (MayBe bytes ended)
-known_may first None bytes left ended empty keeps at_end = tt
-known_may first (Some xs) bytes None ended empty keeps at_end = absurd keeps
-known_may first (Some xs) bytes (Some ys) ended empty keeps at_end = (ys, whole_is first bytes xs ys empty keeps, at_end)
+pub known_may : {first : List ℕ} {was : Bool} {known : Option (List ℕ)} {bytes : List ℕ} {ended : Bool} {left : Option (List ℕ)} → first ≡ []
+    → ReadsOn first was known bytes ended left → IfSome known (MayBe bytes ended)
+known_may {known = None} empty reads = tt
+known_may {known = Some xs} {left = None} empty reads = absurd reads.keeps
+known_may {first = first} {known = Some xs} {bytes = bytes} {left = Some ys} empty reads = (ys, whole_is first bytes xs ys empty reads.keeps, reads.ends)
 
 within_all : (limit : ℕ) (input : List ℕ) → lines_within limit input ≡ lines_within (limit - 0) (drop 0 input)
 within_all limit input =

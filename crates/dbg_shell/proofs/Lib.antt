@@ -2,6 +2,7 @@ pub mod Writing
 pub mod Pairs
 pub mod Histories
 pub mod Words
+pub mod Reading
 pub mod LineEnds
 pub mod UnderWay
 pub mod Splits
