@@ -96,7 +96,8 @@ SaysOrRefuses P call M said M' = Says P call M said M' ⊎ Refuses Memory M said
 abbrev pub AnswersParsed : Program → Result (Option (ℕ × Call)) Refusal → ModelState → List ℕ → ModelState → Type 0
 AnswersParsed P (Err refusal) M out M' = (out ≡ as_line (refusal_text P refusal)) × (M' ≡ M)
 AnswersParsed P (Ok None) M out M' = (out ≡ []) × (M' ≡ M)
-AnswersParsed P (Ok (Some line)) M out M' = (said : Said) × SaysOrRefuses P line.1 M said M' × (out ≡ as_line (reply_text P (asked_query line.1) said))
+AnswersParsed P (Ok (Some line)) M out M' =
+    (said : Said) × SaysOrRefuses P line.1 M said M' × (out ≡ as_line (reply_text P (asked_query line.1) said))
 
 abbrev pub AnswersLine : Program → List ℕ → ModelState → List ℕ → ModelState → Type 0
 AnswersLine P line M out M' = AnswersParsed P (parsed_line P line) M out M'

@@ -8,7 +8,8 @@ use Rattle.dbg_base.specs.Replies.{pair_word}
 use Rattle.dbg_shell.specs.Pieces.{pair_of}
 
 -- of a process that is not there the name is empty
-pub name_missing : (P : Program) (p : ℕ) → None ≡ option_map (λ process. process.name) (slice_get P p) → [] ≡ (slice_index_or P p no_process).name
+pub name_missing : (P : Program) (p : ℕ) → None ≡ option_map (λ process. process.name) (slice_get P p)
+    → [] ≡ (slice_index_or P p no_process).name
 name_missing [] p h = refl
 name_missing (q ∷ P) zero h = cc
 name_missing (q ∷ P) (suc p) h = name_missing P p h
@@ -18,14 +19,16 @@ no_text None = refl
 no_text (Some name) = refl
 
 -- the pair at a place is the name and the text there
-pub pair_at : (names texts : List (List ℕ)) (i : ℕ) → slice_get (map pair_word (zip names texts)) i ≡ pair_of (slice_get names i) (slice_get texts i)
+pub pair_at : (names texts : List (List ℕ)) (i : ℕ)
+    → slice_get (map pair_word (zip names texts)) i ≡ pair_of (slice_get names i) (slice_get texts i)
 pair_at [] texts i = refl
 pair_at (name ∷ names) [] i = no_text (slice_get (name ∷ names) i)
 pair_at (name ∷ names) (text ∷ texts) zero = refl
 pair_at (name ∷ names) (text ∷ texts) (suc i) = pair_at names texts i
 
 -- there are no more pairs than texts
-pub few_pairs : {B : Type 0} (names : List (List ℕ)) (g : B → List ℕ) (ys : List B) → length (map pair_word (zip names (map g ys))) ≤ length ys
+pub few_pairs : {B : Type 0} (names : List (List ℕ)) (g : B → List ℕ) (ys : List B)
+    → length (map pair_word (zip names (map g ys))) ≤ length ys
 few_pairs [] g ys = omega arith
 few_pairs (name ∷ names) g [] = omega arith
 few_pairs (name ∷ names) g (y ∷ ys) = let less = few_pairs names g ys in omega arith

@@ -9,7 +9,8 @@ module _ {old : List ℕ} {was : Bool} {before : Option (List ℕ)} where
   reads_nothing ends = record { keeps = Keeps-refl _; ends = ends; narrows = λ input may. may }
 
   module _ {middle : List ℕ} {over : Bool} {left : Option (List ℕ)} (first : ReadsOn old was before middle over left) where
-    pub reads_then : {new : List ℕ} {ended : Bool} {after : Option (List ℕ)} → ReadsOn middle over left new ended after → ReadsOn old was before new ended after
+    pub reads_then : {new : List ℕ} {ended : Bool} {after : Option (List ℕ)} → ReadsOn middle over left new ended after
+        → ReadsOn old was before new ended after
     reads_then second = record {
       keeps = Keeps-trans _ _ _ first.keeps second.keeps;
       ends = second.ends;

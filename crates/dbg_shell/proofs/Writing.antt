@@ -19,12 +19,16 @@ pub front_longer : (a b : Option (List ℕ)) (x y : List ℕ) → AppendsFront a
 front_longer a b x y h = (h.0, h.1 ++ y, ap (λ t. t ++ y) h.2 ∙ append_assoc h.0 h.1 y, h.3)
 
 -- one text was written whole, and then another was written or not
-pub writes_then : {A B : Type 0} {u : A} {a b c : Option (List ℕ)} {r : Result B ServeFault} {x y : List ℕ} → Writes {A = A} a b (Ok u) x → Writes b c r y → Writes a c r (x ++ y)
-writes_then {a = a} {b = b} {c = c} {r = Ok v} {x = x} {y = y} h k = record { whole = Appends-trans a b c x y h.whole k.whole; part = tt; fault = tt }
-writes_then {a = a} {b = b} {c = c} {r = Err e} {x = x} {y = y} h k = record { whole = tt; part = front_then a b c x y h.whole k.part; fault = k.fault }
+pub writes_then : {A B : Type 0} {u : A} {a b c : Option (List ℕ)} {r : Result B ServeFault} {x y : List ℕ} → Writes {A = A} a b (Ok u) x
+    → Writes b c r y → Writes a c r (x ++ y)
+writes_then {a = a} {b = b} {c = c} {r = Ok v} {x = x} {y = y} h k = record
+    { whole = Appends-trans a b c x y h.whole k.whole; part = tt; fault = tt }
+writes_then {a = a} {b = b} {c = c} {r = Err e} {x = x} {y = y} h k = record
+    { whole = tt; part = front_then a b c x y h.whole k.part; fault = k.fault }
 
 -- a text was not written whole, and nothing behind it is
-pub stopped : {A B : Type 0} {e : ServeFault} {r : Result B ServeFault} {a b : Option (List ℕ)} {x : List ℕ} (y : List ℕ) → Writes {A = A} a b (Err e) x → IsErrAnd r (λ f. f ≡ e)
+pub stopped : {A B : Type 0} {e : ServeFault} {r : Result B ServeFault} {a b : Option (List ℕ)} {x : List ℕ} (y : List ℕ)
+    → Writes {A = A} a b (Err e) x → IsErrAnd r (λ f. f ≡ e)
     → Writes a b r (x ++ y)
 stopped {r = Ok v} y h k = absurd k
 stopped {r = Err f} {a = a} {b = b} {x = x} y h k = record { whole = tt; part = front_longer a b x y h.part; fault = k ∙ h.fault }
@@ -38,37 +42,45 @@ pub record Progress (a b : Option (List ℕ)) (bytes rest : List ℕ) : Type 0 w
 pub progress_begins : (a : Option (List ℕ)) (bytes : List ℕ) → Progress a a bytes bytes
 progress_begins a bytes = record { done = []; all = refl; appends = Appends-nil a }
 
-pub progress_goes_on : (a b c : Option (List ℕ)) (bytes rest others : List ℕ) (n : ℕ) → Progress a b bytes rest → Appends b c (take n rest) → others ≡ drop n rest → Progress a c bytes others
+pub progress_goes_on : (a b c : Option (List ℕ)) (bytes rest others : List ℕ) (n : ℕ) → Progress a b bytes rest → Appends b c (take n rest)
+    → others ≡ drop n rest → Progress a c bytes others
 progress_goes_on a b c bytes rest others n p h e = record {
   done = p.done ++ take n rest;
-  all = p.all ∙ ap (λ t. p.done ++ t) (sym (take-append-drop n rest) ∙ ap (λ t. take n rest ++ t) (sym e)) ∙ sym (append_assoc p.done (take n rest) others);
+  all = p.all ∙ ap (λ t. p.done ++ t) (sym (take-append-drop n rest) ∙ ap (λ t. take n rest ++ t) (sym e))
+      ∙ sym (append_assoc p.done (take n rest) others);
   appends = Appends-trans a b c p.done (take n rest) p.appends h;
 }
 
-pub progress_ends : {A : Type 0} {u : A} (a b : Option (List ℕ)) (bytes rest : List ℕ) → Progress a b bytes rest → rest ≡ [] → Writes a b (Ok u) bytes
+pub progress_ends : {A : Type 0} {u : A} (a b : Option (List ℕ)) (bytes rest : List ℕ) → Progress a b bytes rest → rest ≡ []
+    → Writes a b (Ok u) bytes
 progress_ends a b bytes rest p e =
     let whole : bytes ≡ p.done = p.all ∙ ap (λ t. p.done ++ t) e ∙ append-nil p.done in
     let P : List ℕ → Type 0 = λ t. Appends a b t in
     record { whole = subst P (sym whole) p.appends; part = tt; fault = tt }
 
-pub progress_stops_behind : {A : Type 0} (a b c : Option (List ℕ)) (bytes rest : List ℕ) (n : ℕ) → Progress a b bytes rest → Appends b c (take n rest) → Writes {A = A} a c (Err Write) bytes
+pub progress_stops_behind : {A : Type 0} (a b c : Option (List ℕ)) (bytes rest : List ℕ) (n : ℕ) → Progress a b bytes rest
+    → Appends b c (take n rest) → Writes {A = A} a c (Err Write) bytes
 progress_stops_behind a b c bytes rest n p h =
     let q = progress_goes_on a b c bytes rest (drop n rest) n p h refl in
     record { whole = tt; part = (q.done, drop n rest, q.all, q.appends); fault = refl }
 
 -- the first of three texts was not written whole
-pub stopped_first : {A B : Type 0} {e : ServeFault} {r : Result B ServeFault} {a b : Option (List ℕ)} {x : List ℕ} (y z : List ℕ) → Writes {A = A} a b (Err e) x → IsErrAnd r (λ f. f ≡ e)
+pub stopped_first : {A B : Type 0} {e : ServeFault} {r : Result B ServeFault} {a b : Option (List ℕ)} {x : List ℕ} (y z : List ℕ)
+    → Writes {A = A} a b (Err e) x → IsErrAnd r (λ f. f ≡ e)
     → Writes a b r (x ++ y ++ z)
 stopped_first {x = x} y z h k = rw (append_assoc x y z) (stopped (y ++ z) h k)
 
 -- what was written is handed on
-pub writes_kept : {A B : Type 0} {u : A} {a b c : Option (List ℕ)} {r : Result B ServeFault} {x : List ℕ} → Writes {A = A} a b (Ok u) x → Keeps b c → IfErr r (λ f. f ≡ Write)
+pub writes_kept : {A B : Type 0} {u : A} {a b c : Option (List ℕ)} {r : Result B ServeFault} {x : List ℕ} → Writes {A = A} a b (Ok u) x
+    → Keeps b c → IfErr r (λ f. f ≡ Write)
     → Writes a c r x
 writes_kept {a = a} {b = b} {c = c} {r = Ok v} {x = x} h k e = record { whole = Appends-kept a b c x h.whole k; part = tt; fault = tt }
-writes_kept {a = a} {b = b} {c = c} {r = Err f} {x = x} h k e = record { whole = tt; part = (x, [], sym (append-nil x), Appends-kept a b c x h.whole k); fault = e }
+writes_kept {a = a} {b = b} {c = c} {r = Err f} {x = x} h k e = record
+    { whole = tt; part = (x, [], sym (append-nil x), Appends-kept a b c x h.whole k); fault = e }
 
 -- the next part of a text is written
-pub progress_more : {A : Type 0} {u : A} (a b c : Option (List ℕ)) (bytes rest part others : List ℕ) → Progress a b bytes rest → rest ≡ part ++ others → Writes b c (Ok u) part → Progress a c bytes others
+pub progress_more : {A : Type 0} {u : A} (a b c : Option (List ℕ)) (bytes rest part others : List ℕ) → Progress a b bytes rest
+    → rest ≡ part ++ others → Writes b c (Ok u) part → Progress a c bytes others
 progress_more a b c bytes rest part others p e h = record {
   done = p.done ++ part;
   all = p.all ∙ ap (λ t. p.done ++ t) e ∙ sym (append_assoc p.done part others);
@@ -76,7 +88,8 @@ progress_more a b c bytes rest part others p e h = record {
 }
 
 -- the next part of a text was not written whole
-pub progress_fails : {A B : Type 0} {e : ServeFault} {r : Result B ServeFault} (a b c : Option (List ℕ)) (bytes rest part others : List ℕ) → Progress a b bytes rest → rest ≡ part ++ others
+pub progress_fails : {A B : Type 0} {e : ServeFault} {r : Result B ServeFault} (a b c : Option (List ℕ)) (bytes rest part others : List ℕ)
+    → Progress a b bytes rest → rest ≡ part ++ others
     → Writes {A = A} b c (Err e) part → IsErrAnd r (λ f. f ≡ e) → Writes a c r bytes
 progress_fails {r = Ok v} a b c bytes rest part others p e h k = absurd k
 progress_fails {r = Err f} a b c bytes rest part others p e h k =

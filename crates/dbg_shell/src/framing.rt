@@ -85,7 +85,8 @@ impl Input {
 
     /// The bytes of a line.
     pub(crate) fn line(&self, span: Span) -> &[u8]
-        ensures { span.from ≤ span.to → span.to ≤ length self.now.bytes.items → result.now ≡ slice_range self.now.bytes.items span.from span.to }
+        ensures { span.from ≤ span.to → span.to ≤ length self.now.bytes.items → result.now ≡ slice_range self.now.bytes.items span.from
+            span.to }
     {
         self.bytes.get(span.from..span.to).unwrap_or(&[])
     }

@@ -34,7 +34,8 @@ fn tell<W: Write>(
     end: Served,
     writer: &mut W,
 ) -> Result<Served, ServeFault>
-    ensures written { Writes (W.contents writer.old) (W.contents writer.new) result (as_line (joined (first.now ∷ in_a_row piece_words pieces.now))) }
+    ensures written { Writes (W.contents writer.old) (W.contents writer.new) result
+        (as_line (joined (first.now ∷ in_a_row piece_words pieces.now))) }
     ensures served { IfOk result (λ served. served ≡ end) }
 {
     write_line(first, pieces, writer)?;

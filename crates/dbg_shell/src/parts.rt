@@ -338,7 +338,8 @@ pub(crate) fn write_line<W: Write>(
     pieces: &[Piece<'_>],
     writer: &mut W,
 ) -> Result<(), ServeFault>
-    ensures { Writes (W.contents writer.old) (W.contents writer.new) result (as_line (joined (first.now ∷ in_a_row piece_words pieces.now))) }
+    ensures { Writes (W.contents writer.old) (W.contents writer.new) result
+        (as_line (joined (first.now ∷ in_a_row piece_words pieces.now))) }
 {
     write_whole(writer, first)?;
     write_pieces(pieces, writer)?;

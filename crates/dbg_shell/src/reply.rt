@@ -19,7 +19,8 @@ fn print_accepted<'a, W: Write>(
     reply: &'a Reply,
     writer: &mut W,
 ) -> Result<(), ServeFault>
-    ensures { Writes (W.contents writer.old) (W.contents writer.new) result (as_line (reply_text (program_of program.now) None (Accepted reply.now))) }
+    ensures { Writes (W.contents writer.old) (W.contents writer.new) result
+        (as_line (reply_text (program_of program.now) None (Accepted reply.now))) }
 {
     let halted = Piece::Halted(reply.halted);
     match &reply.done {
@@ -46,7 +47,8 @@ fn print_answer<'a, W: Write>(
     answer: &'a Answer,
     writer: &mut W,
 ) -> Result<(), ServeFault>
-    ensures { Writes (W.contents writer.old) (W.contents writer.new) result (as_line (reply_text (program_of program.now) (Some query.now) (Answered answer.now))) }
+    ensures { Writes (W.contents writer.old) (W.contents writer.new) result
+        (as_line (reply_text (program_of program.now) (Some query.now) (Answered answer.now))) }
 {
     let told = Piece::Answer(program, *query, answer);
     match query {
@@ -73,7 +75,8 @@ pub fn print_reply<W: Write>(
     said: &Said,
     writer: &mut W,
 ) -> Result<(), ServeFault>
-    ensures { Writes (W.contents writer.old) (W.contents writer.new) result (as_line (reply_text (program_of program.now) (asked_query call.now) said.now)) }
+    ensures { Writes (W.contents writer.old) (W.contents writer.new) result
+        (as_line (reply_text (program_of program.now) (asked_query call.now) said.now)) }
 {
     match said {
         Said::Accepted(reply) => print_accepted(program, reply, writer),

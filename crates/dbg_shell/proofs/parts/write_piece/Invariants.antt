@@ -6,4 +6,5 @@ use Rattle.dbg_shell.proofs.parts.write_piece.Given as goal
 
 abbrev pub invariant-loop-place : goal.invariant-loop-place
 invariant-loop-place g l =
-    Progress (g.W.Write.contents l.fn.writer) (g.W.Write.contents l.writer) (spaced (piece_words l.piece)) (spaced (drop l.place (piece_words l.piece)))
+    Progress (g.W.Write.contents l.fn.writer) (g.W.Write.contents l.writer) (spaced (piece_words l.piece))
+    (spaced (drop l.place (piece_words l.piece)))

@@ -8,10 +8,12 @@ loop-piece-init g c = rw (row_spaced piece_words c.args.pieces.now) (progress_be
 
 pub returns-in_err-write_piece : goal.returns-in_err-write_piece
 returns-in_err-write_piece g c =
-    progress_fails _ _ _ _ _ _ _ c.loop-piece.invariant (next_read (λ p. spaced (piece_words p)) c.args.pieces.now _ _ c.loop-piece-test.true c.piece-item.is)
+    progress_fails _ _ _ _ _ _ _ c.loop-piece.invariant
+    (next_read (λ p. spaced (piece_words p)) c.args.pieces.now _ _ c.loop-piece-test.true c.piece-item.is)
     c.in_err-write_piece.ensures c.from_residual.ensures.1
 
 pub loop-piece-preserved : goal.loop-piece-preserved
 loop-piece-preserved g c =
-    progress_more _ _ _ _ _ _ _ c.loop-piece.invariant (next_read (λ p. spaced (piece_words p)) c.args.pieces.now _ _ c.loop-piece-test.true c.piece-item.is)
+    progress_more _ _ _ _ _ _ _ c.loop-piece.invariant
+    (next_read (λ p. spaced (piece_words p)) c.args.pieces.now _ _ c.loop-piece-test.true c.piece-item.is)
     c.in_ok-write_piece.ensures

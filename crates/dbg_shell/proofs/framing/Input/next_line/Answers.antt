@@ -12,4 +12,5 @@ returns-in-Some-clause-tells g c =
 
 pub returns-in_err-read_more-clause-reads : goal.returns-in_err-read_more-clause-reads
 returns-in_err-read_more-clause-reads g c =
-    reads_then (reads_same c.loop-next.invariant.reads (ap (λ v. v.items) c.ready.ensures.bytes) c.ready.ensures.ended) c.read_more.ensures.reads
+    reads_then (reads_same c.loop-next.invariant.reads (ap (λ v. v.items) c.ready.ensures.bytes) c.ready.ensures.ended)
+    c.read_more.ensures.reads
