@@ -97,7 +97,8 @@ module _ (bytes : List ℕ) (ended : Bool) (begin new : ℕ) (end : TextEnd) (be
     here to is input may = split_here bytes ended begin new end begun splits to is input may
 
     -- a line ended the text
-    module _ (text : List ℕ) (span : Span) (is : end ≡ ends.Before span) (seen : span.from ≤ length bytes → text ≡ take span.from bytes) where
+    module _ (text : List ℕ) (span : Span) (is : end ≡ ends.Before span)
+        (seen : span.from ≤ length bytes → text ≡ take span.from bytes) where
       text_before : (input : List ℕ) → MayBe bytes ended input → (served : Served) (out : List ℕ) → ChecksText text served out
           → ChecksInput input served out
       text_before input may served out checks =
@@ -112,7 +113,8 @@ module _ (bytes : List ℕ) (ended : Bool) (begin new : ℕ) (end : TextEnd) (be
       checks_before None (Ok served) old out may wrote = tt
       checks_before (Some input) (Ok served) old out may wrote = (wrote.0, text_before input may served wrote.0 wrote.1, wrote.2)
 
-      pub cut_before : (known : Option (List ℕ)) (r : Result Served ServeFault) (old out : Option (List ℕ)) → IfSome known (MayBe bytes ended)
+      pub cut_before : (known : Option (List ℕ)) (r : Result Served ServeFault) (old out : Option (List ℕ))
+          → IfSome known (MayBe bytes ended)
           → StopsText text r old out → CutKnown known r old out
       cut_before known (Ok served) old out may wrote = tt
       cut_before None (Err fault) old out may wrote = λ is_write. tt
@@ -133,13 +135,15 @@ module _ (bytes : List ℕ) (ended : Bool) (begin new : ℕ) (end : TextEnd) (be
           subst (λ (o : Option Parts). ChecksParts input o served out) (sym (all_from_start input ∙ told.0))
           (rw short (subst (λ (t : List ℕ). ChecksText t served out) (seen ∙ whole) checks))
 
-      pub checks_all : (known : Option (List ℕ)) (r : Result Served ServeFault) (old out : Option (List ℕ)) → IfSome known (MayBe bytes ended)
+      pub checks_all : (known : Option (List ℕ)) (r : Result Served ServeFault) (old out : Option (List ℕ))
+          → IfSome known (MayBe bytes ended)
           → IfOk r (λ served. WritesSome old out (ChecksText text served)) → ChecksKnown known r old out
       checks_all known (Err fault) old out may wrote = tt
       checks_all None (Ok served) old out may wrote = tt
       checks_all (Some input) (Ok served) old out may wrote = (wrote.0, text_whole input may served wrote.0 wrote.1, wrote.2)
 
-      pub cut_all : (known : Option (List ℕ)) (r : Result Served ServeFault) (old out : Option (List ℕ)) → IfSome known (MayBe bytes ended)
+      pub cut_all : (known : Option (List ℕ)) (r : Result Served ServeFault) (old out : Option (List ℕ))
+          → IfSome known (MayBe bytes ended)
           → StopsText text r old out → CutKnown known r old out
       cut_all known (Ok served) old out may wrote = tt
       cut_all None (Err fault) old out may wrote = λ is_write. tt

@@ -171,7 +171,8 @@ module _ (bytes : List ℕ) (ended : Bool) (begin new : ℕ) (end : TextEnd) (be
             P,
             subst (λ (t : List ℕ). Reads t P) (text_from_start bytes text span.from (seen here.1)) reads,
             broken.wrote.1.0,
-            subst (λ (lines : List (List ℕ)). AnswersLines P lines (opening_state P) out broken.wrote.1.0) (sym (on.whole new (omega arith)))
+            subst (λ (lines : List (List ℕ)). AnswersLines P lines (opening_state P) out broken.wrote.1.0)
+                (sym (on.whole new (omega arith)))
                 broken.wrote.1.1,
           )
 
@@ -223,7 +224,8 @@ module _ (bytes : List ℕ) (ended : Bool) (begin new : ℕ) (end : TextEnd) (be
       stops_no_fault known (Ok served) old out may = tt
       stops_no_fault None (Err fault) old out may = λ is_write. tt
       stops_no_fault (Some input) (Err fault) old out may =
-          λ is_write is_served. absurd (not_served input bytes text new span (split_here (ends.Before span) is input may) seen none is_served)
+          λ is_write is_served.
+          absurd (not_served input bytes text new span (split_here (ends.Before span) is input may) seen none is_served)
 
     pub serves_no_end_line : (known : Option (List ℕ)) (r : Result Served ServeFault) (old out : Option (List ℕ))
         → IfSome known (MayBe bytes ended)
