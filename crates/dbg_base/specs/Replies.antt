@@ -1,5 +1,5 @@
--- The text of a reply, without its line end.
-use Rattle.std.specs.Prelude.{ℕ, ℤ, Bool, true, false, List, [], ◌++◌, map, Option, Some, None, Result, Ok, Err, codes}
+-- The words of a reply, and its text, without a line end.
+use Rattle.std.specs.Prelude.{ℕ, ℤ, Bool, true, false, List, [], ◌∷◌, ◌++◌, map, Option, Some, None, Result, Ok, Err, codes}
 use Rattle.std.specs.List.{flat_map, zip}
 use Rattle.std.specs.Fmt.{decimal, signed_decimal}
 use Rattle.dbg_base.specs.declared.ids.Pid.{Pid}
@@ -18,68 +18,90 @@ use Rattle.dbg_base.specs.declared.refusal.Refusal.TheVariants.{Consequence, Hal
 use Rattle.dbg_base.specs.Refusals.{number_of}
 use Rattle.dbg_base.specs.Trees.{Program, process_of, names_of}
 
--- a part of the line, with the space before it
-abbrev pub part : List ℕ → List ℕ
-part text = codes " " ++ text
+-- words, each with a space before it
+abbrev pub spaced : List (List ℕ) → List ℕ
+spaced words = flat_map (λ word. codes " " ++ word) words
 
--- a name with what belongs to it
-abbrev pub pair_part : List ℕ × List ℕ → List ℕ
-pair_part pair = part (pair.0 ++ codes "=" ++ pair.1)
-
-abbrev pub pair_parts : List (List ℕ) → List (List ℕ) → List ℕ
-pair_parts names texts = flat_map pair_part (zip names texts)
+-- words, with a space between each and the next
+abbrev pub joined : List (List ℕ) → List ℕ
+joined [] = []
+joined (word ∷ words) = word ++ spaced words
 
 -- the name of a process
 abbrev pub name_of : Program → Pid → List ℕ
 name_of P pid = (process_of P pid.0).name
 
+-- a name with what belongs to it
+abbrev pub pair_word : List ℕ × List ℕ → List ℕ
+pair_word pair = pair.0 ++ codes "=" ++ pair.1
+
+-- each name with what belongs to it
+abbrev pub pair_words : List (List ℕ) → List (List ℕ) → List (List ℕ)
+pair_words names texts = map pair_word (zip names texts)
+
 -- a count for each process
-abbrev pub count_parts : Program → List ℕ → List ℕ
-count_parts P counts = pair_parts (names_of P) (map decimal counts)
+abbrev pub count_words : Program → List ℕ → List (List ℕ)
+count_words P counts = pair_words (names_of P) (map decimal counts)
 
 -- a value for each variable of the process
-abbrev pub value_parts : Program → Pid → List ℤ → List ℕ
-value_parts P pid values =
-    pair_parts (map (λ variable. variable.0) (process_of P pid.0).variables) (map signed_decimal values)
+abbrev pub value_words : Program → Pid → List ℤ → List (List ℕ)
+value_words P pid values = pair_words (map (λ variable. variable.0) (process_of P pid.0).variables) (map signed_decimal values)
 
+-- a count, or that there is none further
 abbrev pub head_text : Head → List ℕ
 head_text (At count) = decimal count
 head_text Past = codes "past"
 
+-- a component of a frontier for each process
+abbrev pub head_words : Program → List Head → List (List ℕ)
+head_words P heads = pair_words (names_of P) (map head_text heads)
+
+-- is a breakpoint armed
 abbrev pub mark_text : Bool → List ℕ
 mark_text true = codes "on"
 mark_text false = codes "off"
 
--- the number of a refusal, and the name or the seat that it carries
-abbrev pub carried_text : Program → Refusal → List ℕ
-carried_text P (Consequence pid) = part (name_of P pid)
-carried_text P (Halted name) = part name
-carried_text P (OtherSeat seat) = part (decimal seat)
-carried_text P refusal = []
+-- a breakpoint, and its mark behind a space
+abbrev pub mark_word : List ℕ × Bool → List ℕ
+mark_word m = m.0 ++ codes " " ++ mark_text m.1
 
+-- the name or the seat that a refusal carries
+abbrev pub carried_words : Program → Refusal → List (List ℕ)
+carried_words P (Consequence pid) = name_of P pid ∷ []
+carried_words P (Halted name) = name ∷ []
+carried_words P (OtherSeat seat) = decimal seat ∷ []
+carried_words P refusal = []
+
+-- the number of a refusal, and what it carries
+abbrev pub refusal_words : Program → Refusal → List (List ℕ)
+refusal_words P refusal = decimal (number_of refusal) ∷ carried_words P refusal
+
+-- the line that refuses a call
 abbrev pub refusal_text : Program → Refusal → List ℕ
-refusal_text P refusal = codes "no " ++ decimal (number_of refusal) ++ carried_text P refusal
+refusal_text P refusal = joined (codes "no" ∷ refusal_words P refusal)
 
-abbrev pub done_text : Program → Done → List ℕ
-done_text P (Played pid choice) = codes "ok" ++ part (name_of P pid) ++ part (decimal choice.0)
-done_text P (Undone pid choice) = codes "ok" ++ part (name_of P pid) ++ part (decimal choice.0)
-done_text P (Places cut) = codes "ok" ++ count_parts P cut
-done_text P Plain = codes "ok"
+-- what a command did
+abbrev pub done_words : Program → Done → List (List ℕ)
+done_words P (Played pid choice) = name_of P pid ∷ decimal choice.0 ∷ []
+done_words P (Undone pid choice) = name_of P pid ∷ decimal choice.0 ∷ []
+done_words P (Places cut) = count_words P cut
+done_words P Plain = []
 
-abbrev pub halted_text : Option (List ℕ) → List ℕ
-halted_text None = []
-halted_text (Some name) = codes " halted" ++ part name
+-- the breakpoint that halts the session, if any
+abbrev pub halted_words : Option (List ℕ) → List (List ℕ)
+halted_words None = []
+halted_words (Some name) = codes "halted" ∷ name ∷ []
 
 -- the words of a query, which its answer repeats
-abbrev pub query_text : Program → Query → List ℕ
-query_text P (Vars pid) = codes "vars" ++ part (name_of P pid)
-query_text P (Chan source target) = codes "chan" ++ part (name_of P source) ++ part (name_of P target)
-query_text P (Clock pid) = codes "clock" ++ part (name_of P pid)
-query_text P (Place pid) = codes "place" ++ part (name_of P pid)
-query_text P (Can pid) = codes "can" ++ part (name_of P pid)
-query_text P (CutOf name) = codes "cut" ++ part name
-query_text P (Why name) = codes "why" ++ part name
-query_text P Breaks = codes "breaks"
+abbrev pub query_words : Program → Query → List (List ℕ)
+query_words P (Vars pid) = codes "vars" ∷ name_of P pid ∷ []
+query_words P (Chan source target) = codes "chan" ∷ name_of P source ∷ name_of P target ∷ []
+query_words P (Clock pid) = codes "clock" ∷ name_of P pid ∷ []
+query_words P (Place pid) = codes "place" ∷ name_of P pid ∷ []
+query_words P (Can pid) = codes "can" ∷ name_of P pid ∷ []
+query_words P (CutOf name) = codes "cut" ∷ name ∷ []
+query_words P (Why name) = codes "why" ∷ name ∷ []
+query_words P Breaks = codes "breaks" ∷ []
 
 -- the process that a query is about
 abbrev pub subject_of : Query → Pid
@@ -90,32 +112,34 @@ subject_of (Place pid) = pid
 subject_of (Can pid) = pid
 subject_of query = record { 0 = 0 }
 
-abbrev pub cut_text : Program → Option (List ℕ) → List ℕ
-cut_text P None = codes " none"
-cut_text P (Some cut) = count_parts P cut
+-- a breakpoint's cut, if it has one
+abbrev pub cut_words : Program → Option (List ℕ) → List (List ℕ)
+cut_words P None = codes "none" ∷ []
+cut_words P (Some cut) = count_words P cut
 
-abbrev pub can_text : Program → Result (Unit {0}) Refusal → List ℕ
-can_text P (Ok done) = codes " yes"
-can_text P (Err refusal) = part (refusal_text P refusal)
+-- may an event be undone, or why not
+abbrev pub can_words : Program → Result (Unit {0}) Refusal → List (List ℕ)
+can_words P (Ok done) = codes "yes" ∷ []
+can_words P (Err refusal) = codes "no" ∷ refusal_words P refusal
 
 -- what was answered, behind the words of the query
-abbrev pub answer_text : Program → Query → Answer → List ℕ
-answer_text P query (Values values) = value_parts P (subject_of query) values
-answer_text P query (Messages messages) = flat_map (λ z. part (signed_decimal z)) messages
-answer_text P query (Counts cut) = count_parts P cut
-answer_text P query (PlaceOf at line) = part (decimal at) ++ codes " of" ++ part (decimal line)
-answer_text P query (CanUndo outcome) = can_text P outcome
-answer_text P query (CutIs cut) = cut_text P cut
-answer_text P query (Frontier heads) = pair_parts (names_of P) (map head_text heads)
-answer_text P query (Marks marks) = flat_map (λ m. part m.0 ++ part (mark_text m.1)) marks
+abbrev pub answer_words : Program → Query → Answer → List (List ℕ)
+answer_words P query (Values values) = value_words P (subject_of query) values
+answer_words P query (Messages messages) = map signed_decimal messages
+answer_words P query (Counts cut) = count_words P cut
+answer_words P query (PlaceOf at line) = decimal at ∷ codes "of" ∷ decimal line ∷ []
+answer_words P query (CanUndo outcome) = can_words P outcome
+answer_words P query (CutIs cut) = cut_words P cut
+answer_words P query (Frontier heads) = head_words P heads
+answer_words P query (Marks marks) = map mark_word marks
 
--- the query's words and its answer; a command is not answered so
-abbrev pub asked_text : Program → Option Query → Answer → List ℕ
-asked_text P (Some query) given = query_text P query ++ answer_text P query given
-asked_text P None given = []
+-- the words of the line that answers a question, or a command
+abbrev pub reply_words : Program → Option Query → Said → List (List ℕ)
+reply_words P query (Accepted reply) = codes "ok" ∷ (done_words P reply.done ++ halted_words reply.halted)
+reply_words P (Some query) (Answered given) = query_words P query ++ answer_words P query given
+reply_words P None (Answered given) = []
+reply_words P query (Refused refusal) = codes "no" ∷ refusal_words P refusal
 
--- the line that answers a call, where this query was asked, if one was
+-- and its text
 abbrev pub reply_text : Program → Option Query → Said → List ℕ
-reply_text P query (Accepted reply) = done_text P reply.done ++ halted_text reply.halted
-reply_text P query (Answered given) = asked_text P query given
-reply_text P query (Refused refusal) = refusal_text P refusal
+reply_text P query said = joined (reply_words P query said)

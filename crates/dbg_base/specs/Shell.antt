@@ -16,7 +16,7 @@ use Rattle.dbg_base.specs.ModelStates.{ModelState, opening_state}
 use Rattle.dbg_base.specs.Acts.{Refuses, Acts}
 use Rattle.dbg_base.specs.Views.{answer}
 use Rattle.dbg_base.specs.CommandLines.{Request, without_return, parsed_line}
-use Rattle.dbg_base.specs.Replies.{reply_text, refusal_text}
+use Rattle.dbg_base.specs.Replies.{joined, reply_text, refusal_text}
 
 -- The whole lines of some bytes, without their line ends, and the bytes behind the last line end.
 pub record Lines : Type 0 where
@@ -115,13 +115,17 @@ too_long_text = as_line (codes "input too long")
 abbrev pub end_text : List ℕ → List ℕ
 end_text input = if is_too_long input then too_long_text else []
 
+-- how it is told that no line ends the program text
+abbrev pub no_end_line_text : List ℕ
+no_end_line_text = as_line (codes "program refused: no end line")
+
 -- what is written where no end line was read
 abbrev pub no_end_text : List ℕ → List ℕ
-no_end_text input = if is_too_long input then too_long_text else as_line (codes "program refused: no end line")
+no_end_text input = if is_too_long input then too_long_text else no_end_line_text
 
 -- how a program fault is told
 abbrev pub fault_text : ProgFault → List ℕ
-fault_text fault = as_line (codes "program refused " ++ decimal (kind_number fault.kind) ++ codes " at " ++ decimal fault.at)
+fault_text fault = as_line (joined (codes "program refused" ∷ decimal (kind_number fault.kind) ∷ codes "at" ∷ decimal fault.at ∷ []))
 
 -- the program was read, and each line behind it was answered in turn
 abbrev pub AnswersCommands : List ℕ → Parts → List ℕ → Type 0

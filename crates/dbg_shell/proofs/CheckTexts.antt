@@ -30,7 +30,8 @@ take_on (process ∷ P) (suc i) h =
     let longer : suc i + 1 ≡ suc (i + 1) = omega arith in
     ap (λ (n : ℕ). take n (process ∷ P)) longer ∙ ap (λ (others : Program). process ∷ others) (take_on P i (omega arith))
 
-pub count_on : (P : Program) (i : ℕ) → i < length P → command_count (take (i + 1) P) ≡ command_count (take i P) + length (process_of P i).commands
+pub count_on : (P : Program) (i : ℕ) → i < length P
+    → command_count (take (i + 1) P) ≡ command_count (take i P) + length (process_of P i).commands
 count_on P i h =
     let commands : ℕ = length (process_of P i).commands in
     let one : 0 + commands ≡ commands = omega arith in
@@ -47,11 +48,15 @@ module _ (P : Program) (text : List ℕ) (processes commands : ℕ) (reads : Rea
   size_here : ChecksText text outcomes.Done (size_text processes commands)
   size_here = inl (P, reads, small, refl, ap (λ (n : ℕ). size_text n commands) few ∙ ap (λ (n : ℕ). size_text (length P) n) count)
 
-  pub tells_size : (r : Result Served ServeFault) → Writes old out r (size_text processes commands) → IfOk r (λ served. served ≡ outcomes.Done)
+  pub tells_size : (r : Result Served ServeFault) → Writes old out r (size_text processes commands)
+      → IfOk r (λ served. served ≡ outcomes.Done)
       → IfOk r (λ served. WritesSome old out (ChecksText text served))
   tells_size (Err fault) wrote same = tt
-  tells_size (Ok served) wrote same =
-      (size_text processes commands, subst (λ (s : Served). ChecksText text s (size_text processes commands)) (sym same) size_here, wrote.whole)
+  tells_size (Ok served) wrote same = (
+    size_text processes commands,
+    subst (λ (s : Served). ChecksText text s (size_text processes commands)) (sym same) size_here,
+    wrote.whole,
+  )
 
   pub stops_size : (r : Result Served ServeFault) → Writes old out r (size_text processes commands) → StopsText text r old out
   stops_size (Ok served) wrote = tt
@@ -63,11 +68,15 @@ module _ (fault : ProgFault) (text : List ℕ) (refused : IsRefusal text (Bad fa
   fault_here : ChecksText text outcomes.Refused (fault_text fault)
   fault_here = inr (λ small. none small.0 small.1 small.2, refl, (fault, refused, refl))
 
-  pub tells_fault : (r : Result Served ServeFault) → Writes old out r (fault_text fault) → IfOk r (λ served. served ≡ outcomes.Refused)
+  pub tells_fault : (r : Result Served ServeFault) → Writes old out r (fault_text fault)
+      → IfOk r (λ served. served ≡ outcomes.Refused)
       → IfOk r (λ served. WritesSome old out (ChecksText text served))
   tells_fault (Err e) wrote same = tt
-  tells_fault (Ok served) wrote same =
-      (fault_text fault, subst (λ (s : Served). ChecksText text s (fault_text fault)) (sym same) fault_here, wrote.whole)
+  tells_fault (Ok served) wrote same = (
+    fault_text fault,
+    subst (λ (s : Served). ChecksText text s (fault_text fault)) (sym same) fault_here,
+    wrote.whole,
+  )
 
   pub stops_fault : (r : Result Served ServeFault) → Writes old out r (fault_text fault) → StopsText text r old out
   stops_fault (Ok served) wrote = tt
@@ -79,78 +88,91 @@ ChecksKnown known r old out = IfOk r (λ served. IfSome known (λ input. WritesS
 
 -- and where the writer failed
 abbrev pub CutKnown : Option (List ℕ) → Result Served ServeFault → Option (List ℕ) → Option (List ℕ) → Type 0
-CutKnown known r old out = IfErr r (λ fault. fault ≡ Write → IfSome known (λ input. (served : Served) × WritesFront old out (ChecksInput input served)))
+CutKnown known r old out = IfErr r
+    (λ fault. fault ≡ Write → IfSome known (λ input. (served : Served) × WritesFront old out (ChecksInput input served)))
 
-module _ (bytes : List ℕ) (ended : Bool) (begin new : ℕ) (end : TextEnd) (begun : begin ≡ 0) (splits : SplitsAny bytes ended begin new end) where
-  here : (to : TextEnd) → end ≡ to → (input : List ℕ) → MayBe bytes ended input → Splits input bytes 0 new to
-  here to is input may = split_here bytes ended begin new end begun splits to is input may
+module _ (bytes : List ℕ) (ended : Bool) (begin new : ℕ) (end : TextEnd) (begun : begin ≡ 0) (splits : SplitsAny bytes ended begin new end)
+  where
+    here : (to : TextEnd) → end ≡ to → (input : List ℕ) → MayBe bytes ended input → Splits input bytes 0 new to
+    here to is input may = split_here bytes ended begin new end begun splits to is input may
 
-  -- a line ended the text
-  module _ (text : List ℕ) (span : Span) (is : end ≡ ends.Before span) (seen : span.from ≤ length bytes → text ≡ take span.from bytes) where
-    text_before : (input : List ℕ) → MayBe bytes ended input → (served : Served) (out : List ℕ) → ChecksText text served out → ChecksInput input served out
-    text_before input may served out checks =
-        let told : Splits input bytes 0 new (ends.Before span) = here (ends.Before span) is input may in
-        subst (λ (o : Option Parts). ChecksParts input o served out) (sym (all_from_start input ∙ told.0))
-        (subst (λ (t : List ℕ). ChecksText t served out) (text_from_start bytes text span.from (seen told.1)) checks)
+    -- a line ended the text
+    module _ (text : List ℕ) (span : Span) (is : end ≡ ends.Before span)
+        (seen : span.from ≤ length bytes → text ≡ take span.from bytes) where
+      text_before : (input : List ℕ) → MayBe bytes ended input → (served : Served) (out : List ℕ) → ChecksText text served out
+          → ChecksInput input served out
+      text_before input may served out checks =
+          let told : Splits input bytes 0 new (ends.Before span) = here (ends.Before span) is input may in
+          subst (λ (o : Option Parts). ChecksParts input o served out) (sym (all_from_start input ∙ told.0))
+          (subst (λ (t : List ℕ). ChecksText t served out) (text_from_start bytes text span.from (seen told.1)) checks)
 
-    pub checks_before : (known : Option (List ℕ)) (r : Result Served ServeFault) (old out : Option (List ℕ)) → IfSome known (MayBe bytes ended)
-        → IfOk r (λ served. WritesSome old out (ChecksText text served)) → ChecksKnown known r old out
-    checks_before known (Err fault) old out may wrote = tt
-    checks_before None (Ok served) old out may wrote = tt
-    checks_before (Some input) (Ok served) old out may wrote = (wrote.0, text_before input may served wrote.0 wrote.1, wrote.2)
+      pub checks_before : (known : Option (List ℕ)) (r : Result Served ServeFault) (old out : Option (List ℕ))
+          → IfSome known (MayBe bytes ended)
+          → IfOk r (λ served. WritesSome old out (ChecksText text served)) → ChecksKnown known r old out
+      checks_before known (Err fault) old out may wrote = tt
+      checks_before None (Ok served) old out may wrote = tt
+      checks_before (Some input) (Ok served) old out may wrote = (wrote.0, text_before input may served wrote.0 wrote.1, wrote.2)
 
-    pub cut_before : (known : Option (List ℕ)) (r : Result Served ServeFault) (old out : Option (List ℕ)) → IfSome known (MayBe bytes ended)
-        → StopsText text r old out → CutKnown known r old out
-    cut_before known (Ok served) old out may wrote = tt
-    cut_before None (Err fault) old out may wrote = λ is_write. tt
-    cut_before (Some input) (Err fault) old out may wrote =
-        λ is_write.
-        let told = wrote is_write in
-        (told.0, (told.1.0, text_before input may told.0 told.1.0 told.1.1, told.1.2))
+      pub cut_before : (known : Option (List ℕ)) (r : Result Served ServeFault) (old out : Option (List ℕ))
+          → IfSome known (MayBe bytes ended)
+          → StopsText text r old out → CutKnown known r old out
+      cut_before known (Ok served) old out may wrote = tt
+      cut_before None (Err fault) old out may wrote = λ is_write. tt
+      cut_before (Some input) (Err fault) old out may wrote =
+          λ is_write.
+          let told = wrote is_write in
+          (told.0, (told.1.0, text_before input may told.0 told.1.0 told.1.1, told.1.2))
 
-  -- the input ended the text
-  module _ (text : List ℕ) (is : end ≡ ends.End) (stopped : ended ≡ true) (seen : text ≡ bytes) where
-    text_whole : (input : List ℕ) → MayBe bytes ended input → (served : Served) (out : List ℕ) → ChecksText text served out → ChecksInput input served out
-    text_whole input may served out checks =
-        let told : Splits input bytes 0 new ends.End = here ends.End is input may in
-        let none : may.0 ≡ [] = may.2 stopped in
-        let whole : bytes ≡ input = sym (append-nil bytes) ∙ ap (λ (t : List ℕ). bytes ++ t) (sym none) ∙ sym may.1 in
-        let short : is_too_long input ≡ false = told.1 in
-        subst (λ (o : Option Parts). ChecksParts input o served out) (sym (all_from_start input ∙ told.0))
-        (rw short (subst (λ (t : List ℕ). ChecksText t served out) (seen ∙ whole) checks))
+    -- the input ended the text
+    module _ (text : List ℕ) (is : end ≡ ends.End) (stopped : ended ≡ true) (seen : text ≡ bytes) where
+      text_whole : (input : List ℕ) → MayBe bytes ended input → (served : Served) (out : List ℕ) → ChecksText text served out
+          → ChecksInput input served out
+      text_whole input may served out checks =
+          let told : Splits input bytes 0 new ends.End = here ends.End is input may in
+          let none : may.0 ≡ [] = may.2 stopped in
+          let whole : bytes ≡ input = sym (append-nil bytes) ∙ ap (λ (t : List ℕ). bytes ++ t) (sym none) ∙ sym may.1 in
+          let short : is_too_long input ≡ false = told.1 in
+          subst (λ (o : Option Parts). ChecksParts input o served out) (sym (all_from_start input ∙ told.0))
+          (rw short (subst (λ (t : List ℕ). ChecksText t served out) (seen ∙ whole) checks))
 
-    pub checks_all : (known : Option (List ℕ)) (r : Result Served ServeFault) (old out : Option (List ℕ)) → IfSome known (MayBe bytes ended)
-        → IfOk r (λ served. WritesSome old out (ChecksText text served)) → ChecksKnown known r old out
-    checks_all known (Err fault) old out may wrote = tt
-    checks_all None (Ok served) old out may wrote = tt
-    checks_all (Some input) (Ok served) old out may wrote = (wrote.0, text_whole input may served wrote.0 wrote.1, wrote.2)
+      pub checks_all : (known : Option (List ℕ)) (r : Result Served ServeFault) (old out : Option (List ℕ))
+          → IfSome known (MayBe bytes ended)
+          → IfOk r (λ served. WritesSome old out (ChecksText text served)) → ChecksKnown known r old out
+      checks_all known (Err fault) old out may wrote = tt
+      checks_all None (Ok served) old out may wrote = tt
+      checks_all (Some input) (Ok served) old out may wrote = (wrote.0, text_whole input may served wrote.0 wrote.1, wrote.2)
 
-    pub cut_all : (known : Option (List ℕ)) (r : Result Served ServeFault) (old out : Option (List ℕ)) → IfSome known (MayBe bytes ended)
-        → StopsText text r old out → CutKnown known r old out
-    cut_all known (Ok served) old out may wrote = tt
-    cut_all None (Err fault) old out may wrote = λ is_write. tt
-    cut_all (Some input) (Err fault) old out may wrote =
-        λ is_write.
-        let told = wrote is_write in
-        (told.0, (told.1.0, text_whole input may told.0 told.1.0 told.1.1, told.1.2))
+      pub cut_all : (known : Option (List ℕ)) (r : Result Served ServeFault) (old out : Option (List ℕ))
+          → IfSome known (MayBe bytes ended)
+          → StopsText text r old out → CutKnown known r old out
+      cut_all known (Ok served) old out may wrote = tt
+      cut_all None (Err fault) old out may wrote = λ is_write. tt
+      cut_all (Some input) (Err fault) old out may wrote =
+          λ is_write.
+          let told = wrote is_write in
+          (told.0, (told.1.0, text_whole input may told.0 told.1.0 told.1.1, told.1.2))
 
-  -- the text does not end
-  module _ (is : end ≡ ends.TooLong) where
-    too_long_here : (input : List ℕ) → MayBe bytes ended input → ChecksInput input outcomes.TooLong too_long_text
-    too_long_here input may =
-        let told : Splits input bytes 0 new ends.TooLong = here ends.TooLong is input may in
-        let long : is_too_long input ≡ true = told.1 in
-        subst (λ (o : Option Parts). ChecksParts input o outcomes.TooLong too_long_text) (sym (all_from_start input ∙ told.0)) (rw long (refl, refl))
+    -- the text does not end
+    module _ (is : end ≡ ends.TooLong) where
+      too_long_here : (input : List ℕ) → MayBe bytes ended input → ChecksInput input outcomes.TooLong too_long_text
+      too_long_here input may =
+          let told : Splits input bytes 0 new ends.TooLong = here ends.TooLong is input may in
+          let long : is_too_long input ≡ true = told.1 in
+          subst (λ (o : Option Parts). ChecksParts input o outcomes.TooLong too_long_text) (sym (all_from_start input ∙ told.0))
+          (rw long (refl, refl))
 
-    pub checks_too_long : (known : Option (List ℕ)) (r : Result Served ServeFault) (old out : Option (List ℕ)) → IfSome known (MayBe bytes ended)
-        → Writes old out r too_long_text → IfOk r (λ served. served ≡ outcomes.TooLong) → ChecksKnown known r old out
-    checks_too_long known (Err fault) old out may wrote same = tt
-    checks_too_long None (Ok served) old out may wrote same = tt
-    checks_too_long (Some input) (Ok served) old out may wrote same =
-        (too_long_text, subst (λ (s : Served). ChecksInput input s too_long_text) (sym same) (too_long_here input may), wrote.whole)
+      pub checks_too_long : (known : Option (List ℕ)) (r : Result Served ServeFault) (old out : Option (List ℕ))
+          → IfSome known (MayBe bytes ended)
+          → Writes old out r too_long_text → IfOk r (λ served. served ≡ outcomes.TooLong) → ChecksKnown known r old out
+      checks_too_long known (Err fault) old out may wrote same = tt
+      checks_too_long None (Ok served) old out may wrote same = tt
+      checks_too_long (Some input) (Ok served) old out may wrote same =
+          (too_long_text, subst (λ (s : Served). ChecksInput input s too_long_text) (sym same) (too_long_here input may), wrote.whole)
 
-    pub cut_too_long : (known : Option (List ℕ)) (r : Result Served ServeFault) (old out : Option (List ℕ)) → IfSome known (MayBe bytes ended)
-        → Writes old out r too_long_text → CutKnown known r old out
-    cut_too_long known (Ok served) old out may wrote = tt
-    cut_too_long None (Err fault) old out may wrote = λ is_write. tt
-    cut_too_long (Some input) (Err fault) old out may wrote = λ is_write. (outcomes.TooLong, (too_long_text, too_long_here input may, wrote.part))
+      pub cut_too_long : (known : Option (List ℕ)) (r : Result Served ServeFault) (old out : Option (List ℕ))
+          → IfSome known (MayBe bytes ended)
+          → Writes old out r too_long_text → CutKnown known r old out
+      cut_too_long known (Ok served) old out may wrote = tt
+      cut_too_long None (Err fault) old out may wrote = λ is_write. tt
+      cut_too_long (Some input) (Err fault) old out may wrote = λ is_write.
+          (outcomes.TooLong, (too_long_text, too_long_here input may, wrote.part))

@@ -1,9 +1,10 @@
 pub mod Writing
+pub mod Pairs
 pub mod Histories
 pub mod Words
+pub mod Reading
 pub mod LineEnds
 pub mod UnderWay
-pub mod Pairs
 pub mod Splits
 pub mod Requests
 pub mod LineReplies

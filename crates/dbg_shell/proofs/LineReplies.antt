@@ -34,7 +34,8 @@ pub record Answered (P : Program) (whole : List ℕ) (from at : ℕ) (M : ModelS
   pub goes_on : (others : List ℕ) (last : ModelState) → AnswersLines P (lines_from at whole) M others last
       → AnswersLines P (lines_from from whole) (opening_state P) (text ++ others) last
 
-pub answered_begins : (P : Program) (whole : List ℕ) (from : ℕ) (M : ModelState) (a : Option (List ℕ)) → M ≡ opening_state P → Answered P whole from from M a a
+pub answered_begins : (P : Program) (whole : List ℕ) (from : ℕ) (M : ModelState) (a : Option (List ℕ)) → M ≡ opening_state P
+    → Answered P whole from from M a a
 answered_begins P whole from M a e = record {
   text = [];
   written = Appends-nil a;
@@ -54,7 +55,8 @@ answered_on P whole line from at new M next a b c text answered here answers wri
 }
 
 -- no line is left, and this is told at the end
-replies_end : (P : Program) (whole : List ℕ) (from at : ℕ) (M : ModelState) (a b : Option (List ℕ)) (text : List ℕ) (answered : Answered P whole from at M a b)
+replies_end : (P : Program) (whole : List ℕ) (from at : ℕ) (M : ModelState) (a b : Option (List ℕ)) (text : List ℕ)
+    (answered : Answered P whole from at M a b)
     → lines_from at whole ≡ [] → text ≡ end_text whole → RepliesTo P (lines_from from whole) whole (answered.text ++ text)
 replies_end P whole from at M a b text answered none same = (
   answered.text ++ [],
@@ -63,13 +65,19 @@ replies_end P whole from at M a b text answered none same = (
   ap (λ (t : List ℕ). answered.text ++ t) same ∙ ap (λ (t : List ℕ). t ++ end_text whole) (sym (append-nil answered.text)),
 )
 
-answered_ends : (P : Program) (whole : List ℕ) (from at : ℕ) (M : ModelState) (a b c : Option (List ℕ)) (text : List ℕ) → Answered P whole from at M a b
+answered_ends : (P : Program) (whole : List ℕ) (from at : ℕ) (M : ModelState) (a b c : Option (List ℕ)) (text : List ℕ)
+    → Answered P whole from at M a b
     → lines_from at whole ≡ [] → Appends b c text → text ≡ end_text whole → WritesSome a c (RepliesTo P (lines_from from whole) whole)
-answered_ends P whole from at M a b c text answered none written same =
-    (answered.text ++ text, replies_end P whole from at M a b text answered none same, Appends-trans a b c answered.text text answered.written written)
+answered_ends P whole from at M a b c text answered none written same = (
+  answered.text ++ text,
+  replies_end P whole from at M a b text answered none same,
+  Appends-trans a b c answered.text text
+      answered.written written,
+)
 
 -- a line has some answer
-some_answer : (P : Program) (r : Result (Option Request) Refusal) (M : ModelState) → (out : List ℕ) × (M' : ModelState) × AnswersParsed P r M out M'
+some_answer : (P : Program) (r : Result (Option Request) Refusal) (M : ModelState)
+    → (out : List ℕ) × (M' : ModelState) × AnswersParsed P r M out M'
 some_answer P (Err refusal) M = (as_line (refusal_text P refusal), M, (refl, refl))
 some_answer P (Ok None) M = ([], M, (refl, refl))
 some_answer P (Ok (Some request)) M =
@@ -87,14 +95,16 @@ regrouped x y z w = append_assoc x y (z ++ w) ∙ ap (λ (t : List ℕ). x ++ t)
 
 -- a line's answer was not written whole
 answered_stops : (P : Program) (whole line : List ℕ) (from at new : ℕ) (M next : ModelState) (a b c : Option (List ℕ)) (text : List ℕ)
-    → Answered P whole from at M a b → lines_from at whole ≡ line ∷ lines_from new whole → AnswersLine P line M text next → AppendsFront b c text
+    → Answered P whole from at M a b → lines_from at whole ≡ line ∷ lines_from new whole → AnswersLine P line M text next
+    → AppendsFront b c text
     → WritesFront a c (RepliesTo P (lines_from from whole) whole)
 answered_stops P whole line from at new M next a b c text answered here answers front =
     let more = some_answers P (lines_from new whole) next in
     let all : AnswersLines P (lines_from from whole) (opening_state P) (answered.text ++ (text ++ more.0)) more.1 =
     answered.goes_on (text ++ more.0) more.1 (subst (λ (lines : List (List ℕ)). AnswersLines P lines M (text ++ more.0) more.1) (sym here)
     (text, more.0, next, answers, more.2, refl)) in
-    let longer = front_longer a c (answered.text ++ text) (more.0 ++ end_text whole) (front_then a b c answered.text text answered.written front) in (
+    let longer = front_longer a c (answered.text ++ text) (more.0 ++ end_text whole)
+    (front_then a b c answered.text text answered.written front) in (
       answered.text ++ (text ++ more.0) ++ end_text whole,
       (answered.text ++ (text ++ more.0), more.1, all, refl),
       subst (λ (t : List ℕ). AppendsFront a c t) (regrouped answered.text text more.0 (end_text whole)) longer,
@@ -108,8 +118,10 @@ pub any_answered : (P : Program) (bytes : List ℕ) (ended : Bool) (from : ℕ) 
     → AnsweredAny P bytes ended from from M a a
 any_answered P bytes ended from M a e input may = answered_begins P input from M a e
 
-module _ (P : Program) (before : List ℕ) (was : Bool) (bytes : List ℕ) (ended : Bool) (from at new : ℕ) (next : Next) (M : ModelState) (old mid : Option (List ℕ))
-    (answered : AnsweredAny P before was from at M old mid) (narrows : Narrows before was bytes ended) (told : TellsAny bytes ended at new next) where
+module _ (P : Program) (before : List ℕ) (was : Bool) (bytes : List ℕ) (ended : Bool) (from at new : ℕ) (next : Next) (M : ModelState)
+    (old mid : Option (List ℕ))
+    (answered : AnsweredAny P before was from at M old mid) (narrows : Narrows before was bytes ended)
+    (told : TellsAny bytes ended at new next) where
   module _ (line : List ℕ) (span : Span) (M' : ModelState) (out : Option (List ℕ)) (is : next ≡ nexts.Line span)
       (seen : span.from ≤ span.to → span.to ≤ length bytes → line ≡ slice_range bytes span.from span.to) where
     line_here : (input : List ℕ) → MayBe bytes ended input → lines_from at input ≡ line ∷ lines_from new input
@@ -120,20 +132,25 @@ module _ (P : Program) (before : List ℕ) (was : Bool) (bytes : List ℕ) (ende
 
     pub any_goes_on : {A : Type 0} (u : A) → WritesAnswer P line M mid (Ok u) out M' → AnsweredAny P bytes ended from new M' old out
     any_goes_on u wrote input may =
-        answered_on P input line from at new M M' old mid out wrote.text (answered input (narrows input may)) (line_here input may) wrote.answers wrote.written.whole
+        answered_on P input line from at new M M' old mid out wrote.text (answered input (narrows input may)) (line_here input may)
+        wrote.answers wrote.written.whole
 
     pub any_stops : {A : Type 0} (e : ServeFault) (r : Result Served ServeFault) → WritesAnswer {A = A} P line M mid (Err e) out M'
         → IfErr r (λ fault. fault ≡ Write → StopsLines P bytes ended from old out)
     any_stops e (Ok served) wrote = tt
     any_stops e (Err fault) wrote =
         λ is_write input may.
-        answered_stops P input line from at new M M' old mid out wrote.text (answered input (narrows input may)) (line_here input may) wrote.answers wrote.written.part
+        answered_stops P input line from at new M M' old mid out wrote.text (answered input (narrows input may)) (line_here input may)
+        wrote.answers wrote.written.part
 
   pub any_ends : next ≡ nexts.End → ServesLines P bytes ended from ends.Done old mid
   any_ends is input may =
       let here : Tells input bytes at new nexts.End = told_of bytes ended at new next nexts.End told is input may in
-      let no : is_too_long input ≡ false = here.1 in
-      (rw no refl, answered_ends P input from at M old mid mid [] (answered input (narrows input may)) here.0 (Appends-nil mid) (rw no refl))
+      let no : is_too_long input ≡ false = here.1 in (
+        rw no refl,
+        answered_ends P input from at M old mid mid [] (answered input (narrows input may)) here.0 (Appends-nil mid)
+            (rw no refl),
+      )
 
   pub any_is_too_long : (r : Result Served ServeFault) (out : Option (List ℕ)) → next ≡ nexts.TooLong → Writes mid out r too_long_text
       → IfOk r (λ served. served ≡ ends.TooLong) → IfOk r (λ served. ServesLines P bytes ended from served old out)
@@ -141,8 +158,11 @@ module _ (P : Program) (before : List ℕ) (was : Bool) (bytes : List ℕ) (ende
   any_is_too_long (Ok served) out is wrote same =
       λ input may.
       let here : Tells input bytes at new nexts.TooLong = told_of bytes ended at new next nexts.TooLong told is input may in
-      let long : is_too_long input ≡ true = here.1 in
-      (same ∙ rw long refl, answered_ends P input from at M old mid out too_long_text (answered input (narrows input may)) here.0 wrote.whole (rw long refl))
+      let long : is_too_long input ≡ true = here.1 in (
+        same ∙ rw long refl,
+        answered_ends P input from at M old mid out too_long_text (answered input (narrows input may)) here.0
+            wrote.whole (rw long refl),
+      )
 
   pub any_is_cut : (r : Result Served ServeFault) (out : Option (List ℕ)) → next ≡ nexts.TooLong → Writes mid out r too_long_text
       → IfErr r (λ fault. fault ≡ Write → StopsLines P bytes ended from old out)
@@ -158,8 +178,10 @@ module _ (P : Program) (before : List ℕ) (was : Bool) (bytes : List ℕ) (ende
       )
 
 -- where no more can be read, the whole lines were answered
-pub any_breaks : (P : Program) (before : List ℕ) (was : Bool) (bytes : List ℕ) (ended : Bool) (from at : ℕ) (M : ModelState) (old mid : Option (List ℕ))
-    (r : Result Served ServeFault) → AnsweredAny P before was from at M old mid → Narrows before was bytes ended → from ≤ at → IsUnderWay bytes ended at
+pub any_breaks : (P : Program) (before : List ℕ) (was : Bool) (bytes : List ℕ) (ended : Bool) (from at : ℕ) (M : ModelState)
+    (old mid : Option (List ℕ))
+    (r : Result Served ServeFault) → AnsweredAny P before was from at M old mid → Narrows before was bytes ended → from ≤ at
+    → IsUnderWay bytes ended at
     → IfErr r (λ fault. fault ≡ Read → BreaksLines P bytes ended from old mid)
 any_breaks P before was bytes ended from at M old mid (Ok served) answered narrows begun way = tt
 any_breaks P before was bytes ended from at M old mid (Err fault) answered narrows begun way =
@@ -168,7 +190,8 @@ any_breaks P before was bytes ended from at M old mid (Err fault) answered narro
     let so_far : Answered P on.input from at M old mid = answered on.input (narrows on.input on.may) in
     let held : at ≤ length bytes = way.begun in
     let all : AnswersLines P (lines_from from on.input) (opening_state P) (so_far.text ++ []) M =
-    so_far.goes_on [] M (subst (λ (lines : List (List ℕ)). AnswersLines P lines M [] M) (sym (none_left bytes ended at way)) (refl, refl)) in
+    so_far.goes_on [] M (subst (λ (lines : List (List ℕ)). AnswersLines P lines M [] M) (sym (none_left bytes ended at way))
+    (refl, refl)) in
     record {
       at = at;
       begun = begun;

@@ -24,7 +24,8 @@ with_nothing : (o : Option Parts) → o ≡ option_map (with_text []) o
 with_nothing None = refl
 with_nothing (Some parts) = refl
 
-texts_join : (s line t : List ℕ) (o : Option Parts) → t ≡ s ++ (line ++ 10 ∷ []) → option_map (with_text s) (option_map (line_before line) o) ≡ option_map (with_text t) o
+texts_join : (s line t : List ℕ) (o : Option Parts) → t ≡ s ++ (line ++ 10 ∷ [])
+    → option_map (with_text s) (option_map (line_before line) o) ≡ option_map (with_text t) o
 texts_join s line t None e = refl
 texts_join s line t (Some parts) e =
     ap (λ (text : List ℕ). Some (record { program = text; commands = parts.commands }))
@@ -43,13 +44,16 @@ so_far_begins whole from =
       split = with_nothing _ ∙ ap (λ (n : ℕ). option_map (with_text (take n (drop from whole))) (parts_of (lines_from from whole))) none;
     }
 
-parts_behind : (line : List ℕ) (lines : List (List ℕ)) → is_end_line line ≡ false → parts_of (line ∷ lines) ≡ option_map (line_before line) (parts_of lines)
+parts_behind : (line : List ℕ) (lines : List (List ℕ)) → is_end_line line ≡ false
+    → parts_of (line ∷ lines) ≡ option_map (line_before line) (parts_of lines)
 parts_behind line lines e = rw e refl
 
-parts_at : (line : List ℕ) (lines : List (List ℕ)) → is_end_line line ≡ true → parts_of (line ∷ lines) ≡ Some (record { program = []; commands = lines })
+parts_at : (line : List ℕ) (lines : List (List ℕ)) → is_end_line line ≡ true
+    → parts_of (line ∷ lines) ≡ Some (record { program = []; commands = lines })
 parts_at line lines e = rw e refl
 
-split_on : (whole line : List ℕ) (from at new : ℕ) → from ≤ at → at ≤ new → is_end_line line ≡ false → lines_from at whole ≡ line ∷ lines_from new whole
+split_on : (whole line : List ℕ) (from at new : ℕ) → from ≤ at → at ≤ new → is_end_line line ≡ false
+    → lines_from at whole ≡ line ∷ lines_from new whole
     → (slice_range whole at new ≡ line ++ 10 ∷ []) ⊎ (lines_from new whole ≡ [])
     → option_map (with_text (slice_range whole from at)) (parts_of (lines_from at whole))
     ≡ option_map (with_text (slice_range whole from new)) (parts_of (lines_from new whole))
@@ -64,7 +68,8 @@ split_on whole line from at new begun on other here (inr none) =
     ∙ ap (λ lines. option_map (with_text (slice_range whole from at)) (option_map (line_before line) (parts_of lines))) none
     ∙ sym (ap (λ lines. option_map (with_text (slice_range whole from new)) (parts_of lines)) none)
 
-so_far_on : (whole bytes : List ℕ) (from at new : ℕ) (span : Span) → at < new → SoFar whole from at → Tells whole bytes at new (nexts.Line span)
+so_far_on : (whole bytes : List ℕ) (from at new : ℕ) (span : Span) → at < new → SoFar whole from at
+    → Tells whole bytes at new (nexts.Line span)
     → is_end_line (slice_range bytes span.from span.to) ≡ false → SoFar whole from new
 so_far_on whole bytes from at new span on so_far told other =
     let begun : from ≤ at = so_far.begun in
@@ -74,13 +79,15 @@ so_far_on whole bytes from at new span on so_far told other =
     }
 
 -- the bytes that were read stand at the front of all that there is
-slice_of_front : (bytes rest : List ℕ) (from to : ℕ) → from ≤ to → to ≤ length bytes → slice_range (bytes ++ rest) from to ≡ slice_range bytes from to
+slice_of_front : (bytes rest : List ℕ) (from to : ℕ) → from ≤ to → to ≤ length bytes
+    → slice_range (bytes ++ rest) from to ≡ slice_range bytes from to
 slice_of_front bytes rest from to le held =
     let here : drop from (bytes ++ rest) ≡ drop from bytes ++ rest = drop-append-le from bytes rest (omega arith) in
     let long : length (drop from bytes) ≡ length bytes - from = length-drop from bytes in
     ap (λ (t : List ℕ). take (to - from) t) here ∙ take-append-le (to - from) (drop from bytes) rest (omega arith)
 
-split_at : (whole bytes rest : List ℕ) (from at new : ℕ) (span : Span) → whole ≡ bytes ++ rest → SoFar whole from at → Tells whole bytes at new (nexts.Line span)
+split_at : (whole bytes rest : List ℕ) (from at new : ℕ) (span : Span) → whole ≡ bytes ++ rest → SoFar whole from at
+    → Tells whole bytes at new (nexts.Line span)
     → is_end_line (slice_range bytes span.from span.to) ≡ true → Splits whole bytes from new (ends.Before span)
 split_at whole bytes rest from at new span all so_far told end =
     let begun : from ≤ at = so_far.begun in
@@ -88,11 +95,13 @@ split_at whole bytes rest from at new span all so_far told end =
     let ordered : span.from ≤ span.to = told.2 in
     let held : span.to ≤ length bytes = told.3 in
     let text : slice_range whole from at ≡ slice_range bytes from span.from =
-    ap (λ (t : List ℕ). slice_range t from at) all ∙ slice_of_front bytes rest from at begun (omega arith) ∙ ap (λ (n : ℕ). slice_range bytes from n) (sym here) in
+    ap (λ (t : List ℕ). slice_range t from at) all ∙ slice_of_front bytes rest from at begun (omega arith)
+    ∙ ap (λ (n : ℕ). slice_range bytes from n) (sym here) in
     let line : List ℕ = slice_range bytes span.from span.to in (
       so_far.split ∙ ap (λ lines. option_map (with_text (slice_range whole from at)) (parts_of lines)) told.0
           ∙ ap (option_map (with_text (slice_range whole from at))) (parts_at line (lines_from new whole) end)
-          ∙ ap (λ (t : List ℕ). Some (record { program = t; commands = lines_from new whole })) (append-nil (slice_range whole from at) ∙ text),
+          ∙ ap (λ (t : List ℕ). Some (record { program = t; commands = lines_from new whole }))
+          (append-nil (slice_range whole from at) ∙ text),
       omega arith,
     )
 
@@ -124,7 +133,8 @@ SoFarAny bytes ended from at = (input : List ℕ) → MayBe bytes ended input �
 pub so_far_any : (bytes : List ℕ) (ended : Bool) (from : ℕ) → SoFarAny bytes ended from from
 so_far_any bytes ended from input may = so_far_begins input from
 
-module _ (before : List ℕ) (was : Bool) (bytes : List ℕ) (ended : Bool) (from at new : ℕ) (next : Next) (so_far : SoFarAny before was from at)
+module _ (before : List ℕ) (was : Bool) (bytes : List ℕ) (ended : Bool) (from at new : ℕ) (next : Next)
+    (so_far : SoFarAny before was from at)
     (narrows : Narrows before was bytes ended) (told : TellsAny bytes ended at new next) where
   module _ (line : List ℕ) (span : Span) (is : next ≡ nexts.Line span)
       (seen : span.from ≤ span.to → span.to ≤ length bytes → line ≡ slice_range bytes span.from span.to) where
@@ -137,7 +147,8 @@ module _ (before : List ℕ) (was : Bool) (bytes : List ℕ) (ended : Bool) (fro
     pub splits_here : is_end_line line ≡ true → SplitsAny bytes ended from new (ends.Before span)
     splits_here end input may =
         let here : Tells input bytes at new (nexts.Line span) = told_of bytes ended at new next (nexts.Line span) told is input may in
-        split_at input bytes may.0 from at new span may.1 (so_far input (narrows input may)) here (line_is input bytes line at new span true here seen end)
+        split_at input bytes may.0 from at new span may.1 (so_far input (narrows input may)) here
+        (line_is input bytes line at new span true here seen end)
 
   pub splits_nowhere : next ≡ nexts.End → SplitsAny bytes ended from new ends.End
   splits_nowhere is input may =

@@ -23,7 +23,8 @@ whole_before b [] rest = refl
 whole_before b (line ∷ whole) rest = refl
 
 whole_where : (t : Bool) (b : ℕ) (lines : Lines)
-    → (cond t (record { whole = [] ∷ lines.whole; rest = lines.rest }) (byte_before b lines.whole lines.rest)).whole ≡ whole_by t b lines.whole
+    → (cond t (record { whole = [] ∷ lines.whole; rest = lines.rest }) (byte_before b lines.whole lines.rest)).whole ≡ whole_by t b
+    lines.whole
 whole_where true b lines = refl
 whole_where false b lines = whole_before b lines.whole lines.rest
 
@@ -56,7 +57,8 @@ within_whole bytes more limit le long h =
     let test : nat_lt limit (length (bytes ++ more)) ≡ true = grind (arith, nat_tests) in
     let n : ℕ = limit - length bytes in
     let all : limit ≡ length bytes + n = omega arith in
-    rw test (ap (λ (k : ℕ). (lines_of (take k (bytes ++ more))).whole) all ∙ ap (λ (t : List ℕ). (lines_of t).whole) (take-append-add bytes more n)
+    rw test (ap (λ (k : ℕ). (lines_of (take k (bytes ++ more))).whole) all
+    ∙ ap (λ (t : List ℕ). (lines_of t).whole) (take-append-add bytes more n)
     ∙ adds_none bytes (take n more) (front_unended n more h))
 
 -- an input that these bytes may begin, and whose lines are their whole lines, from any place in them on
@@ -65,7 +67,8 @@ pub record GoesOn (bytes : List ℕ) (ended : Bool) : Type 0 where
   pub may : MayBe bytes ended input
   pub whole : (from : ℕ) → from ≤ length bytes → lines_from from input ≡ (lines_of (drop from bytes)).whole
 
-padded : (bytes more : List ℕ) (ended : Bool) (at : ℕ) → IsUnderWay bytes ended at → is_unended more ≡ true → INPUT_BYTES < length more → GoesOn bytes ended
+padded : (bytes more : List ℕ) (ended : Bool) (at : ℕ) → IsUnderWay bytes ended at → is_unended more ≡ true → INPUT_BYTES < length more
+    → GoesOn bytes ended
 padded bytes more ended at way none long =
     let few : length bytes ≤ INPUT_BYTES = way.within in
     record {
@@ -85,8 +88,10 @@ goes_on bytes ended at way =
     padded bytes more.0 ended at way more.1 more.2
 
 -- and none of these is left from the place on where the next line begins
-pub none_left : (bytes : List ℕ) (ended : Bool) (at : ℕ) (way : IsUnderWay bytes ended at) → lines_from at (goes_on bytes ended at way).input ≡ []
-none_left bytes ended at way = (goes_on bytes ended at way).whole at way.begun ∙ ap (λ (lines : Lines). lines.whole) (no_line_of (drop at bytes) way.unended)
+pub none_left : (bytes : List ℕ) (ended : Bool) (at : ℕ) (way : IsUnderWay bytes ended at)
+    → lines_from at (goes_on bytes ended at way).input ≡ []
+none_left bytes ended at way = (goes_on bytes ended at way).whole at way.begun
+    ∙ ap (λ (lines : Lines). lines.whole) (no_line_of (drop at bytes) way.unended)
 
 -- what holds anyway holds where a call has failed
 pub where_failed : {A E P : Type 0} (r : Result A E) → P → OnErr r P

@@ -1,9 +1,10 @@
 -- What the check of a program text writes.
-use Rattle.std.specs.Prelude.{◌≡◌, ℕ, List, ◌++◌, Option, Some, None, codes, sum_by, length, ◌⊎◌}
+use Rattle.std.specs.Prelude.{◌≡◌, ℕ, List, [], ◌∷◌, Option, Some, None, codes, sum_by, length, ◌⊎◌}
 use Rattle.std.specs.Bool.{MatchBool}
 use Rattle.std.specs.Fmt.{decimal}
 use Rattle.dbg_base.specs.Trees.{Program}
 use Rattle.dbg_base.specs.Checks.{Reads}
+use Rattle.dbg_base.specs.Replies.{joined}
 use Rattle.dbg_base.specs.Shell.{Parts, parts_of, read_lines, as_line, is_too_long, too_long_text}
 use Rattle.proc_lang.specs.Small.{IsSmall}
 use Rattle.dbg_shell.specs.declared.outcome.Served.{Served}
@@ -12,7 +13,8 @@ use Rattle.dbg_shell.specs.Serving.{IsSmallText, TellsRefusal}
 
 -- how many processes and commands a program has
 abbrev pub size_text : ℕ → ℕ → List ℕ
-size_text processes commands = as_line (codes "ok " ++ decimal processes ++ codes " processes " ++ decimal commands ++ codes " commands")
+size_text processes commands =
+    as_line (joined (codes "ok" ∷ decimal processes ∷ codes "processes" ∷ decimal commands ∷ codes "commands" ∷ []))
 
 -- how many commands all its processes have
 abbrev pub command_count : Program → ℕ

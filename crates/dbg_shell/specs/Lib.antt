@@ -1,5 +1,6 @@
 pub mod Outcomes
 pub mod Writing
+pub mod Pieces
 pub mod Spans
 pub mod Lines
 pub mod Checking

@@ -59,3 +59,11 @@ EndsWith ended remaining = ended ≡ true → IsAtEnd remaining
 -- the bytes that were read and those that the reader has left are together what they were
 abbrev pub KeepsInput : List ℕ → Option (List ℕ) → List ℕ → Option (List ℕ) → Type 0
 KeepsInput old before new after = Keeps (prepend_known old before) (prepend_known new after)
+
+-- What a step of reading keeps: what was read and what is left are together what they were, where the input has ended the reader has
+-- nothing left, and what the input may be it might have been before.
+pub record ReadsOn (old : List ℕ) (was : Bool) (before : Option (List ℕ)) (new : List ℕ) (ended : Bool)
+    (after : Option (List ℕ)) : Type 0 where
+  pub keeps : KeepsInput old before new after
+  pub ends : EndsWith ended after
+  pub narrows : Narrows old was new ended

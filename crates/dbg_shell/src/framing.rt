@@ -2,7 +2,7 @@
 
 ghost use Rattle.std.specs.Prelude.{◌≡◌, ◌+◌, ◌<◌, ◌≤◌, [], true, false, min, take, vec_len, vec_capacity, length, slice_range, OnOk, OnErr, MatchOption, IfOk, IfErr, IfSome, ◌⊎◌};
 ghost use Rattle.std.specs.List.{prefix_len};
-ghost use Rattle.dbg_shell.specs.Spans.{AdvancesAt, is_inside, is_unended, TellsAny, EndsWith, KeepsInput, Narrows, IsUnderWay};
+ghost use Rattle.dbg_shell.specs.Spans.{AdvancesAt, is_inside, is_unended, TellsAny, EndsWith, ReadsOn, IsUnderWay};
 ghost use Rattle.dbg_shell.specs.declared.framing.TheConstants.{ROOM};
 ghost use Rattle.dbg_shell.specs.declared.framing.Next.TheVariants.{End};
 ghost use Rattle.dbg_shell.specs.declared.outcome.ServeFault.TheVariants.{Read};
@@ -85,7 +85,8 @@ impl Input {
 
     /// The bytes of a line.
     pub(crate) fn line(&self, span: Span) -> &[u8]
-        ensures { span.from ≤ span.to → span.to ≤ length self.now.bytes.items → result.now ≡ slice_range self.now.bytes.items span.from span.to }
+        ensures { span.from ≤ span.to → span.to ≤ length self.now.bytes.items → result.now ≡ slice_range self.now.bytes.items span.from
+            span.to }
     {
         self.bytes.get(span.from..span.to).unwrap_or(&[])
     }
@@ -109,9 +110,8 @@ impl Input {
     pub(crate) fn next_line<R: Read>(&mut self, reader: &mut R) -> Result<Next, ServeFault>
         requires { EndsWith self.old.ended (R.remaining reader.old) }
         ensures advances { IfOk result (AdvancesAt self.old.at self.new.at) }
-        ensures keeps { KeepsInput self.old.bytes.items (R.remaining reader.old) self.new.bytes.items (R.remaining reader.new) }
-        ensures ends { EndsWith self.new.ended (R.remaining reader.new) }
-        ensures narrows { Narrows self.old.bytes.items self.old.ended self.new.bytes.items self.new.ended }
+        ensures reads { ReadsOn self.old.bytes.items self.old.ended (R.remaining reader.old) self.new.bytes.items self.new.ended
+            (R.remaining reader.new) }
         ensures stopped { IfOk result (λ next. next ≡ End → self.new.ended ≡ true) }
         ensures tells { IfOk result (TellsAny self.new.bytes.items self.new.ended self.old.at self.new.at) }
         ensures fault { IfErr result (λ fault. fault ≡ Read) }
@@ -192,11 +192,10 @@ impl Input {
         requires room { vec_len self.old.bytes < ROOM }
         requires open { self.old.ended ≡ false }
         ensures stays { self.new.at ≡ self.old.at }
-        ensures keeps { KeepsInput self.old.bytes.items (R.remaining reader.old) self.new.bytes.items (R.remaining reader.new) }
-        ensures ends { EndsWith self.new.ended (R.remaining reader.new) }
+        ensures reads { ReadsOn self.old.bytes.items self.old.ended (R.remaining reader.old) self.new.bytes.items self.new.ended
+            (R.remaining reader.new) }
         ensures more { OnOk result ((self.new.ended ≡ true) × (vec_len self.new.bytes ≡ vec_len self.old.bytes)
             ⊎ (self.new.ended ≡ false) × (vec_len self.old.bytes < vec_len self.new.bytes)) }
-        ensures narrows { Narrows self.old.bytes.items self.old.ended self.new.bytes.items self.new.ended }
         ensures kept { OnErr result ((self.new.bytes ≡ self.old.bytes) × (self.new.ended ≡ self.old.ended)) }
         ensures fault { IfErr result (λ fault. fault ≡ Read) }
     {

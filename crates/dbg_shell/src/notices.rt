@@ -1,16 +1,17 @@
 //! What is told beside the replies.
 
-ghost use Rattle.std.specs.Prelude.{◌≡◌, ◌++◌, codes, IfOk, IfErr};
-ghost use Rattle.std.specs.Fmt.{decimal};
+ghost use Rattle.std.specs.Prelude.{◌≡◌, ◌∷◌, IfOk, IfErr};
 ghost use Rattle.std.specs.Io.KnownBytes.{Keeps};
-ghost use Rattle.dbg_base.specs.Shell.{too_long_text, as_line, fault_text};
-ghost use Rattle.dbg_shell.specs.Writing.{Writes};
+ghost use Rattle.dbg_base.specs.Shell.{as_line, too_long_text, no_end_line_text, fault_text};
+ghost use Rattle.dbg_shell.specs.Writing.{Writes, in_a_row};
+ghost use Rattle.dbg_shell.specs.Pieces.{piece_words};
+ghost use Rattle.dbg_base.specs.Replies.{joined};
 ghost use Rattle.dbg_shell.specs.Checking.{size_text};
 ghost use Rattle.dbg_shell.specs.declared.outcome.Served.TheVariants.{Done, Refused, TooLong};
 ghost use Rattle.dbg_shell.specs.declared.outcome.ServeFault.TheVariants.{Write};
 
 use crate::outcome::{ServeFault, Served};
-use crate::parts::{write_count, write_size, write_whole};
+use crate::parts::{Item, Piece, Term, write_line};
 use proc_lang::ProgFault;
 use std::io::Write;
 
@@ -25,34 +26,41 @@ pub(crate) fn flush<W: Write>(writer: &mut W) -> Result<(), ServeFault>
     }
 }
 
+// Writes a line and hands it on; then the run has ended so.
+fn tell<W: Write>(
+    first: &[u8],
+    pieces: &[Piece<'_>],
+    end: Served,
+    writer: &mut W,
+) -> Result<Served, ServeFault>
+    ensures written { Writes (W.contents writer.old) (W.contents writer.new) result
+        (as_line (joined (first.now ∷ in_a_row piece_words pieces.now))) }
+    ensures served { IfOk result (λ served. served ≡ end) }
+{
+    write_line(first, pieces, writer)?;
+    flush(writer)?;
+    Ok(end)
+}
+
 // There is more input than may be.
 pub(crate) fn tell_too_long<W: Write>(writer: &mut W) -> Result<Served, ServeFault>
     ensures written { Writes (W.contents writer.old) (W.contents writer.new) result too_long_text }
     ensures served { IfOk result (λ served. served ≡ TooLong) }
 {
-    write_whole(writer, b"input too long\n")?;
-    flush(writer)?;
-    Ok(Served::TooLong)
+    tell(b"input too long", &[], Served::TooLong, writer)
 }
 
 // No line ends the program text.
 pub(crate) fn tell_no_end_line<W: Write>(writer: &mut W) -> Result<Served, ServeFault>
-    ensures written { Writes (W.contents writer.old) (W.contents writer.new) result (as_line (codes "program refused: no end line")) }
+    ensures written { Writes (W.contents writer.old) (W.contents writer.new) result no_end_line_text }
     ensures served { IfOk result (λ served. served ≡ Refused) }
 {
-    write_whole(writer, b"program refused: no end line\n")?;
-    flush(writer)?;
-    Ok(Served::Refused)
-}
-
-fn write_fault<W: Write>(fault: &ProgFault, writer: &mut W) -> Result<(), ServeFault>
-    ensures { Writes (W.contents writer.old) (W.contents writer.new) result (fault_text fault.now) }
-{
-    write_whole(writer, b"program refused ")?;
-    write_count(writer, fault.kind.number())?;
-    write_whole(writer, b" at ")?;
-    write_size(writer, fault.at)?;
-    write_whole(writer, b"\n")
+    tell(
+        b"program refused: no end line",
+        &[],
+        Served::Refused,
+        writer,
+    )
 }
 
 // What is wrong with the program text.
@@ -60,20 +68,10 @@ pub(crate) fn tell_fault<W: Write>(fault: &ProgFault, writer: &mut W) -> Result<
     ensures written { Writes (W.contents writer.old) (W.contents writer.new) result (fault_text fault.now) }
     ensures served { IfOk result (λ served. served ≡ Refused) }
 {
-    write_fault(fault, writer)?;
-    flush(writer)?;
-    Ok(Served::Refused)
-}
-
-fn write_sizes<W: Write>(processes: u32, commands: u32, writer: &mut W) -> Result<(), ServeFault>
-    ensures { Writes (W.contents writer.old) (W.contents writer.new) result (size_text processes commands) }
-{
-    write_whole(writer, b"ok ")?;
-    write_count(writer, processes)?;
-    write_whole(writer, b" processes ")?;
-    write_count(writer, commands)?;
-    write_whole(writer, b" commands")?;
-    write_whole(writer, b"\n")
+    let kind = Piece::Item(Item::Count(fault.kind.number()));
+    let at = Piece::Item(Item::Size(fault.at));
+    let pieces = [kind, Piece::Item(Item::Term(Term::At)), at];
+    tell(b"program refused", &pieces, Served::Refused, writer)
 }
 
 // How large the program is.
@@ -85,7 +83,11 @@ pub(crate) fn tell_size<W: Write>(
     ensures written { Writes (W.contents writer.old) (W.contents writer.new) result (size_text processes commands) }
     ensures served { IfOk result (λ served. served ≡ Done) }
 {
-    write_sizes(processes, commands, writer)?;
-    flush(writer)?;
-    Ok(Served::Done)
+    let pieces = [
+        Piece::Item(Item::Count(processes)),
+        Piece::Item(Item::Term(Term::Processes)),
+        Piece::Item(Item::Count(commands)),
+        Piece::Item(Item::Term(Term::Commands)),
+    ];
+    tell(b"ok", &pieces, Served::Done, writer)
 }

@@ -2,7 +2,7 @@
 
 ghost use Rattle.std.specs.Prelude.{◌≡◌, true, drop, None, IfOk, IfErr, OnErr};
 ghost use Rattle.dbg_base.specs.Shell.{is_end_line, lines_of, parts_of};
-ghost use Rattle.dbg_shell.specs.Spans.{EndsWith, KeepsInput, Narrows};
+ghost use Rattle.dbg_shell.specs.Spans.{EndsWith, ReadsOn};
 ghost use Rattle.dbg_shell.specs.Serving.{SplitsAny};
 ghost use Rattle.dbg_shell.specs.declared.program_text.TextEnd.TheVariants.{End};
 ghost use Rattle.dbg_shell.specs.declared.outcome.ServeFault.TheVariants.{Read};
@@ -30,15 +30,15 @@ fn is_end_line(line: &[u8]) -> bool
 }
 
 /// Reads the program text.
+#[tactic(auto, using(crate::proofs::Reading::reads_then))]
 pub(crate) fn read_program_text<R: Read>(
     input: &mut Input,
     reader: &mut R,
 ) -> Result<TextEnd, ServeFault>
     requires { EndsWith input.old.ended (R.remaining reader.old) }
-    ensures keeps { KeepsInput input.old.bytes.items (R.remaining reader.old) input.new.bytes.items (R.remaining reader.new) }
-    ensures ends { EndsWith input.new.ended (R.remaining reader.new) }
+    ensures reads { ReadsOn input.old.bytes.items input.old.ended (R.remaining reader.old) input.new.bytes.items input.new.ended
+        (R.remaining reader.new) }
     ensures stopped { IfOk result (λ end. end ≡ End → input.new.ended ≡ true) }
-    ensures narrows { Narrows input.old.bytes.items input.old.ended input.new.bytes.items input.new.ended }
     ensures splits { IfOk result (SplitsAny input.new.bytes.items input.new.ended input.old.at input.new.at) }
     ensures none { OnErr result (parts_of (lines_of (drop input.old.at input.new.bytes.items)).whole ≡ None) }
     ensures fault { IfErr result (λ fault. fault ≡ Read) }

@@ -5,7 +5,7 @@ ghost use Rattle.std.specs.Io.KnownBytes.{Keeps};
 ghost use Rattle.proc_lang.specs.Programs.{program_of};
 ghost use Rattle.dbg_shell.specs.declared.outcome.ServeFault.TheVariants.{Memory, Read, Write};
 ghost use Rattle.dbg_base.specs.Shell.{Text};
-ghost use Rattle.dbg_shell.specs.Spans.{EndsWith, KeepsInput, Narrows};
+ghost use Rattle.dbg_shell.specs.Spans.{EndsWith, ReadsOn};
 ghost use Rattle.dbg_shell.specs.Writing.{Writes};
 ghost use Rattle.dbg_shell.specs.Sessions.{state_of, IsSized};
 ghost use Rattle.dbg_shell.specs.Serving.{IsServed, ServesInput, RefusesInput, BreaksInput, ReadsFew, WritesAnswer, WritesFront, ServesLines, StopsLines, BreaksLines};
@@ -66,9 +66,8 @@ fn serve_lines<R: Read, W: Write>(
     writer: &mut W,
 ) -> Result<Served, ServeFault>
     requires { EndsWith input.old.ended (R.remaining reader.old) }
-    ensures keeps { KeepsInput input.old.bytes.items (R.remaining reader.old) input.new.bytes.items (R.remaining reader.new) }
-    ensures ends { EndsWith input.new.ended (R.remaining reader.new) }
-    ensures narrows { Narrows input.old.bytes.items input.old.ended input.new.bytes.items input.new.ended }
+    ensures reads { ReadsOn input.old.bytes.items input.old.ended (R.remaining reader.old) input.new.bytes.items input.new.ended
+        (R.remaining reader.new) }
     ensures served { IfOk result (λ served. ServesLines (program_of program.now) input.new.bytes.items input.new.ended input.old.at served
         (W.contents writer.old) (W.contents writer.new)) }
     ensures stopped { IfErr result (λ fault. fault ≡ Write → StopsLines (program_of program.now) input.new.bytes.items input.new.ended

@@ -16,7 +16,8 @@ loop-p-preserved c =
     record {
       few = omega arith;
       counted = ap (λ (n : ℕ). n + c.commands-count.result) c.loop-p.invariant.counted
-          ∙ ap (λ (n : ℕ). command_count (take c.loop-p.p P) + n) c.commands-count.ensures.value ∙ sym (count_on P c.loop-p.p (omega arith));
+          ∙ ap (λ (n : ℕ). command_count (take c.loop-p.p P) + n) c.commands-count.ensures.value
+          ∙ sym (count_on P c.loop-p.p (omega arith));
     }
 
 pub returns : goal.returns

@@ -8,7 +8,8 @@ pub loop-rest-init : goal.loop-rest-init
 loop-rest-init g c = progress_begins _ _
 
 pub loop-rest-preserved : goal.loop-rest-preserved
-loop-rest-preserved g c = progress_goes_on _ _ _ _ c.loop-rest.rest.now _ c.in-Ok.n c.loop-rest.invariant c.in-Ok.ensures.bytes (grind (arith, common_steps))
+loop-rest-preserved g c = progress_goes_on _ _ _ _ c.loop-rest.rest.now _ c.in-Ok.n c.loop-rest.invariant c.in-Ok.ensures.bytes
+    (grind (arith, common_steps))
 
 pub returns-in-Ok-eq0 : goal.returns-in-Ok-eq0
 returns-in-Ok-eq0 g c = progress_stops_behind _ _ _ _ _ _ c.loop-rest.invariant c.in-Ok-eq0.ensures.bytes

@@ -1,16 +1,15 @@
 use Rattle.std.proofs.Common.{◌-◌, ◌≤◌}
 use Rattle.dbg_base.specs.declared.limits.TheConstants.{INPUT_BYTES}
 use Rattle.proc_lang.specs.Programs.{program_of}
-use Rattle.dbg_shell.specs.Spans.{EndsWith, KeepsInput, Narrows}
+use Rattle.dbg_shell.specs.Spans.{ReadsOn}
 use Rattle.dbg_shell.specs.Sessions.{state_of, IsSized}
 use Rattle.dbg_shell.proofs.LineReplies.{AnsweredAny}
 use Rattle.dbg_shell.proofs.serving.serve_lines.Given as goal
 
 abbrev pub invariant-loop-session : goal.invariant-loop-session
 invariant-loop-session g l = record {
-  keeps : KeepsInput l.fn.input.bytes.items (g.R.Read.remaining l.fn.reader) l.input.bytes.items (g.R.Read.remaining l.reader);
-  ends : EndsWith l.input.ended (g.R.Read.remaining l.reader);
-  narrows : Narrows l.fn.input.bytes.items l.fn.input.ended l.input.bytes.items l.input.ended;
+  reads : ReadsOn l.fn.input.bytes.items l.fn.input.ended (g.R.Read.remaining l.fn.reader) l.input.bytes.items l.input.ended
+      (g.R.Read.remaining l.reader);
   begun : l.fn.input.at ≤ l.input.at;
   sized : IsSized (program_of l.program) (state_of l.session);
   answered : AnsweredAny (program_of l.program) l.input.bytes.items l.input.ended l.fn.input.at l.input.at (state_of l.session)

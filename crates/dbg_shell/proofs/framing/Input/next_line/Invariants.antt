@@ -1,14 +1,13 @@
 use Rattle.std.proofs.Common.{◌≡◌, ◌+◌, ◌-◌, vec_len, cond}
 use Rattle.dbg_shell.specs.declared.framing.TheConstants.{ROOM}
-use Rattle.dbg_shell.specs.Spans.{EndsWith, KeepsInput, Narrows}
+use Rattle.dbg_shell.specs.Spans.{ReadsOn}
 use Rattle.dbg_shell.proofs.framing.Input.next_line.Given as goal
 
 abbrev pub invariant-loop-next : goal.invariant-loop-next
 invariant-loop-next g l = record {
   at : l.self.at ≡ l.fn.self.at;
-  keeps : KeepsInput l.fn.self.bytes.items (g.R.Read.remaining l.fn.reader) l.self.bytes.items (g.R.Read.remaining l.reader);
-  ends : EndsWith l.self.ended (g.R.Read.remaining l.reader);
-  narrows : Narrows l.fn.self.bytes.items l.fn.self.ended l.self.bytes.items l.self.ended;
+  reads : ReadsOn l.fn.self.bytes.items l.fn.self.ended (g.R.Read.remaining l.fn.reader) l.self.bytes.items l.self.ended
+      (g.R.Read.remaining l.reader);
 }
 
 -- the bytes that may still be read, and the end

@@ -1,5 +1,5 @@
-use Rattle.dbg_shell.proofs.Writing.{writes_then, stopped}
-use Rattle.dbg_shell.proofs.parts.write_part.Goals as goal
+use Rattle.dbg_shell.proofs.Writing.{stopped, writes_then}
+use Rattle.dbg_shell.proofs.parts.write_behind.Goals as goal
 
 pub returns-in_err-write_whole : goal.returns-in_err-write_whole
 returns-in_err-write_whole g c = stopped _ c.in_err-write_whole.ensures c.from_residual.ensures.1
