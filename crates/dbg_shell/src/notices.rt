@@ -1,6 +1,6 @@
 //! What is told beside the replies.
 
-ghost use Rattle.std.specs.Prelude.{◌≡◌, ◌∷◌, IfOk, IfErr};
+ghost use Rattle.std.specs.Prelude.{◌≡◌, ◌∷◌, ℕ, List, Option, IfOk, IfErr};
 ghost use Rattle.std.specs.Io.KnownBytes.{Keeps};
 ghost use Rattle.dbg_base.specs.Shell.{as_line, too_long_text, no_end_line_text, fault_text};
 ghost use Rattle.dbg_shell.specs.Writing.{Writes, in_a_row};
@@ -16,7 +16,7 @@ use proc_lang::ProgFault;
 use std::io::Write;
 
 // Hands on all that was written.
-pub(crate) fn flush<W: Write>(writer: &mut W) -> Result<(), ServeFault>
+fn flush<W: Write>(writer: &mut W) -> Result<(), ServeFault>
     ensures kept { Keeps (W.contents writer.old) (W.contents writer.new) }
     ensures fault { IfErr result (λ fault. fault ≡ Write) }
 {
@@ -24,6 +24,18 @@ pub(crate) fn flush<W: Write>(writer: &mut W) -> Result<(), ServeFault>
         Ok(()) => Ok(()),
         Err(_) => Err(ServeFault::Write),
     }
+}
+
+// Hands on what was written, where it was written whole.
+pub(crate) fn hand_on<W: Write>(
+    written: Result<(), ServeFault>,
+    writer: &mut W,
+) -> Result<(), ServeFault>
+    ensures { (old : Option (List ℕ)) (text : List ℕ) → Writes old (W.contents writer.old) written text
+        → Writes old (W.contents writer.new) result text }
+{
+    written?;
+    flush(writer)
 }
 
 // Writes a line and hands it on; then the run has ended so.
@@ -37,8 +49,8 @@ fn tell<W: Write>(
         (as_line (joined (first.now ∷ in_a_row piece_words pieces.now))) }
     ensures served { IfOk result (λ served. served ≡ end) }
 {
-    write_line(first, pieces, writer)?;
-    flush(writer)?;
+    let written = write_line(first, pieces, writer);
+    hand_on(written, writer)?;
     Ok(end)
 }
 

@@ -1,18 +1,17 @@
 //! A program text and the command lines behind it.
 
-ghost use Rattle.std.specs.Prelude.{◌≡◌, ℕ, List, Option, IfOk, IfErr, IfSome};
+ghost use Rattle.std.specs.Prelude.{◌≡◌, IfOk, IfErr, IfSome};
 ghost use Rattle.std.specs.Io.KnownBytes.{Keeps};
 ghost use Rattle.proc_lang.specs.Programs.{program_of};
 ghost use Rattle.dbg_shell.specs.declared.outcome.ServeFault.TheVariants.{Memory, Read, Write};
 ghost use Rattle.dbg_base.specs.Shell.{Text};
 ghost use Rattle.dbg_shell.specs.Spans.{EndsWith, ReadsOn};
-ghost use Rattle.dbg_shell.specs.Writing.{Writes};
 ghost use Rattle.dbg_shell.specs.Sessions.{state_of, IsSized};
 ghost use Rattle.dbg_shell.specs.Serving.{IsServed, ServesInput, RefusesInput, BreaksInput, ReadsFew, WritesAnswer, WritesFront, ServesLines, StopsLines, BreaksLines};
 
 use crate::command_line::parse_line;
 use crate::framing::{Input, Next};
-use crate::notices::{flush, tell_fault, tell_no_end_line, tell_too_long};
+use crate::notices::{hand_on, tell_fault, tell_no_end_line, tell_too_long};
 use crate::outcome::{ServeFault, Served};
 use crate::program_text::{TextEnd, read_program_text};
 use crate::reply::{print_refusal, print_reply};
@@ -20,15 +19,6 @@ use crate::session::Session;
 use proc_lang::{ProgError, Program, parse_program};
 use std::alloc::Global;
 use std::io::{Read, Write};
-
-// What was written is handed on.
-fn hand_on<W: Write>(written: Result<(), ServeFault>, writer: &mut W) -> Result<(), ServeFault>
-    ensures { (old : Option (List ℕ)) (text : List ℕ) → Writes old (W.contents writer.old) written text
-        → Writes old (W.contents writer.new) result text }
-{
-    written?;
-    flush(writer)
-}
 
 // Answers one command line: what is written is handed on before the next line is asked for.
 fn serve_line<W: Write>(
