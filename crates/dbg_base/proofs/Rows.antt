@@ -61,7 +61,8 @@ sum_overflows : evaluate (Binary Add (Variable 0) (Number (pos 92233720368547758
 sum_overflows = refl
 
 -- `((x = 0) or ((x / 0) = 1))`
-or_stops : evaluate (Binary Or (Binary Equal (Variable 0) (Number (pos 0))) (Binary Equal (Binary Divide (Variable 0) (Number (pos 0))) (Number (pos 1)))) (pos 0 ∷ []) ≡ Some (Tru true)
+or_stops : evaluate (Binary Or (Binary Equal (Variable 0) (Number (pos 0)))
+    (Binary Equal (Binary Divide (Variable 0) (Number (pos 0))) (Number (pos 1)))) (pos 0 ∷ []) ≡ Some (Tru true)
 or_stops = refl
 
 -- at the start the counter fires, and the consumer doesn't: its first command finds no message, and the guard of its second is false

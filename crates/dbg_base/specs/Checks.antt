@@ -1,5 +1,6 @@
 -- The checks of a written program, the tree that it says, and which text reads as which program.
-use Rattle.std.specs.Prelude.{◌≡◌, ℕ, ◌<◌, ◌≤◌, Bool, List, [], ◌∷◌, ◌++◌, length, map, not, take, drop, if◌then◌else◌, ◌⊎◌, Contains, pos, unwrap_or}
+use Rattle.std.specs.Prelude.{◌≡◌, ℕ, ◌<◌, ◌≤◌, Bool, List, [], ◌∷◌, ◌++◌, length, map, not, take, drop, if◌then◌else◌, ◌⊎◌, Contains, pos}
+use Rattle.std.specs.Prelude.{unwrap_or}
 use Rattle.std.specs.List.{flat_map, AllByRecursion}
 use Rattle.std.specs.Str.{bytes_eq}
 use Rattle.dbg_base.specs.declared.expr.Sort.{Sort}
@@ -13,7 +14,8 @@ use Rattle.dbg_base.specs.Faults.{kind_number}
 use Rattle.dbg_base.specs.Sorts.{is_same_sort, outcome_sort, operand_sort}
 use Rattle.dbg_base.specs.Trees as tree
 use Rattle.dbg_base.specs.Tokens.{Placed, HasTokens, IsTokenFault}
-use Rattle.dbg_base.specs.Grammar.{Named, Phrase, Number, Name, Truth, Not, Negate, Binary, WrittenAction, Local, Sends, Receives, WrittenAssignment, WrittenCommand, WrittenProcess, DerivesProgram, IsGrammarFault}
+use Rattle.dbg_base.specs.Grammar.{Named, Phrase, Number, Name, Truth, Not, Negate, Binary, WrittenAction, Local, Sends, Receives}
+use Rattle.dbg_base.specs.Grammar.{WrittenAssignment, WrittenCommand, WrittenProcess, DerivesProgram, IsGrammarFault}
 
 -- what an expression gives, by its outermost form alone
 abbrev pub sort_of : Phrase → Sort

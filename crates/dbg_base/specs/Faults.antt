@@ -1,7 +1,8 @@
 -- The kinds of faults by their numbers.
 use Rattle.std.specs.Prelude.{ℕ}
 use Rattle.dbg_base.specs.declared.fault.FaultKind.{FaultKind}
-use Rattle.dbg_base.specs.declared.fault.FaultKind.TheVariants.{Byte, Token, Grammar, NameTaken, NameUnknown, TypeWrong, Limit, SelfSend, SetTwice}
+use Rattle.dbg_base.specs.declared.fault.FaultKind.TheVariants.{Byte, Token, Grammar, NameTaken, NameUnknown, TypeWrong, Limit, SelfSend}
+use Rattle.dbg_base.specs.declared.fault.FaultKind.TheVariants.{SetTwice}
 
 abbrev pub kind_number : FaultKind → ℕ
 kind_number Byte = 1

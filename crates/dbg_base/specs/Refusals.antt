@@ -1,7 +1,11 @@
 -- The numbers by which refusals are told.
 use Rattle.std.specs.Prelude.{ℕ}
 use Rattle.dbg_base.specs.declared.refusal.Refusal.{Refusal}
-use Rattle.dbg_base.specs.declared.refusal.Refusal.TheVariants.{UnknownProcess, UnknownChoice, GuardFalse, Fault, ChannelEmpty, NothingToUndo, Consequence, NothingToRedo, Halted, BadPlace, BreakTaken, UnknownBreak, NoCut, NotArmed, AlreadyArmed, NothingBack, OtherSeat, ProcessFull, BreaksFull, JournalFull, Memory, BadLine, BadPredicate, NoneEnabled}
+use Rattle.dbg_base.specs.declared.refusal.Refusal.TheVariants.{UnknownProcess, UnknownChoice, GuardFalse, Fault, ChannelEmpty}
+use Rattle.dbg_base.specs.declared.refusal.Refusal.TheVariants.{NothingToUndo, Consequence, NothingToRedo, Halted, BadPlace, BreakTaken}
+use Rattle.dbg_base.specs.declared.refusal.Refusal.TheVariants.{UnknownBreak, NoCut, NotArmed, AlreadyArmed, NothingBack, OtherSeat}
+use Rattle.dbg_base.specs.declared.refusal.Refusal.TheVariants.{ProcessFull, BreaksFull, JournalFull, Memory, BadLine, BadPredicate}
+use Rattle.dbg_base.specs.declared.refusal.Refusal.TheVariants.{NoneEnabled}
 
 abbrev pub number_of : Refusal → ℕ
 number_of UnknownProcess = 1

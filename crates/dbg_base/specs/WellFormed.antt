@@ -7,7 +7,8 @@ use Rattle.dbg_base.specs.declared.expr.Sort.TheVariants as sort
 use Rattle.dbg_base.specs.declared.limits.TheConstants.{PROCESSES, VARIABLES, COMMANDS}
 use Rattle.dbg_base.specs.Names.{is_among}
 use Rattle.dbg_base.specs.Sorts.{is_same_sort, outcome_sort, operand_sort}
-use Rattle.dbg_base.specs.Trees.{Tree, Number, Variable, Truth, Not, Negate, Binary, Action, Local, Sends, Receives, Command, Process, Program, names_of}
+use Rattle.dbg_base.specs.Trees.{Tree, Number, Variable, Truth, Not, Negate, Binary, Action, Local, Sends, Receives, Command, Process}
+use Rattle.dbg_base.specs.Trees.{Program, names_of}
 
 -- what an expression gives, by its outermost form alone
 abbrev pub tree_sort : Tree → Sort

@@ -6,7 +6,8 @@ use Rattle.std.proofs.Math.Seq.{map-set_same}
 
 module _ {A B : Type 0} (f : A → B) (xs : List A) (i : ℕ) (x : A) (here : get_or xs i x ≡ x) (lt : i < length xs) where
   -- with another that f sees changed
-  pub changed_at : (y : A) (d : B) (change : B → B) → f y ≡ change (f x) → map f (set xs i y) ≡ set (map f xs) i (change (get_or (map f xs) i d))
+  pub changed_at : (y : A) (d : B) (change : B → B) → f y ≡ change (f x)
+      → map f (set xs i y) ≡ set (map f xs) i (change (get_or (map f xs) i d))
   changed_at y d change e =
       let there : get_or (map f xs) i d ≡ f x = get_or-map f xs i x d lt ∙ ap f here in
       map-set f xs i y ∙ ap (set (map f xs) i) (e ∙ ap change (sym there))

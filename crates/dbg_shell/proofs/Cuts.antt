@@ -1,5 +1,6 @@
 -- The events of each process, one line at a time.
-use Rattle.std.proofs.Common.{◌≡◌, ℕ, zero, suc, ◌+◌, List, [], ◌∷◌, ◌++◌, get_or, take, drop, Some, Bor, refl, sym, ap, ◌∙◌, append_assoc, add-one, arith}
+use Rattle.std.proofs.Common.{◌≡◌, ℕ, zero, suc, ◌+◌, List, [], ◌∷◌, ◌++◌, get_or, take, drop, Some, Bor, refl, sym, ap, ◌∙◌, append_assoc}
+use Rattle.std.proofs.Common.{add-one, arith}
 use Rattle.std.specs.Prelude.{slice_get}
 use Rattle.std.proofs.lemmas.List.{drop_all, map-append}
 use Rattle.dbg_base.specs.ModelStates.{cut_lines}
@@ -19,7 +20,8 @@ cut_suc (l ∷ lines) [] (suc p) line h =
 cut_suc (l ∷ lines) (q ∷ places) (suc p) line h = cut_suc lines places p line h
 
 -- one line more is cut
-pub cut_next : (history : List (Bor (List ℕ))) (events : Bor (List ℕ)) (lines : List (List ℕ)) (places : List ℕ) (p place : ℕ) (line : List ℕ) (all : History)
+pub cut_next : (history : List (Bor (List ℕ))) (events : Bor (List ℕ)) (lines : List (List ℕ)) (places : List ℕ) (p place : ℕ)
+    (line : List ℕ) (all : History)
     → slice_get lines p ≡ Some line → place ≡ get_or places p 0 → events.now ≡ take place line
     → choices_in history ++ cut_lines (drop p lines) (drop p places) ≡ all
     → choices_in (history ++ events ∷ []) ++ cut_lines (drop (p + 1) lines) (drop (p + 1) places) ≡ all

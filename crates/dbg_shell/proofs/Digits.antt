@@ -15,7 +15,8 @@ pub digit_range : (b : ℕ) → is_digit b ≡ true → (48 ≤ b) × (b ≤ 57)
 digit_range b h = (grind (arith, nat_tests), grind (arith, nat_tests))
 
 -- with a digit more the number still has few digits, and it fits
-pub stays_small : (i n number digit : ℕ) → i < n → n ≤ 9 → number < 10 ^ i → digit ≤ 9 → (number * 10 + digit < 10 ^ (i + 1)) × (number * 10 + digit < 4294967296)
+pub stays_small : (i n number digit : ℕ) → i < n → n ≤ 9 → number < 10 ^ i → digit ≤ 9
+    → (number * 10 + digit < 10 ^ (i + 1)) × (number * 10 + digit < 4294967296)
 stays_small i n number digit lt few small d =
     let most : 10 ^ i ≤ 10 ^ 8 = pow-le-pow_right {n = 10} (omega arith) {i = i} {j = 8} (omega arith) in
     (grind (arith, common_steps), omega (arith, most))
@@ -24,7 +25,8 @@ module _ (word : List ℕ) (i : ℕ) (lt : i < length word) (digit : is_digit (g
   pub digits_more : list_all is_digit (take i word) ≡ true → list_all is_digit (take (i + 1) word) ≡ true
   digits_more h = rw (list_all_more is_digit word i 0 lt) (rw h digit)
 
-  pub value_more : (number : ℕ) → number ≡ digits_value 10 (take i word) → number * 10 + (get_or word i 0 - 48) ≡ digits_value 10 (take (i + 1) word)
+  pub value_more : (number : ℕ) → number ≡ digits_value 10 (take i word)
+      → number * 10 + (get_or word i 0 - 48) ≡ digits_value 10 (take (i + 1) word)
   value_more number so_far =
       let more = digits_value_more 10 word i lt in
       let known : digit_value (get_or word i 0) + 48 ≡ get_or word i 0 = digit_value_digit (get_or word i 0) (digit_range _ digit) in

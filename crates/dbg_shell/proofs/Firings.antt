@@ -1,12 +1,14 @@
 -- Commands that are tried one after the other, and moves of a play.
-use Rattle.std.proofs.Common.{◌≡◌, ℕ, zero, suc, ◌+◌, ◌<◌, ◌≤◌, ℤ, Bool, true, false, List, [], ◌∷◌, length, drop, Option, Some, None, Result, Ok, Err, refl, sym, ap, ◌∙◌, add-one, arith}
+use Rattle.std.proofs.Common.{◌≡◌, ℕ, zero, suc, ◌+◌, ◌<◌, ◌≤◌, ℤ, Bool, true, false, List, [], ◌∷◌, length, drop, Option, Some, None}
+use Rattle.std.proofs.Common.{Result, Ok, Err, refl, sym, ap, ◌∙◌, add-one, arith}
 use Rattle.std.specs.Prelude.{slice_get, slice_index_or}
 use Rattle.std.specs.Result.{is_ok}
 use Rattle.std.proofs.lemmas.List.{length-set}
 use Rattle.dbg_base.specs.Trees.{Program, Command, Action, Local, Sends, Receives, process_of, no_process}
 use Rattle.dbg_base.specs.Configurations.{Configuration, values_of, channel_of, with_channel}
 use Rattle.dbg_base.specs.Evaluation.{evaluate}
-use Rattle.dbg_base.specs.Firing.{Effect, truth_of, where_true, effect_of, after_effect, deliver, complete, receive, proceed, fire_command, fire_if, fire}
+use Rattle.dbg_base.specs.Firing.{Effect, truth_of, where_true, effect_of, after_effect, deliver, complete, receive, proceed, fire_command}
+use Rattle.dbg_base.specs.Firing.{fire_if, fire}
 use Rattle.dbg_base.specs.Acts.{fires_first, lowest_from}
 use Rattle.dbg_base.specs.Histories.{History, Progress, move_from, next_move, first_move, moved, go_on, play_moves, choice_count}
 use Rattle.dbg_base.specs.declared.refusal.Refusal.{Refusal}
@@ -20,22 +22,26 @@ drop_there (x ∷ xs) (suc k) lt = drop_there xs k (omega arith)
 
 -- the commands from the k-th on begin with the k-th
 pub lowest_next : (P : Program) (c : Configuration) (p k : ℕ) → k < length (process_of P p).commands
-    → lowest_from k (drop k (process_of P p).commands) c p ≡ fires_first (fire P c p k) k (lowest_from (k + 1) (drop (k + 1) (process_of P p).commands) c p)
+    → lowest_from k (drop k (process_of P p).commands) c p
+    ≡ fires_first (fire P c p k) k (lowest_from (k + 1) (drop (k + 1) (process_of P p).commands) c p)
 lowest_next P c p k lt =
     let there = drop_there (process_of P p).commands k lt in
     let fired : fire P c p k ≡ fire_command there.0 c p = ap (λ (o : Option Command). fire_if o c p) there.1 in
     ap (λ (xs : List Command). lowest_from k xs c p) there.2
-    ∙ ap (λ (r : Result Configuration Refusal). fires_first r k (lowest_from (k + 1) (drop (suc k) (process_of P p).commands) c p)) (sym fired)
+    ∙ ap (λ (r : Result Configuration Refusal). fires_first r k (lowest_from (k + 1) (drop (suc k) (process_of P p).commands) c p))
+    (sym fired)
     ∙ ap (λ (n : ℕ). fires_first (fire P c p k) k (lowest_from (k + 1) (drop n (process_of P p).commands) c p)) (sym (add-one k))
 
 -- it fires
-pub first_fires : (o : Result (Unit {0}) Refusal) (known : Result Configuration Refusal) (old new : Configuration) (k : ℕ) (others : Option ℕ)
+pub first_fires : (o : Result (Unit {0}) Refusal) (known : Result Configuration Refusal) (old new : Configuration) (k : ℕ)
+    (others : Option ℕ)
     → is_ok o ≡ true → FiresAs o known old new → fires_first known k others ≡ Some k
 first_fires (Ok done) known old new k others t h = ap (λ r. fires_first r k others) h
 first_fires (Err refusal) known old new k others t h = cc
 
 -- it does not fire
-pub first_passes : (o : Result (Unit {0}) Refusal) (known : Result Configuration Refusal) (old new : Configuration) (k : ℕ) (others : Option ℕ)
+pub first_passes : (o : Result (Unit {0}) Refusal) (known : Result Configuration Refusal) (old new : Configuration) (k : ℕ)
+    (others : Option ℕ)
     → is_ok o ≡ false → FiresAs o known old new → (fires_first known k others ≡ others) × (new ≡ old)
 first_passes (Ok done) known old new k others t h = absurd cc
 first_passes (Err refusal) known old new k others t h = (ap (λ r. fires_first r k others) h.0, h.1)
@@ -44,27 +50,33 @@ delivered_keeps : (c : Configuration) (p target : ℕ) (message : Option ℤ) �
 delivered_keeps c p target None = refl
 delivered_keeps c p target (Some z) = refl
 
-after_keeps : (c : Configuration) (p : ℕ) (action : Action) (effect : Effect) → length (after_effect c p action effect).values ≡ length c.values
+after_keeps : (c : Configuration) (p : ℕ) (action : Action) (effect : Effect)
+    → length (after_effect c p action effect).values ≡ length c.values
 after_keeps c p Local effect = simp length-set refl
 after_keeps c p (Sends target value) effect = delivered_keeps _ p target effect.message ∙ simp length-set refl
 after_keeps c p (Receives source variable) effect = simp length-set refl
 
-complete_keeps : (c c' : Configuration) (p : ℕ) (action : Action) (effect : Option Effect) → complete c p action effect ≡ Ok c' → length c'.values ≡ length c.values
+complete_keeps : (c c' : Configuration) (p : ℕ) (action : Action) (effect : Option Effect) → complete c p action effect ≡ Ok c'
+    → length c'.values ≡ length c.values
 complete_keeps c c' p action None h = cc
 complete_keeps c c' p action (Some effect) h =
     let same : after_effect c p action effect ≡ c' = cc in
     ap (λ (d : Configuration). length d.values) (sym same) ∙ after_keeps c p action effect
 
-receive_keeps : (command : Command) (c c' : Configuration) (p source : ℕ) (messages : List ℤ) → receive command c p source messages ≡ Ok c' → length c'.values ≡ length c.values
+receive_keeps : (command : Command) (c c' : Configuration) (p source : ℕ) (messages : List ℤ) → receive command c p source messages ≡ Ok c'
+    → length c'.values ≡ length c.values
 receive_keeps command c c' p source [] h = cc
-receive_keeps command c c' p source (message ∷ messages) h = complete_keeps (with_channel c source p messages) c' p command.action (effect_of command (values_of c p) (Some message)) h
+receive_keeps command c c' p source (message ∷ messages) h =
+    complete_keeps (with_channel c source p messages) c' p command.action (effect_of command (values_of c p) (Some message)) h
 
-proceed_keeps : (command : Command) (action : Action) (c c' : Configuration) (p : ℕ) → proceed command action c p ≡ Ok c' → length c'.values ≡ length c.values
+proceed_keeps : (command : Command) (action : Action) (c c' : Configuration) (p : ℕ) → proceed command action c p ≡ Ok c'
+    → length c'.values ≡ length c.values
 proceed_keeps command Local c c' p h = complete_keeps c c' p Local (effect_of command (values_of c p) None) h
 proceed_keeps command (Sends target value) c c' p h = complete_keeps c c' p (Sends target value) (effect_of command (values_of c p) None) h
 proceed_keeps command (Receives source variable) c c' p h = receive_keeps command c c' p source (channel_of c source p) h
 
-where_keeps : (t : Option Bool) (command : Command) (c c' : Configuration) (p : ℕ) → where_true t (proceed command command.action c p) ≡ Ok c' → length c'.values ≡ length c.values
+where_keeps : (t : Option Bool) (command : Command) (c c' : Configuration) (p : ℕ)
+    → where_true t (proceed command command.action c p) ≡ Ok c' → length c'.values ≡ length c.values
 where_keeps None command c c' p h = cc
 where_keeps (Some false) command c c' p h = cc
 where_keeps (Some true) command c c' p h = proceed_keeps command command.action c c' p h
@@ -119,17 +131,20 @@ pub next_list : (P : Program) (at : Progress) (p : ℕ) (H : History) (choices :
     → move_from P at p (drop p H) ≡ move_from P at p (choices ∷ drop (p + 1) H)
 next_list P at p H choices h = ap (move_from P at p) (stands_there H p choices h)
 
-pub first_moves : (o : Result (Unit {0}) Refusal) (known : Result Configuration Refusal) (old new : Configuration) (at : Progress) (p : ℕ) (rest : List ℕ) (others : Option Progress)
+pub first_moves : (o : Result (Unit {0}) Refusal) (known : Result Configuration Refusal) (old new : Configuration) (at : Progress) (p : ℕ)
+    (rest : List ℕ) (others : Option Progress)
     → is_ok o ≡ true → FiresAs o known old new → first_move known at p rest others ≡ Some (moved at p rest new)
 first_moves (Ok done) known old new at p rest others t h = ap (λ r. first_move r at p rest others) h
 first_moves (Err refusal) known old new at p rest others t h = cc
 
-pub first_stays : (o : Result (Unit {0}) Refusal) (known : Result Configuration Refusal) (old new : Configuration) (at : Progress) (p : ℕ) (rest : List ℕ) (others : Option Progress)
+pub first_stays : (o : Result (Unit {0}) Refusal) (known : Result Configuration Refusal) (old new : Configuration) (at : Progress) (p : ℕ)
+    (rest : List ℕ) (others : Option Progress)
     → is_ok o ≡ false → FiresAs o known old new → (first_move known at p rest others ≡ others) × (new ≡ old)
 first_stays (Ok done) known old new at p rest others t h = absurd cc
 first_stays (Err refusal) known old new at p rest others t h = (ap (λ r. first_move r at p rest others) h.0, h.1)
 
-pub fired_keeps : (P : Program) (o : Result (Unit {0}) Refusal) (old new : Configuration) (p k : ℕ) → FiresAs o (fire P old p k) old new → length new.values ≡ length old.values
+pub fired_keeps : (P : Program) (o : Result (Unit {0}) Refusal) (old new : Configuration) (p k : ℕ) → FiresAs o (fire P old p k) old new
+    → length new.values ≡ length old.values
 fired_keeps P (Ok done) old new p k h = fire_keeps P old new p k h
 fired_keeps P (Err refusal) old new p k h = ap (λ (c : Configuration). length c.values) h.1
 
@@ -137,7 +152,8 @@ pub none_moves : (o : Option Progress) (c c' : Configuration) (H H' : History) �
 none_moves None c c' H H' e f h = (refl, f, h)
 none_moves (Some to) c c' H H' e f h = absurd cc
 
-pub some_moves : (o : Option Progress) (to : Progress) (c c' : Configuration) (H H' : History) → o ≡ Some to → c' ≡ to.configuration → H' ≡ to.unplayed → Moves true o c H c' H'
+pub some_moves : (o : Option Progress) (to : Progress) (c c' : Configuration) (H H' : History) → o ≡ Some to → c' ≡ to.configuration
+    → H' ≡ to.unplayed → Moves true o c H c' H'
 some_moves None to c c' H H' e f h = absurd cc
 some_moves (Some t) to c c' H H' e f h =
     let same : to ≡ t = cc in
@@ -148,19 +164,24 @@ stays_put zero P at h = refl
 stays_put (suc n) P at h = ap (λ (o : Option Progress). go_on at o (play_moves n P)) h
 
 module _ (P : Program) (c c' : Configuration) (H H' : History) (states : List (List (List ℤ))) where
-  goes_by : (o : Option Progress) (b : Bool) → next_move P (at_progress c H states) ≡ o → b ≡ true → Moves b o c H c' H' → choice_count H' + 1 ≡ choice_count H
-      → (others : List (List (List ℤ))) × (play_moves (choice_count H') P (at_progress c' H' others) ≡ play_moves (choice_count H) P (at_progress c H states))
+  goes_by : (o : Option Progress) (b : Bool) → next_move P (at_progress c H states) ≡ o → b ≡ true → Moves b o c H c' H'
+      → choice_count H' + 1 ≡ choice_count H
+      → (others : List (List (List ℤ))) × (play_moves (choice_count H') P (at_progress c' H' others)
+      ≡ play_moves (choice_count H) P (at_progress c H states))
   goes_by None b e t m n = absurd cc
   goes_by (Some to) b e t m n =
       let count : choice_count H ≡ suc (choice_count H') = omega (arith, n) in
       let one : play_moves (choice_count H) P (at_progress c H states) ≡ play_moves (choice_count H') P to =
-      ap (λ (k : ℕ). play_moves k P (at_progress c H states)) count ∙ ap (λ (o : Option Progress). go_on (at_progress c H states) o (play_moves (choice_count H') P)) e in
-      let there : at_progress c' H' to.states ≡ to = ap (λ (d : Configuration). at_progress d H' to.states) m.1 ∙ ap (λ (h : History). at_progress to.configuration h to.states) m.2 in
+      ap (λ (k : ℕ). play_moves k P (at_progress c H states)) count
+      ∙ ap (λ (o : Option Progress). go_on (at_progress c H states) o (play_moves (choice_count H') P)) e in
+      let there : at_progress c' H' to.states ≡ to =
+      ap (λ (d : Configuration). at_progress d H' to.states) m.1 ∙ ap (λ (h : History). at_progress to.configuration h to.states) m.2 in
       (to.states, ap (play_moves (choice_count H') P) there ∙ sym one)
 
   -- a play goes on after a move
   pub goes_on : (b : Bool) → b ≡ true → Moves b (next_move P (at_progress c H states)) c H c' H' → choice_count H' + 1 ≡ choice_count H
-      → (others : List (List (List ℤ))) × (play_moves (choice_count H') P (at_progress c' H' others) ≡ play_moves (choice_count H) P (at_progress c H states))
+      → (others : List (List (List ℤ))) × (play_moves (choice_count H') P (at_progress c' H' others)
+      ≡ play_moves (choice_count H) P (at_progress c H states))
   goes_on b t m n = goes_by (next_move P (at_progress c H states)) b refl t m n
 
   ends_by : (o : Option Progress) (b : Bool) → next_move P (at_progress c H states) ≡ o → b ≡ false → Moves b o c H c' H'
@@ -169,5 +190,6 @@ module _ (P : Program) (c c' : Configuration) (H H' : History) (states : List (L
   ends_by (Some to) b e t m = absurd cc
 
   -- and ends where there is none
-  pub ends_there : (b : Bool) → b ≡ false → Moves b (next_move P (at_progress c H states)) c H c' H' → c' ≡ (play_moves (choice_count H) P (at_progress c H states)).configuration
+  pub ends_there : (b : Bool) → b ≡ false → Moves b (next_move P (at_progress c H states)) c H c' H'
+      → c' ≡ (play_moves (choice_count H) P (at_progress c H states)).configuration
   ends_there b t m = ends_by (next_move P (at_progress c H states)) b refl t m

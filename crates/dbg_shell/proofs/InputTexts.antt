@@ -1,12 +1,14 @@
 -- What a run over the input writes.
-use Rattle.std.proofs.Common.{◌≡◌, ℕ, ◌+◌, ◌-◌, ◌≤◌, Bool, true, false, List, [], ◌++◌, length, take, drop, Option, Some, None, refl, sym, ap, ◌∙◌, subst, inl, arith}
+use Rattle.std.proofs.Common.{◌≡◌, ℕ, ◌+◌, ◌-◌, ◌≤◌, Bool, true, false, List, [], ◌++◌, length, take, drop, Option, Some, None, refl, sym}
+use Rattle.std.proofs.Common.{ap, ◌∙◌, subst, inl, arith}
 use Rattle.std.specs.Prelude.{slice_range, IfSome, IfOk, IfErr, Result, Ok, Err}
 use Rattle.std.proofs.KnownBytes.{Appends-nil}
 use Rattle.dbg_base.specs.declared.limits.TheConstants.{INPUT_BYTES}
 use Rattle.dbg_base.specs.Trees.{Program}
 use Rattle.dbg_base.specs.Checks.{Reads}
 use Rattle.dbg_base.specs.ModelStates.{opening_state}
-use Rattle.dbg_base.specs.Shell.{Parts, lines_of, parts_of, read_lines, lines_within, is_too_long, AnswersLines, AnswersParts, TextOfParts, WholeText, Text, fault_text, too_long_text, no_end_line_text}
+use Rattle.dbg_base.specs.Shell.{Parts, lines_of, parts_of, read_lines, lines_within, is_too_long, AnswersLines, AnswersParts, TextOfParts}
+use Rattle.dbg_base.specs.Shell.{WholeText, Text, fault_text, too_long_text, no_end_line_text}
 use Rattle.proc_lang.specs.Small.{IsSmall}
 use Rattle.proc_lang.specs.Answering.{IsRefusal}
 use Rattle.dbg_base.specs.declared.fault.ProgFault.{ProgFault}
@@ -20,7 +22,8 @@ use Rattle.dbg_shell.specs.declared.program_text.TextEnd.{TextEnd}
 use Rattle.dbg_shell.specs.declared.program_text.TextEnd.TheVariants as ends
 use Rattle.dbg_shell.specs.Spans.{lines_from, KeepsInput, MayBe, Narrows, ReadsOn}
 use Rattle.dbg_shell.specs.Writing.{Writes}
-use Rattle.dbg_shell.specs.Serving.{IsServed, HasSmallText, ServesInput, RefusesInput, BreaksInput, ReadsFew, WritesFront, RepliesTo, ServesLines, StopsLines, BreaksLines, Splits, SplitsAny, served_by}
+use Rattle.dbg_shell.specs.Serving.{IsServed, HasSmallText, ServesInput, RefusesInput, BreaksInput, ReadsFew, WritesFront, RepliesTo}
+use Rattle.dbg_shell.specs.Serving.{ServesLines, StopsLines, BreaksLines, Splits, SplitsAny, served_by}
 use Rattle.dbg_shell.proofs.UnderWay.{goes_on}
 
 -- the run is of this form where the reader's bytes are known

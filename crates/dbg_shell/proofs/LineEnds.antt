@@ -1,10 +1,12 @@
 -- The next line of the input.
-use Rattle.std.proofs.Common.{◌≡◌, ℕ, suc, ◌+◌, ◌-◌, ◌<◌, ◌≤◌, Bool, true, false, not, cond, eqb, List, [], ◌∷◌, ◌++◌, length, get_or, take, drop, refl, sym, ap, ◌∙◌, subst, inl, inr, append_assoc, add-one, one-add, arith}
+use Rattle.std.proofs.Common.{◌≡◌, ℕ, suc, ◌+◌, ◌-◌, ◌<◌, ◌≤◌, Bool, true, false, not, cond, eqb, List, [], ◌∷◌, ◌++◌, length, get_or, take}
+use Rattle.std.proofs.Common.{drop, refl, sym, ap, ◌∙◌, subst, inl, inr, append_assoc, add-one, one-add, arith}
 use Rattle.std.specs.Prelude.{slice_range, nat_lt}
 use Rattle.std.specs.List.{prefix_len}
 use Rattle.std.proofs.lemmas.Bool.Decides.{nat_tests}
 use Rattle.std.proofs.lemmas.Bool.{eqb-true, and_from, not-true, not-false}
-use Rattle.std.proofs.lemmas.List.{append-nil, drop-append-le, take-append-le, length-append, length-take, length-drop, drop-drop, drop_all, take-take, take_all, get_or-take, get_or-drop}
+use Rattle.std.proofs.lemmas.List.{append-nil, drop-append-le, take-append-le, length-append, length-take, length-drop, drop-drop, drop_all}
+use Rattle.std.proofs.lemmas.List.{take-take, take_all, get_or-take, get_or-drop}
 use Rattle.std.proofs.lemmas.List.Folds.{list_all-append, drop_split}
 use Rattle.std.proofs.lemmas.List.Sums.{prefix_len_stops, prefix_len-le-length}
 use Rattle.std.proofs.Math.Seq.{drop-cons, take-add}

@@ -48,7 +48,8 @@ asks_nothing (Ok None) e = refl
 asks_nothing (Err refusal) e = cc
 
 -- the line was refused
-pub is_refused : (refusal : Refusal) (known : Result (Option Request) Refusal) → Err refusal ≡ map_ok (option_map requested) known → Err refusal ≡ known
+pub is_refused : (refusal : Refusal) (known : Result (Option Request) Refusal) → Err refusal ≡ map_ok (option_map requested) known
+    → Err refusal ≡ known
 is_refused refusal (Ok (Some request)) e = cc
 is_refused refusal (Ok None) e = cc
 is_refused refusal (Err other) e = cc

@@ -1,5 +1,6 @@
 -- The words of a line, from its front.
-use Rattle.std.proofs.Common.{◌≡◌, ◌≢◌, ℕ, zero, suc, ◌-◌, ◌<◌, Bool, true, false, not, eqb, List, [], ◌∷◌, length, get_or, take, drop, Some, refl, sym, ap, ◌∙◌, arith, one-add}
+use Rattle.std.proofs.Common.{◌≡◌, ◌≢◌, ℕ, zero, suc, ◌-◌, ◌<◌, Bool, true, false, not, eqb, List, [], ◌∷◌, length, get_or, take, drop}
+use Rattle.std.proofs.Common.{Some, refl, sym, ap, ◌∙◌, arith, one-add}
 use Rattle.std.specs.List.{prefix_len}
 use Rattle.std.proofs.lemmas.Bool.{eqb-true, not-true}
 use Rattle.std.proofs.lemmas.Grind.{common_steps}
@@ -11,8 +12,10 @@ abbrev pub is_inner : ℕ → Bool
 is_inner b = not (is_blank b)
 
 inner_word_by : (b c : ℕ) (bytes : List ℕ) (t : Bool) → is_blank b ≡ false → is_blank c ≡ t
-    → (is_blank c ≡ false → words_of (c ∷ bytes) ≡ (c ∷ take (prefix_len is_inner bytes) bytes) ∷ words_of (drop (prefix_len is_inner bytes) bytes))
-    → words_of (b ∷ c ∷ bytes) ≡ (b ∷ take (prefix_len is_inner (c ∷ bytes)) (c ∷ bytes)) ∷ words_of (drop (prefix_len is_inner (c ∷ bytes)) (c ∷ bytes))
+    → (is_blank c ≡ false → words_of (c ∷ bytes)
+    ≡ (c ∷ take (prefix_len is_inner bytes) bytes) ∷ words_of (drop (prefix_len is_inner bytes) bytes))
+    → words_of (b ∷ c ∷ bytes) ≡ (b ∷ take (prefix_len is_inner (c ∷ bytes)) (c ∷ bytes)) ∷ words_of
+    (drop (prefix_len is_inner (c ∷ bytes)) (c ∷ bytes))
 inner_word_by b c bytes true e f others =
     let front : words_of (b ∷ c ∷ bytes) ≡ (b ∷ []) ∷ words_of (c ∷ bytes) = rw (e, f) refl in
     let length_is : prefix_len is_inner (c ∷ bytes) ≡ 0 = rw f refl in

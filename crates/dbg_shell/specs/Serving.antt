@@ -1,11 +1,13 @@
 -- What serving an input does.
-use Rattle.std.specs.Prelude.{◌≡◌, ℕ, ◌+◌, ◌≤◌, Bool, true, false, List, ◌++◌, length, drop, slice_range, Option, Some, None, Result, if◌then◌else◌}
+use Rattle.std.specs.Prelude.{◌≡◌, ℕ, ◌+◌, ◌≤◌, Bool, true, false, List, ◌++◌, length, drop, slice_range, Option, Some, None, Result}
+use Rattle.std.specs.Prelude.{if◌then◌else◌}
 use Rattle.std.specs.Io.KnownBytes.{Appends}
 use Rattle.dbg_base.specs.declared.limits.TheConstants.{INPUT_BYTES}
 use Rattle.dbg_base.specs.Trees.{Program}
 use Rattle.dbg_base.specs.Checks.{Reads}
 use Rattle.dbg_base.specs.ModelStates.{ModelState, opening_state}
-use Rattle.dbg_base.specs.Shell.{Parts, lines_of, parts_of, read_lines, is_too_long, AnswersLine, AnswersLines, end_text, fault_text, WholeText, Text}
+use Rattle.dbg_base.specs.Shell.{Parts, lines_of, parts_of, read_lines, is_too_long, AnswersLine, AnswersLines, end_text, fault_text}
+use Rattle.dbg_base.specs.Shell.{WholeText, Text}
 use Rattle.proc_lang.specs.Small.{IsSmall}
 use Rattle.proc_lang.specs.Answering.{IsRefusal}
 use Rattle.dbg_base.specs.declared.fault.ProgFault.{ProgFault}

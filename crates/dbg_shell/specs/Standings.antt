@@ -32,7 +32,8 @@ FiresAs (Ok done) known old new = known ≡ Ok new
 FiresAs (Err refusal) known old new = (known ≡ Err refusal) × (new ≡ old)
 
 -- the same, and where memory ran out nothing changed
-abbrev pub Fires : {E : Type 0} → Result (Result (Unit {0}) Refusal) E → Result model.Configuration Refusal → model.Configuration → model.Configuration → Type 0
+abbrev pub Fires : {E : Type 0} → Result (Result (Unit {0}) Refusal) E → Result model.Configuration Refusal → model.Configuration
+    → model.Configuration → Type 0
 Fires (Ok outcome) known old new = FiresAs outcome known old new
 Fires (Err e) known old new = new ≡ old
 

@@ -4,7 +4,8 @@ ghost use Rattle.std.specs.Prelude.{◌≡◌, ◌∷◌, [], Some, not, true, M
 ghost use Rattle.std.specs.List.{list_all, prefix_len};
 ghost use Rattle.std.specs.Option.{option_map};
 ghost use Rattle.dbg_base.specs.Tokens.{is_letter, is_word_byte};
-ghost use Rattle.dbg_base.specs.CommandLines.{is_blank, words_of, without_return, number_word, seat_word, name_word, map_ok, named_process, process_call, call_of_words, parsed_line};
+ghost use Rattle.dbg_base.specs.CommandLines.{is_blank, words_of, without_return, number_word, seat_word, name_word, map_ok, named_process};
+ghost use Rattle.dbg_base.specs.CommandLines.{process_call, call_of_words, parsed_line};
 ghost use Rattle.proc_lang.specs.Programs.{program_of};
 ghost use Rattle.dbg_shell.specs.Lines.{begins_word, only, called, asked, requested};
 

@@ -1,6 +1,7 @@
 //! Bytes become lines.
 
-ghost use Rattle.std.specs.Prelude.{◌≡◌, ◌+◌, ◌<◌, ◌≤◌, [], true, false, min, take, vec_len, vec_capacity, length, slice_range, OnOk, OnErr, MatchOption, IfOk, IfErr, IfSome, ◌⊎◌};
+ghost use Rattle.std.specs.Prelude.{◌≡◌, ◌+◌, ◌<◌, ◌≤◌, [], true, false, min, take, vec_len, vec_capacity, length, slice_range, OnOk};
+ghost use Rattle.std.specs.Prelude.{OnErr, MatchOption, IfOk, IfErr, IfSome, ◌⊎◌};
 ghost use Rattle.std.specs.List.{prefix_len};
 ghost use Rattle.dbg_shell.specs.Spans.{AdvancesAt, is_inside, is_unended, TellsAny, EndsWith, ReadsOn, IsUnderWay};
 ghost use Rattle.dbg_shell.specs.declared.framing.TheConstants.{ROOM};

@@ -4,7 +4,8 @@ ghost use Rattle.std.specs.Prelude.{◌≡◌, ◌≤◌, ◌++◌, ◌∷◌, m
 ghost use Rattle.std.specs.Option.{option_map};
 ghost use Rattle.std.specs.Fmt.{decimal, signed_decimal};
 ghost use Rattle.dbg_base.specs.Trees.{process_of, names_of};
-ghost use Rattle.dbg_base.specs.Replies.{joined, spaced, name_of, count_words, value_words, head_words, head_text, mark_word, refusal_words, halted_words, can_words, subject_of, answer_words};
+ghost use Rattle.dbg_base.specs.Replies.{joined, spaced, name_of, count_words, value_words, head_words, head_text, mark_word};
+ghost use Rattle.dbg_base.specs.Replies.{refusal_words, halted_words, can_words, subject_of, answer_words};
 ghost use Rattle.dbg_base.specs.Shell.{as_line};
 ghost use Rattle.proc_lang.specs.Programs.{program_of};
 ghost use Rattle.dbg_shell.specs.Writing.{Writes, in_a_row};

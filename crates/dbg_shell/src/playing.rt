@@ -56,7 +56,8 @@ pub(crate) fn play(
     program: &Program,
     history: Vec<&[u32]>,
 ) -> Result<Configuration, AllocError>
-    ensures played { IfOk result (λ configuration. standing configuration ≡ play (program_of program.now) (choices_in history.entry.items)) }
+    ensures played { IfOk result (λ configuration. standing configuration
+        ≡ play (program_of program.now) (choices_in history.entry.items)) }
     ensures sized { IfOk result (λ configuration. length (standing configuration).values ≡ length (program_of program.now)) }
 {
     let mut unplayed = history;

@@ -7,7 +7,8 @@ ghost use Rattle.dbg_shell.specs.declared.outcome.ServeFault.TheVariants.{Memory
 ghost use Rattle.dbg_base.specs.Shell.{Text};
 ghost use Rattle.dbg_shell.specs.Spans.{EndsWith, ReadsOn};
 ghost use Rattle.dbg_shell.specs.Sessions.{state_of, IsSized};
-ghost use Rattle.dbg_shell.specs.Serving.{IsServed, ServesInput, RefusesInput, BreaksInput, ReadsFew, WritesAnswer, WritesFront, ServesLines, StopsLines, BreaksLines};
+ghost use Rattle.dbg_shell.specs.Serving.{IsServed, ServesInput, RefusesInput, BreaksInput, ReadsFew, WritesAnswer, WritesFront};
+ghost use Rattle.dbg_shell.specs.Serving.{ServesLines, StopsLines, BreaksLines};
 
 use crate::command_line::parse_line;
 use crate::framing::{Input, Next};

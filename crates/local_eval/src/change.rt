@@ -53,7 +53,8 @@ fn assign(
 }
 
 /// What the command does at these values, where it takes this message if it receives (with none it takes none, and any other
-/// command does without it): the variables that it sets and the value that it sends. A value to send is evaluated at the old values, an assignment at the old values with the message already
+/// command does without it): the variables that it sets and the value that it sends. A value to send is evaluated at the old values, an
+/// assignment at the old values with the message already
 /// taken, and the guard not at all. It is refused as a fault exactly where an evaluation faults, and as memory where that runs
 /// out, which may come in place of either.
 pub fn effect(

@@ -1,5 +1,6 @@
 -- Faults of parts among those of the whole, and names by their places.
-use Rattle.std.proofs.Common.{◌≡◌, ℕ, ◌+◌, ◌<◌, ltb, Bool, true, false, cond, not, ◌||◌, List, [], ◌∷◌, ◌++◌, length, map, Option, Some, None, refl, sym, ap, ◌∙◌, subst, arith}
+use Rattle.std.proofs.Common.{◌≡◌, ℕ, ◌+◌, ◌<◌, ltb, Bool, true, false, cond, not, ◌||◌, List, [], ◌∷◌, ◌++◌, length, map, Option, Some}
+use Rattle.std.proofs.Common.{None, refl, sym, ap, ◌∙◌, subst, arith}
 use Rattle.std.specs.Prelude.{Contains, unwrap_or, Result, Err}
 use Rattle.std.specs.Option.{is_some}
 use Rattle.std.specs.List.{position, position_or_len, position_from}
@@ -31,7 +32,8 @@ among_right (Bad fault) xs ys here = Contains-append_right xs ys fault here
 among_right Memory xs ys here = tt
 
 -- a fault that is named, of the first part
-pub among_left_named : (e : ProgError) (fault : ProgFault) (xs ys : List ProgFault) → e ≡ Bad fault → Contains xs fault → IsAmong e (xs ++ ys)
+pub among_left_named : (e : ProgError) (fault : ProgFault) (xs ys : List ProgFault) → e ≡ Bad fault → Contains xs fault
+    → IsAmong e (xs ++ ys)
 among_left_named e fault xs ys is there =
     subst (λ (x : ProgError). IsAmong x (xs ++ ys)) (sym is) (Contains-append_left xs ys fault there)
 
@@ -52,7 +54,8 @@ among_one e fault faults is same =
     (subst (λ (l : List ProgFault). Contains l fault) (sym same) (Contains-push [] fault))
 
 -- a fault of the left operand
-pub among_left_operand : (e : ProgError) (variables : List (List ℕ)) (wanted operands : Sort) (at : ℕ) (operator : Operator) (left right read whole : Phrase)
+pub among_left_operand : (e : ProgError) (variables : List (List ℕ)) (wanted operands : Sort) (at : ℕ) (operator : Operator)
+    (left right read whole : Phrase)
     → operands ≡ operand_sort operator → read ≡ left → whole ≡ Binary at operator left right
     → IsAmong e (expression_faults variables operands read) → IsAmong e (expression_faults variables wanted whole)
 among_left_operand e variables wanted operands at operator left right read whole sorts same is among =
@@ -61,7 +64,8 @@ among_left_operand e variables wanted operands at operator left right read whole
     (subst (λ (s : Sort). IsAmong e (expression_faults variables s read)) sorts among) in
     subst (λ (p : Phrase). IsAmong e (expression_faults variables wanted p)) (sym is)
     (among_right e (wrong_sort wanted (Binary at operator left right)) (faults_within variables (Binary at operator left right))
-    (among_left e (expression_faults variables (operand_sort operator) left) (expression_faults variables (operand_sort operator) right) inner))
+    (among_left e (expression_faults variables (operand_sort operator) left)
+    (expression_faults variables (operand_sort operator) right) inner))
 
 among_turn : (b t : Bool) (k : ℕ) (o : Option ℕ) → t ≡ is_some o → (b || t) ≡ is_some (cond b (Some k) o)
 among_turn true t k o same = refl

@@ -1,10 +1,12 @@
 -- Checks along a list, one element at a time: the faults of the whole are those of what is left.
-use Rattle.std.proofs.Common.{◌≡◌, ℕ, zero, suc, ◌+◌, ◌<◌, ◌≤◌, Bool, true, false, ◌||◌, List, [], ◌∷◌, ◌++◌, length, get_or, take, drop, map, refl, sym, ap, ◌∙◌, subst, arith, add-one, ◌⊎◌, inl, inr}
+use Rattle.std.proofs.Common.{◌≡◌, ℕ, zero, suc, ◌+◌, ◌<◌, ◌≤◌, Bool, true, false, ◌||◌, List, [], ◌∷◌, ◌++◌, length, get_or, take, drop}
+use Rattle.std.proofs.Common.{map, refl, sym, ap, ◌∙◌, subst, arith, add-one, ◌⊎◌, inl, inr}
 use Rattle.std.specs.Prelude.{Contains}
 use Rattle.std.specs.List.{list_any, flat_map}
 use Rattle.std.specs.Str.{bytes_eq}
 use Rattle.std.proofs.lemmas.List.{drop_more, drop_all, at_drop_more, drop-map, length-map, map_push, map_more}
-use Rattle.std.proofs.lemmas.List.Elements.{Contains-append_left, Contains-append_right, Contains-append_cases, Contains-push, Contains-push_cases}
+use Rattle.std.proofs.lemmas.List.Elements.{Contains-append_left, Contains-append_right, Contains-append_cases, Contains-push}
+use Rattle.std.proofs.lemmas.List.Elements.{Contains-push_cases}
 use Rattle.dbg_base.specs.declared.fault.ProgFault.{ProgFault}
 use Rattle.dbg_base.specs.declared.fault.FaultKind.{FaultKind}
 use Rattle.dbg_base.specs.declared.fault.FaultKind.TheVariants.{NameTaken, Limit, SetTwice}
@@ -25,7 +27,8 @@ pub among_within : (e : ProgError) (xs zs : List ProgFault) → AreWithin xs zs 
 among_within (Bad fault) xs zs within among = within fault among
 among_within Memory xs zs within among = tt
 
-both_turn : (zs : List ProgFault) (xs ys : List ProgFault) (f : ProgFault) → AreWithin xs zs → AreWithin ys zs → Contains xs f ⊎ Contains ys f → Contains zs f
+both_turn : (zs : List ProgFault) (xs ys : List ProgFault) (f : ProgFault) → AreWithin xs zs → AreWithin ys zs
+    → Contains xs f ⊎ Contains ys f → Contains zs f
 both_turn zs xs ys f first second (inl here) = first f here
 both_turn zs xs ys f first second (inr here) = second f here
 
@@ -40,7 +43,8 @@ one_turn y f zs there (inl here) = absurd (none_contained f here)
 one_turn y f zs there (inr same) = subst (λ (g : ProgFault). Contains zs g) same there
 
 -- the fault of a test, where it is there whenever the test passes
-pub where_within : (b : Bool) (kind : FaultKind) (at : ℕ) (zs : List ProgFault) → (b ≡ true → Contains zs (record { kind = kind; at = at })) → AreWithin (fault_where b kind at) zs
+pub where_within : (b : Bool) (kind : FaultKind) (at : ℕ) (zs : List ProgFault) → (b ≡ true → Contains zs (record { kind = kind; at = at }))
+    → AreWithin (fault_where b kind at) zs
 where_within true kind at zs there f here =
     one_turn (record { kind = kind; at = at }) f zs (there refl) (Contains-push_cases [] (record { kind = kind; at = at }) f here)
 where_within false kind at zs there f here = absurd (none_contained f here)
@@ -50,7 +54,8 @@ pub goes_on : (whole rest here next : List ProgFault) → whole ≡ rest → res
 goes_on whole rest here next so_far step none = so_far ∙ step ∙ ap (λ (l : List ProgFault). l ++ next) none
 
 -- a fault of the next element
-pub among_next : (e : ProgError) (whole rest here next : List ProgFault) → whole ≡ rest → rest ≡ here ++ next → IsAmong e here → IsAmong e whole
+pub among_next : (e : ProgError) (whole rest here next : List ProgFault) → whole ≡ rest → rest ≡ here ++ next → IsAmong e here
+    → IsAmong e whole
 among_next e whole rest here next so_far step among =
     subst (λ (l : List ProgFault). IsAmong e l) (sym (so_far ∙ step)) (among_left e here next among)
 
@@ -93,7 +98,8 @@ or_none true = refl
 or_none false = refl
 
 -- a name is on the pile where it was there before or was laid on it
-pile_among : (name : List ℕ) (earlier names : List (List ℕ)) → is_among name (pile earlier names) ≡ (is_among name earlier || is_among name names)
+pile_among : (name : List ℕ) (earlier names : List (List ℕ))
+    → is_among name (pile earlier names) ≡ (is_among name earlier || is_among name names)
 pile_among name earlier [] = or_none (is_among name earlier)
 pile_among name earlier (n ∷ names) =
     pile_among name (n ∷ earlier) names ∙ or_swap (bytes_eq name n) (is_among name earlier) (is_among name names)
@@ -118,14 +124,16 @@ module _ {X Y : Type 0} (k : Y → Named) (h : X → Y) where
 
   taken_suc : (earlier : List (List ℕ)) (xs : List X) (i : ℕ) (d : X) → i < length xs
       → taken_rest earlier i xs
-      ≡ fault_where (is_among (k (h (get_or xs i d))).name (seen earlier i xs)) NameTaken (k (h (get_or xs i d))).at ++ taken_rest earlier (suc i) xs
+      ≡ fault_where (is_among (k (h (get_or xs i d))).name (seen earlier i xs)) NameTaken (k (h (get_or xs i d))).at
+      ++ taken_rest earlier (suc i) xs
   taken_suc earlier [] i d lt = absurd (omega (arith, lt))
   taken_suc earlier (x ∷ xs) zero d lt = refl
   taken_suc earlier (x ∷ xs) (suc i) d lt = taken_suc ((k (h x)).name ∷ earlier) xs i d (omega arith)
 
   pub taken_step : (earlier : List (List ℕ)) (xs : List X) (i : ℕ) (d : X) → i < length xs
       → taken_rest earlier i xs
-      ≡ fault_where (is_among (k (h (get_or xs i d))).name (seen earlier i xs)) NameTaken (k (h (get_or xs i d))).at ++ taken_rest earlier (i + 1) xs
+      ≡ fault_where (is_among (k (h (get_or xs i d))).name (seen earlier i xs)) NameTaken (k (h (get_or xs i d))).at
+      ++ taken_rest earlier (i + 1) xs
   taken_step earlier xs i d lt = rw add-one (taken_suc earlier xs i d lt)
 
   pub taken_end : (earlier : List (List ℕ)) (xs : List X) (i : ℕ) → length xs ≤ i → taken_rest earlier i xs ≡ []
@@ -167,7 +175,8 @@ module _ {X Y : Type 0} (at : Y → ℕ) (h : X → Y) where
 
 module _ {X Y : Type 0} (k : Y → Named) (h : X → Y) where
   -- a fault of a name that has to be free, of something that may be one too many
-  pub among_fresh : (e : ProgError) (limit : ℕ) (xs : List X) (i : ℕ) (x : X) (b many : Bool) → i ≤ limit → i < length xs → x ≡ get_or xs i x
+  pub among_fresh : (e : ProgError) (limit : ℕ) (xs : List X) (i : ℕ) (x : X) (b many : Bool) → i ≤ limit → i < length xs
+      → x ≡ get_or xs i x
       → taken_faults [] (map k (map h xs)) ≡ taken_rest k h [] i xs
       → b ≡ list_any (λ y. bytes_eq (k (h x)).name (k (h y)).name) (take i xs) → (many ≡ true → limit ≤ i)
       → IsAmong e (fault_where b NameTaken (k (h x)).at ++ fault_where many Limit (k (h x)).at)
@@ -179,7 +188,8 @@ module _ {X Y : Type 0} (k : Y → Named) (h : X → Y) where
       let step : taken ≡ fault_where b NameTaken at ++ taken_rest k h [] (i + 1) xs = so_far ∙ taken_here k h xs i x b lt here test in
       let first : AreWithin (fault_where b NameTaken at) (taken ++ limits)
       = λ f there. Contains-append_left taken limits f
-      (subst (λ (l : List ProgFault). Contains l f) (sym step) (Contains-append_left (fault_where b NameTaken at) (taken_rest k h [] (i + 1) xs) f there)) in
+      (subst (λ (l : List ProgFault). Contains l f) (sym step)
+      (Contains-append_left (fault_where b NameTaken at) (taken_rest k h [] (i + 1) xs) f there)) in
       let second : AreWithin (fault_where many Limit at) (taken ++ limits)
       = where_within many Limit at (taken ++ limits)
       (λ is. Contains-append_right taken limits (record { kind = Limit; at = at })

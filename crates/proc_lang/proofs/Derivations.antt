@@ -6,15 +6,18 @@ use Rattle.std.specs.List.{list_any}
 use Rattle.std.specs.Str.{bytes_eq}
 use Rattle.std.proofs.lemmas.Slice.Eq.{bytes_eq-Decides}
 use Rattle.dbg_base.specs.declared.expr.Operator.{Operator}
-use Rattle.dbg_base.specs.declared.expr.Operator.TheVariants.{Add, Subtract, Multiply, Divide, Remainder, Equal, NotEqual, Less, LessOrEqual, Greater, GreaterOrEqual, And, Or}
+use Rattle.dbg_base.specs.declared.expr.Operator.TheVariants.{Add, Subtract, Multiply, Divide, Remainder, Equal, NotEqual, Less}
+use Rattle.dbg_base.specs.declared.expr.Operator.TheVariants.{LessOrEqual, Greater, GreaterOrEqual, And, Or}
 use Rattle.dbg_base.specs.Tokens.{Token, Word, Symbol, Placed}
 use Rattle.dbg_base.specs.declared.sign.Sign.{Sign}
-use Rattle.dbg_base.specs.declared.sign.Sign.TheVariants.{Equals, NotEquals, LessThan, AtMost, GreaterThan, AtLeast, Plus, Minus, Star, Slash, Percent}
+use Rattle.dbg_base.specs.declared.sign.Sign.TheVariants.{Equals, NotEquals, LessThan, AtMost, GreaterThan, AtLeast, Plus, Minus, Star}
+use Rattle.dbg_base.specs.declared.sign.Sign.TheVariants.{Slash, Percent}
 use Rattle.dbg_base.specs.Tokens as token
 use Rattle.dbg_base.specs.Grammar.{Named, IsName, reserved_words, word_at, number_at, sign_at, operator_token}
 use denote.Enum.Bare.{same_true, true_same}
 use Rattle.dbg_base.specs.contracts.sign.Sign.{the_type}
-use Rattle.proc_lang.specs.Parsing.{same_sign, is_word_token, is_sign_token, read_word, read_sign, name_in, read_name, number_in, read_number, small_operator, sign_operator, word_operator, operator_in, read_operator}
+use Rattle.proc_lang.specs.Parsing.{same_sign, is_word_token, is_sign_token, read_word, read_sign, name_in, read_name, number_in}
+use Rattle.proc_lang.specs.Parsing.{read_number, small_operator, sign_operator, word_operator, operator_in, read_operator}
 use Rattle.proc_lang.specs.Small.{is_small_operator}
 use Rattle.proc_lang.proofs.Expressions.{map_some}
 
@@ -45,7 +48,8 @@ token_is_sign sign (token.Number value) e = cc
 token_is_sign sign (Symbol found) e = ap Symbol (same_sign_equal found sign e)
 
 -- a word
-pub sound_word : (word : List ℕ) (tokens : List Placed) (found : ℕ × List Placed) → read_word word tokens ≡ Some found → tokens ≡ word_at found.0 word ∷ found.1
+pub sound_word : (word : List ℕ) (tokens : List Placed) (found : ℕ × List Placed) → read_word word tokens ≡ Some found
+    → tokens ≡ word_at found.0 word ∷ found.1
 unfolding read_word
 sound_word word [] found e = cc
 sound_word word (p ∷ tokens) found e =
@@ -58,7 +62,8 @@ unfolding read_word
 complete_word word at rest = ap (λ (b : Bool). cond b (Some (at, rest)) None) (bytes_eq_itself word)
 
 -- a sign
-pub sound_sign : (sign : Sign) (tokens : List Placed) (found : ℕ × List Placed) → read_sign sign tokens ≡ Some found → tokens ≡ sign_at found.0 sign ∷ found.1
+pub sound_sign : (sign : Sign) (tokens : List Placed) (found : ℕ × List Placed) → read_sign sign tokens ≡ Some found
+    → tokens ≡ sign_at found.0 sign ∷ found.1
 unfolding read_sign
 sound_sign sign [] found e = cc
 sound_sign sign (p ∷ tokens) found e =
@@ -85,17 +90,20 @@ sound_name_in (Symbol sign) name e = cc
 pub complete_name_in : (name : List ℕ) → IsName name → name_in (Word name) ≡ Some name
 complete_name_in name is_name = ap (λ (b : Bool). cond b None (Some name)) is_name
 
-pub sound_name : (tokens : List Placed) (found : Named × List Placed) → read_name tokens ≡ Some found → (tokens ≡ word_at found.0.at found.0.name ∷ found.1) × IsName found.0.name
+pub sound_name : (tokens : List Placed) (found : Named × List Placed) → read_name tokens ≡ Some found
+    → (tokens ≡ word_at found.0.at found.0.name ∷ found.1) × IsName found.0.name
 unfolding read_name
 sound_name [] found e = cc
 sound_name (p ∷ tokens) found e =
     let h = map_some (name_in p.token) (λ name. (record { at = p.at; name = name }, tokens)) found e in
     let n = sound_name_in p.token h.0 h.1 in (
-      ap (λ (t : Token). record { at = p.at; token = t } ∷ tokens) n.0 ∙ ap (λ (x : Named × List Placed). word_at x.0.at x.0.name ∷ x.1) h.2,
+      ap (λ (t : Token). record { at = p.at; token = t } ∷ tokens) n.0
+          ∙ ap (λ (x : Named × List Placed). word_at x.0.at x.0.name ∷ x.1) h.2,
       subst (λ (x : Named × List Placed). IsName x.0.name) h.2 n.1,
     )
 
-pub complete_name : (at : ℕ) (name : List ℕ) (rest : List Placed) → IsName name → read_name (word_at at name ∷ rest) ≡ Some (record { at = at; name = name }, rest)
+pub complete_name : (at : ℕ) (name : List ℕ) (rest : List Placed) → IsName name
+    → read_name (word_at at name ∷ rest) ≡ Some (record { at = at; name = name }, rest)
 unfolding read_name
 complete_name at name rest is_name = ap (option_map _) (complete_name_in name is_name)
 
@@ -116,19 +124,24 @@ number_is (Word word) value e = cc
 number_is (token.Number found) value e = cc
 number_is (Symbol sign) value e = cc
 
-pub sound_number : (tokens : List Placed) (found : ℕ × List Placed) → read_number tokens ≡ Some found → (at : ℕ) × (tokens ≡ number_at at found.0 ∷ found.1)
+pub sound_number : (tokens : List Placed) (found : ℕ × List Placed) → read_number tokens ≡ Some found
+    → (at : ℕ) × (tokens ≡ number_at at found.0 ∷ found.1)
 unfolding read_number
 sound_number [] found e = cc
 sound_number (p ∷ tokens) found e =
-    let h = map_some (number_in p.token) (λ value. (value, tokens)) found e in
-    (p.at, ap (λ (t : Token). record { at = p.at; token = t } ∷ tokens) (number_is p.token h.0 h.1) ∙ ap (λ (x : ℕ × List Placed). number_at p.at x.0 ∷ x.1) h.2)
+    let h = map_some (number_in p.token) (λ value. (value, tokens)) found e in (
+      p.at,
+      ap (λ (t : Token). record { at = p.at; token = t } ∷ tokens) (number_is p.token h.0 h.1)
+          ∙ ap (λ (x : ℕ × List Placed). number_at p.at x.0 ∷ x.1) h.2,
+    )
 
 pub complete_number : (at value : ℕ) (rest : List Placed) → read_number (number_at at value ∷ rest) ≡ Some (value, rest)
 unfolding read_number
 complete_number at value rest = refl
 
 -- an operator
-sound_small_sign : (sign : Sign) (operator : Operator) → small_operator sign ≡ Some operator → (Symbol sign ≡ operator_token operator) × IsTrue (is_small_operator operator)
+sound_small_sign : (sign : Sign) (operator : Operator) → small_operator sign ≡ Some operator
+    → (Symbol sign ≡ operator_token operator) × IsTrue (is_small_operator operator)
 sound_small_sign Plus operator e = let h : Add ≡ operator = cc in (ap operator_token h, ap is_small_operator (sym h))
 sound_small_sign Minus operator e = let h : Subtract ≡ operator = cc in (ap operator_token h, ap is_small_operator (sym h))
 sound_small_sign LessThan operator e = let h : Less ≡ operator = cc in (ap operator_token h, ap is_small_operator (sym h))
@@ -172,18 +185,21 @@ sound_operator_in false (Word word) operator e = (sound_word_operator word opera
 sound_operator_in false (token.Number value) operator e = cc
 
 pub sound_operator : (small : Bool) (tokens : List Placed) (found : Operator × List Placed) → read_operator small tokens ≡ Some found
-    → (at : ℕ) × (tokens ≡ record { at = at; token = operator_token found.0 } ∷ found.1) × (small ≡ true → IsTrue (is_small_operator found.0))
+    → (at : ℕ) × (tokens ≡ record { at = at; token = operator_token found.0 } ∷ found.1)
+    × (small ≡ true → IsTrue (is_small_operator found.0))
 unfolding read_operator
 sound_operator small [] found e = cc
 sound_operator small (p ∷ tokens) found e =
     let h = map_some (operator_in small p.token) (λ operator. (operator, tokens)) found e in
     let o = sound_operator_in small p.token h.0 h.1 in (
       p.at,
-      ap (λ (t : Token). record { at = p.at; token = t } ∷ tokens) o.0 ∙ ap (λ (x : Operator × List Placed). record { at = p.at; token = operator_token x.0 } ∷ x.1) h.2,
+      ap (λ (t : Token). record { at = p.at; token = t } ∷ tokens) o.0
+          ∙ ap (λ (x : Operator × List Placed). record { at = p.at; token = operator_token x.0 } ∷ x.1) h.2,
       subst (λ (x : Operator × List Placed). small ≡ true → IsTrue (is_small_operator x.0)) h.2 o.1,
     )
 
-complete_operator_in : (small : Bool) (operator : Operator) → (small ≡ true → IsTrue (is_small_operator operator)) → operator_in small (operator_token operator) ≡ Some operator
+complete_operator_in : (small : Bool) (operator : Operator) → (small ≡ true → IsTrue (is_small_operator operator))
+    → operator_in small (operator_token operator) ≡ Some operator
 complete_operator_in true Add only = refl
 complete_operator_in true Subtract only = refl
 complete_operator_in true Less only = refl
@@ -203,7 +219,8 @@ complete_operator_in false GreaterOrEqual only = refl
 complete_operator_in false And only = refl
 complete_operator_in false Or only = refl
 
-pub complete_operator : (small : Bool) (at : ℕ) (operator : Operator) (rest : List Placed) → (small ≡ true → IsTrue (is_small_operator operator))
+pub complete_operator : (small : Bool) (at : ℕ) (operator : Operator) (rest : List Placed)
+    → (small ≡ true → IsTrue (is_small_operator operator))
     → read_operator small (record { at = at; token = operator_token operator } ∷ rest) ≡ Some (operator, rest)
 unfolding read_operator
 complete_operator small at operator rest only = ap (option_map _) (complete_operator_in small operator only)

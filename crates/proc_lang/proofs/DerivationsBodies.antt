@@ -4,13 +4,17 @@ use Rattle.std.specs.List.{AllByRecursion}
 use Rattle.std.specs.Str.{bytes_eq}
 use Rattle.dbg_base.specs.Tokens.{Placed}
 use Rattle.dbg_base.specs.declared.sign.Sign.TheVariants.{Semicolon, Colon, Becomes, Comma}
-use Rattle.dbg_base.specs.Grammar.{Named, Phrase, WrittenAction, Local, Sends, Receives, WrittenAssignment, IsName, word_at, sign_at, DerivesAssignment, DerivesFurther, DeriveInTurn, DerivesBody, DerivesCommand}
-use Rattle.proc_lang.specs.Parsing.{Read, Body, begins_word, begins_sign, read_word, read_sign, read_name, read_expression, read_assignment, read_further, read_many, read_send, read_receive, read_local, read_body, read_command, IsSmallAction, IsSmallAssignment, IsSmallCommand}
+use Rattle.dbg_base.specs.Grammar.{Named, Phrase, WrittenAction, Local, Sends, Receives, WrittenAssignment, IsName, word_at, sign_at}
+use Rattle.dbg_base.specs.Grammar.{DerivesAssignment, DerivesFurther, DeriveInTurn, DerivesBody, DerivesCommand}
+use Rattle.proc_lang.specs.Parsing.{Read, Body, begins_word, begins_sign, read_word, read_sign, read_name, read_expression, read_assignment}
+use Rattle.proc_lang.specs.Parsing.{read_further, read_many, read_send, read_receive, read_local, read_body, read_command, IsSmallAction}
+use Rattle.proc_lang.specs.Parsing.{IsSmallAssignment, IsSmallCommand}
 use Rattle.proc_lang.proofs.Expressions.{bind_some}
 use Rattle.proc_lang.proofs.Takes.{further_takes}
 use Rattle.proc_lang.proofs.Derivations.{sound_word, complete_word, sound_sign, complete_sign, name_is_not}
 use Rattle.proc_lang.proofs.DerivationsExpressions.{Stands, IsSound, IsComplete, sound_expression, complete_expression, bind_to}
-use Rattle.proc_lang.proofs.DerivationsSteps.{sound_named, complete_named, sound_assignment, complete_assignment, sound_further, complete_further, sound_many, complete_many}
+use Rattle.proc_lang.proofs.DerivationsSteps.{sound_named, complete_named, sound_assignment, complete_assignment, sound_further}
+use Rattle.proc_lang.proofs.DerivationsSteps.{complete_further, sound_many, complete_many}
 
 -- what a body is, as one thing
 abbrev pub DerivesWholeBody : List Placed → Body → Type 0
@@ -20,13 +24,16 @@ abbrev pub IsSmallBody : Body → Type 0
 IsSmallBody body = IsSmallAction body.0 × AllByRecursion IsSmallAssignment body.1
 
 -- the assignments behind commas
-sound_others : (small : Bool) → IsSound (DeriveInTurn DerivesFurther) (AllByRecursion IsSmallAssignment) small (read_many (begins_sign Comma) (read_further small))
+sound_others : (small : Bool) → IsSound (DeriveInTurn DerivesFurther) (AllByRecursion IsSmallAssignment) small
+    (read_many (begins_sign Comma) (read_further small))
 sound_others small = sound_many DerivesFurther IsSmallAssignment small (begins_sign Comma) (read_further small) (sound_further small)
 
-complete_others : (small : Bool) (xs : List WrittenAssignment) (front rest : List Placed) → DeriveInTurn DerivesFurther front xs → (small ≡ true → AllByRecursion IsSmallAssignment xs)
+complete_others : (small : Bool) (xs : List WrittenAssignment) (front rest : List Placed) → DeriveInTurn DerivesFurther front xs
+    → (small ≡ true → AllByRecursion IsSmallAssignment xs)
     → begins_sign Comma rest ≡ false → read_many (begins_sign Comma) (read_further small) (front ++ rest) ≡ Some (xs, rest)
 complete_others small =
-    complete_many DerivesFurther IsSmallAssignment small (begins_sign Comma) (read_further small) (further_takes small) refl (complete_further small)
+    complete_many DerivesFurther IsSmallAssignment small (begins_sign Comma) (read_further small) (further_takes small) refl
+    (complete_further small)
     (λ front x rest d. ap (λ (l : List Placed). begins_sign Comma (l ++ rest)) d.3)
 
 -- tokens put together from their parts
@@ -48,7 +55,9 @@ sound_send small tokens found e =
     let n = sound_named small a.0.1 b.0 b.1 in
     let v = sound_expression small b.0.1 c.0 c.1 in
     let o = sound_others small c.0.1 d.0 d.1 in
-    let whole = three_whole tokens a.0.1 n.0 b.0.1 v.0 c.0.1 o.0 d.0.1 (word_at a.0.0 (codes "send")) (sound_word (codes "send") tokens a.0 a.1) n.2 v.2 o.2 in
+    let whole =
+    three_whole tokens a.0.1 n.0 b.0.1 v.0 c.0.1 o.0 d.0.1 (word_at a.0.0 (codes "send"))
+    (sound_word (codes "send") tokens a.0 a.1) n.2 v.2 o.2 in
     let front : List Placed = word_at a.0.0 (codes "send") ∷ n.0 ++ v.0 ++ o.0 in
     subst (λ f. Stands DerivesWholeBody IsSmallBody small tokens f) same
     (front, (n.0, v.0, o.0, a.0.0, n.1, v.1, o.1, refl {a = front}), whole, λ s. (v.3 s, o.3 s))
@@ -64,7 +73,9 @@ sound_receive small tokens found e =
     let n = sound_named small a.0.1 b.0 b.1 in
     let v = sound_named small b.0.1 c.0 c.1 in
     let o = sound_others small c.0.1 d.0 d.1 in
-    let whole = three_whole tokens a.0.1 n.0 b.0.1 v.0 c.0.1 o.0 d.0.1 (word_at a.0.0 (codes "recv")) (sound_word (codes "recv") tokens a.0 a.1) n.2 v.2 o.2 in
+    let whole =
+    three_whole tokens a.0.1 n.0 b.0.1 v.0 c.0.1 o.0 d.0.1 (word_at a.0.0 (codes "recv"))
+    (sound_word (codes "recv") tokens a.0 a.1) n.2 v.2 o.2 in
     let front : List Placed = word_at a.0.0 (codes "recv") ∷ n.0 ++ v.0 ++ o.0 in
     subst (λ f. Stands DerivesWholeBody IsSmallBody small tokens f) same
     (front, (n.0, v.0, o.0, a.0.0, n.1, v.1, o.1, refl {a = front}), whole, λ s. (tt, o.3 s))
@@ -81,7 +92,8 @@ sound_local small tokens found e =
     subst (λ f. Stands DerivesWholeBody IsSmallBody small tokens f) same
     (front, (f.0, o.0, f.1, o.1, refl {a = front}), two_whole tokens f.0 a.0.1 o.0 b.0.1 f.2 o.2, λ s. (tt, (f.3 s, o.3 s)))
 
-chosen : {A : Type 0} (b : Bool) (x y : Read A) (found : A × List Placed) (G : Type 0) → (x ≡ Some found → G) → (y ≡ Some found → G) → cond b x y ≡ Some found → G
+chosen : {A : Type 0} (b : Bool) (x y : Read A) (found : A × List Placed) (G : Type 0) → (x ≡ Some found → G) → (y ≡ Some found → G)
+    → cond b x y ≡ Some found → G
 chosen true x y found G f g e = f e
 chosen false x y found G f g e = g e
 
@@ -89,25 +101,34 @@ chosen false x y found G f g e = g e
 pub sound_body : (small : Bool) → IsSound DerivesWholeBody IsSmallBody small (read_body small)
 sound_body small tokens found =
     chosen (begins_word (codes "send") tokens) (read_send small tokens) _ found _ (sound_send small tokens found)
-    (chosen (begins_word (codes "recv") tokens) (read_receive small tokens) (read_local small tokens) found _ (sound_receive small tokens found) (sound_local small tokens found))
+    (chosen (begins_word (codes "recv") tokens) (read_receive small tokens) (read_local small tokens) found _
+    (sound_receive small tokens found) (sound_local small tokens found))
 
 -- what stands at the front chooses the body
 module _ (small : Bool) (tokens : List Placed) where
   body_is_send : begins_word (codes "send") tokens ≡ true → read_body small tokens ≡ read_send small tokens
-  body_is_send first = ap (λ (b : Bool). cond b (read_send small tokens) (cond (begins_word (codes "recv") tokens) (read_receive small tokens) (read_local small tokens))) first
+  body_is_send first =
+      ap (λ (b : Bool). cond b (read_send small tokens)
+      (cond (begins_word (codes "recv") tokens) (read_receive small tokens) (read_local small tokens))) first
 
-  body_is_receive : begins_word (codes "send") tokens ≡ false → begins_word (codes "recv") tokens ≡ true → read_body small tokens ≡ read_receive small tokens
+  body_is_receive : begins_word (codes "send") tokens ≡ false → begins_word (codes "recv") tokens ≡ true
+      → read_body small tokens ≡ read_receive small tokens
   body_is_receive first second =
-      ap (λ (b : Bool). cond b (read_send small tokens) (cond (begins_word (codes "recv") tokens) (read_receive small tokens) (read_local small tokens))) first
+      ap (λ (b : Bool). cond b (read_send small tokens)
+      (cond (begins_word (codes "recv") tokens) (read_receive small tokens) (read_local small tokens))) first
       ∙ ap (λ (b : Bool). cond b (read_receive small tokens) (read_local small tokens)) second
 
-  body_is_local : begins_word (codes "send") tokens ≡ false → begins_word (codes "recv") tokens ≡ false → read_body small tokens ≡ read_local small tokens
+  body_is_local : begins_word (codes "send") tokens ≡ false → begins_word (codes "recv") tokens ≡ false
+      → read_body small tokens ≡ read_local small tokens
   body_is_local first second =
-      ap (λ (b : Bool). cond b (read_send small tokens) (cond (begins_word (codes "recv") tokens) (read_receive small tokens) (read_local small tokens))) first
+      ap (λ (b : Bool). cond b (read_send small tokens)
+      (cond (begins_word (codes "recv") tokens) (read_receive small tokens) (read_local small tokens))) first
       ∙ ap (λ (b : Bool). cond b (read_receive small tokens) (read_local small tokens)) second
 
-complete_send : (small : Bool) (front rest : List Placed) (target : Named) (value : Phrase) (xs : List WrittenAssignment) → DerivesBody front (Sends target value) xs
-    → (small ≡ true → IsSmallBody (Sends target value, xs)) → begins_sign Comma rest ≡ false → read_body small (front ++ rest) ≡ Some ((Sends target value, xs), rest)
+complete_send : (small : Bool) (front rest : List Placed) (target : Named) (value : Phrase) (xs : List WrittenAssignment)
+    → DerivesBody front (Sends target value) xs
+    → (small ≡ true → IsSmallBody (Sends target value, xs)) → begins_sign Comma rest ≡ false
+    → read_body small (front ++ rest) ≡ Some ((Sends target value, xs), rest)
 unfolding read_send
 complete_send small front rest target value xs d only stop =
     let last : List Placed = d.2 ++ rest in
@@ -119,8 +140,10 @@ complete_send small front rest target value xs d only stop =
     (bind_to _ _ _ _ (complete_expression small d.1 value last d.5 (λ s. (only s).0))
     (bind_to _ _ _ _ (complete_others small xs d.2 rest d.6 (λ s. (only s).1) stop) refl)))
 
-complete_receive : (small : Bool) (front rest : List Placed) (source variable : Named) (xs : List WrittenAssignment) → DerivesBody front (Receives source variable) xs
-    → (small ≡ true → IsSmallBody (Receives source variable, xs)) → begins_sign Comma rest ≡ false → read_body small (front ++ rest) ≡ Some ((Receives source variable, xs), rest)
+complete_receive : (small : Bool) (front rest : List Placed) (source variable : Named) (xs : List WrittenAssignment)
+    → DerivesBody front (Receives source variable) xs
+    → (small ≡ true → IsSmallBody (Receives source variable, xs)) → begins_sign Comma rest ≡ false
+    → read_body small (front ++ rest) ≡ Some ((Receives source variable, xs), rest)
 unfolding read_receive
 complete_receive small front rest source variable xs d only stop =
     let last : List Placed = d.2 ++ rest in
@@ -133,14 +156,17 @@ complete_receive small front rest source variable xs d only stop =
     (bind_to _ _ _ _ (complete_others small xs d.2 rest d.6 (λ s. (only s).1) stop) refl)))
 
 -- an assignment begins with no reserved word
-assignment_begins : (word : List ℕ) (front more : List Placed) (x : WrittenAssignment) → ((name : List ℕ) → IsName name → bytes_eq name word ≡ false) → DerivesAssignment front x → begins_word word (front ++ more) ≡ false
+assignment_begins : (word : List ℕ) (front more : List Placed) (x : WrittenAssignment)
+    → ((name : List ℕ) → IsName name → bytes_eq name word ≡ false) → DerivesAssignment front x → begins_word word (front ++ more) ≡ false
 assignment_begins word front more x differs d =
     let same : front ++ more ≡ word_at x.variable.at x.variable.name ∷ (sign_at d.2 Becomes ∷ (d.1 ++ more)) =
     ap (λ (l : List Placed). l ++ more) (d.5 ∙ ap (λ (l : List Placed). l ++ sign_at d.2 Becomes ∷ d.1) d.3.0) in
     ap (begins_word word) same ∙ differs x.variable.name d.3.1
 
-complete_local : (small : Bool) (front rest : List Placed) (x : WrittenAssignment) (xs : List WrittenAssignment) → DerivesBody front Local (x ∷ xs)
-    → (small ≡ true → IsSmallBody (Local, x ∷ xs)) → begins_sign Comma rest ≡ false → read_body small (front ++ rest) ≡ Some ((Local, x ∷ xs), rest)
+complete_local : (small : Bool) (front rest : List Placed) (x : WrittenAssignment) (xs : List WrittenAssignment)
+    → DerivesBody front Local (x ∷ xs)
+    → (small ≡ true → IsSmallBody (Local, x ∷ xs)) → begins_sign Comma rest ≡ false
+    → read_body small (front ++ rest) ≡ Some ((Local, x ∷ xs), rest)
 unfolding read_local
 complete_local small front rest x xs d only stop =
     let tail : List Placed = d.0 ++ (d.1 ++ rest) in
@@ -152,15 +178,18 @@ complete_local small front rest x xs d only stop =
     (bind_to _ _ _ _ (complete_others small xs d.1 rest d.3 (λ s. (only s).1.1) stop) refl)
 
 -- a body that is derived is read, where no comma follows
-pub complete_body : (small : Bool) (action : WrittenAction) (xs : List WrittenAssignment) (front rest : List Placed) → DerivesBody front action xs
-    → (small ≡ true → IsSmallBody (action, xs)) → begins_sign Comma rest ≡ false → read_body small (front ++ rest) ≡ Some ((action, xs), rest)
+pub complete_body : (small : Bool) (action : WrittenAction) (xs : List WrittenAssignment) (front rest : List Placed)
+    → DerivesBody front action xs
+    → (small ≡ true → IsSmallBody (action, xs)) → begins_sign Comma rest ≡ false
+    → read_body small (front ++ rest) ≡ Some ((action, xs), rest)
 complete_body small Local [] front rest d only stop = absurd d
 complete_body small Local (x ∷ xs) front rest d only stop = complete_local small front rest x xs d only stop
 complete_body small (Sends target value) xs front rest d only stop = complete_send small front rest target value xs d only stop
 complete_body small (Receives source variable) xs front rest d only stop = complete_receive small front rest source variable xs d only stop
 
 -- a command
-command_whole : (tokens a guard b c body d rest : List Placed) (first colon end : Placed) → tokens ≡ first ∷ a → a ≡ guard ++ b → b ≡ colon ∷ c → c ≡ body ++ d → d ≡ end ∷ rest
+command_whole : (tokens a guard b c body d rest : List Placed) (first colon end : Placed) → tokens ≡ first ∷ a → a ≡ guard ++ b
+    → b ≡ colon ∷ c → c ≡ body ++ d → d ≡ end ∷ rest
     → tokens ≡ (first ∷ guard ++ colon ∷ body ++ end ∷ []) ++ rest
 command_whole tokens a guard b c body d rest first colon end e f g h i = rw (e, f, g, h, i) (simp append_assoc)
 
@@ -175,7 +204,9 @@ sound_command small tokens found e =
     let same : (record { at = a.0.0; guard = b.0.0; action = d.0.0.0; assignments = d.0.0.1 }, f.0.1) ≡ found = cc in
     let g = sound_expression small a.0.1 b.0 b.1 in
     let o = sound_body small c.0.1 d.0 d.1 in
-    let whole = command_whole tokens a.0.1 g.0 b.0.1 c.0.1 o.0 d.0.1 f.0.1 (word_at a.0.0 (codes "when")) (sign_at c.0.0 Colon) (sign_at f.0.0 Semicolon)
+    let whole =
+    command_whole tokens a.0.1 g.0 b.0.1 c.0.1 o.0 d.0.1 f.0.1 (word_at a.0.0 (codes "when")) (sign_at c.0.0 Colon)
+    (sign_at f.0.0 Semicolon)
     (sound_word (codes "when") tokens a.0 a.1) g.2 (sound_sign Colon b.0.1 c.0 c.1) o.2 (sound_sign Semicolon d.0.1 f.0 f.1) in
     let front : List Placed = word_at a.0.0 (codes "when") ∷ g.0 ++ sign_at c.0.0 Colon ∷ o.0 ++ sign_at f.0.0 Semicolon ∷ [] in
     subst (λ f. Stands DerivesCommand IsSmallCommand small tokens f) same

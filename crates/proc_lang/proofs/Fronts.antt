@@ -1,14 +1,18 @@
 -- What stands at the front of a text, by its first byte.
-use Rattle.std.proofs.Common.{◌≡◌, ℕ, suc, ◌+◌, ◌≤◌, Bool, true, false, cond, List, [], ◌∷◌, ◌++◌, length, take, drop, refl, sym, ap, ◌∙◌, subst, arith, zero-le, one-add, take-append-drop, ◌||◌}
+use Rattle.std.proofs.Common.{◌≡◌, ℕ, suc, ◌+◌, ◌≤◌, Bool, true, false, cond, List, [], ◌∷◌, ◌++◌, length, take, drop, refl, sym, ap, ◌∙◌}
+use Rattle.std.proofs.Common.{subst, arith, zero-le, one-add, take-append-drop, ◌||◌}
 use Rattle.std.specs.Prelude.{◌==◌, nat_le, Some, slice_get}
 use Rattle.std.specs.List.{list_all, prefix_len}
 use Rattle.std.specs.Str.Parse.{digits_value}
 use Rattle.std.proofs.lemmas.Bool.{false≢true, leb-true}
 use Rattle.std.proofs.lemmas.List.{length-take-le}
 use Rattle.std.proofs.lemmas.List.Sums.{prefix_len-le-length}
-use Rattle.dbg_base.specs.Tokens.{Token, Word, Number, Symbol, sign_bytes, is_space, is_letter, is_digit, is_word_byte, is_word, is_numeral, Spells}
+use Rattle.dbg_base.specs.Tokens.{Token, Word, Number, Symbol, sign_bytes, is_space, is_letter, is_digit, is_word_byte, is_word, is_numeral}
+use Rattle.dbg_base.specs.Tokens.{Spells}
 use Rattle.dbg_base.specs.declared.sign.Sign.{Sign}
-use Rattle.dbg_base.specs.declared.sign.Sign.TheVariants.{OpenBrace, CloseBrace, OpenParenthesis, CloseParenthesis, Semicolon, Colon, Becomes, Comma, Equals, NotEquals, LessThan, AtMost, GreaterThan, AtLeast, Plus, Minus, Star, Slash, Percent}
+use Rattle.dbg_base.specs.declared.sign.Sign.TheVariants.{OpenBrace, CloseBrace, OpenParenthesis, CloseParenthesis, Semicolon, Colon}
+use Rattle.dbg_base.specs.declared.sign.Sign.TheVariants.{Becomes, Comma, Equals, NotEquals, LessThan, AtMost, GreaterThan, AtLeast, Plus}
+use Rattle.dbg_base.specs.declared.sign.Sign.TheVariants.{Minus, Star, Slash, Percent}
 use Rattle.proc_lang.specs.Scanning.{StandsInFront}
 use Rattle.proc_lang.proofs.Runs.{and_first, and_second, both_true, or_first, front_passes, front_is_longest}
 
@@ -54,7 +58,8 @@ clash b is is_not = absurd (false≢true (sym is_not ∙ is))
 
 -- a token, where no longer piece at the front of these bytes writes one
 stands : (token : Token) (n : ℕ) (bytes : List ℕ) → n ≤ length bytes → Spells token (take n bytes)
-    → ((longer more : List ℕ) (other : Token) → Spells other longer → longer ++ more ≡ bytes → length longer ≤ n) → StandsInFront token n bytes
+    → ((longer more : List ℕ) (other : Token) → Spells other longer → longer ++ more ≡ bytes → length longer ≤ n)
+    → StandsInFront token n bytes
 stands token n bytes within spelled no_longer = record {
   within = within;
   spelled = spelled;
@@ -73,18 +78,23 @@ same_first b c bytes tail more same = cc
 -- a word stands where a letter does
 module _ (b : ℕ) (bytes : List ℕ) (letter : is_letter b ≡ true) where
   word_size : prefix_len is_word_byte (b ∷ bytes) ≡ suc (prefix_len is_word_byte bytes)
-  word_size = ap (λ t. cond t (1 + prefix_len is_word_byte bytes) 0) (letter_is_word_byte b letter) ∙ one-add (prefix_len is_word_byte bytes)
+  word_size =
+      ap (λ t. cond t (1 + prefix_len is_word_byte bytes) 0) (letter_is_word_byte b letter) ∙ one-add (prefix_len is_word_byte bytes)
 
   word_spelled : is_word (take (prefix_len is_word_byte (b ∷ bytes)) (b ∷ bytes)) ≡ true
   word_spelled = subst (λ k. is_word (take k (b ∷ bytes)) ≡ true) (sym word_size)
-      (both_true (is_letter b) (list_all is_word_byte (take (prefix_len is_word_byte bytes) bytes)) letter (front_passes is_word_byte bytes))
+      (both_true (is_letter b) (list_all is_word_byte (take (prefix_len is_word_byte bytes) bytes)) letter
+      (front_passes is_word_byte bytes))
 
-  word_longest : (longer more : List ℕ) (other : Token) → Spells other longer → longer ++ more ≡ b ∷ bytes → length longer ≤ prefix_len is_word_byte (b ∷ bytes)
+  word_longest : (longer more : List ℕ) (other : Token) → Spells other longer → longer ++ more ≡ b ∷ bytes
+      → length longer ≤ prefix_len is_word_byte (b ∷ bytes)
   word_longest [] more other writes same = zero-le
   word_longest (c ∷ tail) more (Word word) writes same =
       let h = word_first c tail word writes.0 writes.1 in
       let all : list_all is_word_byte (c ∷ tail) ≡ true =
-      both_true (is_word_byte c) (list_all is_word_byte tail) (letter_is_word_byte c (and_first (is_letter c) (list_all is_word_byte tail) h)) (and_second (is_letter c) (list_all is_word_byte tail) h) in
+      both_true (is_word_byte c) (list_all is_word_byte tail)
+      (letter_is_word_byte c (and_first (is_letter c) (list_all is_word_byte tail) h))
+      (and_second (is_letter c) (list_all is_word_byte tail) h) in
       subst (λ whole. length (c ∷ tail) ≤ prefix_len is_word_byte whole) same (front_is_longest is_word_byte (c ∷ tail) more all)
   word_longest (c ∷ tail) more (Number value) writes same =
       let digit = and_first (is_digit c) (list_all is_digit tail) writes.0 in
@@ -92,7 +102,8 @@ module _ (b : ℕ) (bytes : List ℕ) (letter : is_letter b ≡ true) where
   word_longest (c ∷ tail) more (Symbol sign) writes same =
       clash (is_letter b) letter (sign_first sign b bytes more (ap (λ z. z ++ more) (sym writes) ∙ same)).0
 
-  pub word_stands : StandsInFront (Word (take (prefix_len is_word_byte (b ∷ bytes)) (b ∷ bytes))) (prefix_len is_word_byte (b ∷ bytes)) (b ∷ bytes)
+  pub word_stands : StandsInFront (Word (take (prefix_len is_word_byte (b ∷ bytes)) (b ∷ bytes))) (prefix_len is_word_byte (b ∷ bytes))
+      (b ∷ bytes)
   word_stands = stands _ _ _ (prefix_len-le-length is_word_byte (b ∷ bytes)) (refl, word_spelled) word_longest
 
 -- a number stands where a digit does
@@ -104,7 +115,8 @@ module _ (b : ℕ) (bytes : List ℕ) (digit : is_digit b ≡ true) where
   number_spelled = subst (λ k. is_numeral (take k (b ∷ bytes)) ≡ true) (sym number_size)
       (both_true (is_digit b) (list_all is_digit (take (prefix_len is_digit bytes) bytes)) digit (front_passes is_digit bytes))
 
-  number_longest : (longer more : List ℕ) (other : Token) → Spells other longer → longer ++ more ≡ b ∷ bytes → length longer ≤ prefix_len is_digit (b ∷ bytes)
+  number_longest : (longer more : List ℕ) (other : Token) → Spells other longer → longer ++ more ≡ b ∷ bytes
+      → length longer ≤ prefix_len is_digit (b ∷ bytes)
   number_longest [] more other writes same = zero-le
   number_longest (c ∷ tail) more (Word word) writes same =
       let h = word_first c tail word writes.0 writes.1 in
@@ -115,7 +127,8 @@ module _ (b : ℕ) (bytes : List ℕ) (digit : is_digit b ≡ true) where
   number_longest (c ∷ tail) more (Symbol sign) writes same =
       clash (is_digit b) digit (sign_first sign b bytes more (ap (λ z. z ++ more) (sym writes) ∙ same)).1
 
-  pub number_stands : StandsInFront (Number (digits_value 10 (take (prefix_len is_digit (b ∷ bytes)) (b ∷ bytes)))) (prefix_len is_digit (b ∷ bytes)) (b ∷ bytes)
+  pub number_stands : StandsInFront (Number (digits_value 10 (take (prefix_len is_digit (b ∷ bytes)) (b ∷ bytes))))
+      (prefix_len is_digit (b ∷ bytes)) (b ∷ bytes)
   number_stands = stands _ _ _ (prefix_len-le-length is_digit (b ∷ bytes)) (number_spelled, refl) number_longest
 
 -- bytes with a first one
@@ -128,7 +141,8 @@ pub word_in_front : (bytes : List ℕ) (b n : ℕ) → Some b ≡ slice_get byte
 word_in_front bytes b n known letter size =
     let e = first_known bytes b known in
     let at_size : StandsInFront (Word (take (prefix_len is_word_byte bytes) bytes)) (prefix_len is_word_byte bytes) bytes =
-    subst (λ (whole : List ℕ). StandsInFront (Word (take (prefix_len is_word_byte whole) whole)) (prefix_len is_word_byte whole) whole) (sym e) (word_stands b (drop 1 bytes) letter) in
+    subst (λ (whole : List ℕ). StandsInFront (Word (take (prefix_len is_word_byte whole) whole)) (prefix_len is_word_byte whole) whole)
+    (sym e) (word_stands b (drop 1 bytes) letter) in
     subst (λ (k : ℕ). StandsInFront (Word (take k bytes)) k bytes) (sym size) at_size
 
 pub number_in_front : (bytes : List ℕ) (b n : ℕ) → Some b ≡ slice_get bytes 0 → is_digit b ≡ true → n ≡ prefix_len is_digit bytes
@@ -136,5 +150,6 @@ pub number_in_front : (bytes : List ℕ) (b n : ℕ) → Some b ≡ slice_get by
 number_in_front bytes b n known digit size =
     let e = first_known bytes b known in
     let at_size : StandsInFront (Number (digits_value 10 (take (prefix_len is_digit bytes) bytes))) (prefix_len is_digit bytes) bytes =
-    subst (λ (whole : List ℕ). StandsInFront (Number (digits_value 10 (take (prefix_len is_digit whole) whole))) (prefix_len is_digit whole) whole) (sym e) (number_stands b (drop 1 bytes) digit) in
+    subst (λ (whole : List ℕ). StandsInFront (Number (digits_value 10 (take (prefix_len is_digit whole) whole)))
+    (prefix_len is_digit whole) whole) (sym e) (number_stands b (drop 1 bytes) digit) in
     subst (λ (k : ℕ). StandsInFront (Number (digits_value 10 (take k bytes))) k bytes) (sym size) at_size

@@ -1,5 +1,6 @@
 -- One step of the lexer: spaces, and then a token or a fault.
-use Rattle.std.proofs.Common.{◌≡◌, ℕ, ◌+◌, ◌<◌, ◌≤◌, Bool, true, false, cond, List, [], ◌∷◌, ◌++◌, length, take, drop, refl, sym, ap, ◌∙◌, subst, arith, one-add, take-append-drop, append-nil, append_assoc}
+use Rattle.std.proofs.Common.{◌≡◌, ℕ, ◌+◌, ◌<◌, ◌≤◌, Bool, true, false, cond, List, [], ◌∷◌, ◌++◌, length, take, drop, refl, sym, ap, ◌∙◌}
+use Rattle.std.proofs.Common.{subst, arith, one-add, take-append-drop, append-nil, append_assoc}
 use Rattle.std.specs.List.{list_all, prefix_len}
 use Rattle.std.proofs.lemmas.List.{length-take-le}
 use Rattle.std.proofs.lemmas.List.Sums.{prefix_len-le-length}
@@ -17,12 +18,15 @@ empty_list [] e = refl
 empty_list (x ∷ xs) e = absurd (omega arith)
 
 -- what is behind the spaces at the front begins with no space
-stop_step : (b : ℕ) (bytes : List ℕ) (t : Bool) → is_space b ≡ t → (0 < length (drop (prefix_len is_space bytes) bytes) → BeginsWithNoSpace (drop (prefix_len is_space bytes) bytes))
-    → 0 < length (drop (cond t (1 + prefix_len is_space bytes) 0) (b ∷ bytes)) → BeginsWithNoSpace (drop (cond t (1 + prefix_len is_space bytes) 0) (b ∷ bytes))
+stop_step : (b : ℕ) (bytes : List ℕ) (t : Bool) → is_space b ≡ t
+    → (0 < length (drop (prefix_len is_space bytes) bytes) → BeginsWithNoSpace (drop (prefix_len is_space bytes) bytes))
+    → 0 < length (drop (cond t (1 + prefix_len is_space bytes) 0) (b ∷ bytes))
+    → BeginsWithNoSpace (drop (cond t (1 + prefix_len is_space bytes) 0) (b ∷ bytes))
 stop_step b bytes true e rest some = rw one-add (rest (rw one-add at some))
 stop_step b bytes false e rest some = e
 
-no_space : (bytes : List ℕ) → 0 < length (drop (prefix_len is_space bytes) bytes) → BeginsWithNoSpace (drop (prefix_len is_space bytes) bytes)
+no_space : (bytes : List ℕ) → 0 < length (drop (prefix_len is_space bytes) bytes)
+    → BeginsWithNoSpace (drop (prefix_len is_space bytes) bytes)
 no_space [] some = absurd (omega arith)
 no_space (b ∷ bytes) some = stop_step b bytes (is_space b) refl (no_space bytes) some
 
@@ -38,7 +42,9 @@ module _ (left rest : List ℕ) (n : ℕ) (size : n ≡ prefix_len is_space left
 
   -- nothing is left but spaces
   pub only_spaces : length rest ≡ 0 → list_all is_space left ≡ true
-  only_spaces none = subst (λ whole. list_all is_space whole ≡ true) (sym (left_is ∙ ap (λ r. take n left ++ r) (empty_list rest none) ∙ append-nil (take n left))) gap_is_spaces
+  only_spaces none =
+      subst (λ whole. list_all is_space whole ≡ true)
+      (sym (left_is ∙ ap (λ r. take n left ++ r) (empty_list rest none) ∙ append-nil (take n left))) gap_is_spaces
 
   begins_with_no_space : 0 < length rest → BeginsWithNoSpace rest
   begins_with_no_space some =
@@ -46,7 +52,8 @@ module _ (left rest : List ℕ) (n : ℕ) (size : n ≡ prefix_len is_space left
       subst BeginsWithNoSpace (sym same) (no_space left (omega (arith, ap length same)))
 
   -- a token follows
-  pub takes_token : (at mid depth end behind m : ℕ) (token : model.Token) (others : List ℕ) → mid ≡ at + n → StandsInFront token m rest → IsWithinLimits token
+  pub takes_token : (at mid depth end behind m : ℕ) (token : model.Token) (others : List ℕ) → mid ≡ at + n → StandsInFront token m rest
+      → IsWithinLimits token
       → behind ≡ open_behind depth token → behind ≤ OPEN_PARENTHESES → others ≡ drop m rest → end ≡ mid + m
       → TakesToken left at depth (record { at = mid; token = token }) others end behind
   takes_token at mid depth end behind m token others place front within counted shallow cut_others passed =
@@ -55,7 +62,9 @@ module _ (left rest : List ℕ) (n : ℕ) (size : n ≡ prefix_len is_space left
         gap = take n left;
         piece = take m rest;
         spaces = gap_is_spaces;
-        whole = left_is ∙ ap (λ r. take n left ++ r) (sym (take-append-drop m rest) ∙ ap (λ r. take m rest ++ r) (sym cut_others)) ∙ sym (append_assoc (take n left) (take m rest) others);
+        whole =
+            left_is ∙ ap (λ r. take n left ++ r) (sym (take-append-drop m rest) ∙ ap (λ r. take m rest ++ r) (sym cut_others))
+            ∙ sym (append_assoc (take n left) (take m rest) others);
         place = omega (arith, gap_length, place);
         spelled = front.spelled;
         longest = subst (λ (r : List ℕ). model.IsLongest (take m rest) r) (sym cut_others) front.longest;
@@ -89,7 +98,8 @@ module _ (left rest : List ℕ) (n : ℕ) (size : n ≡ prefix_len is_space left
   }
 
   -- one parenthesis too many opens
-  pub meets_limit : (at mid depth m : ℕ) (token : model.Token) → mid ≡ at + n → StandsInFront token m rest → token ≡ model.Symbol sign.OpenParenthesis
+  pub meets_limit : (at mid depth m : ℕ) (token : model.Token) → mid ≡ at + n → StandsInFront token m rest
+      → token ≡ model.Symbol sign.OpenParenthesis
       → depth ≡ OPEN_PARENTHESES → MeetsFault left at depth (record { kind = fault.Limit; at = mid })
   meets_limit at mid depth m token place front opens deep =
       let spelled = subst (λ (t : model.Token). model.Spells t (take m rest)) opens front.spelled in

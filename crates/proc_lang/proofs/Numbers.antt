@@ -1,5 +1,6 @@
 -- The number that digits write, one digit at a time.
-use Rattle.std.proofs.Common.{◌≡◌, ℕ, zero, suc, ◌+◌, ◌-◌, ◌*◌, ◌<◌, ◌≤◌, true, List, [], ◌∷◌, ◌++◌, length, get_or, take, drop, refl, sym, ap, ◌∙◌, arith, take-append-drop}
+use Rattle.std.proofs.Common.{◌≡◌, ℕ, zero, suc, ◌+◌, ◌-◌, ◌*◌, ◌<◌, ◌≤◌, true, List, [], ◌∷◌, ◌++◌, length, get_or, take, drop, refl, sym}
+use Rattle.std.proofs.Common.{ap, ◌∙◌, arith, take-append-drop}
 use Rattle.std.specs.Char.{digit_value}
 use Rattle.std.specs.List.{list_all}
 use Rattle.std.proofs.Math.Dec.{leb}
@@ -29,13 +30,15 @@ digit_range : (b : ℕ) → is_digit b ≡ true → (48 ≤ b) × (b ≤ 57)
 digit_range b h = (leb-true 48 b (and_first (leb 48 b) (leb b 57) h), leb-true b 57 (and_second (leb 48 b) (leb b 57) h))
 
 -- each of the digits is one
-digit_at : (digits : List ℕ) (i : ℕ) → list_all is_digit digits ≡ true → i < length digits → (48 ≤ get_or digits i 0) × (get_or digits i 0 ≤ 57)
+digit_at : (digits : List ℕ) (i : ℕ) → list_all is_digit digits ≡ true → i < length digits
+    → (48 ≤ get_or digits i 0) × (get_or digits i 0 ≤ 57)
 digit_at [] i h lt = absurd (omega arith)
 digit_at (b ∷ digits) zero h lt = digit_range b (and_first (is_digit b) (list_all is_digit digits) h)
 digit_at (b ∷ digits) (suc i) h lt = digit_at digits i (and_second (is_digit b) (list_all is_digit digits) h) (omega arith)
 
 -- one digit more
-pub value_more : (digits : List ℕ) (i value digit : ℕ) → list_all is_digit digits ≡ true → i < length digits → digit ≡ get_or digits i 0 - 48
+pub value_more : (digits : List ℕ) (i value digit : ℕ) → list_all is_digit digits ≡ true → i < length digits
+    → digit ≡ get_or digits i 0 - 48
     → value ≡ digits_value 10 (take i digits) → value * 10 + digit ≡ digits_value 10 (take (i + 1) digits)
 value_more digits i value digit all lt here so_far =
     let more = digits_value_more 10 digits i lt in

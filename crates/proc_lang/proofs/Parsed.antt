@@ -5,8 +5,10 @@ use Rattle.std.specs.List.{AllByRecursion}
 use Rattle.dbg_base.specs.Trees as tree
 use Rattle.dbg_base.specs.Tokens.{Placed, HasTokens}
 use Rattle.dbg_base.specs.declared.fault.ProgFault.{ProgFault}
-use Rattle.dbg_base.specs.Grammar.{Phrase, Number, Name, Truth, Not, Negate, Binary, WrittenAction, Local, Sends, Receives, WrittenAssignment, WrittenCommand, WrittenProcess, DerivesProgram}
-use Rattle.dbg_base.specs.Checks.{Reads, check_faults, program_tree, phrase_tree, action_tree, command_tree, process_tree, process_names, variable_names, index_of}
+use Rattle.dbg_base.specs.Grammar.{Phrase, Number, Name, Truth, Not, Negate, Binary, WrittenAction, Local, Sends, Receives}
+use Rattle.dbg_base.specs.Grammar.{WrittenAssignment, WrittenCommand, WrittenProcess, DerivesProgram}
+use Rattle.dbg_base.specs.Checks.{Reads, check_faults, program_tree, phrase_tree, action_tree, command_tree, process_tree, process_names}
+use Rattle.dbg_base.specs.Checks.{variable_names, index_of}
 use Rattle.proc_lang.specs.declared.fault.ProgError.{ProgError}
 use Rattle.proc_lang.specs.declared.fault.ProgError.TheVariants.{Bad, Memory}
 use Rattle.proc_lang.specs.declared.program.Program.{Program}
@@ -50,23 +52,31 @@ module _ (processes variables : List (List ℕ)) where
   abbrev assigned : WrittenAssignment → ℕ × tree.Tree
   assigned a = (index_of variables a.variable.name, phrase_tree variables a.value)
 
-  assignments_small : (all : List WrittenAssignment) → AllByRecursion IsSmallAssignment all → AllByRecursion IsSmallAssigned (map assigned all)
+  assignments_small : (all : List WrittenAssignment) → AllByRecursion IsSmallAssignment all
+      → AllByRecursion IsSmallAssigned (map assigned all)
   assignments_small [] is = tt
   assignments_small (a ∷ all) is = (phrase_small variables a.value is.0, assignments_small all is.1)
 
-  small_assignments : (all : List WrittenAssignment) → AllByRecursion IsSmallAssigned (map assigned all) → AllByRecursion IsSmallAssignment all
+  small_assignments : (all : List WrittenAssignment) → AllByRecursion IsSmallAssigned (map assigned all)
+      → AllByRecursion IsSmallAssignment all
   small_assignments [] is = tt
   small_assignments (a ∷ all) is = (small_phrase variables a.value is.0, small_assignments all is.1)
 
-  commands_small : (all : List WrittenCommand) → AllByRecursion IsSmallCommand all → AllByRecursion IsSmallGuarded (map (command_tree processes variables) all)
+  commands_small : (all : List WrittenCommand) → AllByRecursion IsSmallCommand all
+      → AllByRecursion IsSmallGuarded (map (command_tree processes variables) all)
   commands_small [] is = tt
-  commands_small (c ∷ all) is =
-      ((phrase_small variables c.guard is.0.0, action_small c.action is.0.1, assignments_small c.assignments is.0.2), commands_small all is.1)
+  commands_small (c ∷ all) is = (
+    (phrase_small variables c.guard is.0.0, action_small c.action is.0.1, assignments_small c.assignments is.0.2),
+    commands_small all is.1,
+  )
 
-  small_commands : (all : List WrittenCommand) → AllByRecursion IsSmallGuarded (map (command_tree processes variables) all) → AllByRecursion IsSmallCommand all
+  small_commands : (all : List WrittenCommand) → AllByRecursion IsSmallGuarded (map (command_tree processes variables) all)
+      → AllByRecursion IsSmallCommand all
   small_commands [] is = tt
-  small_commands (c ∷ all) is =
-      ((small_phrase variables c.guard is.0.0, small_action c.action is.0.1, small_assignments c.assignments is.0.2), small_commands all is.1)
+  small_commands (c ∷ all) is = (
+    (small_phrase variables c.guard is.0.0, small_action c.action is.0.1, small_assignments c.assignments is.0.2),
+    small_commands all is.1,
+  )
 
 processes_small : (names : List (List ℕ)) (all : List WrittenProcess) → IsSmallProgram all → IsSmall (map (process_tree names) all)
 processes_small names [] is = tt
@@ -77,7 +87,8 @@ small_processes names [] is = tt
 small_processes names (p ∷ all) is = (small_commands names (variable_names p) p.commands is.0, small_processes names all is.1)
 
 -- a text that was read
-pub accepted : (text : List ℕ) (tokens : List Placed) (written : List WrittenProcess) (P : tree.Program) → HasTokens text tokens → read_program true tokens ≡ Some written
+pub accepted : (text : List ℕ) (tokens : List Placed) (written : List WrittenProcess) (P : tree.Program) → HasTokens text tokens
+    → read_program true tokens ≡ Some written
     → check_faults written ≡ [] → P ≡ program_tree written → Reads text P × IsSmall P
 accepted text tokens written P has read passes says =
     let sound = sound_program true tokens written read in (
@@ -92,7 +103,12 @@ module _ (text : List ℕ) (P : tree.Program) (reads : Reads text P) (small : Is
 
   pub has_tokens : (e : ProgError) → HasNoTokens text e → Answers (Err e) P
   has_tokens Memory none = tt
-  has_tokens (Bad fault) none = elim none [ inl long ↦ omega (arith, long.0, reads.has_tokens.0) | inr found ↦ no_token_fault text reads.tokens _ reads.has_tokens found.1 ]
+  has_tokens (Bad fault) none =
+      elim none [
+        | inl long ↦ omega (arith, long.0, reads.has_tokens.0)
+        | inr found ↦
+            no_token_fault text reads.tokens _ reads.has_tokens found.1
+      ]
 
   known_read : (tokens : List Placed) → HasTokens text tokens → read_program true tokens ≡ Some reads.written
   known_read tokens has =
@@ -102,44 +118,57 @@ module _ (text : List ℕ) (P : tree.Program) (reads : Reads text P) (small : Is
   pub has_program : (tokens : List Placed) → HasTokens text tokens → read_program true tokens ≡ None → ⊥
   has_program tokens has none = let bad : Some reads.written ≡ None = sym (known_read tokens has) ∙ none in cc
 
-  pub is_that : (tokens : List Placed) (written : List WrittenProcess) → HasTokens text tokens → read_program true tokens ≡ Some written → written ≡ reads.written
+  pub is_that : (tokens : List Placed) (written : List WrittenProcess) → HasTokens text tokens → read_program true tokens ≡ Some written
+      → written ≡ reads.written
   is_that tokens written has read = let same : Some written ≡ Some reads.written = sym read ∙ known_read tokens has in cc
 
-  pub passes_checks : (tokens : List Placed) (written : List WrittenProcess) (fault : ProgFault) → HasTokens text tokens → read_program true tokens ≡ Some written
+  pub passes_checks : (tokens : List Placed) (written : List WrittenProcess) (fault : ProgFault) → HasTokens text tokens
+      → read_program true tokens ≡ Some written
       → Contains (check_faults written) fault → ⊥
   passes_checks tokens written fault has read fails =
-      let none : Contains [] fault = subst (λ (faults : List ProgFault). Contains faults fault) (ap check_faults (is_that tokens written has read) ∙ reads.checks) fails in
+      let none : Contains [] fault =
+      subst (λ (faults : List ProgFault). Contains faults fault)
+      (ap check_faults (is_that tokens written has read) ∙ reads.checks) fails in
       omega (arith, none.1)
 
-  pub says_that : (tokens : List Placed) (written : List WrittenProcess) (Q : tree.Program) → HasTokens text tokens → read_program true tokens ≡ Some written
+  pub says_that : (tokens : List Placed) (written : List WrittenProcess) (Q : tree.Program) → HasTokens text tokens
+      → read_program true tokens ≡ Some written
       → Q ≡ program_tree written → Q ≡ P
   says_that tokens written Q has read says = says ∙ ap program_tree (is_that tokens written has read) ∙ sym reads.says
 
 -- what the checks answered
-pub checked_accepted : (text : List ℕ) (tokens : List Placed) (written : List WrittenProcess) (r : Result Program ProgError) → HasTokens text tokens → read_program true tokens ≡ Some written
-    → Checks r (check_faults written) (λ P. program_of P ≡ program_tree written) → IfOk r (λ P. Reads text (program_of P) × IsSmall (program_of P))
+pub checked_accepted : (text : List ℕ) (tokens : List Placed) (written : List WrittenProcess) (r : Result Program ProgError)
+    → HasTokens text tokens → read_program true tokens ≡ Some written
+    → Checks r (check_faults written) (λ P. program_of P ≡ program_tree written)
+    → IfOk r (λ P. Reads text (program_of P) × IsSmall (program_of P))
 checked_accepted text tokens written (Ok P) has read passed = accepted text tokens written (program_of P) has read passed.0 passed.1
 checked_accepted text tokens written (Err e) has read passed = tt
 
-pub checked_only : (text : List ℕ) (tokens : List Placed) (written : List WrittenProcess) (r : Result Program ProgError) → HasTokens text tokens → read_program true tokens ≡ Some written
-    → Checks r (check_faults written) (λ P. program_of P ≡ program_tree written) → (P : tree.Program) → Reads text P → IsSmall P → Answers r P
-checked_only text tokens written (Ok Q) has read passed P reads small = says_that text P reads small tokens written (program_of Q) has read passed.1
+pub checked_only : (text : List ℕ) (tokens : List Placed) (written : List WrittenProcess) (r : Result Program ProgError)
+    → HasTokens text tokens → read_program true tokens ≡ Some written
+    → Checks r (check_faults written) (λ P. program_of P ≡ program_tree written) → (P : tree.Program) → Reads text P → IsSmall P
+    → Answers r P
+checked_only text tokens written (Ok Q) has read passed P reads small =
+    says_that text P reads small tokens written (program_of Q) has read passed.1
 checked_only text tokens written (Err Memory) has read passed P reads small = tt
-checked_only text tokens written (Err (Bad fault)) has read passed P reads small = passes_checks text P reads small tokens written fault has read passed
+checked_only text tokens written (Err (Bad fault)) has read passed P reads small =
+    passes_checks text P reads small tokens written fault has read passed
 
 -- why a text was refused
 pub refused_tokens : (text : List ℕ) (e : ProgError) → HasNoTokens text e → IsRefusal text e
 refused_tokens text Memory none = tt
 refused_tokens text (Bad fault) none = inl none
 
-pub writes_no_small : (text : List ℕ) (tokens : List Placed) → HasTokens text tokens → read_program true tokens ≡ None → WritesNoSmallProgram text
+pub writes_no_small : (text : List ℕ) (tokens : List Placed) → HasTokens text tokens → read_program true tokens ≡ None
+    → WritesNoSmallProgram text
 writes_no_small text tokens has none = (
   tokens,
   has,
   λ written derives small. let bad : Some written ≡ None = sym (complete_program true tokens written derives (λ _. small)) ∙ none in cc,
 )
 
-pub checked_refused : (text : List ℕ) (tokens : List Placed) (written : List WrittenProcess) (r : Result Program ProgError) → HasTokens text tokens → read_program true tokens ≡ Some written
+pub checked_refused : (text : List ℕ) (tokens : List Placed) (written : List WrittenProcess) (r : Result Program ProgError)
+    → HasTokens text tokens → read_program true tokens ≡ Some written
     → Checks r (check_faults written) (λ P. program_of P ≡ program_tree written) → IfErr r (IsRefusal text)
 checked_refused text tokens written (Ok P) has read passed = tt
 checked_refused text tokens written (Err Memory) has read passed = tt
@@ -150,5 +179,6 @@ checked_refused text tokens written (Err (Bad fault)) has read passed =
 pub one_program : (text : List ℕ) (P Q : tree.Program) → Reads text P → Reads text Q → P ≡ Q
 one_program text P Q x y =
     let tokens = one_token_list text x.tokens y.tokens x.has_tokens y.has_tokens in
-    let written : x.written ≡ y.written = one_tree y.tokens x.written y.written (subst (λ (ts : List Placed). DerivesProgram ts x.written) tokens x.derives) y.derives in
+    let written : x.written ≡ y.written =
+    one_tree y.tokens x.written y.written (subst (λ (ts : List Placed). DerivesProgram ts x.written) tokens x.derives) y.derives in
     x.says ∙ ap program_tree written ∙ sym y.says

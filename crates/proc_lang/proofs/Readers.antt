@@ -27,5 +27,6 @@ search_found i name read processes process same lt here test = search_turn i nam
 
 -- the i-th process has another name
 pub search_passed : (i : ℕ) (name : List ℕ) (read processes : List Process) (process : Process) → read ≡ processes → i < length read
-    → process ≡ get_or read i process → false ≡ bytes_eq process.name name → search_from i name processes ≡ search_from (i + 1) name processes
+    → process ≡ get_or read i process → false ≡ bytes_eq process.name name
+    → search_from i name processes ≡ search_from (i + 1) name processes
 search_passed i name read processes process same lt here test = search_turn i name read processes process false same lt here test

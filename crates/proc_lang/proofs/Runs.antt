@@ -1,5 +1,6 @@
 -- A loop over the front of a list that ends where a test fails.
-use Rattle.std.proofs.Common.{◌≡◌, ℕ, ◌+◌, ◌<◌, ◌≤◌, Bool, true, false, ◌&&◌, ◌||◌, cond, List, [], ◌∷◌, ◌++◌, length, get_or, take, drop, refl, sym, ap, ◌∙◌, arith, zero-le, one-add}
+use Rattle.std.proofs.Common.{◌≡◌, ℕ, ◌+◌, ◌<◌, ◌≤◌, Bool, true, false, ◌&&◌, ◌||◌, cond, List, [], ◌∷◌, ◌++◌, length, get_or, take, drop}
+use Rattle.std.proofs.Common.{refl, sym, ap, ◌∙◌, arith, zero-le, one-add}
 use Rattle.std.specs.List.{prefix_len, list_all}
 use Rattle.std.proofs.lemmas.List.Sums.{prefix_len-drop_yes, prefix_len-drop_no, prefix_len-drop_all}
 
@@ -11,7 +12,8 @@ module _ (p : ℕ → Bool) (bytes : List ℕ) (i : ℕ) (so_far : PassedSoFar p
   -- the byte passes too
   pub passed_more : (b : ℕ) → i < length bytes → b ≡ get_or bytes i 0 → true ≡ p b → PassedSoFar p bytes (i + 1)
   passed_more b lt here test =
-      let step : prefix_len p (drop i bytes) ≡ 1 + prefix_len p (drop (i + 1) bytes) = prefix_len-drop_yes p bytes i 0 lt (ap p (sym here) ∙ sym test) in
+      let step : prefix_len p (drop i bytes) ≡ 1 + prefix_len p (drop (i + 1) bytes) =
+      prefix_len-drop_yes p bytes i 0 lt (ap p (sym here) ∙ sym test) in
       omega (arith, so_far, step)
 
   -- the byte does not pass

@@ -1,14 +1,19 @@
 -- A text has at most one list of tokens, and no fault among them if it has one.
-use Rattle.std.proofs.Common.{◌≡◌, ℕ, ◌+◌, ◌≤◌, true, false, cond, List, [], ◌∷◌, ◌++◌, length, Option, Some, None, refl, sym, ap, ◌∙◌, subst, arith, append_assoc, append-nil, codes}
+use Rattle.std.proofs.Common.{◌≡◌, ℕ, ◌+◌, ◌≤◌, true, false, cond, List, [], ◌∷◌, ◌++◌, length, Option, Some, None, refl, sym, ap, ◌∙◌}
+use Rattle.std.proofs.Common.{subst, arith, append_assoc, append-nil, codes}
 use Rattle.std.specs.Prelude.{nat_le, slice_index}
 use Rattle.std.specs.List.{list_all, AllByRecursion}
 use Rattle.std.specs.Str.{bytes_eq}
 use Rattle.std.proofs.lemmas.Bool.{false≢true, leb-true}
 use Rattle.std.proofs.lemmas.Bool.Decides.{nat_tests}
 use Rattle.dbg_base.specs.declared.limits.TheConstants.{OPEN_PARENTHESES}
-use Rattle.dbg_base.specs.Tokens.{Token, Word, Number, Symbol, Placed, sign_bytes, is_space, is_letter, is_digit, is_word_byte, is_word, is_numeral, Spells, IsLongest, BeginsWith, IsWithinLimits, StaysShallow, HasTokens, IsTokenFault, FaultsInFront, open_after, open_behind}
+use Rattle.dbg_base.specs.Tokens.{Token, Word, Number, Symbol, Placed, sign_bytes, is_space, is_letter, is_digit, is_word_byte, is_word}
+use Rattle.dbg_base.specs.Tokens.{is_numeral, Spells, IsLongest, BeginsWith, IsWithinLimits, StaysShallow, HasTokens, IsTokenFault}
+use Rattle.dbg_base.specs.Tokens.{FaultsInFront, open_after, open_behind}
 use Rattle.dbg_base.specs.declared.sign.Sign.{Sign}
-use Rattle.dbg_base.specs.declared.sign.Sign.TheVariants.{OpenBrace, CloseBrace, OpenParenthesis, CloseParenthesis, Semicolon, Colon, Becomes, Comma, Equals, NotEquals, LessThan, AtMost, GreaterThan, AtLeast, Plus, Minus, Star, Slash, Percent}
+use Rattle.dbg_base.specs.declared.sign.Sign.TheVariants.{OpenBrace, CloseBrace, OpenParenthesis, CloseParenthesis, Semicolon, Colon}
+use Rattle.dbg_base.specs.declared.sign.Sign.TheVariants.{Becomes, Comma, Equals, NotEquals, LessThan, AtMost, GreaterThan, AtLeast, Plus}
+use Rattle.dbg_base.specs.declared.sign.Sign.TheVariants.{Minus, Star, Slash, Percent}
 use Rattle.dbg_base.specs.declared.fault.ProgFault.{ProgFault}
 use Rattle.dbg_base.specs.declared.fault.FaultKind.{FaultKind}
 use Rattle.dbg_base.specs.declared.fault.FaultKind.TheVariants as kinds
@@ -61,7 +66,8 @@ no_sign_empty sign e = cc
 word_is_no_number : {A : Type 0} (piece word : List ℕ) → (piece ≡ word) × (is_word word ≡ true) → is_numeral piece ≡ true → A
 word_is_no_number [] word x y = absurd (false≢true y)
 word_is_no_number (b ∷ bytes) word x y =
-    absurd (letter_is_no_digit b (and_first (is_letter b) (list_all is_word_byte bytes) (word_first b bytes word x.0 x.1)) (and_first (is_digit b) (list_all is_digit bytes) y))
+    absurd (letter_is_no_digit b (and_first (is_letter b) (list_all is_word_byte bytes) (word_first b bytes word x.0 x.1))
+    (and_first (is_digit b) (list_all is_digit bytes) y))
 
 word_is_no_sign : {A : Type 0} (piece word : List ℕ) (sign : Sign) → (piece ≡ word) × (is_word word ≡ true) → piece ≡ sign_bytes sign → A
 word_is_no_sign [] word sign x y = let h : is_word [] ≡ true = subst (λ w. is_word w ≡ true) (sym x.0) x.1 in absurd (false≢true h)
@@ -109,19 +115,24 @@ spells_once (Number v) (Symbol t) piece x y = number_is_no_sign piece t x.0 y
 spells_once (Symbol t) (Number v) piece x y = number_is_no_sign piece t y.0 x
 
 -- spaces before what begins with none: they are the same
-gap_once : (gap other left right : List ℕ) → list_all is_space gap ≡ true → list_all is_space other ≡ true → BeginsOther left → BeginsOther right
+gap_once : (gap other left right : List ℕ) → list_all is_space gap ≡ true → list_all is_space other ≡ true → BeginsOther left
+    → BeginsOther right
     → gap ++ left ≡ other ++ right → (gap ≡ other) × (left ≡ right)
 gap_once [] [] left right x y p q e = (refl, e)
 gap_once [] (b ∷ other) [] right x y p q e = absurd p
 gap_once [] (b ∷ other) (c ∷ left) right x y p q e =
-    let same : c ≡ b = cc in absurd (false≢true (sym p ∙ subst (λ z. is_space z ≡ true) (sym same) (and_first (is_space b) (list_all is_space other) y)))
+    let same : c ≡ b = cc in
+    absurd (false≢true (sym p ∙ subst (λ z. is_space z ≡ true) (sym same) (and_first (is_space b) (list_all is_space other) y)))
 gap_once (b ∷ gap) [] left [] x y p q e = absurd q
 gap_once (b ∷ gap) [] left (c ∷ right) x y p q e =
-    let same : b ≡ c = cc in absurd (false≢true (sym q ∙ subst (λ z. is_space z ≡ true) same (and_first (is_space b) (list_all is_space gap) x)))
+    let same : b ≡ c = cc in
+    absurd (false≢true (sym q ∙ subst (λ z. is_space z ≡ true) same (and_first (is_space b) (list_all is_space gap) x)))
 gap_once (b ∷ gap) (c ∷ other) left right x y p q e =
     let heads : b ≡ c = cc in
     let tails : gap ++ left ≡ other ++ right = cc in
-    let rest = gap_once gap other left right (and_second (is_space b) (list_all is_space gap) x) (and_second (is_space c) (list_all is_space other) y) p q tails in
+    let rest =
+    gap_once gap other left right (and_second (is_space b) (list_all is_space gap) x)
+    (and_second (is_space c) (list_all is_space other) y) p q tails in
     (cc, rest.1)
 
 begins_append : (piece more : List ℕ) → BeginsOther piece → BeginsOther (piece ++ more)
@@ -147,12 +158,16 @@ pub record IsSameStep (gap other piece second more others : List ℕ) (a b : Tok
   pub tokens : a ≡ b
 
 step_once : (text gap other piece second more others : List ℕ) (a b : Token) → list_all is_space gap ≡ true → list_all is_space other ≡ true
-    → text ≡ gap ++ piece ++ more → text ≡ other ++ second ++ others → Spells a piece → Spells b second → IsLongest piece more → IsLongest second others
+    → text ≡ gap ++ piece ++ more → text ≡ other ++ second ++ others → Spells a piece → Spells b second → IsLongest piece more
+    → IsLongest second others
     → IsSameStep gap other piece second more others a b
 step_once text gap other piece second more others a b x y whole also writes too longest largest =
-    let split = gap_once gap other (piece ++ more) (second ++ others) x y (begins_append piece more (spells_first a piece writes)) (begins_append second others (spells_first b second too))
+    let split =
+    gap_once gap other (piece ++ more) (second ++ others) x y (begins_append piece more (spells_first a piece writes))
+    (begins_append second others (spells_first b second too))
     (sym (append_assoc gap piece more) ∙ sym whole ∙ also ∙ append_assoc other second others) in
-    let sizes : length piece ≡ length second = omega (arith, longest second others b too (sym split.1), largest piece more a writes split.1) in
+    let sizes : length piece ≡ length second =
+    omega (arith, longest second others b too (sym split.1), largest piece more a writes split.1) in
     let fronts = front_once piece second more others sizes split.1 in
     record {
       gaps = split.0;
@@ -167,19 +182,23 @@ no_other [] (b ∷ rest) all begins = false≢true (sym begins ∙ and_first (is
 no_other (b ∷ gap) rest all begins = no_other gap rest (and_second (is_space b) (list_all is_space (gap ++ rest)) all) begins
 
 -- a text of spaces has no token
-no_token : {A : Type 0} (gap text left piece more : List ℕ) → list_all is_space left ≡ true → text ≡ left ++ [] → text ≡ gap ++ piece ++ more → list_all is_space gap ≡ true → BeginsOther piece → A
+no_token : {A : Type 0} (gap text left piece more : List ℕ) → list_all is_space left ≡ true → text ≡ left ++ []
+    → text ≡ gap ++ piece ++ more → list_all is_space gap ≡ true → BeginsOther piece → A
 no_token gap text left piece more all same whole spaces begins =
-    absurd (no_other gap (piece ++ more) (subst (λ z. list_all is_space z ≡ true) (sym (append-nil left) ∙ sym same ∙ whole ∙ append_assoc gap piece more) all) (begins_append piece more begins))
+    absurd (no_other gap (piece ++ more) (subst (λ z. list_all is_space z ≡ true)
+    (sym (append-nil left) ∙ sym same ∙ whole ∙ append_assoc gap piece more) all) (begins_append piece more begins))
 
 placed_same : (p q : Placed) → p.at ≡ q.at → p.token ≡ q.token → p ≡ q
 placed_same p q place token = λ i. record { at = place i; token = token i }
 
-moved_begins : (tokens : List Placed) (at other : ℕ) (text same : List ℕ) (end : ℕ) (rest : List ℕ) → at ≡ other → text ≡ same → BeginsWith at text tokens end rest → BeginsWith other same tokens end rest
+moved_begins : (tokens : List Placed) (at other : ℕ) (text same : List ℕ) (end : ℕ) (rest : List ℕ) → at ≡ other → text ≡ same
+    → BeginsWith at text tokens end rest → BeginsWith other same tokens end rest
 moved_begins tokens at other text same end rest places texts begins =
     subst (λ t. BeginsWith other t tokens end rest) texts (subst (λ k. BeginsWith k text tokens end rest) places begins)
 
 -- a text has one list of tokens
-one_list : (tokens others : List Placed) (at : ℕ) (text : List ℕ) (end stop : ℕ) → BeginsWith at text tokens end [] → BeginsWith at text others stop [] → tokens ≡ others
+one_list : (tokens others : List Placed) (at : ℕ) (text : List ℕ) (end stop : ℕ) → BeginsWith at text tokens end []
+    → BeginsWith at text others stop [] → tokens ≡ others
 one_list [] [] at text end stop x y = refl
 one_list [] (q ∷ others) at text end stop x y = no_token y.0 text x.0 y.1 y.2 x.1 x.2 y.4 y.3 (spells_first q.token y.1 y.6)
 one_list (p ∷ tokens) [] at text end stop x y = no_token x.0 text y.0 x.1 x.2 y.1 y.2 x.4 x.3 (spells_first p.token x.1 x.6)
@@ -187,7 +206,9 @@ one_list (p ∷ tokens) (q ∷ others) at text end stop x y =
     let same = step_once text x.0 y.0 x.1 y.1 x.2 y.2 p.token q.token x.3 y.3 x.4 y.4 x.6 y.6 x.7 y.7 in
     let places : p.at ≡ q.at = omega (arith, x.5, y.5, ap length same.gaps) in
     let ends : q.at + length y.1 ≡ p.at + length x.1 = omega (arith, places, ap length same.pieces) in
-    let rest = one_list tokens others (p.at + length x.1) x.2 end stop x.8 (moved_begins others (q.at + length y.1) (p.at + length x.1) y.2 x.2 stop [] ends (sym same.rests) y.8) in
+    let rest =
+    one_list tokens others (p.at + length x.1) x.2 end stop x.8
+    (moved_begins others (q.at + length y.1) (p.at + length x.1) y.2 x.2 stop [] ends (sym same.rests) y.8) in
     λ i. placed_same p q places same.tokens i ∷ rest i
 
 pub one_token_list : (text : List ℕ) (tokens others : List Placed) → HasTokens text tokens → HasTokens text others → tokens ≡ others
@@ -197,7 +218,8 @@ one_token_list text tokens others x y = one_list tokens others 0 text (length te
 fault_begins : (kind : FaultKind) (depth : ℕ) (rest : List ℕ) → FaultsInFront kind depth rest → BeginsOther rest
 fault_begins kinds.Byte depth [] found = found.0
 fault_begins kinds.Byte depth (b ∷ rest) found = found.0
-fault_begins kinds.Token depth rest found = subst BeginsOther (sym found.5) (begins_append found.0 found.1 (spells_first found.2 found.0 found.3))
+fault_begins kinds.Token depth rest found =
+    subst BeginsOther (sym found.5) (begins_append found.0 found.1 (spells_first found.2 found.0 found.3))
 fault_begins kinds.Grammar depth rest found = absurd found
 fault_begins kinds.NameTaken depth rest found = absurd found
 fault_begins kinds.NameUnknown depth rest found = absurd found
@@ -244,12 +266,14 @@ opens (Number value) (b ∷ piece) more others writes e =
 opens (Symbol sign) piece more others writes e = ap Symbol (open_only sign more others (ap (λ z. z ++ more) (sym writes) ∙ e))
 
 -- a token with nothing wrong where something is at fault
-clear_front : (kind : FaultKind) (depth : ℕ) (token : Token) (piece more rest : List ℕ) → rest ≡ piece ++ more → Spells token piece → IsLongest piece more → IsWithinLimits token
+clear_front : (kind : FaultKind) (depth : ℕ) (token : Token) (piece more rest : List ℕ) → rest ≡ piece ++ more → Spells token piece
+    → IsLongest piece more → IsWithinLimits token
     → open_behind depth token ≤ OPEN_PARENTHESES → FaultsInFront kind depth rest → ⊥
 clear_front kinds.Byte depth token piece more rest whole writes longest within shallow found = found.1 piece more token writes whole
 clear_front kinds.Token depth token piece more rest whole writes longest within shallow found =
     let same : found.0 ++ found.1 ≡ piece ++ more = sym found.5 ∙ whole in
-    let sizes : length piece ≡ length found.0 = omega (arith, longest found.0 found.1 found.2 found.3 same, found.4 piece more token writes (sym same)) in
+    let sizes : length piece ≡ length found.0 =
+    omega (arith, longest found.0 found.1 found.2 found.3 same, found.4 piece more token writes (sym same)) in
     let fronts = front_once piece found.0 more found.1 sizes (sym same) in
     let tokens = spells_once token found.2 found.0 (subst (λ z. Spells token z) fronts.0 writes) found.3 in
     found.6 (subst IsWithinLimits tokens within)
@@ -265,14 +289,20 @@ clear_front kinds.SelfSend depth token piece more rest whole writes longest with
 clear_front kinds.SetTwice depth token piece more rest whole writes longest within shallow found = found
 
 -- a text with tokens has no fault among them
-no_fault : (tokens before : List Placed) (at depth : ℕ) (text : List ℕ) (end stop : ℕ) (rest : List ℕ) (kind : FaultKind) → BeginsWith at text tokens end []
-    → AllByRecursion (λ p. IsWithinLimits p.token) tokens → StaysShallow depth tokens → BeginsWith at text before stop rest → FaultsInFront kind (open_after depth before) rest → ⊥
+no_fault : (tokens before : List Placed) (at depth : ℕ) (text : List ℕ) (end stop : ℕ) (rest : List ℕ) (kind : FaultKind)
+    → BeginsWith at text tokens end []
+    → AllByRecursion (λ p. IsWithinLimits p.token) tokens → StaysShallow depth tokens → BeginsWith at text before stop rest
+    → FaultsInFront kind (open_after depth before) rest → ⊥
 no_fault [] [] at depth text end stop rest kind x within shallow y found =
-    no_other y.0 rest (subst (λ z. list_all is_space z ≡ true) (sym (append-nil x.0) ∙ sym x.2 ∙ y.2) x.1) (fault_begins kind depth rest found)
+    no_other y.0 rest (subst (λ z. list_all is_space z ≡ true) (sym (append-nil x.0) ∙ sym x.2 ∙ y.2) x.1)
+    (fault_begins kind depth rest found)
 no_fault (p ∷ tokens) [] at depth text end stop rest kind x within shallow y found =
-    let split = gap_once y.0 x.0 rest (x.1 ++ x.2) y.1 x.3 (fault_begins kind depth rest found) (begins_append x.1 x.2 (spells_first p.token x.1 x.6)) (sym y.2 ∙ x.4 ∙ append_assoc x.0 x.1 x.2) in
+    let split =
+    gap_once y.0 x.0 rest (x.1 ++ x.2) y.1 x.3 (fault_begins kind depth rest found)
+    (begins_append x.1 x.2 (spells_first p.token x.1 x.6)) (sym y.2 ∙ x.4 ∙ append_assoc x.0 x.1 x.2) in
     clear_front kind depth p.token x.1 x.2 rest split.1 x.6 x.7 within.0 shallow.0 found
-no_fault [] (q ∷ before) at depth text end stop rest kind x within shallow y found = no_token y.0 text x.0 y.1 y.2 x.1 x.2 y.4 y.3 (spells_first q.token y.1 y.6)
+no_fault [] (q ∷ before) at depth text end stop rest kind x within shallow y found =
+    no_token y.0 text x.0 y.1 y.2 x.1 x.2 y.4 y.3 (spells_first q.token y.1 y.6)
 no_fault (p ∷ tokens) (q ∷ before) at depth text end stop rest kind x within shallow y found =
     let same = step_once text x.0 y.0 x.1 y.1 x.2 y.2 p.token q.token x.3 y.3 x.4 y.4 x.6 y.6 x.7 y.7 in
     let places : p.at ≡ q.at = omega (arith, x.5, y.5, ap length same.gaps) in

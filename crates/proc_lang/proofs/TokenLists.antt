@@ -1,9 +1,11 @@
 -- The tokens at the front of a text, one more at a time.
-use Rattle.std.proofs.Common.{◌≡◌, ℕ, ◌+◌, ◌≤◌, Bool, true, List, [], ◌∷◌, ◌++◌, length, map, refl, sym, ap, ◌∙◌, subst, arith, append_assoc, append-nil}
+use Rattle.std.proofs.Common.{◌≡◌, ℕ, ◌+◌, ◌≤◌, Bool, true, List, [], ◌∷◌, ◌++◌, length, map, refl, sym, ap, ◌∙◌, subst, arith}
+use Rattle.std.proofs.Common.{append_assoc, append-nil}
 use Rattle.std.specs.List.{list_all, AllByRecursion}
 use Rattle.std.proofs.lemmas.List.{length-append}
 use Rattle.dbg_base.specs.declared.limits.TheConstants.{OPEN_PARENTHESES, INPUT_BYTES}
-use Rattle.dbg_base.specs.Tokens.{Placed, is_space, BeginsWith, IsWithinLimits, StaysShallow, HasTokens, IsTokenFault, FaultsInFront, open_after, open_behind}
+use Rattle.dbg_base.specs.Tokens.{Placed, is_space, BeginsWith, IsWithinLimits, StaysShallow, HasTokens, IsTokenFault, FaultsInFront}
+use Rattle.dbg_base.specs.Tokens.{open_after, open_behind}
 use Rattle.dbg_base.specs.declared.fault.ProgFault.{ProgFault}
 use Rattle.std.proofs.lemmas.List.{map-append}
 use Rattle.proc_lang.specs.declared.token.Placed as code
@@ -13,10 +15,12 @@ use Rattle.proc_lang.proofs.Runs.{both_true, and_first, and_second}
 all_append : (p : ℕ → Bool) (xs ys : List ℕ) → list_all p xs ≡ true → list_all p ys ≡ true → list_all p (xs ++ ys) ≡ true
 all_append p [] ys all_xs all_ys = all_ys
 all_append p (x ∷ xs) ys all_xs all_ys =
-    both_true (p x) (list_all p (xs ++ ys)) (and_first (p x) (list_all p xs) all_xs) (all_append p xs ys (and_second (p x) (list_all p xs) all_xs) all_ys)
+    both_true (p x) (list_all p (xs ++ ys)) (and_first (p x) (list_all p xs) all_xs)
+    (all_append p xs ys (and_second (p x) (list_all p xs) all_xs) all_ys)
 
 -- spaces behind the tokens belong to them as well
-pub begins_with_gap : (tokens : List Placed) (at : ℕ) (text : List ℕ) (end : ℕ) (left gap rest : List ℕ) → BeginsWith at text tokens end left
+pub begins_with_gap : (tokens : List Placed) (at : ℕ) (text : List ℕ) (end : ℕ) (left gap rest : List ℕ)
+    → BeginsWith at text tokens end left
     → list_all is_space gap ≡ true → left ≡ gap ++ rest → BeginsWith at text tokens (end + length gap) rest
 begins_with_gap [] at text end left gap rest begins spaces whole = (
   begins.0 ++ gap,
@@ -24,14 +28,24 @@ begins_with_gap [] at text end left gap rest begins spaces whole = (
   begins.2 ∙ ap (λ l. begins.0 ++ l) whole ∙ sym (append_assoc begins.0 gap rest),
   omega (arith, begins.3, length-append begins.0 gap),
 )
-begins_with_gap (p ∷ tokens) at text end left gap rest begins spaces whole =
-    (begins.0, begins.1, begins.2, begins.3, begins.4, begins.5, begins.6, begins.7, begins_with_gap tokens (p.at + length begins.1) begins.2 end left gap rest begins.8 spaces whole)
+begins_with_gap (p ∷ tokens) at text end left gap rest begins spaces whole = (
+  begins.0,
+  begins.1,
+  begins.2,
+  begins.3,
+  begins.4,
+  begins.5,
+  begins.6,
+  begins.7,
+  begins_with_gap tokens (p.at + length begins.1) begins.2 end left gap rest begins.8 spaces whole,
+)
 
 regroup : (a b c d : List ℕ) → a ++ (b ++ c ++ d) ≡ (a ++ b) ++ c ++ d
 regroup a b c d = simp append_assoc
 
 -- one token more
-pub begins_with_more : (tokens : List Placed) (at : ℕ) (text : List ℕ) (end depth : ℕ) (left : List ℕ) (p : Placed) (rest : List ℕ) (stop behind : ℕ)
+pub begins_with_more : (tokens : List Placed) (at : ℕ) (text : List ℕ) (end depth : ℕ) (left : List ℕ) (p : Placed) (rest : List ℕ)
+    (stop behind : ℕ)
     → BeginsWith at text tokens end left → TakesToken left end depth p rest stop behind → BeginsWith at text (tokens ++ p ∷ []) stop rest
 begins_with_more [] at text end depth left p rest stop behind begins step = (
   begins.0 ++ step.gap,
@@ -44,19 +58,30 @@ begins_with_more [] at text end depth left p rest stop behind begins step = (
   step.longest,
   ([], refl, refl, omega (arith, step.passed)),
 )
-begins_with_more (q ∷ tokens) at text end depth left p rest stop behind begins step =
-    (begins.0, begins.1, begins.2, begins.3, begins.4, begins.5, begins.6, begins.7, begins_with_more tokens (q.at + length begins.1) begins.2 end depth left p rest stop behind begins.8 step)
+begins_with_more (q ∷ tokens) at text end depth left p rest stop behind begins step = (
+  begins.0,
+  begins.1,
+  begins.2,
+  begins.3,
+  begins.4,
+  begins.5,
+  begins.6,
+  begins.7,
+  begins_with_more tokens (q.at + length begins.1) begins.2 end depth left p rest stop behind begins.8 step,
+)
 
 pub all_within_more : (tokens : List Placed) (p : Placed) → AllByRecursion (λ q. IsWithinLimits q.token) tokens → IsWithinLimits p.token
     → AllByRecursion (λ q. IsWithinLimits q.token) (tokens ++ p ∷ [])
 all_within_more [] p all one = (one, tt)
 all_within_more (q ∷ tokens) p all one = (all.0, all_within_more tokens p all.1 one)
 
-pub open_after_more : (depth : ℕ) (tokens : List Placed) (p : Placed) → open_after depth (tokens ++ p ∷ []) ≡ open_behind (open_after depth tokens) p.token
+pub open_after_more : (depth : ℕ) (tokens : List Placed) (p : Placed)
+    → open_after depth (tokens ++ p ∷ []) ≡ open_behind (open_after depth tokens) p.token
 open_after_more depth [] p = refl
 open_after_more depth (q ∷ tokens) p = open_after_more (open_behind depth q.token) tokens p
 
-pub shallow_more : (depth : ℕ) (tokens : List Placed) (p : Placed) → StaysShallow depth tokens → open_behind (open_after depth tokens) p.token ≤ OPEN_PARENTHESES
+pub shallow_more : (depth : ℕ) (tokens : List Placed) (p : Placed) → StaysShallow depth tokens
+    → open_behind (open_after depth tokens) p.token ≤ OPEN_PARENTHESES
     → StaysShallow depth (tokens ++ p ∷ [])
 shallow_more depth [] p all one = (one, tt)
 shallow_more depth (q ∷ tokens) p all one = (all.0, shallow_more (open_behind depth q.token) tokens p all.1 one)
@@ -84,16 +109,26 @@ begins_length : (tokens : List Placed) (at : ℕ) (text : List ℕ) (end : ℕ) 
 begins_length [] at text end begins = omega (arith, begins.3, ap length (begins.2 ∙ append-nil begins.0))
 begins_length (p ∷ tokens) at text end begins =
     let rest = begins_length tokens (p.at + length begins.1) begins.2 end begins.8 in
-    omega (arith, rest, begins.5, ap length begins.4, length-append begins.0 (begins.1 ++ begins.2), length-append begins.1 begins.2, ap length (append_assoc begins.0 begins.1 begins.2))
+    omega (
+      arith,
+      rest,
+      begins.5,
+      ap length begins.4,
+      length-append begins.0 (begins.1 ++ begins.2),
+      length-append begins.1 begins.2,
+      ap length (append_assoc begins.0 begins.1 begins.2),
+    )
 
-pub has_tokens : (text : List ℕ) (tokens : List Placed) (at depth : ℕ) (rest : List ℕ) → length text ≤ INPUT_BYTES → IsBehind text tokens at depth rest
+pub has_tokens : (text : List ℕ) (tokens : List Placed) (at depth : ℕ) (rest : List ℕ) → length text ≤ INPUT_BYTES
+    → IsBehind text tokens at depth rest
     → list_all is_space rest ≡ true → HasTokens text tokens
 has_tokens text tokens at depth rest small is spaces =
     let begins = begins_with_gap tokens 0 text at rest rest [] is.begins spaces (sym (append-nil rest)) in
     let end_is : at + length rest ≡ length text = omega (arith, begins_length tokens 0 text (at + length rest) begins) in
     (small, subst (λ end. BeginsWith 0 text tokens end []) end_is begins, (is.within, is.shallow))
 
-pub has_fault : (text : List ℕ) (tokens : List Placed) (at depth : ℕ) (rest : List ℕ) (fault : ProgFault) → IsBehind text tokens at depth rest → MeetsFault rest at depth fault
+pub has_fault : (text : List ℕ) (tokens : List Placed) (at depth : ℕ) (rest : List ℕ) (fault : ProgFault)
+    → IsBehind text tokens at depth rest → MeetsFault rest at depth fault
     → IsTokenFault text fault
 has_fault text tokens at depth rest fault is met =
     let begins = begins_with_gap tokens 0 text at rest met.gap met.rest is.begins met.spaces met.whole in (
@@ -105,8 +140,12 @@ has_fault text tokens at depth rest fault is met =
     )
 
 -- the list of the code with one token more
-pub behind_pushed : (text : List ℕ) (old new : List code.Placed) (at depth : ℕ) (left : List ℕ) (p : code.Placed) (rest : List ℕ) (stop behind : ℕ) → new ≡ old ++ p ∷ []
-    → IsBehind text (map placed_of old) at depth left → TakesToken left at depth (placed_of p) rest stop behind → IsBehind text (map placed_of new) stop behind rest
+pub behind_pushed : (text : List ℕ) (old new : List code.Placed) (at depth : ℕ) (left : List ℕ) (p : code.Placed) (rest : List ℕ)
+    (stop behind : ℕ) → new ≡ old ++ p ∷ []
+    → IsBehind text (map placed_of old) at depth left → TakesToken left at depth (placed_of p) rest stop behind
+    → IsBehind text (map placed_of new) stop behind rest
 behind_pushed text old new at depth left p rest stop behind pushed is step =
-    let mapped : map placed_of new ≡ map placed_of old ++ placed_of p ∷ [] = ap (map placed_of) pushed ∙ map-append placed_of old (p ∷ []) in
-    subst (λ (tokens : List Placed). IsBehind text tokens stop behind rest) (sym mapped) (behind_more text (map placed_of old) at depth left (placed_of p) rest stop behind is step)
+    let mapped : map placed_of new ≡ map placed_of old ++ placed_of p ∷ [] =
+    ap (map placed_of) pushed ∙ map-append placed_of old (p ∷ []) in
+    subst (λ (tokens : List Placed). IsBehind text tokens stop behind rest) (sym mapped)
+    (behind_more text (map placed_of old) at depth left (placed_of p) rest stop behind is step)

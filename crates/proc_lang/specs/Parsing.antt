@@ -1,19 +1,24 @@
 -- What the parser reads from the front of some tokens: what is written there and the tokens behind it, or nothing. `small` says that
 -- only small expressions are read: numbers, names, `true`, and two expressions with `+`, `-`, `<` or `>` between them.
-use Rattle.std.specs.Prelude.{ℕ, zero, suc, ℤ, pos, neg_ℤ, Bool, true, false, not, ◌&&◌, List, [], ◌∷◌, length, Option, Some, None, codes, if◌then◌else◌}
+use Rattle.std.specs.Prelude.{ℕ, zero, suc, ℤ, pos, neg_ℤ, Bool, true, false, not, ◌&&◌, List, [], ◌∷◌, length, Option, Some, None, codes}
+use Rattle.std.specs.Prelude.{if◌then◌else◌}
 use Rattle.std.specs.Option.{option_and_then, option_map}
 use Rattle.std.specs.List.{list_any, AllByRecursion}
 use Rattle.std.specs.Str.{bytes_eq}
 use Rattle.dbg_base.specs.declared.expr.Operator.{Operator}
-use Rattle.dbg_base.specs.declared.expr.Operator.TheVariants.{Add, Subtract, Multiply, Divide, Remainder, Equal, NotEqual, Less, LessOrEqual, Greater, GreaterOrEqual, And, Or}
+use Rattle.dbg_base.specs.declared.expr.Operator.TheVariants.{Add, Subtract, Multiply, Divide, Remainder, Equal, NotEqual, Less}
+use Rattle.dbg_base.specs.declared.expr.Operator.TheVariants.{LessOrEqual, Greater, GreaterOrEqual, And, Or}
 use Rattle.dbg_base.specs.Tokens.{Token, Word, Symbol, Placed}
 use Rattle.dbg_base.specs.declared.sign.Sign.{Sign}
-use Rattle.dbg_base.specs.declared.sign.Sign.TheVariants.{OpenBrace, CloseBrace, OpenParenthesis, CloseParenthesis, Semicolon, Colon, Becomes, Comma, Equals, NotEquals, LessThan, AtMost, GreaterThan, AtLeast, Plus, Minus, Star, Slash, Percent}
+use Rattle.dbg_base.specs.declared.sign.Sign.TheVariants.{OpenBrace, CloseBrace, OpenParenthesis, CloseParenthesis, Semicolon, Colon}
+use Rattle.dbg_base.specs.declared.sign.Sign.TheVariants.{Becomes, Comma, Equals, NotEquals, LessThan, AtMost, GreaterThan, AtLeast, Plus}
+use Rattle.dbg_base.specs.declared.sign.Sign.TheVariants.{Minus, Star, Slash, Percent}
 use Rattle.dbg_base.specs.Tokens as token
 use denote.Enum.Bare.{sameb}
 use Rattle.dbg_base.specs.contracts.sign.Sign.{the_type}
 use Rattle.dbg_base.specs.Checks.{phrase_tree, action_tree}
-use Rattle.dbg_base.specs.Grammar.{Named, Phrase, Name, Truth, Not, Negate, Binary, WrittenVariable, WrittenAction, Local, Sends, Receives, WrittenAssignment, WrittenCommand, WrittenProcess, reserved_words}
+use Rattle.dbg_base.specs.Grammar.{Named, Phrase, Name, Truth, Not, Negate, Binary, WrittenVariable, WrittenAction, Local, Sends, Receives}
+use Rattle.dbg_base.specs.Grammar.{WrittenAssignment, WrittenCommand, WrittenProcess, reserved_words}
 use Rattle.dbg_base.specs.Grammar as phrase
 use Rattle.proc_lang.specs.Small.{IsSmallTree, IsSmallSend}
 

@@ -4,7 +4,8 @@ use Rattle.std.specs.List.{list_all}
 use Rattle.std.specs.Str.Parse.{digits_value}
 use Rattle.dbg_base.specs.declared.sign.Sign.TheVariants as sign
 use Rattle.dbg_base.specs.Tokens as model
-use Rattle.dbg_base.specs.Tokens.{Spells, IsLongest, IsWithinLimits, is_space, sign_bytes, open_behind, BeginsWithNoToken, BeginsWithTooLarge, FaultsInFront, IsTokenFault}
+use Rattle.dbg_base.specs.Tokens.{Spells, IsLongest, IsWithinLimits, is_space, sign_bytes, open_behind, BeginsWithNoToken}
+use Rattle.dbg_base.specs.Tokens.{BeginsWithTooLarge, FaultsInFront, IsTokenFault}
 use Rattle.dbg_base.specs.declared.limits.TheConstants.{INPUT_BYTES, OPEN_PARENTHESES}
 use Rattle.dbg_base.specs.declared.fault.ProgFault.{ProgFault}
 use Rattle.proc_lang.specs.declared.fault.ProgError.{ProgError}

@@ -9,14 +9,17 @@ ghost use Rattle.dbg_base.specs.Trees.{tree_of};
 ghost use Rattle.dbg_base.specs.declared.expr.Sort.TheVariants as sort;
 ghost use Rattle.dbg_base.specs.Names.{is_among};
 ghost use Rattle.dbg_base.specs.Sorts.{is_same_sort, outcome_sort, operand_sort};
-ghost use Rattle.dbg_base.specs.Checks.{fault_where, unknown, expression_faults, target_faults, action_faults, set_by_action, assignment_faults, command_faults, process_faults, check_faults, index_of, phrase_tree, program_tree};
+ghost use Rattle.dbg_base.specs.Checks.{fault_where, unknown, expression_faults, target_faults, action_faults, set_by_action};
+ghost use Rattle.dbg_base.specs.Checks.{assignment_faults, command_faults, process_faults, check_faults, index_of, phrase_tree};
+ghost use Rattle.dbg_base.specs.Checks.{program_tree};
 ghost use Rattle.dbg_base.specs.Checks as model;
 ghost use Rattle.proc_lang.specs.declared.fault.ProgError.TheVariants.{Bad};
 ghost use Rattle.proc_lang.specs.ProcessTrees as program;
 ghost use Rattle.proc_lang.specs.ProcessTrees.{assignment_trees, process_trees};
 ghost use Rattle.proc_lang.specs.Programs.{program_of};
 ghost use Rattle.proc_lang.specs.Writing.{named_of, phrase_of, action_of, assignment_of, command_of, process_of, processes_of};
-ghost use Rattle.proc_lang.specs.Checking.{Checks, WhereFew, process_names_in, variable_names_in, starts, written_starts, written_trees, faults_of_variables, faults_of_commands};
+ghost use Rattle.proc_lang.specs.Checking.{Checks, WhereFew, process_names_in, variable_names_in, starts, written_starts, written_trees};
+ghost use Rattle.proc_lang.specs.Checking.{faults_of_variables, faults_of_commands};
 
 use crate::fault::ProgError;
 use crate::process::{Action, Assignment, Guarded, Process, Variable};
@@ -173,7 +176,8 @@ fn action(
     written: &WrittenAction,
 ) -> Result<Action, ProgError>
     requires { length own.now.variables.items ≤ VARIABLES }
-    ensures { Checks result (action_faults (process_names_in processes.now) own.now.name.name (variable_names_in own.now.variables.items) (action_of written.now))
+    ensures { Checks result (action_faults (process_names_in processes.now) own.now.name.name (variable_names_in own.now.variables.items)
+        (action_of written.now))
         (λ action. WhereFew processes.now (program.action_tree action
         ≡ model.action_tree (process_names_in processes.now) (variable_names_in own.now.variables.items) (action_of written.now))) }
 {
@@ -213,7 +217,8 @@ fn assignments_set(assignments: &[WrittenAssignment], name: &Name) -> bool
 
 // Does the action set the variable of this name, or one of the assignments before?
 fn already_set(action: &WrittenAction, before: &[WrittenAssignment], name: &Name) -> bool
-    ensures { result ≡ (is_among name.now (set_by_action (action_of action.now)) || list_any (λ a. bytes_eq name.now a.variable.name) before.now) }
+    ensures { result ≡ (is_among name.now (set_by_action (action_of action.now))
+        || list_any (λ a. bytes_eq name.now a.variable.name) before.now) }
 {
     action_sets(action, name) || assignments_set(before, name)
 }
@@ -245,7 +250,8 @@ fn assignments(
     written: &WrittenCommand,
 ) -> Result<Vec<Assignment>, ProgError>
     requires { length variables.now ≤ VARIABLES }
-    ensures { Checks result (assignment_faults (variable_names_in variables.now) (set_by_action (action_of written.now.action)) (map assignment_of written.now.assignments.items))
+    ensures { Checks result (assignment_faults (variable_names_in variables.now) (set_by_action (action_of written.now.action))
+        (map assignment_of written.now.assignments.items))
         (λ read. assignment_trees read.items ≡ written_trees (variable_names_in variables.now) written.now.assignments.items) }
 {
     let all = written.assignments.as_slice();
@@ -265,7 +271,8 @@ fn command(
     written: &WrittenCommand,
 ) -> Result<Guarded, ProgError>
     requires { length own.now.variables.items ≤ VARIABLES }
-    ensures { Checks result (command_faults (process_names_in processes.now) own.now.name.name (variable_names_in own.now.variables.items) (command_of written.now))
+    ensures { Checks result (command_faults (process_names_in processes.now) own.now.name.name (variable_names_in own.now.variables.items)
+        (command_of written.now))
         (λ guarded. WhereFew processes.now (program.command_tree guarded
         ≡ model.command_tree (process_names_in processes.now) (variable_names_in own.now.variables.items) (command_of written.now))) }
 {
@@ -331,9 +338,11 @@ fn commands(
     own: &WrittenProcess,
 ) -> Result<Vec<Guarded>, ProgError>
     requires { length own.now.variables.items ≤ VARIABLES }
-    ensures faults { Checks result (faults_of_commands (process_names_in processes.now) own.now.name.name (variable_names_in own.now.variables.items) own.now.commands.items)
+    ensures faults { Checks result (faults_of_commands (process_names_in processes.now) own.now.name.name
+        (variable_names_in own.now.variables.items) own.now.commands.items)
         (λ commands. WhereFew processes.now (map program.command_tree commands.items
-        ≡ map (model.command_tree (process_names_in processes.now) (variable_names_in own.now.variables.items)) (map command_of own.now.commands.items))) }
+        ≡ map (model.command_tree (process_names_in processes.now) (variable_names_in own.now.variables.items))
+        (map command_of own.now.commands.items))) }
     ensures few { IfOk result (λ commands. vec_len commands ≤ COMMANDS) }
 {
     let mut commands = Vec::new(alloc);

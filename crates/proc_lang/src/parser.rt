@@ -6,7 +6,8 @@ ghost use Rattle.std.specs.Str.{bytes_eq};
 ghost use Rattle.dbg_base.specs.Grammar.{reserved_words};
 ghost use Rattle.proc_lang.specs.Scanning.{token_of, placed_of};
 ghost use Rattle.proc_lang.specs.Writing.{named_of};
-ghost use Rattle.proc_lang.specs.Parsing.{begins_word, begins_sign, operator_in, read_word, read_sign, read_name, read_number, read_operator};
+ghost use Rattle.proc_lang.specs.Parsing.{begins_word, begins_sign, operator_in, read_word, read_sign, read_name, read_number};
+ghost use Rattle.proc_lang.specs.Parsing.{read_operator};
 ghost use Rattle.proc_lang.specs.Reading.{Gives};
 ghost use Rattle.proc_lang.specs.declared.parser.Stop.TheVariants.{Memory};
 

@@ -4,7 +4,8 @@ ghost use Rattle.std.specs.Prelude.{◌≡◌, ℕ, ◌≤◌, ◌<◌, ◌+◌,
 ghost use Rattle.std.specs.List.{list_all, prefix_len};
 ghost use Rattle.std.specs.Str.Parse.{digits_value};
 ghost use Rattle.dbg_base.specs.Tokens.{is_space, is_digit, is_word_byte, sign_bytes, BeginsWithNoToken, Spells, IsWithinLimits};
-ghost use Rattle.proc_lang.specs.Scanning.{token_of, token_in, token_by, IsNoSign, BeginsWithNoSign, StandsInFront, IsSignPiece, IsFrontToken, IsFrontFault};
+ghost use Rattle.proc_lang.specs.Scanning.{token_of, token_in, token_by, IsNoSign, BeginsWithNoSign, StandsInFront, IsSignPiece};
+ghost use Rattle.proc_lang.specs.Scanning.{IsFrontToken, IsFrontFault};
 
 use crate::token::{Magnitude, Token};
 use dbg_base::{FaultKind, Name, Sign};

@@ -5,7 +5,9 @@ ghost use Rattle.dbg_base.specs.declared.sign.Sign.TheVariants as sign;
 ghost use Rattle.dbg_base.specs.Tokens as model;
 ghost use Rattle.proc_lang.specs.Scanning.{placed_of};
 ghost use Rattle.proc_lang.specs.Writing.{phrase_of, variable_of, action_of, assignment_of, command_of, process_of};
-ghost use Rattle.proc_lang.specs.Parsing.{begins_word, begins_sign, read_operand, read_expression, read_binary, read_start, read_variable, read_assignment, read_further, read_many, read_send, read_receive, read_local, read_body, read_command, read_process, read_program, is_left};
+ghost use Rattle.proc_lang.specs.Parsing.{begins_word, begins_sign, read_operand, read_expression, read_binary, read_start, read_variable};
+ghost use Rattle.proc_lang.specs.Parsing.{read_assignment, read_further, read_many, read_send, read_receive, read_local, read_body};
+ghost use Rattle.proc_lang.specs.Parsing.{read_command, read_process, read_program, is_left};
 ghost use Rattle.proc_lang.specs.Reading.{Gives, Reads};
 
 use super::{Parser, Stop, is_reserved};

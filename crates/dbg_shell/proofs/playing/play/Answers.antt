@@ -24,8 +24,11 @@ pub loop-configuration-preserved : goal.loop-configuration-preserved
 loop-configuration-preserved c =
     let P = program_of c.args.program.now in
     let before = c.loop-configuration.invariant in
-    let next = goes_on P (standing c.loop-configuration.configuration) (standing c.play_next.new.configuration) (choices_in c.loop-configuration.unplayed.items) (choices_in c.play_next.new.unplayed.items)
-    before.states c.in_ok-play_next.field-0 c.if-branch.true (c.in_ok-play_next.ensures.moves before.states) (c.in_ok-play_next.ensures.shrinks c.if-branch.true) in
+    let next =
+    goes_on P (standing c.loop-configuration.configuration) (standing c.play_next.new.configuration)
+    (choices_in c.loop-configuration.unplayed.items) (choices_in c.play_next.new.unplayed.items)
+    before.states c.in_ok-play_next.field-0 c.if-branch.true (c.in_ok-play_next.ensures.moves before.states)
+    (c.in_ok-play_next.ensures.shrinks c.if-branch.true) in
     record {
       sized = c.in_ok-play_next.ensures.sized;
       states = next.0;
@@ -36,6 +39,7 @@ pub returns-clause-played : goal.returns-clause-played
 returns-clause-played c =
     let P = program_of c.args.program.now in
     let before = c.loop-configuration.invariant in
-    ends_there P (standing c.loop-configuration.configuration) (standing c.play_next.new.configuration) (choices_in c.loop-configuration.unplayed.items) (choices_in c.play_next.new.unplayed.items)
+    ends_there P (standing c.loop-configuration.configuration) (standing c.play_next.new.configuration)
+    (choices_in c.loop-configuration.unplayed.items) (choices_in c.play_next.new.unplayed.items)
     before.states c.in_ok-play_next.field-0 c.if-branch.false (c.in_ok-play_next.ensures.moves before.states)
     ∙ before.reaches

@@ -28,7 +28,8 @@ returns-in_default-clause-moves c = λ states.
     let p : ℕ = c.loop-p.p in
     let gone : slice_get c.loop-p.unplayed.items p ≡ None = search rules in
     let none : slice_get H p ≡ None = seen c.loop-p.unplayed c.args.unplayed.now p None c.loop-p.invariant.unplayed gone in
-    none_moves _ _ _ _ _ (sym (c.loop-p.invariant.next states) ∙ no_list P (at_progress (standing c.args.configuration.now) H states) p H none)
+    none_moves _ _ _ _ _ (sym (c.loop-p.invariant.next states)
+    ∙ no_list P (at_progress (standing c.args.configuration.now) H states) p H none)
     c.loop-p.invariant.kept (ap (λ (v : Vec (Bor (List ℕ)) Global). choices_in v.items) c.loop-p.invariant.unplayed)
 
 pub loop-p-preserved-in_default-split_first : goal.loop-p-preserved-in_default-split_first
@@ -37,7 +38,8 @@ loop-p-preserved-in_default-split_first c =
     let H : History = choices_in c.args.unplayed.now.items in
     let p : ℕ = c.loop-p.p in
     let at : slice_get c.loop-p.unplayed.items p ≡ Some c.in-Some.choices = search rules in
-    let here : slice_get H p ≡ Some c.in-Some.choices.now = seen c.loop-p.unplayed c.args.unplayed.now p (Some c.in-Some.choices) c.loop-p.invariant.unplayed at in
+    let here : slice_get H p ≡ Some c.in-Some.choices.now =
+    seen c.loop-p.unplayed c.args.unplayed.now p (Some c.in-Some.choices) c.loop-p.invariant.unplayed at in
     let empty : c.in-Some.choices.now ≡ [] = nil_from_length _ c.in_default-split_first.ensures.cases in
     record {
       unplayed = c.loop-p.invariant.unplayed;
@@ -57,7 +59,8 @@ pub returns-then-is_ok-clause-shrinks : goal.returns-then-is_ok-clause-shrinks
 returns-then-is_ok-clause-shrinks c = λ yes.
     let at : slice_get c.loop-p.unplayed.items c.loop-p.p ≡ Some c.in-Some.choices = search rules in
     let first : c.in-Some.choices.now ≡ c.in-Some-split_first.choice.now ∷ c.in-Some-split_first.others.now = search rules in
-    one_less (λ (s : Bor (List ℕ)). s.now) c.loop-p.unplayed.items c.loop-p.p c.in-Some.choices c.in-Some-split_first.others c.in-Some-split_first.choice.now at first
+    one_less (λ (s : Bor (List ℕ)). s.now) c.loop-p.unplayed.items c.loop-p.p c.in-Some.choices c.in-Some-split_first.others
+    c.in-Some-split_first.choice.now at first
     ∙ ap (λ (v : Vec (Bor (List ℕ)) Global). choice_count (choices_in v.items)) c.loop-p.invariant.unplayed
 
 pub returns-then-is_ok-clause-moves : goal.returns-then-is_ok-clause-moves
@@ -69,14 +72,16 @@ returns-then-is_ok-clause-moves c = λ states.
     let rest : List ℕ = c.in-Some-split_first.others.now in
     let to = at_progress (standing c.args.configuration.now) H states in
     let at : slice_get c.loop-p.unplayed.items p ≡ Some c.in-Some.choices = search rules in
-    let here : slice_get H p ≡ Some c.in-Some.choices.now = seen c.loop-p.unplayed c.args.unplayed.now p (Some c.in-Some.choices) c.loop-p.invariant.unplayed at in
+    let here : slice_get H p ≡ Some c.in-Some.choices.now =
+    seen c.loop-p.unplayed c.args.unplayed.now p (Some c.in-Some.choices) c.loop-p.invariant.unplayed at in
     let first : c.in-Some.choices.now ≡ k ∷ rest = search rules in
     let others : Option Progress = move_from P to (p + 1) (drop (p + 1) H) in
     some_moves _ (moved to p rest (standing c.fire.new.configuration)) _ _ _ _
     (sym (c.loop-p.invariant.next states) ∙ next_list P to p H c.in-Some.choices.now here
     ∙ ap (λ (choices : List ℕ). move_from P to p (choices ∷ drop (p + 1) H)) first
     ∙ ap (λ (s : Configuration). first_move (fire P s p k) to p rest others) (sym c.loop-p.invariant.kept)
-    ∙ first_moves c.in_ok-fire.field-0 _ (standing c.loop-p.configuration) (standing c.fire.new.configuration) to p rest others (sym c.is_ok.ensures.value ∙ c.if-is_ok.true) c.in_ok-fire.ensures)
+    ∙ first_moves c.in_ok-fire.field-0 _ (standing c.loop-p.configuration) (standing c.fire.new.configuration) to p rest others
+    (sym c.is_ok.ensures.value ∙ c.if-is_ok.true) c.in_ok-fire.ensures)
     refl
     (map-set (λ (s : Bor (List ℕ)). s.now) c.loop-p.unplayed.items p c.in-Some-split_first.others
     ∙ ap (λ (v : Vec (Bor (List ℕ)) Global). slice_set (choices_in v.items) p rest) c.loop-p.invariant.unplayed)
@@ -89,9 +94,13 @@ loop-p-preserved c =
     let k : ℕ = c.in-Some-split_first.choice.now in
     let rest : List ℕ = c.in-Some-split_first.others.now in
     let at : slice_get c.loop-p.unplayed.items p ≡ Some c.in-Some.choices = search rules in
-    let here : slice_get H p ≡ Some c.in-Some.choices.now = seen c.loop-p.unplayed c.args.unplayed.now p (Some c.in-Some.choices) c.loop-p.invariant.unplayed at in
+    let here : slice_get H p ≡ Some c.in-Some.choices.now =
+    seen c.loop-p.unplayed c.args.unplayed.now p (Some c.in-Some.choices) c.loop-p.invariant.unplayed at in
     let first : c.in-Some.choices.now ≡ k ∷ rest = search rules in
-    let passes = λ (to : Progress) (others : Option Progress). first_stays c.in_ok-fire.field-0 (fire P (standing c.loop-p.configuration) p k) (standing c.loop-p.configuration) (standing c.fire.new.configuration) to p rest others (sym c.is_ok.ensures.value ∙ c.if-is_ok.false) c.in_ok-fire.ensures in
+    let passes =
+    λ (to : Progress) (others : Option Progress). first_stays c.in_ok-fire.field-0 (fire P (standing c.loop-p.configuration) p k)
+    (standing c.loop-p.configuration) (standing c.fire.new.configuration) to p rest others
+    (sym c.is_ok.ensures.value ∙ c.if-is_ok.false) c.in_ok-fire.ensures in
     record {
       unplayed = c.loop-p.invariant.unplayed;
       kept = (passes (at_progress (standing c.args.configuration.now) H []) None).1 ∙ c.loop-p.invariant.kept;
@@ -108,5 +117,6 @@ returns-clause-moves c = λ states.
     let P = program_of c.args.program.now in
     let H : History = choices_in c.args.unplayed.now.items in
     let p : ℕ = c.loop-p.p in
-    none_moves _ _ _ _ _ (sym (c.loop-p.invariant.next states) ∙ none_beyond P (at_progress (standing c.args.configuration.now) H states) p (drop p H) (omega arith))
+    none_moves _ _ _ _ _ (sym (c.loop-p.invariant.next states)
+    ∙ none_beyond P (at_progress (standing c.args.configuration.now) H states) p (drop p H) (omega arith))
     c.loop-p.invariant.kept (ap (λ (v : Vec (Bor (List ℕ)) Global). choices_in v.items) c.loop-p.invariant.unplayed)

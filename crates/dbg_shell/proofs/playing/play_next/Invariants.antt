@@ -10,6 +10,7 @@ invariant-loop-p l = record {
   unplayed : l.unplayed ≡ l.fn.unplayed;
   kept : standing l.configuration ≡ standing l.fn.configuration;
   next : (states : List (List (List ℤ)))
-      → move_from (program_of l.program) (at_progress (standing l.fn.configuration) (choices_in l.fn.unplayed.items) states) l.p (drop l.p (choices_in l.fn.unplayed.items))
+      → move_from (program_of l.program) (at_progress (standing l.fn.configuration) (choices_in l.fn.unplayed.items) states) l.p
+      (drop l.p (choices_in l.fn.unplayed.items))
       ≡ next_move (program_of l.program) (at_progress (standing l.fn.configuration) (choices_in l.fn.unplayed.items) states);
 }

@@ -8,7 +8,9 @@ use Rattle.dbg_shell.specs.Writing.{Writes}
 use Rattle.proc_lang.specs.Small.{IsSmall}
 use Rattle.proc_lang.specs.Answering.{Answers, IsRefusal}
 use Rattle.dbg_shell.proofs.Reading.{reads_then}
-use Rattle.dbg_shell.proofs.InputTexts.{known_may, serves_program, accepts_program, stops_program, breaks_program, serves_no_fault, refuses_text, stops_no_fault, serves_no_end_line, accepts_no_end_line, stops_no_end_line, serves_too_long, accepts_too_long, stops_too_long, breaks_before}
+use Rattle.dbg_shell.proofs.InputTexts.{known_may, serves_program, accepts_program, stops_program, breaks_program, serves_no_fault}
+use Rattle.dbg_shell.proofs.InputTexts.{refuses_text, stops_no_fault, serves_no_end_line, accepts_no_end_line, stops_no_end_line}
+use Rattle.dbg_shell.proofs.InputTexts.{serves_too_long, accepts_too_long, stops_too_long, breaks_before}
 use Rattle.dbg_shell.proofs.serving.serve.Goals as goal
 
 pub returns-in_err-span-clause-broken : goal.returns-in_err-span-clause-broken

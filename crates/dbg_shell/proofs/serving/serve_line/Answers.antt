@@ -7,7 +7,8 @@ use Rattle.dbg_shell.specs.Lines.{asked}
 use Rattle.dbg_shell.proofs.Requests.{answers_call, answers_refusal}
 use Rattle.dbg_shell.proofs.serving.serve_line.Goals as goal
 
-parsed_so : (known : Result (Option (ℕ × Option Call)) Refusal) (o : Option Line) (line : Line) → o ≡ Some line → Ok (option_map asked o) ≡ known
+parsed_so : (known : Result (Option (ℕ × Option Call)) Refusal) (o : Option Line) (line : Line) → o ≡ Some line
+    → Ok (option_map asked o) ≡ known
     → Ok (Some (line.seat, call_of line.call)) ≡ known
 parsed_so known o line e h = ap (λ (x : Option Line). Ok (option_map asked x)) (sym e) ∙ h
 

@@ -23,10 +23,12 @@ returns-in_err-fresh c =
 pub returns-in_err-read : goal.returns-in_err-read
 returns-in_err-read c =
     let faults = process_faults (process_names (processes_of c.args.written.now)) in
-    passed_on c.from_residual-in_err-read.result _ _ _ (err_from_is_err_and c.from_residual-in_err-read.result c.from_residual-in_err-read.ensures.1)
+    passed_on c.from_residual-in_err-read.result _ _ _
+    (err_from_is_err_and c.from_residual-in_err-read.result c.from_residual-in_err-read.ensures.1)
     (among_right _ _ _
     (among_next _ _ _ _ _ c.loop-i.invariant.left
-    (flat_here faults process_of c.args.written.now c.loop-i.i c.index-written-i.result c.loop-i-test.true c.index-written-i.is) c.in_err-read.ensures))
+    (flat_here faults process_of c.args.written.now c.loop-i.i c.index-written-i.result c.loop-i-test.true c.index-written-i.is)
+    c.in_err-read.ensures))
 
 pub loop-i-preserved : goal.loop-i-preserved
 loop-i-preserved c =
@@ -39,7 +41,8 @@ loop-i-preserved c =
           c.process_taken-is_taken.result _ c.loop-i-test.true c.index-written-i.is c.loop-i.invariant.free
           c.process_taken-is_taken.ensures c.in_ok-fresh.ensures.faults.0;
       left = goes_on _ _ _ _ c.loop-i.invariant.left
-          (flat_here (process_faults names) process_of c.args.written.now c.loop-i.i c.index-written-i.result c.loop-i-test.true c.index-written-i.is)
+          (flat_here (process_faults names) process_of c.args.written.now c.loop-i.i c.index-written-i.result c.loop-i-test.true
+          c.index-written-i.is)
           c.in_ok-read.ensures.0;
       read = λ known. reads_more process_tree (model.process_tree names) process_of
           c.loop-i.processes.items c.push.new.self.items _ c.args.written.now c.loop-i.i c.index-written-i.result
@@ -54,6 +57,7 @@ returns c =
       none_in_both _ _ (none_in_both _ _
           (c.loop-i.invariant.free ∙ taken_end (λ process. process.name) process_of [] c.args.written.now c.loop-i.i past)
           (limit_kept (λ process. process.name.at) process_of PROCESSES c.args.written.now few))
-          (c.loop-i.invariant.left ∙ ap (λ rest. flat_map (process_faults names) (processes_of rest)) (drop_all c.loop-i.i c.args.written.now past)),
+          (c.loop-i.invariant.left ∙ ap (λ rest. flat_map (process_faults names) (processes_of rest))
+          (drop_all c.loop-i.i c.args.written.now past)),
       c.loop-i.invariant.read few ∙ ap (λ l. map (model.process_tree names) (processes_of l)) (take_all c.loop-i.i c.args.written.now past),
     )

@@ -12,7 +12,8 @@ abbrev pub invariant-loop-i : goal.invariant-loop-i
 invariant-loop-i l = record {
   len : vec_len l.processes ≡ l.i;
   few : l.i ≤ PROCESSES;
-  free : taken_faults [] (map (λ process. process.name) (processes_of l.written)) ≡ taken_rest (λ process. process.name) process_of [] l.i l.written;
+  free : taken_faults [] (map (λ process. process.name) (processes_of l.written))
+      ≡ taken_rest (λ process. process.name) process_of [] l.i l.written;
   left : flat_map (process_faults (process_names (processes_of l.written))) (processes_of l.written)
       ≡ flat_map (process_faults (process_names (processes_of l.written))) (processes_of (drop l.i l.written));
   read : length l.written ≤ PROCESSES → map process_tree l.processes.items

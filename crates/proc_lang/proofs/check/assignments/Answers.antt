@@ -28,7 +28,8 @@ loop-i-preserved c =
           (set_here assignment_of names earlier c.as_slice-all.result.now c.loop-i.i c.index-all-i.result c.already_set-is_set.result
           c.loop-i-test.true c.index-all-i.is c.already_set-is_set.ensures)
           c.in_ok-read.ensures.0;
-      read = reads_more (λ a. (a.variable, tree_of a.value)) (λ a. (index_of names a.variable.name, phrase_tree names a.value)) assignment_of
+      read =
+          reads_more (λ a. (a.variable, tree_of a.value)) (λ a. (index_of names a.variable.name, phrase_tree names a.value)) assignment_of
           c.loop-i.assignments.items c.push.new.self.items _ c.as_slice-all.result.now c.loop-i.i c.index-all-i.result
           c.in_ok-push.ensures.items c.loop-i.invariant.read c.loop-i-test.true c.index-all-i.is
           (let v = c.in_ok-read.ensures.1 in cc (v.0, v.1));

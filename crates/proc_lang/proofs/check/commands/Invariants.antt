@@ -12,8 +12,11 @@ abbrev pub invariant-loop-i : goal.invariant-loop-i
 invariant-loop-i l = record {
   len : vec_len l.commands ≡ l.i;
   few : l.i ≤ COMMANDS;
-  left : flat_map (command_faults (process_names (processes_of l.processes)) l.own.name.name (variable_names_in l.own.variables.items)) (map command_of l.own.commands.items)
-      ≡ flat_map (command_faults (process_names (processes_of l.processes)) l.own.name.name (variable_names_in l.own.variables.items)) (map command_of (drop l.i l.own.commands.items));
+  left : flat_map (command_faults (process_names (processes_of l.processes)) l.own.name.name (variable_names_in l.own.variables.items))
+      (map command_of l.own.commands.items)
+      ≡ flat_map (command_faults (process_names (processes_of l.processes)) l.own.name.name (variable_names_in l.own.variables.items))
+      (map command_of (drop l.i l.own.commands.items));
   read : length l.processes ≤ PROCESSES → map command_tree l.commands.items
-      ≡ map (model.command_tree (process_names (processes_of l.processes)) (variable_names_in l.own.variables.items)) (map command_of (take l.i l.own.commands.items));
+      ≡ map (model.command_tree (process_names (processes_of l.processes)) (variable_names_in l.own.variables.items))
+      (map command_of (take l.i l.own.commands.items));
 }

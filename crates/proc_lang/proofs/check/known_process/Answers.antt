@@ -5,7 +5,9 @@ use Rattle.proc_lang.proofs.check.known_process.Goals as goal
 
 pub returns-in-Some : goal.returns-in-Some
 returns-in-Some c =
-    let there = found_there (λ process. process.name.name) process_of c.args.processes.now (named_of c.args.named) c.in-Some.index c.in-Some.ensures in
+    let there =
+    found_there (λ process. process.name.name) process_of c.args.processes.now
+    (named_of c.args.named) c.in-Some.index c.in-Some.ensures in
     let lt = found_within _ c.args.processes.now c.in-Some.index c.in-Some.ensures in
     (there.0, λ few. let same : c.min.result ≡ c.in-Some.index = omega (arith, c.min.ensures) in same ∙ there.1)
 

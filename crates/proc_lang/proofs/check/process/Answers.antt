@@ -8,4 +8,5 @@ pub returns-in_err-variables : goal.returns-in_err-variables
 returns-in_err-variables c =
     passed_on c.from_residual.result _ _ _ (err_from_is_err_and c.from_residual.result c.from_residual.ensures.1)
     (among_left _ _ _ (among_left _ _ _
-    (subst (λ all. IsAmong c.in_err-variables.field-0.0 (faults_of_variables all)) c.as_slice.ensures.value c.in_err-variables.ensures.faults)))
+    (subst (λ all. IsAmong c.in_err-variables.field-0.0 (faults_of_variables all)) c.as_slice.ensures.value
+    c.in_err-variables.ensures.faults)))

@@ -10,6 +10,7 @@ abbrev pub invariant-loop-i : goal.invariant-loop-i
 invariant-loop-i l = record {
   len : vec_len l.variables ≡ l.i;
   few : l.i ≤ VARIABLES;
-  left : taken_faults [] (map (λ variable. variable.name) (map variable_of l.written)) ≡ taken_rest (λ variable. variable.name) variable_of [] l.i l.written;
+  left : taken_faults [] (map (λ variable. variable.name) (map variable_of l.written))
+      ≡ taken_rest (λ variable. variable.name) variable_of [] l.i l.written;
   read : starts l.variables.items ≡ written_starts (take l.i l.written);
 }

@@ -6,5 +6,12 @@ pub returns-in-None : goal.returns-in-None
 returns-in-None c =
     let bytes = c.args.bytes.now in
     let n = c.in-Some.piece.length in
-    let front = c.in-Some.ensures in
-    (take n bytes, drop n bytes, token_in c.in-Some.piece bytes, front.spelled, front.longest, sym (take-append-drop n bytes), c.in-None.ensures)
+    let front = c.in-Some.ensures in (
+      take n bytes,
+      drop n bytes,
+      token_in c.in-Some.piece bytes,
+      front.spelled,
+      front.longest,
+      sym (take-append-drop n bytes),
+      c.in-None.ensures,
+    )

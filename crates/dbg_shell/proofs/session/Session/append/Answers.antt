@@ -13,7 +13,8 @@ returns-in_err-append_choice-clause-kept c =
     let p : ℕ = c.args.pid.0 in
     let lt : p < length s.lines.items = simp length-map at c.requires.line in
     let to : List (List ℕ) → ModelState = λ lines. record { lines = lines; places = s.places.items } in
-    on_err c.from_residual.result (ap to (kept_at (λ (line : Vec ℕ Global). line.items) s.lines.items p c.index_mut.result.now (sym c.index_mut.ensures.value) lt c.append_choice.new.line c.in_err-append_choice.ensures.kept))
+    on_err c.from_residual.result (ap to (kept_at (λ (line : Vec ℕ Global). line.items) s.lines.items p c.index_mut.result.now
+    (sym c.index_mut.ensures.value) lt c.append_choice.new.line c.in_err-append_choice.ensures.kept))
 
 pub returns-clause-appended : goal.returns-clause-appended
 returns-clause-appended c =
@@ -24,6 +25,10 @@ returns-clause-appended c =
     let lt : p < length s.lines.items = simp length-map at c.requires.line in
     let read : place ≡ get_or s.places.items p 0 = get_or_read s.places.items p place c.requires.place c.index-place.ensures 0 in
     let line : List ℕ = line_of (state_of s) p in
-    let cut = changed_at (λ (line : Vec ℕ Global). line.items) s.lines.items p c.index_mut.result.now (sym c.index_mut.ensures.value) lt c.append_choice.new.line [] (λ (l : List ℕ). take place l ++ k ∷ []) c.in_ok-append_choice.ensures.appended in
+    let cut =
+    changed_at (λ (line : Vec ℕ Global). line.items) s.lines.items p c.index_mut.result.now
+    (sym c.index_mut.ensures.value) lt c.append_choice.new.line []
+    (λ (l : List ℕ). take place l ++ k ∷ []) c.in_ok-append_choice.ensures.appended in
     ap (λ (lines : List (List ℕ)). record { lines = lines; places = set s.places.items p (place + 1) }) cut
-    ∙ ap (λ (n : ℕ). record { lines = slice_set (state_of s).lines p (take n line ++ k ∷ []); places = slice_set s.places.items p (n + 1) }) read
+    ∙ ap (λ (n : ℕ). record { lines = slice_set (state_of s).lines p (take n line ++ k ∷ []); places = slice_set s.places.items p (n + 1) })
+    read

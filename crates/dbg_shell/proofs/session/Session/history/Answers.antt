@@ -14,10 +14,14 @@ loop-p-preserved c =
     let s = state_of c.args.self.now in
     let p : ℕ = c.loop-p.p in
     let item : slice_get c.args.self.now.lines.items p ≡ Some c.line-item.result =
-    ap (λ (xs : List (Vec ℕ Global)). slice_get xs p) (sym c.deref-line-items.ensures.value) ∙ slice_get_read _ _ p c.line-item.result refl c.loop-p-test.true c.line-item.is in
+    ap (λ (xs : List (Vec ℕ Global)). slice_get xs p) (sym c.deref-line-items.ensures.value)
+    ∙ slice_get_read _ _ p c.line-item.result refl c.loop-p-test.true c.line-item.is in
     let there : slice_get s.lines p ≡ Some c.line-item.result.items =
-    slice_get-map (λ (line : Vec ℕ Global). line.items) c.args.self.now.lines.items p ∙ ap (option_map (λ (line : Vec ℕ Global). line.items)) item in
+    slice_get-map (λ (line : Vec ℕ Global). line.items) c.args.self.now.lines.items p
+    ∙ ap (option_map (λ (line : Vec ℕ Global). line.items)) item in
     let place : c.unwrap_or-place.result ≡ get_or s.places p 0 = search (rules, unwrap_or-slice_get) in
     let cut : c.events.result.now ≡ take c.unwrap_or-place.result c.line-item.result.items = search rules in
-    ap (λ (history : List (Bor (List ℕ))). choices_in history ++ cut_lines (drop (p + 1) s.lines) (drop (p + 1) s.places)) c.in_ok-push.ensures.items
-    ∙ cut_next c.loop-p.history.items c.events.result s.lines s.places p c.unwrap_or-place.result c.line-item.result.items (cut_lines s.lines s.places) there place cut c.loop-p.invariant
+    ap (λ (history : List (Bor (List ℕ))). choices_in history ++ cut_lines (drop (p + 1) s.lines) (drop (p + 1) s.places))
+    c.in_ok-push.ensures.items
+    ∙ cut_next c.loop-p.history.items c.events.result s.lines s.places p c.unwrap_or-place.result c.line-item.result.items
+    (cut_lines s.lines s.places) there place cut c.loop-p.invariant

@@ -19,7 +19,9 @@ pub returns-in-Err-count : goal.returns-in-Err-count
 returns-in-Err-count c =
     let at_limit = c.in-Err-count.ensures.depth in
     subst (λ f. MeetsFault c.args.self.now.rest.now c.args.self.now.at c.args.self.now.depth f) (sym at_limit.0)
-    (meets_limit c.args.self.now.rest.now c.pass.new.self.rest.now c.space_length.result c.space_length.ensures c.pass.ensures.rest c.args.self.now.at c.pass.new.self.at c.args.self.now.depth c.in-Ok.length (token_of c.in-Ok.token) c.pass.ensures.at c.in-Ok.ensures.0 at_limit.1 (sym c.pass.ensures.depth ∙ at_limit.2))
+    (meets_limit c.args.self.now.rest.now c.pass.new.self.rest.now c.space_length.result c.space_length.ensures c.pass.ensures.rest
+    c.args.self.now.at c.pass.new.self.at c.args.self.now.depth c.in-Ok.length
+    (token_of c.in-Ok.token) c.pass.ensures.at c.in-Ok.ensures.0 at_limit.1 (sym c.pass.ensures.depth ∙ at_limit.2))
 
 pub returns-in-Ok-count : goal.returns-in-Ok-count
 returns-in-Ok-count c =
@@ -27,12 +29,18 @@ returns-in-Ok-count c =
     let behind : c.pass-in-Ok-count.new.self.depth ≡ open_behind c.args.self.now.depth (token_of c.in-Ok.token) =
     c.pass-in-Ok-count.ensures.depth ∙ counted.0 ∙ ap (λ d. open_behind d (token_of c.in-Ok.token)) c.pass.ensures.depth in
     let shallow : c.pass-in-Ok-count.new.self.depth ≤ OPEN_PARENTHESES = omega (arith, counted.1, c.pass-in-Ok-count.ensures.depth) in
-    let others : c.pass-in-Ok-count.new.self.rest.now ≡ drop c.in-Ok.length c.pass.new.self.rest.now = cc (c.pass-in-Ok-count.ensures.rest, c.in-Ok-count.ensures.rest) in
-    let end : c.pass-in-Ok-count.new.self.at ≡ c.pass.new.self.at + c.in-Ok.length = omega (arith, c.pass-in-Ok-count.ensures.at, c.in-Ok-count.ensures.at) in
-    takes_token c.args.self.now.rest.now c.pass.new.self.rest.now c.space_length.result c.space_length.ensures c.pass.ensures.rest c.args.self.now.at c.pass.new.self.at c.args.self.now.depth c.pass-in-Ok-count.new.self.at c.pass-in-Ok-count.new.self.depth c.in-Ok.length (token_of c.in-Ok.token) c.pass-in-Ok-count.new.self.rest.now c.pass.ensures.at c.in-Ok.ensures.0 c.in-Ok.ensures.1 behind shallow others end
+    let others : c.pass-in-Ok-count.new.self.rest.now ≡ drop c.in-Ok.length c.pass.new.self.rest.now =
+    cc (c.pass-in-Ok-count.ensures.rest, c.in-Ok-count.ensures.rest) in
+    let end : c.pass-in-Ok-count.new.self.at ≡ c.pass.new.self.at + c.in-Ok.length =
+    omega (arith, c.pass-in-Ok-count.ensures.at, c.in-Ok-count.ensures.at) in
+    takes_token c.args.self.now.rest.now c.pass.new.self.rest.now c.space_length.result c.space_length.ensures c.pass.ensures.rest
+    c.args.self.now.at c.pass.new.self.at c.args.self.now.depth c.pass-in-Ok-count.new.self.at c.pass-in-Ok-count.new.self.depth
+    c.in-Ok.length (token_of c.in-Ok.token) c.pass-in-Ok-count.new.self.rest.now c.pass.ensures.at c.in-Ok.ensures.0 c.in-Ok.ensures.1
+    behind shallow others end
 
 pub returns-in-Err : goal.returns-in-Err
 returns-in-Err c =
     let none = eqb-false (length c.pass.new.self.rest.now) 0 (sym c.if-is_empty.ensures) in
     let some : 0 < length c.pass.new.self.rest.now = omega arith in
-    meets_fault c.args.self.now.rest.now c.pass.new.self.rest.now c.space_length.result c.space_length.ensures c.pass.ensures.rest c.args.self.now.at c.pass.new.self.at c.args.self.now.depth c.in-Err.kind c.pass.ensures.at some c.in-Err.ensures
+    meets_fault c.args.self.now.rest.now c.pass.new.self.rest.now c.space_length.result c.space_length.ensures c.pass.ensures.rest
+    c.args.self.now.at c.pass.new.self.at c.args.self.now.depth c.in-Err.kind c.pass.ensures.at some c.in-Err.ensures

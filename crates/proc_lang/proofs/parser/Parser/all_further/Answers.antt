@@ -13,15 +13,25 @@ pub returns-in_err-assignment-clause-read : goal.returns-in_err-assignment-claus
 returns-in_err-assignment-clause-read c =
     let p = err_from_is_err_and c.from_residual.result c.from_residual.ensures.1 in
     rw (p.1, p.2)
-    (gives_fails assignment_of (Vec WrittenAssignment Global) (λ v. map assignment_of v.items) c.in_err-assignment.field-0.0 (map placed_of c.further.new.self.rest.now) (map placed_of c.further.new.self.rest.now) ((read_further true) (map placed_of c.loop-self.self.rest.now)) (read_many (begins_sign Comma) (read_further true) (map placed_of c.args.self.now.rest.now))
-    (reading_fails (begins_sign Comma) (read_further true) (further_takes true) refl assignment_of c.loop-self.assignments.items (map placed_of c.loop-self.self.rest.now) (map placed_of c.args.self.now.rest.now) c.loop-self.invariant.reading (sym c.loop-self-test.ensures)) c.in_err-assignment.ensures.read)
+    (gives_fails assignment_of (Vec WrittenAssignment Global) (λ v. map assignment_of v.items) c.in_err-assignment.field-0.0
+    (map placed_of c.further.new.self.rest.now) (map placed_of c.further.new.self.rest.now)
+    ((read_further true) (map placed_of c.loop-self.self.rest.now))
+    (read_many (begins_sign Comma) (read_further true) (map placed_of c.args.self.now.rest.now))
+    (reading_fails (begins_sign Comma) (read_further true) (further_takes true) refl assignment_of c.loop-self.assignments.items
+    (map placed_of c.loop-self.self.rest.now) (map placed_of c.args.self.now.rest.now) c.loop-self.invariant.reading
+    (sym c.loop-self-test.ensures)) c.in_err-assignment.ensures.read)
 
 pub loop-self-preserved : goal.loop-self-preserved
 loop-self-preserved c = record {
   shorter = omega (arith, c.in_ok-assignment.ensures.shorter, c.loop-self.invariant.shorter);
-  reading = reading_more (begins_sign Comma) (read_further true) (further_takes true) refl assignment_of c.loop-self.assignments.items c.push.new.self.items c.in_ok-assignment.assignment (map placed_of c.loop-self.self.rest.now) _ _ c.loop-self.invariant.reading (sym c.loop-self-test.ensures) c.in_ok-assignment.ensures.read c.in_ok-push.ensures.items;
+  reading =
+      reading_more (begins_sign Comma) (read_further true)
+      (further_takes true) refl assignment_of c.loop-self.assignments.items c.push.new.self.items c.in_ok-assignment.assignment
+      (map placed_of c.loop-self.self.rest.now) _ _ c.loop-self.invariant.reading
+      (sym c.loop-self-test.ensures) c.in_ok-assignment.ensures.read c.in_ok-push.ensures.items;
 }
 
 pub returns-clause-read : goal.returns-clause-read
 returns-clause-read c =
-    reading_ends (begins_sign Comma) (read_further true) (further_takes true) refl assignment_of c.loop-self.assignments.items (map placed_of c.loop-self.self.rest.now) _ c.loop-self.invariant.reading (sym c.loop-self-test.ensures)
+    reading_ends (begins_sign Comma) (read_further true) (further_takes true) refl assignment_of c.loop-self.assignments.items
+    (map placed_of c.loop-self.self.rest.now) _ c.loop-self.invariant.reading (sym c.loop-self-test.ensures)

@@ -9,7 +9,8 @@ use Rattle.proc_lang.proofs.parser.Parser.all_further.Given as goal
 abbrev pub invariant-loop-self : goal.invariant-loop-self
 invariant-loop-self l = record {
   shorter : length l.self.rest.now ≤ length l.fn.self.rest.now;
-  reading : with_front (map assignment_of l.assignments.items) (read_many (begins_sign Comma) (read_further true) (map placed_of l.self.rest.now))
+  reading : with_front (map assignment_of l.assignments.items)
+      (read_many (begins_sign Comma) (read_further true) (map placed_of l.self.rest.now))
       ≡ read_many (begins_sign Comma) (read_further true) (map placed_of l.fn.self.rest.now);
 }
 

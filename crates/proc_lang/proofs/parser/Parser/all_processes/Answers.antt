@@ -12,15 +12,25 @@ pub returns-in_err-process-clause-read : goal.returns-in_err-process-clause-read
 returns-in_err-process-clause-read c =
     let p = err_from_is_err_and c.from_residual.result c.from_residual.ensures.1 in
     rw (p.1, p.2)
-    (gives_fails process_of (Vec WrittenProcess Global) (λ v. map process_of v.items) c.in_err-process.field-0.0 (map placed_of c.process.new.self.rest.now) (map placed_of c.process.new.self.rest.now) ((read_process true) (map placed_of c.loop-self.self.rest.now)) (read_many is_left (read_process true) (map placed_of c.args.self.now.rest.now))
-    (reading_fails is_left (read_process true) (process_takes true) refl process_of c.loop-self.processes.items (map placed_of c.loop-self.self.rest.now) (map placed_of c.args.self.now.rest.now) c.loop-self.invariant.reading (sym c.loop-self-test.ensures)) c.in_err-process.ensures.read)
+    (gives_fails process_of (Vec WrittenProcess Global) (λ v. map process_of v.items) c.in_err-process.field-0.0
+    (map placed_of c.process.new.self.rest.now) (map placed_of c.process.new.self.rest.now)
+    ((read_process true) (map placed_of c.loop-self.self.rest.now))
+    (read_many is_left (read_process true) (map placed_of c.args.self.now.rest.now))
+    (reading_fails is_left (read_process true) (process_takes true) refl process_of c.loop-self.processes.items
+    (map placed_of c.loop-self.self.rest.now) (map placed_of c.args.self.now.rest.now) c.loop-self.invariant.reading
+    (sym c.loop-self-test.ensures)) c.in_err-process.ensures.read)
 
 pub loop-self-preserved : goal.loop-self-preserved
 loop-self-preserved c = record {
   shorter = omega (arith, c.in_ok-process.ensures.shorter, c.loop-self.invariant.shorter);
-  reading = reading_more is_left (read_process true) (process_takes true) refl process_of c.loop-self.processes.items c.push.new.self.items c.in_ok-process.process (map placed_of c.loop-self.self.rest.now) _ _ c.loop-self.invariant.reading (sym c.loop-self-test.ensures) c.in_ok-process.ensures.read c.in_ok-push.ensures.items;
+  reading =
+      reading_more is_left (read_process true)
+      (process_takes true) refl process_of c.loop-self.processes.items c.push.new.self.items c.in_ok-process.process
+      (map placed_of c.loop-self.self.rest.now) _ _ c.loop-self.invariant.reading
+      (sym c.loop-self-test.ensures) c.in_ok-process.ensures.read c.in_ok-push.ensures.items;
 }
 
 pub returns-clause-read : goal.returns-clause-read
 returns-clause-read c =
-    reading_ends is_left (read_process true) (process_takes true) refl process_of c.loop-self.processes.items (map placed_of c.loop-self.self.rest.now) _ c.loop-self.invariant.reading (sym c.loop-self-test.ensures)
+    reading_ends is_left (read_process true) (process_takes true) refl process_of c.loop-self.processes.items
+    (map placed_of c.loop-self.self.rest.now) _ c.loop-self.invariant.reading (sym c.loop-self-test.ensures)

@@ -8,7 +8,8 @@ use Rattle.proc_lang.proofs.parser.Parser.commands.Given as goal
 abbrev pub invariant-loop-self : goal.invariant-loop-self
 invariant-loop-self l = record {
   shorter : length l.self.rest.now ≤ length l.fn.self.rest.now;
-  reading : with_front (map command_of l.commands.items) (read_many (begins_word (codes "when")) (read_command true) (map placed_of l.self.rest.now))
+  reading : with_front (map command_of l.commands.items)
+      (read_many (begins_word (codes "when")) (read_command true) (map placed_of l.self.rest.now))
       ≡ read_many (begins_word (codes "when")) (read_command true) (map placed_of l.fn.self.rest.now);
 }
 
