@@ -16,7 +16,7 @@ fn told(parsed: Result<Option<Line>, Refusal>) -> Result<Option<(u32, bool, u32)
     }
 }
 
-const LINES: [(&str, Result<Option<(u32, bool, u32)>, Refusal>); 30] = [
+const LINES: [(&str, Result<Option<(u32, bool, u32)>, Refusal>); 32] = [
     ("1 next a", Ok(Some((1, true, 0)))),
     ("1 next b", Ok(Some((1, true, 1)))),
     ("16 vars b", Ok(Some((16, false, 1)))),
@@ -46,6 +46,8 @@ const LINES: [(&str, Result<Option<(u32, bool, u32)>, Refusal>); 30] = [
     ("1 jump a", Err(Refusal::BadLine)),
     ("1 step a 0", Err(Refusal::BadLine)),
     ("17 next d", Err(Refusal::BadLine)),
+    ("1 jump d", Err(Refusal::BadLine)),
+    ("1 next d a", Err(Refusal::BadLine)),
     ("1 next d", Err(Refusal::UnknownProcess)),
 ];
 
