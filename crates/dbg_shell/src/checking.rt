@@ -49,7 +49,7 @@ pub fn check<R: Read, W: Write>(
     reader: &mut R,
     writer: &mut W,
 ) -> Result<Served, ServeFault>
-    // Where the reader tells its bytes, and nothing fails.
+    // Where the reader tells its bytes, and the check ends well.
     ensures checked { IfOk result (λ served. IfSome (R.remaining reader.old)
         (λ input. WritesSome (W.contents writer.old) (W.contents writer.new) (ChecksInput input served))) }
     // Where the writer fails, what is written is a front of that.

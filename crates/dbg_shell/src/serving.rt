@@ -89,8 +89,8 @@ pub fn serve<R: Read, W: Write>(
     reader: &mut R,
     writer: &mut W,
 ) -> Result<Served, ServeFault>
-    // Where the reader tells its bytes, and these have no end line or a small program in front of it, and nothing fails: the run ends
-    // as the input is, and what is written is the text of the input.
+    // Where the reader tells its bytes, and these have no end line or a small program in front of it, and the run ends well: it ends as
+    // the input is, and what is written is the text of the input.
     ensures served { IfOk result (λ served. IfSome (R.remaining reader.old)
         (λ input. IsServed input → ServesInput input served (W.contents writer.old) (W.contents writer.new))) }
     // Where the program text is no small program, it is refused, and what is written is one line that tells why.
