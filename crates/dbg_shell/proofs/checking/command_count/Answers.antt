@@ -1,5 +1,6 @@
 use Rattle.std.proofs.Common.{◌≡◌, ℕ, ◌+◌, ◌*◌, ◌<◌, ◌≤◌, length, take, arith, ap, sym, ◌∙◌}
 use Rattle.std.proofs.lemmas.List.{take_all}
+use Rattle.dbg_base.specs.declared.limits.TheConstants.{COMMANDS}
 use Rattle.dbg_base.specs.Trees.{Program}
 use Rattle.proc_lang.specs.Programs.{program_of}
 use Rattle.dbg_shell.specs.Checking.{command_count}
@@ -11,8 +12,8 @@ loop-p-preserved c =
     let P : Program = program_of c.args.program.now in
     let all : c.processes-p-end.result ≡ length P = c.processes-p-end.ensures.value in
     let test : c.loop-p.p < c.processes-p-end.result = c.loop-p-test.true in
-    let few : c.loop-p.count ≤ 64 * c.loop-p.p = c.loop-p.invariant.few in
-    let more : c.commands-count.result ≤ 64 = c.commands-count.ensures.few in
+    let few : c.loop-p.count ≤ COMMANDS * c.loop-p.p = c.loop-p.invariant.few in
+    let more : c.commands-count.result ≤ COMMANDS = c.commands-count.ensures.few in
     record {
       few = omega arith;
       counted = ap (λ (n : ℕ). n + c.commands-count.result) c.loop-p.invariant.counted
