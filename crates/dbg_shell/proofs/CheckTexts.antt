@@ -92,6 +92,25 @@ abbrev pub CutKnown : Option (List ℕ) → Result Served ServeFault → Option 
 CutKnown known r old out = IfErr r
     (λ fault. fault ≡ Write → IfSome known (λ input. (served : Served) × WritesFront old out (ChecksInput input served)))
 
+-- What holds of the check of a text holds of the input's, where the one leads to the other whatever the input may be.
+module _ (bytes text : List ℕ) (ended : Bool)
+    (leads : (input : List ℕ) → MayBe bytes ended input → (served : Served) (out : List ℕ) → ChecksText text served out
+    → ChecksInput input served out) where
+  checks_by : (known : Option (List ℕ)) (r : Result Served ServeFault) (old out : Option (List ℕ)) → IfSome known (MayBe bytes ended)
+      → IfOk r (λ served. WritesSome old out (ChecksText text served)) → ChecksKnown known r old out
+  checks_by known (Err fault) old out may wrote = tt
+  checks_by None (Ok served) old out may wrote = tt
+  checks_by (Some input) (Ok served) old out may wrote = (wrote.0, leads input may served wrote.0 wrote.1, wrote.2)
+
+  cut_by : (known : Option (List ℕ)) (r : Result Served ServeFault) (old out : Option (List ℕ)) → IfSome known (MayBe bytes ended)
+      → StopsText text r old out → CutKnown known r old out
+  cut_by known (Ok served) old out may wrote = tt
+  cut_by None (Err fault) old out may wrote = λ is_write. tt
+  cut_by (Some input) (Err fault) old out may wrote =
+      λ is_write.
+      let told = wrote is_write in
+      (told.0, (told.1.0, leads input may told.0 told.1.0 told.1.1, told.1.2))
+
 module _ (bytes : List ℕ) (ended : Bool) (begin new : ℕ) (end : TextEnd) (begun : begin ≡ 0) (splits : SplitsAny bytes ended begin new end)
   where
     here : (to : TextEnd) → end ≡ to → (input : List ℕ) → MayBe bytes ended input → Splits input bytes 0 new to
@@ -110,19 +129,12 @@ module _ (bytes : List ℕ) (ended : Bool) (begin new : ℕ) (end : TextEnd) (be
       pub checks_before : (known : Option (List ℕ)) (r : Result Served ServeFault) (old out : Option (List ℕ))
           → IfSome known (MayBe bytes ended)
           → IfOk r (λ served. WritesSome old out (ChecksText text served)) → ChecksKnown known r old out
-      checks_before known (Err fault) old out may wrote = tt
-      checks_before None (Ok served) old out may wrote = tt
-      checks_before (Some input) (Ok served) old out may wrote = (wrote.0, text_before input may served wrote.0 wrote.1, wrote.2)
+      checks_before = checks_by bytes text ended text_before
 
       pub cut_before : (known : Option (List ℕ)) (r : Result Served ServeFault) (old out : Option (List ℕ))
           → IfSome known (MayBe bytes ended)
           → StopsText text r old out → CutKnown known r old out
-      cut_before known (Ok served) old out may wrote = tt
-      cut_before None (Err fault) old out may wrote = λ is_write. tt
-      cut_before (Some input) (Err fault) old out may wrote =
-          λ is_write.
-          let told = wrote is_write in
-          (told.0, (told.1.0, text_before input may told.0 told.1.0 told.1.1, told.1.2))
+      cut_before = cut_by bytes text ended text_before
 
     -- the input ended the text
     module _ (text : List ℕ) (is : end ≡ ends.End) (stopped : ended ≡ true) (seen : text ≡ bytes) where
@@ -139,19 +151,12 @@ module _ (bytes : List ℕ) (ended : Bool) (begin new : ℕ) (end : TextEnd) (be
       pub checks_all : (known : Option (List ℕ)) (r : Result Served ServeFault) (old out : Option (List ℕ))
           → IfSome known (MayBe bytes ended)
           → IfOk r (λ served. WritesSome old out (ChecksText text served)) → ChecksKnown known r old out
-      checks_all known (Err fault) old out may wrote = tt
-      checks_all None (Ok served) old out may wrote = tt
-      checks_all (Some input) (Ok served) old out may wrote = (wrote.0, text_whole input may served wrote.0 wrote.1, wrote.2)
+      checks_all = checks_by bytes text ended text_whole
 
       pub cut_all : (known : Option (List ℕ)) (r : Result Served ServeFault) (old out : Option (List ℕ))
           → IfSome known (MayBe bytes ended)
           → StopsText text r old out → CutKnown known r old out
-      cut_all known (Ok served) old out may wrote = tt
-      cut_all None (Err fault) old out may wrote = λ is_write. tt
-      cut_all (Some input) (Err fault) old out may wrote =
-          λ is_write.
-          let told = wrote is_write in
-          (told.0, (told.1.0, text_whole input may told.0 told.1.0 told.1.1, told.1.2))
+      cut_all = cut_by bytes text ended text_whole
 
     -- the text does not end
     module _ (is : end ≡ ends.TooLong) where
