@@ -23,7 +23,7 @@ pub data Call : Type 0 where
   Give : (plan : Plan) → Call
   Ask : (query : Query) → Call
 
--- one part of a breakpoint's predicate: a truth expression over the variables of one process
+-- one part of a breakpoint's predicate: a truth expression of one process
 pub record Conjunct : Type 0 where
   pub process : ℕ
   pub expression : Tree

@@ -1,24 +1,26 @@
--- Where a system of processes stands: the values of each process's variables, and the messages on their way.
+-- Where a system of processes stands: the local state of each process, and the messages on their way.
 use Rattle.std.specs.Prelude.{ℕ, ℤ, List, [], length, map, replicate, slice_index_or, slice_set}
-use Rattle.dbg_base.specs.Trees.{Program, Process}
+use Rattle.dbg_base.specs.Trees.{Program}
+use Rattle.dbg_base.specs.LocalStates.{LocalState, no_state, start_among}
 
--- a list of values for each process, and for each ordered pair of processes the messages from the first to the second, the
--- front first
+-- A local state for each process, in which the messages sent to and received from each other one are counted; and for each ordered
+-- pair of processes the messages from the first to the second, the front first.
 pub record Configuration : Type 0 where
-  pub values : List (List ℤ)
+  pub states : List LocalState
   pub channels : List (List (List ℤ))
-
--- the initial values of a process
-abbrev pub start_values : Process → List ℤ
-start_values process = map (λ variable. variable.1) process.variables
 
 -- the initial values, and no message
 abbrev pub start_of : Program → Configuration
-start_of P = record { values = map start_values P; channels = replicate (length P) (replicate (length P) []) }
+start_of P =
+    record { states = map (start_among (length P)) P; channels = replicate (length P) (replicate (length P) []) }
+
+-- the local state of process p
+abbrev pub state_in : Configuration → ℕ → LocalState
+state_in c p = slice_index_or c.states p no_state
 
 -- the values of process p
 abbrev pub values_of : Configuration → ℕ → List ℤ
-values_of c p = slice_index_or c.values p []
+values_of c p = (state_in c p).values
 
 -- the messages from process i to process j
 abbrev pub channel_of : Configuration → ℕ → ℕ → List ℤ
@@ -29,6 +31,6 @@ abbrev pub with_channel : Configuration → ℕ → ℕ → List ℤ → Configu
 with_channel c i j messages =
     record c { channels = slice_set c.channels i (slice_set (slice_index_or c.channels i []) j messages) }
 
--- with other values of process p
-abbrev pub with_values : Configuration → ℕ → List ℤ → Configuration
-with_values c p values = record c { values = slice_set c.values p values }
+-- with another local state of process p
+abbrev pub with_state : Configuration → ℕ → LocalState → Configuration
+with_state c p state = record c { states = slice_set c.states p state }

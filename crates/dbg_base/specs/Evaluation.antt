@@ -1,12 +1,13 @@
 -- The value of an expression, or none where its evaluation faults.
-use Rattle.std.specs.Prelude.{ℤ, pos, negsuc, ◌+ℤ◌, ◌-ℤ◌, ◌*ℤ◌, int_lt, int_le, int_div, int_rem, Bool, true, false, not, ◌&&◌, List}
+use Rattle.std.specs.Prelude.{ℕ, ℤ, pos, negsuc, ◌+ℤ◌, ◌-ℤ◌, ◌*ℤ◌, int_lt, int_le, int_div, int_rem, Bool, true, false, not, ◌&&◌, List}
 use Rattle.std.specs.Prelude.{Option, Some, None, slice_get, if◌then◌else◌}
 use Rattle.std.specs.Option.{option_map}
 use Rattle.std.specs.Ordering.{int_eq}
 use Rattle.dbg_base.specs.declared.expr.Operator.{Operator}
 use Rattle.dbg_base.specs.declared.expr.Operator.TheVariants.{Add, Subtract, Multiply, Divide, Remainder, Equal, NotEqual, Less}
 use Rattle.dbg_base.specs.declared.expr.Operator.TheVariants.{LessOrEqual, Greater, GreaterOrEqual, And, Or}
-use Rattle.dbg_base.specs.Trees.{Tree, Number, Variable, Truth, Not, Negate, Binary}
+use Rattle.dbg_base.specs.Trees.{Tree, Number, Variable, Truth, Count, Not, Negate, Binary}
+use Rattle.dbg_base.specs.LocalStates.{LocalState, counts_of}
 
 -- a value: a number or a truth value
 pub data Value : Type 0 where
@@ -60,14 +61,15 @@ combined And left right = with_truth left (λ b. if b then right else Some (Tru 
 combined Or left right = with_truth left (λ b. if b then Some (Tru true) else right)
 combined operator left right = with_number left (λ x. with_number right (λ y. on_numbers operator x y))
 
--- the value of an expression where the process's variables have these values
-abbrev pub evaluate : Tree → List ℤ → Option Value
-evaluate (Number value) values = Some (Num value)
-evaluate (Variable index) values = option_map Num (slice_get values index)
-evaluate (Truth value) values = Some (Tru value)
-evaluate (Not operand) values = with_truth (evaluate operand values) (λ b. Some (Tru (not b)))
-evaluate (Negate operand) values = with_number (evaluate operand values) (λ z. ranged (pos 0 -ℤ z))
-evaluate (Binary operator left right) values = combined operator (evaluate left values) (evaluate right values)
+-- the value of an expression where its process is in this state
+abbrev pub evaluate : Tree → LocalState → Option Value
+evaluate (Number value) state = Some (Num value)
+evaluate (Variable index) state = option_map Num (slice_get state.values index)
+evaluate (Truth value) state = Some (Tru value)
+evaluate (Count direction other) state = option_map (λ n. Num (pos n)) (slice_get (counts_of direction state) other)
+evaluate (Not operand) state = with_truth (evaluate operand state) (λ b. Some (Tru (not b)))
+evaluate (Negate operand) state = with_number (evaluate operand state) (λ z. ranged (pos 0 -ℤ z))
+evaluate (Binary operator left right) state = combined operator (evaluate left state) (evaluate right state)
 
 -- a number that the expression evaluates to, if it evaluates to one
 abbrev pub number_of : Option Value → Option ℤ

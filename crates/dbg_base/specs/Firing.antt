@@ -4,7 +4,8 @@ use Rattle.dbg_base.specs.Trees.{Tree, Action, Local, Sends, Receives, Command, 
 use Rattle.dbg_base.specs.Evaluation.{Value, Num, Tru, evaluate, number_of}
 use Rattle.dbg_base.specs.declared.refusal.Refusal.{Refusal}
 use Rattle.dbg_base.specs.declared.refusal.Refusal.TheVariants.{GuardFalse, Fault, ChannelEmpty}
-use Rattle.dbg_base.specs.Configurations.{Configuration, values_of, channel_of, with_channel, with_values}
+use Rattle.dbg_base.specs.LocalStates.{LocalState, one_more}
+use Rattle.dbg_base.specs.Configurations.{Configuration, state_in, channel_of, with_channel, with_state}
 
 -- the guard's truth, or none where its evaluation faults
 abbrev pub truth_of : Option Value → Option Bool
@@ -35,10 +36,10 @@ and_set variable None sets = None
 and_set variable (Some z) None = None
 and_set variable (Some z) (Some sets) = Some ((variable, z) ∷ sets)
 
--- the assigned variables with their new values, all read in the same values
-abbrev pub assigned : List (ℕ × Tree) → List ℤ → Option (List (ℕ × ℤ))
-assigned [] values = Some []
-assigned (a ∷ assignments) values = and_set a.0 (number_of (evaluate a.1 values)) (assigned assignments values)
+-- the assigned variables with their new values, all read in the same state
+abbrev pub assigned : List (ℕ × Tree) → LocalState → Option (List (ℕ × ℤ))
+assigned [] state = Some []
+assigned (a ∷ assignments) state = and_set a.0 (number_of (evaluate a.1 state)) (assigned assignments state)
 
 -- what is sent behind what is set
 abbrev pub effect_with : List (ℕ × ℤ) → Option ℤ → Option (List (ℕ × ℤ)) → Option Effect
@@ -50,28 +51,42 @@ abbrev pub sending : Option ℤ → (ℤ → Option Effect) → Option Effect
 sending None go = None
 sending (Some z) go = go z
 
--- the same, by what the command does beside its assignments
-abbrev pub effect_by : Action → List (ℕ × Tree) → List ℤ → Option ℤ → Option Effect
-effect_by (Sends target value) assignments values message =
-    sending (number_of (evaluate value values)) (λ z. effect_with [] (Some z) (assigned assignments values))
-effect_by action assignments values message =
-    effect_with (taken action message) None (assigned assignments (set_all values (taken action message)))
+-- the state with these variables set
+abbrev pub with_set : LocalState → List (ℕ × ℤ) → LocalState
+with_set state sets = record state { values = set_all state.values sets }
 
--- What a command does where its process has these values and, if it receives, takes this message. The value to send is read in
--- the old values, an assignment in the old values with the message already taken; none where an evaluation faults.
-abbrev pub effect_of : Command → List ℤ → Option ℤ → Option Effect
-effect_of command values message = effect_by command.action command.assignments values message
+-- the same, by what the command does beside its assignments
+abbrev pub effect_by : Action → List (ℕ × Tree) → LocalState → Option ℤ → Option Effect
+effect_by (Sends target value) assignments state message =
+    sending (number_of (evaluate value state)) (λ z. effect_with [] (Some z) (assigned assignments state))
+effect_by action assignments state message =
+    effect_with (taken action message) None (assigned assignments (with_set state (taken action message)))
+
+-- What a command does where its process is in this state and, if it receives, takes this message. The value to send is read in the
+-- old state, an assignment in the old state with the message already in its variable; a message is counted only behind the event.
+-- None where an evaluation faults.
+abbrev pub effect_of : Command → LocalState → Option ℤ → Option Effect
+effect_of command state message = effect_by command.action command.assignments state message
+
+-- the message that the command sends or receives is counted
+abbrev pub counted : Action → LocalState → LocalState
+counted Local state = state
+counted (Sends target value) state = record state { sent = one_more state.sent target }
+counted (Receives source variable) state = record state { got = one_more state.got source }
 
 -- the value goes to the back of the channel from process p to the target
 abbrev pub deliver : Configuration → ℕ → ℕ → Option ℤ → Configuration
 deliver c p target None = c
 deliver c p target (Some z) = with_channel c p target (channel_of c p target ++ z ∷ [])
 
+-- process p has set these variables, and its message is counted
+abbrev pub advanced : Configuration → ℕ → Action → List (ℕ × ℤ) → Configuration
+advanced c p action sets = with_state c p (counted action (with_set (state_in c p) sets))
+
 -- the configuration after process p did this: the sent value goes to the back of its channel
 abbrev pub after_effect : Configuration → ℕ → Action → Effect → Configuration
-after_effect c p (Sends target value) effect =
-    deliver (with_values c p (set_all (values_of c p) effect.sets)) p target effect.message
-after_effect c p action effect = with_values c p (set_all (values_of c p) effect.sets)
+after_effect c p (Sends target value) effect = deliver (advanced c p (Sends target value) effect.sets) p target effect.message
+after_effect c p action effect = advanced c p action effect.sets
 
 -- the effect is made, unless an evaluation faulted
 abbrev pub complete : Configuration → ℕ → Action → Option Effect → Result Configuration Refusal
@@ -82,11 +97,11 @@ complete c p action (Some effect) = Ok (after_effect c p action effect)
 abbrev pub receive : Command → Configuration → ℕ → ℕ → List ℤ → Result Configuration Refusal
 receive command c p source [] = Err ChannelEmpty
 receive command c p source (message ∷ messages) =
-    complete (with_channel c source p messages) p command.action (effect_of command (values_of c p) (Some message))
+    complete (with_channel c source p messages) p command.action (effect_of command (state_in c p) (Some message))
 
 abbrev pub proceed : Command → Action → Configuration → ℕ → Result Configuration Refusal
 proceed command (Receives source variable) c p = receive command c p source (channel_of c source p)
-proceed command action c p = complete c p action (effect_of command (values_of c p) None)
+proceed command action c p = complete c p action (effect_of command (state_in c p) None)
 
 -- goes on where the guard is true
 abbrev pub where_true : Option Bool → Result Configuration Refusal → Result Configuration Refusal
@@ -95,10 +110,11 @@ where_true (Some false) next = Err GuardFalse
 where_true (Some true) next = next
 
 -- Process p makes this command: its guard is evaluated first; then a receive needs a message; then the value to send and the
--- assigned values are evaluated; then all variables are set at once and the sent value goes on its way.
+-- assigned values are evaluated, all with the counts as they were before; then all variables are set at once, the message is
+-- counted, and the sent value goes on its way.
 abbrev pub fire_command : Command → Configuration → ℕ → Result Configuration Refusal
 fire_command command c p =
-    where_true (truth_of (evaluate command.guard (values_of c p))) (proceed command command.action c p)
+    where_true (truth_of (evaluate command.guard (state_in c p))) (proceed command command.action c p)
 
 -- the command, if there is one
 abbrev pub fire_if : Option Command → Configuration → ℕ → Result Configuration Refusal

@@ -5,6 +5,8 @@ use Rattle.std.specs.Str.{bytes_eq}
 use Rattle.dbg_base.specs.declared.expr.Operator.{Operator}
 use Rattle.dbg_base.specs.declared.expr.Operator.TheVariants.{Add, Subtract, Multiply, Divide, Remainder, Equal, NotEqual, Less}
 use Rattle.dbg_base.specs.declared.expr.Operator.TheVariants.{LessOrEqual, Greater, GreaterOrEqual, And, Or}
+use Rattle.dbg_base.specs.declared.expr.Direction.{Direction}
+use Rattle.dbg_base.specs.declared.expr.Direction.TheVariants.{Sent, Got}
 use Rattle.dbg_base.specs.declared.sign.Sign.{Sign}
 use Rattle.dbg_base.specs.declared.sign.Sign.TheVariants.{OpenBrace, CloseBrace, OpenParenthesis, CloseParenthesis, Semicolon, Colon}
 use Rattle.dbg_base.specs.declared.sign.Sign.TheVariants.{Becomes, Comma, Equals, NotEquals, LessThan, AtMost, GreaterThan, AtLeast, Plus}
@@ -24,6 +26,7 @@ pub data Phrase : Type 0 where
   Number : (at value : ℕ) → Phrase
   Name : (at : ℕ) (name : List ℕ) → Phrase
   Truth : (at : ℕ) (value : Bool) → Phrase
+  Count : (at : ℕ) (direction : Direction) (other : Named) → Phrase
   Not : (at : ℕ) (operand : Phrase) → Phrase
   Negate : (at : ℕ) (operand : Phrase) → Phrase
   Binary : (at : ℕ) (operator : Operator) (left right : Phrase) → Phrase
@@ -92,15 +95,24 @@ abbrev pub truth_word : Bool → List ℕ
 truth_word true = codes "true"
 truth_word false = codes "false"
 
+-- how a count is written
+abbrev pub direction_word : Direction → List ℕ
+direction_word Sent = codes "sent"
+direction_word Got = codes "got"
+
 -- name
 abbrev pub DerivesName : List Placed → Named → Type 0
 DerivesName tokens named = (tokens ≡ word_at named.at named.name ∷ []) × IsName named.name
 
--- expr: a number, a name, `true`, `false`, `( not e )`, `( - e )` or `( e op e )`
+-- expr: a number, a name, `true`, `false`, `sent ( name )`, `got ( name )`, `( not e )`, `( - e )` or `( e op e )`
 abbrev pub DerivesExpression : List Placed → Phrase → Type 0
 DerivesExpression tokens (Number at value) = tokens ≡ number_at at value ∷ []
 DerivesExpression tokens (Name at name) = (tokens ≡ word_at at name ∷ []) × IsName name
 DerivesExpression tokens (Truth at value) = tokens ≡ word_at at (truth_word value) ∷ []
+DerivesExpression tokens (Count at direction other) =
+    (open_at close_at : ℕ) × IsName other.name
+    × (tokens ≡ word_at at (direction_word direction) ∷ sign_at open_at OpenParenthesis ∷ word_at other.at other.name
+    ∷ sign_at close_at CloseParenthesis ∷ [])
 DerivesExpression tokens (Not at operand) =
     (inner : List Placed) × (not_at close_at : ℕ) × DerivesExpression inner operand
     × (tokens ≡ sign_at at OpenParenthesis ∷ word_at not_at (codes "not") ∷ inner ++ sign_at close_at CloseParenthesis ∷ [])

@@ -1,9 +1,10 @@
 -- A history, and what its play leads to.
-use Rattle.std.specs.Prelude.{◌≡◌, ℕ, zero, suc, ◌+◌, ℤ, List, [], ◌∷◌, ◌++◌, length, map, Option, Some, None, Result, Ok, Err}
+use Rattle.std.specs.Prelude.{◌≡◌, ℕ, zero, suc, ◌+◌, List, [], ◌∷◌, ◌++◌, length, map, Option, Some, None, Result, Ok, Err}
 use Rattle.std.specs.Prelude.{slice_index_or, slice_set}
 use Rattle.std.specs.List.{AllByRecursion}
 use Rattle.dbg_base.specs.Trees.{Program}
-use Rattle.dbg_base.specs.Configurations.{Configuration, start_of, values_of}
+use Rattle.dbg_base.specs.LocalStates.{LocalState, no_state}
+use Rattle.dbg_base.specs.Configurations.{Configuration, start_of, state_in}
 use Rattle.dbg_base.specs.declared.refusal.Refusal.{Refusal}
 use Rattle.dbg_base.specs.Firing.{fire}
 
@@ -16,14 +17,14 @@ History = List (List ℕ)
 pub record Progress : Type 0 where
   pub configuration : Configuration
   pub unplayed : History
-  pub states : List (List (List ℤ))
+  pub states : List (List LocalState)
 
 -- nothing is played yet
 abbrev pub opening_of : Program → History → Progress
 opening_of P H = record {
   configuration = start_of P;
   unplayed = H;
-  states = map (λ values. values ∷ []) (start_of P).values;
+  states = map (λ state. state ∷ []) (start_of P).states;
 }
 
 -- process p has made its next choice, and the system stands at c
@@ -31,7 +32,7 @@ abbrev pub moved : Progress → ℕ → List ℕ → Configuration → Progress
 moved at p rest c = record {
   configuration = c;
   unplayed = slice_set at.unplayed p rest;
-  states = slice_set at.states p (slice_index_or at.states p [] ++ values_of c p ∷ []);
+  states = slice_set at.states p (slice_index_or at.states p [] ++ state_in c p ∷ []);
 }
 
 -- the move of process p, or else what the other processes can do
@@ -76,6 +77,6 @@ play P H = (progress_of P H).configuration
 abbrev pub IsPossible : Program → History → Type 0
 IsPossible P H = AllByRecursion (λ choices. choices ≡ []) (progress_of P H).unplayed
 
--- the values of process p after its n-th choice in the play, or at its start where n is 0
-abbrev pub local_state : Program → History → ℕ → ℕ → List ℤ
-local_state P H p n = slice_index_or (slice_index_or (progress_of P H).states p []) n []
+-- the local state of process p after its n-th choice in the play, or its start where n is 0
+abbrev pub local_state : Program → History → ℕ → ℕ → LocalState
+local_state P H p n = slice_index_or (slice_index_or (progress_of P H).states p []) n no_state

@@ -4,6 +4,7 @@ pub mod Faults
 pub mod Sorts
 pub mod Trees
 pub mod WellFormed
+pub mod LocalStates
 pub mod Evaluation
 pub mod Configurations
 pub mod Firing

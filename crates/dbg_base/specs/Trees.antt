@@ -1,14 +1,17 @@
 -- A program as a tree: what its text says, with processes, variables and commands named by their places from 0.
 use Rattle.std.specs.Prelude.{ℕ, ℤ, Bool, List, [], map, Option, slice_get, slice_index_or}
 use Rattle.dbg_base.specs.declared.expr.Operator.{Operator}
+use Rattle.dbg_base.specs.declared.expr.Direction.{Direction}
+use Rattle.dbg_base.specs.declared.expr.Direction.TheVariants as direction
 use Rattle.dbg_base.specs.declared.expr.Expr.{Expr}
 use Rattle.dbg_base.specs.declared.expr.Expr.TheVariants as expr
 
--- an expression over the variables of one process
+-- an expression of one process, over its variables and its counts of messages
 pub data Tree : Type 0 where
   Number : (value : ℤ) → Tree
   Variable : (index : ℕ) → Tree
   Truth : (value : Bool) → Tree
+  Count : (direction : Direction) (other : ℕ) → Tree
   Not : (operand : Tree) → Tree
   Negate : (operand : Tree) → Tree
   Binary : (operator : Operator) (left right : Tree) → Tree
@@ -18,6 +21,8 @@ abbrev pub tree_of : Expr → Tree
 tree_of (expr.Number value) = Number value
 tree_of (expr.Variable index) = Variable index
 tree_of (expr.Truth value) = Truth value
+tree_of (expr.Sent pid) = Count direction.Sent pid.0
+tree_of (expr.Got pid) = Count direction.Got pid.0
 tree_of (expr.Not' place operand) = Not (tree_of operand)
 tree_of (expr.Negate' place operand) = Negate (tree_of operand)
 tree_of (expr.Binary' operator left_place left right_place right) = Binary operator (tree_of left) (tree_of right)

@@ -1,5 +1,7 @@
 //! Expressions of the process language.
 
+use crate::ids::Pid;
+
 /// What an expression gives, by its outermost form alone.
 #[derive(Clone, Copy, Debug, PartialEq, Eq)]
 pub enum Sort {
@@ -25,12 +27,23 @@ pub enum Operator {
     Or,
 }
 
-/// An expression over the variables of one process, which are named by their places, from 0.
+/// Which messages a process counts: those that it has sent to another one, or those that it has received from it.
+#[derive(Clone, Copy, Debug, PartialEq, Eq)]
+pub enum Direction {
+    Sent,
+    Got,
+}
+
+/// An expression of one process: over its variables, which are named by their places, from 0, and its counts of messages.
 #[derive(Debug, Drop)]
 pub enum Expr {
     Number(i64),
     Variable(u32),
     Truth(bool),
+    /// How many messages the process has sent to this one.
+    Sent(Pid),
+    /// How many messages the process has received from this one.
+    Got(Pid),
     Not(Box<Expr>),
     Negate(Box<Expr>),
     Binary(Operator, Box<Expr>, Box<Expr>),

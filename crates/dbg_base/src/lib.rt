@@ -16,7 +16,7 @@ mod sequence;
 mod sign;
 
 pub use call::{Call, Conjunct, Plan, Query};
-pub use expr::{Expr, Operator, Sort};
+pub use expr::{Direction, Expr, Operator, Sort};
 pub use fault::{FaultKind, ProgFault};
 pub use ids::{Choice, Cut, Pid};
 pub use name::Name;

@@ -1,7 +1,7 @@
 //! The limits of a program, of a session and of its input.
 
 /// The most processes of a program.
-pub const PROCESSES: usize = 16;
+pub const PROCESSES: usize = 32;
 /// The most variables of a process.
 pub const VARIABLES: usize = 32;
 /// The most commands of a process.
@@ -11,7 +11,7 @@ pub const OPEN_PARENTHESES: u32 = 32;
 /// The most bytes of a name.
 pub const NAME_BYTES: usize = 32;
 /// The most events of a process.
-pub const EVENTS: u32 = 10_000;
+pub const EVENTS: u32 = 20_000;
 /// The most breakpoints that are set at once.
 pub const BREAKPOINTS: usize = 64;
 /// The most seats of a session.

@@ -3,7 +3,7 @@ use Rattle.std.specs.Prelude.{List, map}
 use Rattle.dbg_base.specs.Grammar as model
 use Rattle.proc_lang.specs.declared.syntax.Named.{Named}
 use Rattle.proc_lang.specs.declared.syntax.Phrase.{Phrase}
-use Rattle.proc_lang.specs.declared.syntax.Phrase.TheVariants.{Number, Name, Truth, Binary'}
+use Rattle.proc_lang.specs.declared.syntax.Phrase.TheVariants.{Number, Name, Truth, Count, Not', Negate', Binary'}
 use Rattle.proc_lang.specs.declared.syntax.WrittenVariable.{WrittenVariable}
 use Rattle.proc_lang.specs.declared.syntax.WrittenAction.{WrittenAction}
 use Rattle.proc_lang.specs.declared.syntax.WrittenAction.TheVariants.{Local, Send, Receive}
@@ -18,6 +18,9 @@ abbrev pub phrase_of : Phrase → model.Phrase
 phrase_of (Number at number) = model.Number at number.value
 phrase_of (Name at name) = model.Name at name
 phrase_of (Truth at value) = model.Truth at value
+phrase_of (Count at direction other) = model.Count at direction (named_of other)
+phrase_of (Not' at place operand) = model.Not at (phrase_of operand)
+phrase_of (Negate' at place operand) = model.Negate at (phrase_of operand)
 phrase_of (Binary' at operator left_place left right_place right) = model.Binary at operator (phrase_of left) (phrase_of right)
 
 abbrev pub variable_of : WrittenVariable → model.WrittenVariable

@@ -1,7 +1,7 @@
 //! A program as it is written: names are not looked up yet, and what a fault may name keeps its offset.
 
 use crate::token::Magnitude;
-use dbg_base::{Name, Operator};
+use dbg_base::{Direction, Name, Operator};
 
 /// A name where it stands.
 #[derive(Clone, Copy, Debug)]
@@ -16,6 +16,9 @@ pub(crate) enum Phrase {
     Number(usize, Magnitude),
     Name(usize, Name),
     Truth(usize, bool),
+    Count(usize, Direction, Named),
+    Not(usize, Box<Phrase>),
+    Negate(usize, Box<Phrase>),
     Binary(usize, Operator, Box<Phrase>, Box<Phrase>),
 }
 
