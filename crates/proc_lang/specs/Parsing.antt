@@ -1,13 +1,15 @@
--- What the parser reads from the front of some tokens: what is written there and the tokens behind it, or nothing. `small` says that
--- only small expressions are read: numbers, names, `true`, and two expressions with `+`, `-`, `<` or `>` between them.
-use Rattle.std.specs.Prelude.{ℕ, zero, suc, ℤ, pos, neg_ℤ, Bool, true, false, not, ◌&&◌, List, [], ◌∷◌, length, Option, Some, None, codes}
-use Rattle.std.specs.Prelude.{if◌then◌else◌}
-use Rattle.std.specs.Option.{option_and_then, option_map}
-use Rattle.std.specs.List.{list_any, AllByRecursion}
+-- What the parser reads from the front of some tokens: what is written there and the tokens behind it; or, where the tokens can't go on
+-- so, how many are left from the first that cannot stand where it stands, and none where they end too early.
+use Rattle.std.specs.Prelude.{ℕ, zero, suc, ℤ, pos, neg_ℤ, Bool, true, false, List, [], ◌∷◌, length, Option, Some, None, codes}
+use Rattle.std.specs.Prelude.{if◌then◌else◌, Result, Ok, Err}
+use Rattle.std.specs.Option.{option_map, is_some}
+use Rattle.std.specs.List.{list_any}
 use Rattle.std.specs.Str.{bytes_eq}
 use Rattle.dbg_base.specs.declared.expr.Operator.{Operator}
 use Rattle.dbg_base.specs.declared.expr.Operator.TheVariants.{Add, Subtract, Multiply, Divide, Remainder, Equal, NotEqual, Less}
 use Rattle.dbg_base.specs.declared.expr.Operator.TheVariants.{LessOrEqual, Greater, GreaterOrEqual, And, Or}
+use Rattle.dbg_base.specs.declared.expr.Direction.{Direction}
+use Rattle.dbg_base.specs.declared.expr.Direction.TheVariants.{Sent, Got}
 use Rattle.dbg_base.specs.Tokens.{Token, Word, Symbol, Placed}
 use Rattle.dbg_base.specs.declared.sign.Sign.{Sign}
 use Rattle.dbg_base.specs.declared.sign.Sign.TheVariants.{OpenBrace, CloseBrace, OpenParenthesis, CloseParenthesis, Semicolon, Colon}
@@ -16,19 +18,42 @@ use Rattle.dbg_base.specs.declared.sign.Sign.TheVariants.{Minus, Star, Slash, Pe
 use Rattle.dbg_base.specs.Tokens as token
 use denote.Enum.Bare.{sameb}
 use Rattle.dbg_base.specs.contracts.sign.Sign.{the_type}
-use Rattle.dbg_base.specs.Checks.{phrase_tree, action_tree}
-use Rattle.dbg_base.specs.Grammar.{Named, Phrase, Name, Truth, Not, Negate, Binary, WrittenVariable, WrittenAction, Local, Sends, Receives}
-use Rattle.dbg_base.specs.Grammar.{WrittenAssignment, WrittenCommand, WrittenProcess, reserved_words}
+use Rattle.dbg_base.specs.Grammar.{Named, Phrase, Name, Truth, Count, Not, Negate, Binary, WrittenVariable, WrittenAction, Local, Sends}
+use Rattle.dbg_base.specs.Grammar.{Receives, WrittenAssignment, WrittenCommand, WrittenProcess, reserved_words}
 use Rattle.dbg_base.specs.Grammar as phrase
-use Rattle.proc_lang.specs.Small.{IsSmallTree, IsSmallSend}
 
--- what was read, and the tokens behind it
+-- what was read and the tokens behind it, or how many are left where nothing can be read
 abbrev pub Read : Type 0 → Type 0
-Read A = Option (A × List Placed)
+Read A = Result (A × List Placed) ℕ
 
+-- goes on behind what was read
 infixl 10 ◌>>=◌
-abbrev pub ◌>>=◌ : {A B : Type 0} → Option A → (A → Option B) → Option B
-o >>= f = option_and_then f o
+abbrev pub ◌>>=◌ : {A B : Type 0} → Result A ℕ → (A → Result B ℕ) → Result B ℕ
+Ok x >>= f = f x
+Err left >>= f = Err left
+
+-- one token, where it is such a one
+abbrev pub picked : {A : Type 0} → Option A → List Placed → Read A
+picked (Some x) tokens = Ok (x, tokens)
+picked None tokens = Err (suc (length tokens))
+
+abbrev pub read_one : {A : Type 0} → (Placed → Option A) → List Placed → Read A
+read_one pick [] = Err 0
+read_one pick (p ∷ tokens) = picked (pick p) tokens
+
+-- a test of the first token
+abbrev pub begins : (Token → Bool) → List Placed → Bool
+begins test [] = false
+begins test (p ∷ tokens) = test p.token
+
+-- So many turns of a reader that reads parts of what it reads by itself.
+abbrev pub unrolled : {A : Type 0} → ((List Placed → Read A) → List Placed → Read A) → ℕ → List Placed → Read A
+unrolled step zero tokens = Err (length tokens)
+unrolled step (suc n) tokens = step (unrolled step n) tokens
+
+-- such a reader: its parts have fewer tokens, so there are turns enough
+unfoldable pub fixed : {A : Type 0} → ((List Placed → Read A) → List Placed → Read A) → List Placed → Read A
+fixed step tokens = unrolled step (suc (length tokens)) tokens
 
 -- the test of `==` on signs
 abbrev pub same_sign : Sign → Sign → Bool
@@ -46,48 +71,41 @@ is_sign_token sign token = false
 
 -- does this word stand at the front
 abbrev pub begins_word : List ℕ → List Placed → Bool
-begins_word word [] = false
-begins_word word (p ∷ tokens) = is_word_token word p.token
+begins_word word = begins (is_word_token word)
 
 abbrev pub begins_sign : Sign → List Placed → Bool
-begins_sign sign [] = false
-begins_sign sign (p ∷ tokens) = is_sign_token sign p.token
+begins_sign sign = begins (is_sign_token sign)
+
+-- where the token stands, if the test passes
+abbrev pub place_where : (Token → Bool) → Placed → Option ℕ
+place_where test p = if test p.token then Some p.at else None
 
 -- this word, by the offset at which it stands
 unfoldable pub read_word : List ℕ → List Placed → Read ℕ
-read_word word [] = None
-read_word word (p ∷ tokens) = if is_word_token word p.token then Some (p.at, tokens) else None
+read_word word = read_one (place_where (is_word_token word))
 
 unfoldable pub read_sign : Sign → List Placed → Read ℕ
-read_sign sign [] = None
-read_sign sign (p ∷ tokens) = if is_sign_token sign p.token then Some (p.at, tokens) else None
+read_sign sign = read_one (place_where (is_sign_token sign))
 
 -- the name that a token is
 abbrev pub name_in : Token → Option (List ℕ)
 name_in (Word word) = if list_any (bytes_eq word) reserved_words then None else Some word
 name_in token = None
 
+abbrev pub named_in : Placed → Option Named
+named_in p = option_map (λ name. record { at = p.at; name = name }) (name_in p.token)
+
 unfoldable pub read_name : List Placed → Read Named
-read_name [] = None
-read_name (p ∷ tokens) = option_map (λ name. (record { at = p.at; name = name }, tokens)) (name_in p.token)
+read_name = read_one named_in
 
 abbrev pub number_in : Token → Option ℕ
 number_in (token.Number value) = Some value
 number_in token = None
 
 unfoldable pub read_number : List Placed → Read ℕ
-read_number [] = None
-read_number (p ∷ tokens) = option_map (λ value. (value, tokens)) (number_in p.token)
+read_number = read_one (λ p. number_in p.token)
 
--- the operator that a sign is, of those in small expressions
-abbrev pub small_operator : Sign → Option Operator
-small_operator Plus = Some Add
-small_operator Minus = Some Subtract
-small_operator LessThan = Some Less
-small_operator GreaterThan = Some Greater
-small_operator sign = None
-
--- and of all
+-- the operator that a sign is
 abbrev pub sign_operator : Sign → Option Operator
 sign_operator Plus = Some Add
 sign_operator Minus = Some Subtract
@@ -107,35 +125,58 @@ word_operator word =
     if bytes_eq word (codes "and") then Some And else (if bytes_eq word (codes "or") then Some Or else None)
 
 -- the operator that a token is
-abbrev pub operator_in : Bool → Token → Option Operator
-operator_in true (Symbol sign) = small_operator sign
-operator_in false (Symbol sign) = sign_operator sign
-operator_in false (Word word) = word_operator word
-operator_in small token = None
+abbrev pub operator_in : Token → Option Operator
+operator_in (Symbol sign) = sign_operator sign
+operator_in (Word word) = word_operator word
+operator_in token = None
 
-unfoldable pub read_operator : Bool → List Placed → Read Operator
-read_operator small [] = None
-read_operator small (p ∷ tokens) = option_map (λ operator. (operator, tokens)) (operator_in small p.token)
+unfoldable pub read_operator : List Placed → Read Operator
+read_operator = read_one (λ p. operator_in p.token)
+
+-- what a word counts
+abbrev pub word_direction : List ℕ → Option Direction
+word_direction word =
+    if bytes_eq word (codes "sent") then Some Sent else (if bytes_eq word (codes "got") then Some Got else None)
+
+abbrev pub direction_in : Token → Option Direction
+direction_in (Word word) = word_direction word
+direction_in token = None
+
+-- the word of a count, and the offset at which it stands
+unfoldable pub read_direction : List Placed → Read (ℕ × Direction)
+read_direction = read_one (λ p. option_map (λ direction. (p.at, direction)) (direction_in p.token))
+
+-- does a count stand at the front
+abbrev pub begins_count : List Placed → Bool
+begins_count = begins (λ token. is_some (direction_in token))
 
 -- the expression that a word at this offset is
-abbrev pub word_phrase : Bool → ℕ → List ℕ → Option Phrase
-word_phrase small at word =
+abbrev pub word_phrase : ℕ → List ℕ → Option Phrase
+word_phrase at word =
     if bytes_eq word (codes "true") then Some (Truth at true)
-    else (if not small && bytes_eq word (codes "false") then Some (Truth at false)
+    else (if bytes_eq word (codes "false") then Some (Truth at false)
     else option_map (Name at) (name_in (Word word)))
 
-abbrev pub phrase_by : Bool → ℕ → Token → Option Phrase
-phrase_by small at (Word word) = word_phrase small at word
-phrase_by small at (token.Number value) = Some (phrase.Number at value)
-phrase_by small at (Symbol sign) = None
+abbrev pub phrase_by : ℕ → Token → Option Phrase
+phrase_by at (Word word) = word_phrase at word
+phrase_by at (token.Number value) = Some (phrase.Number at value)
+phrase_by at (Symbol sign) = None
 
 -- the expression that a token alone is
-abbrev pub phrase_in : Bool → Placed → Option Phrase
-phrase_in small p = phrase_by small p.at p.token
+abbrev pub phrase_in : Placed → Option Phrase
+phrase_in p = phrase_by p.at p.token
 
-unfoldable pub read_operand : Bool → List Placed → Read Phrase
-read_operand small [] = None
-read_operand small (p ∷ tokens) = option_map (λ e. (e, tokens)) (phrase_in small p)
+unfoldable pub read_operand : List Placed → Read Phrase
+read_operand = read_one phrase_in
+
+-- a count: its word, and the name of a process in parentheses
+unfoldable pub read_count : List Placed → Read Phrase
+read_count tokens = do
+  word ← read_direction tokens
+  begin ← read_sign OpenParenthesis word.1
+  other ← read_name begin.1
+  close ← read_sign CloseParenthesis other.1
+  Ok (Count word.0.0 word.0.1 other.0, close.1)
 
 -- an expression in parentheses of which the first opened at this offset: `not e`, `- e` or `e op e`, and the one that closes
 unfoldable pub read_not : (List Placed → Read Phrase) → ℕ → List Placed → Read Phrase
@@ -143,51 +184,67 @@ read_not inner at tokens = do
   word ← read_word (codes "not") tokens
   operand ← inner word.1
   close ← read_sign CloseParenthesis operand.1
-  Some (Not at operand.0, close.1)
+  Ok (Not at operand.0, close.1)
 
 unfoldable pub read_negate : (List Placed → Read Phrase) → ℕ → List Placed → Read Phrase
 read_negate inner at tokens = do
   minus ← read_sign Minus tokens
   operand ← inner minus.1
   close ← read_sign CloseParenthesis operand.1
-  Some (Negate at operand.0, close.1)
+  Ok (Negate at operand.0, close.1)
 
-unfoldable pub read_binary : Bool → (List Placed → Read Phrase) → ℕ → List Placed → Read Phrase
-read_binary small inner at tokens = do
+unfoldable pub read_binary : (List Placed → Read Phrase) → ℕ → List Placed → Read Phrase
+read_binary inner at tokens = do
   left ← inner tokens
-  operator ← read_operator small left.1
+  operator ← read_operator left.1
   right ← inner operator.1
   close ← read_sign CloseParenthesis right.1
-  Some (Binary at operator.0 left.0 right.0, close.1)
+  Ok (Binary at operator.0 left.0 right.0, close.1)
 
-abbrev pub read_group : Bool → (List Placed → Read Phrase) → ℕ → List Placed → Read Phrase
-read_group small inner at tokens =
-    if not small && begins_word (codes "not") tokens then read_not inner at tokens
-    else (if not small && begins_sign Minus tokens then read_negate inner at tokens
-    else read_binary small inner at tokens)
+abbrev pub read_group : (List Placed → Read Phrase) → ℕ → List Placed → Read Phrase
+read_group inner at tokens =
+    if begins_word (codes "not") tokens then read_not inner at tokens
+    else (if begins_sign Minus tokens then read_negate inner at tokens
+    else read_binary inner at tokens)
+
+-- the first parenthesis, and what it opens
+unfoldable pub read_parentheses : (List Placed → Read Phrase) → List Placed → Read Phrase
+read_parentheses inner tokens = read_sign OpenParenthesis tokens >>= λ first. read_group inner first.0 first.1
 
 -- an expression, where what is within its parentheses is read so
-abbrev pub read_by : Bool → (List Placed → Read Phrase) → List Placed → Read Phrase
-read_by small inner tokens =
-    if begins_sign OpenParenthesis tokens
-    then option_and_then (λ first. read_group small inner first.0 first.1) (read_sign OpenParenthesis tokens)
-    else read_operand small tokens
+abbrev pub read_by : (List Placed → Read Phrase) → List Placed → Read Phrase
+read_by inner tokens =
+    if begins_sign OpenParenthesis tokens then read_parentheses inner tokens
+    else (if begins_count tokens then read_count tokens
+    else read_operand tokens)
 
--- an expression with at most so many parentheses within each other
-abbrev pub read_within : Bool → ℕ → List Placed → Read Phrase
-read_within small zero tokens = None
-read_within small (suc n) tokens = read_by small (read_within small n) tokens
+abbrev pub read_expression : List Placed → Read Phrase
+read_expression = fixed read_by
 
--- an expression: there are no more parentheses than tokens
-unfoldable pub read_expression : Bool → List Placed → Read Phrase
-read_expression small tokens = read_within small (suc (length tokens)) tokens
+-- the end of the tokens
+abbrev pub read_end : List Placed → Read (Unit {0})
+read_end [] = Ok (tt, [])
+read_end (p ∷ tokens) = Err (suc (length tokens))
+
+-- what one reader reads, and nothing behind it
+unfoldable pub read_whole : {A : Type 0} → (List Placed → Read A) → List Placed → Read A
+read_whole one tokens = do
+  found ← one tokens
+  end ← read_end found.1
+  Ok (found.0, end.1)
 
 -- an initial value
-unfoldable pub read_start : List Placed → Read ℤ
-read_start tokens =
-    if begins_sign Minus tokens
-    then option_and_then (λ minus. option_map (λ number. (neg_ℤ (pos number.0), number.1)) (read_number minus.1)) (read_sign Minus tokens)
-    else option_map (λ number. (pos number.0, number.1)) (read_number tokens)
+unfoldable pub read_negative : List Placed → Read ℤ
+read_negative tokens = do
+  minus ← read_sign Minus tokens
+  number ← read_number minus.1
+  Ok (neg_ℤ (pos number.0), number.1)
+
+unfoldable pub read_positive : List Placed → Read ℤ
+read_positive tokens = read_number tokens >>= λ number. Ok (pos number.0, number.1)
+
+abbrev pub read_start : List Placed → Read ℤ
+read_start tokens = if begins_sign Minus tokens then read_negative tokens else read_positive tokens
 
 unfoldable pub read_variable : List Placed → Read WrittenVariable
 read_variable tokens = do
@@ -196,110 +253,99 @@ read_variable tokens = do
   equals ← read_sign Equals name.1
   start ← read_start equals.1
   end ← read_sign Semicolon start.1
-  Some (record { name = name.0; start = start.0 }, end.1)
+  Ok (record { name = name.0; start = start.0 }, end.1)
 
-unfoldable pub read_assignment : Bool → List Placed → Read WrittenAssignment
-read_assignment small tokens = do
+unfoldable pub read_assignment : List Placed → Read WrittenAssignment
+read_assignment tokens = do
   variable ← read_name tokens
   becomes ← read_sign Becomes variable.1
-  value ← read_expression small becomes.1
-  Some (record { variable = variable.0; value = value.0 }, value.1)
+  value ← read_expression becomes.1
+  Ok (record { variable = variable.0; value = value.0 }, value.1)
 
--- one after the other, as long as the test passes, at most so many
-abbrev pub read_up_to : {A : Type 0} → (List Placed → Bool) → (List Placed → Read A) → ℕ → List Placed → Read (List A)
-read_up_to test one zero tokens = Some ([], tokens)
-read_up_to test one (suc n) tokens =
-    if test tokens
-    then option_and_then (λ first. option_map (λ others. (first.0 ∷ others.0, others.1)) (read_up_to test one n first.1)) (one tokens)
-    else Some ([], tokens)
+-- one, and then the others
+unfoldable pub read_several : {A : Type 0} → (List Placed → Read A) → (List Placed → Read (List A)) → List Placed → Read (List A)
+read_several one rest tokens = do
+  first ← one tokens
+  others ← rest first.1
+  Ok (first.0 ∷ others.0, others.1)
 
--- one after the other, as long as the test passes: there are no more than tokens
-unfoldable pub read_many : {A : Type 0} → (List Placed → Bool) → (List Placed → Read A) → List Placed → Read (List A)
-read_many test one tokens = read_up_to test one (length tokens) tokens
+-- one after the other, as long as the test passes
+abbrev pub many_by : {A : Type 0} → (Token → Bool) → (List Placed → Read A) → (List Placed → Read (List A)) → List Placed → Read (List A)
+many_by test one rest tokens = if begins test tokens then read_several one rest tokens else Ok ([], tokens)
+
+abbrev pub read_many : {A : Type 0} → (Token → Bool) → (List Placed → Read A) → List Placed → Read (List A)
+read_many test one = fixed (many_by test one)
 
 -- an assignment behind a comma
-unfoldable pub read_further : Bool → List Placed → Read WrittenAssignment
-read_further small tokens = option_and_then (λ comma. read_assignment small comma.1) (read_sign Comma tokens)
+unfoldable pub read_further : List Placed → Read WrittenAssignment
+read_further tokens = read_sign Comma tokens >>= λ comma. read_assignment comma.1
+
+abbrev pub read_all_further : List Placed → Read (List WrittenAssignment)
+read_all_further = read_many (is_sign_token Comma) read_further
 
 -- a body: what is done beside assignments, and these
 abbrev pub Body : Type 0
 Body = WrittenAction × List WrittenAssignment
 
-unfoldable pub read_send : Bool → List Placed → Read Body
-read_send small tokens = do
+unfoldable pub read_send : List Placed → Read Body
+read_send tokens = do
   word ← read_word (codes "send") tokens
   target ← read_name word.1
-  value ← read_expression small target.1
-  others ← read_many (begins_sign Comma) (read_further small) value.1
-  Some ((Sends target.0 value.0, others.0), others.1)
+  value ← read_expression target.1
+  others ← read_all_further value.1
+  Ok ((Sends target.0 value.0, others.0), others.1)
 
-unfoldable pub read_receive : Bool → List Placed → Read Body
-read_receive small tokens = do
+unfoldable pub read_receive : List Placed → Read Body
+read_receive tokens = do
   word ← read_word (codes "recv") tokens
   source ← read_name word.1
   variable ← read_name source.1
-  others ← read_many (begins_sign Comma) (read_further small) variable.1
-  Some ((Receives source.0 variable.0, others.0), others.1)
+  others ← read_all_further variable.1
+  Ok ((Receives source.0 variable.0, others.0), others.1)
 
-unfoldable pub read_local : Bool → List Placed → Read Body
-read_local small tokens = do
-  first ← read_assignment small tokens
-  others ← read_many (begins_sign Comma) (read_further small) first.1
-  Some ((Local, first.0 ∷ others.0), others.1)
+unfoldable pub read_local : List Placed → Read Body
+read_local tokens = do
+  first ← read_assignment tokens
+  others ← read_all_further first.1
+  Ok ((Local, first.0 ∷ others.0), others.1)
 
-abbrev pub read_body : Bool → List Placed → Read Body
-read_body small tokens =
-    if begins_word (codes "send") tokens then read_send small tokens
-    else (if begins_word (codes "recv") tokens then read_receive small tokens
-    else read_local small tokens)
+abbrev pub read_body : List Placed → Read Body
+read_body tokens =
+    if begins_word (codes "send") tokens then read_send tokens
+    else (if begins_word (codes "recv") tokens then read_receive tokens
+    else read_local tokens)
 
-unfoldable pub read_command : Bool → List Placed → Read WrittenCommand
-read_command small tokens = do
+unfoldable pub read_command : List Placed → Read WrittenCommand
+read_command tokens = do
   word ← read_word (codes "when") tokens
-  guard ← read_expression small word.1
+  guard ← read_expression word.1
   colon ← read_sign Colon guard.1
-  body ← read_body small colon.1
+  body ← read_body colon.1
   end ← read_sign Semicolon body.1
-  Some (record { at = word.0; guard = guard.0; action = body.0.0; assignments = body.0.1 }, end.1)
+  Ok (record { at = word.0; guard = guard.0; action = body.0.0; assignments = body.0.1 }, end.1)
 
-unfoldable pub read_process : Bool → List Placed → Read WrittenProcess
-read_process small tokens = do
+abbrev pub read_variables : List Placed → Read (List WrittenVariable)
+read_variables = read_many (is_word_token (codes "var")) read_variable
+
+abbrev pub read_commands : List Placed → Read (List WrittenCommand)
+read_commands = read_many (is_word_token (codes "when")) read_command
+
+unfoldable pub read_process : List Placed → Read WrittenProcess
+read_process tokens = do
   word ← read_word (codes "process") tokens
   name ← read_name word.1
   start ← read_sign OpenBrace name.1
-  variables ← read_many (begins_word (codes "var")) read_variable start.1
-  commands ← read_many (begins_word (codes "when")) (read_command small) variables.1
+  variables ← read_variables start.1
+  commands ← read_commands variables.1
   end ← read_sign CloseBrace commands.1
-  Some (record { name = name.0; variables = variables.0; commands = commands.0 }, end.1)
+  Ok (record { name = name.0; variables = variables.0; commands = commands.0 }, end.1)
 
--- is a token left
-abbrev pub is_left : List Placed → Bool
-is_left [] = false
-is_left (p ∷ tokens) = true
+-- one process or more
+abbrev pub read_processes : List Placed → Read (List WrittenProcess)
+read_processes = read_several read_process (read_many (is_word_token (codes "process")) read_process)
 
--- all processes to the end of the tokens, one at least
-unfoldable pub read_program : Bool → List Placed → Option (List WrittenProcess)
-read_program small tokens = do
-  first ← read_process small tokens
-  others ← read_many is_left (read_process small) first.1
-  Some (first.0 ∷ others.0)
+abbrev pub read_program : List Placed → Read (List WrittenProcess)
+read_program = read_whole read_processes
 
--- what is written with small expressions alone
-abbrev pub IsSmallPhrase : Phrase → Type 0
-IsSmallPhrase phrase = IsSmallTree (phrase_tree [] phrase)
-
-abbrev pub IsSmallAction : WrittenAction → Type 0
-IsSmallAction action = IsSmallSend (action_tree [] [] action)
-
-abbrev pub IsSmallAssignment : WrittenAssignment → Type 0
-IsSmallAssignment assignment = IsSmallPhrase assignment.value
-
-abbrev pub IsSmallCommand : WrittenCommand → Type 0
-IsSmallCommand command =
-    IsSmallPhrase command.guard × IsSmallAction command.action × AllByRecursion IsSmallAssignment command.assignments
-
-abbrev pub IsSmallProcess : WrittenProcess → Type 0
-IsSmallProcess process = AllByRecursion IsSmallCommand process.commands
-
-abbrev pub IsSmallProgram : List WrittenProcess → Type 0
-IsSmallProgram = AllByRecursion IsSmallProcess
+abbrev pub read_predicate : List Placed → Read Phrase
+read_predicate = read_whole read_expression

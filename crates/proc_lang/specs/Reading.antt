@@ -1,21 +1,20 @@
 -- What a method of the parser answered, against what stands at the front of its tokens.
-use Rattle.std.specs.Prelude.{◌≡◌, List, Option, Some, None, Result, Ok, Err, Vec}
-use Rattle.std.specs.Global.{Global}
+use Rattle.std.specs.Prelude.{◌≡◌, ℕ, ◌-◌, List, [], ◌∷◌, length, drop, Result, Ok, Err}
 use Rattle.dbg_base.specs.Tokens as model
-use Rattle.dbg_base.specs.Grammar as grammar
-use Rattle.proc_lang.specs.Writing.{processes_of}
-use Rattle.proc_lang.specs.declared.syntax.WrittenProcess.{WrittenProcess}
 use Rattle.proc_lang.specs.declared.parser.Stop.{Stop}
 use Rattle.proc_lang.specs.declared.parser.Stop.TheVariants.{Memory, Unexpected}
 
--- what was read, seen by view, with these tokens left; or nothing, where nothing could be read; unless memory ran out
-abbrev pub Gives : {X Y : Type 0} → (X → Y) → Result X Stop → List model.Placed → Option (Y × List model.Placed) → Type 0
-Gives view (Ok x) rest read = read ≡ Some (view x, rest)
+-- what was read, seen by view, with these tokens left; or so many left where nothing could be read; unless memory ran out
+abbrev pub Gives : {X Y : Type 0} → (X → Y) → Result X Stop → List model.Placed → Result (Y × List model.Placed) ℕ → Type 0
+Gives view (Ok x) rest read = read ≡ Ok (view x, rest)
 Gives view (Err Memory) rest read = Unit {0}
-Gives view (Err (Unexpected left)) rest read = read ≡ None
+Gives view (Err (Unexpected left)) rest read = read ≡ Err left
 
--- the processes that were written, or nothing, where these tokens write none; unless memory ran out
-abbrev pub Reads : Result (Vec WrittenProcess Global) Stop → Option (List grammar.WrittenProcess) → Type 0
-Reads (Ok written) read = read ≡ Some (processes_of written.items)
-Reads (Err Memory) read = Unit {0}
-Reads (Err (Unexpected left)) read = read ≡ None
+-- where the first of these tokens stands, or the end where there is none
+abbrev pub first_offset : ℕ → List model.Placed → ℕ
+first_offset end [] = end
+first_offset end (p ∷ tokens) = p.at
+
+-- where the token stands from which on so many are left
+abbrev pub offset_of : ℕ → ℕ → List model.Placed → ℕ
+offset_of end left tokens = first_offset end (drop (length tokens - left) tokens)

@@ -1,11 +1,8 @@
 //! The process language: programs of guarded-command processes, read from text.
 #![tactic(auto)]
 
-mod check;
 mod fault;
-pub mod laws;
 mod lexer;
-mod parse;
 mod parser;
 mod process;
 mod program;
@@ -15,6 +12,5 @@ mod token;
 
 pub use dbg_base::{FaultKind, ProgFault};
 pub use fault::ProgError;
-pub use parse::parse_program;
 pub use process::{Action, Assignment, Guarded};
 pub use program::Program;

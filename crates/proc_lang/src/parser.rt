@@ -1,22 +1,23 @@
 //! From tokens to a written program, one token at a time.
 
-ghost use Rattle.std.specs.Prelude.{◌≡◌, ◌<◌, Bool, true, map, length, OnOk};
+ghost use Rattle.std.specs.Prelude.{◌≡◌, ◌<◌, [], map, length, OnOk};
 ghost use Rattle.std.specs.List.{list_any};
 ghost use Rattle.std.specs.Str.{bytes_eq};
 ghost use Rattle.dbg_base.specs.Grammar.{reserved_words};
 ghost use Rattle.proc_lang.specs.Scanning.{token_of, placed_of};
-ghost use Rattle.proc_lang.specs.Writing.{named_of};
-ghost use Rattle.proc_lang.specs.Parsing.{begins_word, begins_sign, operator_in, read_word, read_sign, read_name, read_number};
-ghost use Rattle.proc_lang.specs.Parsing.{read_operator};
+ghost use Rattle.proc_lang.specs.Writing.{named_of, phrase_of};
+ghost use Rattle.std.specs.Option.{option_map};
+ghost use Rattle.proc_lang.specs.Parsing.{begins_word, begins_sign, operator_in, direction_in, phrase_in, read_word, read_sign};
+ghost use Rattle.proc_lang.specs.Parsing.{begins_count, read_name, read_number, read_operator, read_direction, read_operand, read_end};
 ghost use Rattle.proc_lang.specs.Reading.{Gives};
 ghost use Rattle.proc_lang.specs.declared.parser.Stop.TheVariants.{Memory};
 
 mod grammar;
 
-use crate::syntax::Named;
+use crate::syntax::{Named, Phrase};
 use crate::token::{Magnitude, Placed, Token};
-use dbg_base::{Name, Operator, Sign};
-pub(crate) use grammar::program;
+use dbg_base::{Direction, Name, Operator, Sign};
+pub(crate) use grammar::{predicate, program};
 use std::alloc::{AllocError, AllocFailed, Global};
 
 /// Why tokens were not read.
@@ -64,13 +65,47 @@ fn is_reserved(name: &Name) -> bool
 
 // The operator that a token writes, if it writes one.
 fn operator_of(token: &Token) -> Option<Operator>
-    ensures { result ≡ operator_in true (token_of token.now) }
+    ensures { result ≡ operator_in (token_of token.now) }
 {
     match token {
         Token::Symbol(Sign::Plus) => Some(Operator::Add),
         Token::Symbol(Sign::Minus) => Some(Operator::Subtract),
+        Token::Symbol(Sign::Star) => Some(Operator::Multiply),
+        Token::Symbol(Sign::Slash) => Some(Operator::Divide),
+        Token::Symbol(Sign::Percent) => Some(Operator::Remainder),
+        Token::Symbol(Sign::Equals) => Some(Operator::Equal),
+        Token::Symbol(Sign::NotEquals) => Some(Operator::NotEqual),
         Token::Symbol(Sign::LessThan) => Some(Operator::Less),
+        Token::Symbol(Sign::AtMost) => Some(Operator::LessOrEqual),
         Token::Symbol(Sign::GreaterThan) => Some(Operator::Greater),
+        Token::Symbol(Sign::AtLeast) => Some(Operator::GreaterOrEqual),
+        Token::Word(name) if name.bytes() == b"and".as_slice() => Some(Operator::And),
+        Token::Word(name) if name.bytes() == b"or".as_slice() => Some(Operator::Or),
+        _ => None,
+    }
+}
+
+// What a token says that is counted, if it says so.
+fn direction_of(token: &Token) -> Option<Direction>
+    ensures { result ≡ direction_in (token_of token.now) }
+{
+    match token {
+        Token::Word(name) if name.bytes() == b"sent".as_slice() => Some(Direction::Sent),
+        Token::Word(name) if name.bytes() == b"got".as_slice() => Some(Direction::Got),
+        _ => None,
+    }
+}
+
+// The expression that a token alone is, if it is one.
+fn operand_of(placed: &Placed) -> Option<Phrase>
+    ensures { option_map phrase_of result ≡ phrase_in (placed_of placed.now) }
+{
+    let at = placed.at;
+    match placed.token {
+        Token::Number(number) => Some(Phrase::Number(at, number)),
+        Token::Word(name) if name.bytes() == b"true".as_slice() => Some(Phrase::Truth(at, true)),
+        Token::Word(name) if name.bytes() == b"false".as_slice() => Some(Phrase::Truth(at, false)),
+        Token::Word(name) if !is_reserved(&name) => Some(Phrase::Name(at, name)),
         _ => None,
     }
 }
@@ -217,7 +252,7 @@ impl Parser<'_> {
     fn operator(&mut self) -> Result<Operator, Stop>
         ensures shorter { OnOk result (length self.new.rest.now < length self.old.rest.now) }
         ensures read { Gives (λ operator. operator) result (map placed_of self.new.rest.now)
-            (read_operator true (map placed_of self.old.rest.now)) }
+            (read_operator (map placed_of self.old.rest.now)) }
     {
         match self.rest {
             [first, rest @ ..] => match operator_of(&first.token) {
@@ -228,6 +263,65 @@ impl Parser<'_> {
                 None => Err(self.unexpected()),
             },
             [] => Err(self.unexpected()),
+        }
+    }
+
+    // Is the next token the word of a count?
+    fn is_at_count(&self) -> bool
+        ensures { result ≡ begins_count (map placed_of self.now.rest.now) }
+    {
+        match self.rest {
+            [first, ..] => direction_of(&first.token).is_some(),
+            [] => false,
+        }
+    }
+
+    // The word of a count, with the offset of its first byte.
+    #[tactic(auto, unfolding(crate::specs::Parsing::read_direction))]
+    fn direction(&mut self) -> Result<(usize, Direction), Stop>
+        ensures shorter { OnOk result (length self.new.rest.now < length self.old.rest.now) }
+        ensures read { Gives (λ word. word) result (map placed_of self.new.rest.now)
+            (read_direction (map placed_of self.old.rest.now)) }
+    {
+        match self.rest {
+            [first, rest @ ..] => match direction_of(&first.token) {
+                Some(direction) => {
+                    self.rest = rest;
+                    Ok((first.at, direction))
+                }
+                None => Err(self.unexpected()),
+            },
+            [] => Err(self.unexpected()),
+        }
+    }
+
+    // An expression of one token: a number, a name, `true` or `false`.
+    #[tactic(auto, unfolding(crate::specs::Parsing::read_operand))]
+    fn operand(&mut self) -> Result<Phrase, Stop>
+        ensures shorter { OnOk result (length self.new.rest.now < length self.old.rest.now) }
+        ensures read { Gives phrase_of result (map placed_of self.new.rest.now)
+            (read_operand (map placed_of self.old.rest.now)) }
+    {
+        match self.rest {
+            [first, rest @ ..] => match operand_of(first) {
+                Some(phrase) => {
+                    self.rest = rest;
+                    Ok(phrase)
+                }
+                None => Err(self.unexpected()),
+            },
+            [] => Err(self.unexpected()),
+        }
+    }
+
+    // The end of the tokens.
+    fn end(&self) -> Result<(), Stop>
+        ensures { Gives (λ end. end) result [] (read_end (map placed_of self.now.rest.now)) }
+    {
+        if self.rest.is_empty() {
+            Ok(())
+        } else {
+            Err(self.unexpected())
         }
     }
 }

@@ -1,65 +1,25 @@
 //! What the grammar names: expressions, variables, commands, processes and programs.
 
-ghost use Rattle.std.specs.Prelude.{◌≡◌, ◌<◌, ◌≤◌, true, map, length, codes, OnOk};
-ghost use Rattle.dbg_base.specs.declared.sign.Sign.TheVariants as sign;
-ghost use Rattle.dbg_base.specs.Tokens as model;
+ghost use Rattle.std.specs.Prelude.{◌≡◌, ◌<◌, ◌≤◌, [], map, length, codes, OnOk};
 ghost use Rattle.proc_lang.specs.Scanning.{placed_of};
 ghost use Rattle.proc_lang.specs.Writing.{phrase_of, variable_of, action_of, assignment_of, command_of, process_of};
-ghost use Rattle.proc_lang.specs.Parsing.{begins_word, begins_sign, read_operand, read_expression, read_binary, read_start, read_variable};
-ghost use Rattle.proc_lang.specs.Parsing.{read_assignment, read_further, read_many, read_send, read_receive, read_local, read_body};
-ghost use Rattle.proc_lang.specs.Parsing.{read_command, read_process, read_program, is_left};
-ghost use Rattle.proc_lang.specs.Reading.{Gives, Reads};
+ghost use Rattle.proc_lang.specs.Parsing.{is_word_token, read_expression, read_count, read_parentheses, read_not, read_negate};
+ghost use Rattle.proc_lang.specs.Parsing.{read_binary, read_start, read_variable, read_variables, read_assignment, read_further, read_many};
+ghost use Rattle.proc_lang.specs.Parsing.{read_all_further, read_send, read_receive, read_local, read_body, read_command, read_commands};
+ghost use Rattle.proc_lang.specs.Parsing.{read_process, read_processes, read_program, read_predicate};
+ghost use Rattle.proc_lang.specs.Reading.{Gives};
 
-use super::{Parser, Stop, is_reserved};
+use super::{Parser, Stop};
 use crate::syntax::{
     Phrase, WrittenAction, WrittenAssignment, WrittenCommand, WrittenProcess, WrittenVariable,
 };
-use crate::token::{Placed, Token};
+use crate::token::Placed;
 use dbg_base::Sign;
 use std::alloc::Global;
 
 impl Parser<'_> {
-    // An expression without parentheses: a number, a name or `true`.
-    #[tactic(auto, unfolding(crate::specs::Parsing::read_operand, crate::specs::Parsing::read_word, crate::specs::Parsing::read_name))]
-    fn operand(&mut self) -> Result<Phrase, Stop>
-        ensures shorter { OnOk result (length self.new.rest.now < length self.old.rest.now) }
-        ensures read { Gives phrase_of result (map placed_of self.new.rest.now)
-            (read_operand true (map placed_of self.old.rest.now)) }
-    {
-        match self.rest {
-            [
-                Placed {
-                    at,
-                    token: Token::Number(number),
-                },
-                rest @ ..,
-            ] => {
-                self.rest = rest;
-                Ok(Phrase::Number(*at, *number))
-            }
-            [
-                Placed {
-                    at,
-                    token: Token::Word(name),
-                },
-                rest @ ..,
-            ] => {
-                if name.bytes() == b"true".as_slice() {
-                    self.rest = rest;
-                    return Ok(Phrase::Truth(*at, true));
-                }
-                if is_reserved(name) {
-                    return Err(self.unexpected());
-                }
-                self.rest = rest;
-                Ok(Phrase::Name(*at, *name))
-            }
-            _ => Err(self.unexpected()),
-        }
-    }
-
     // An initial value: a number, with a minus before it or without.
-    #[tactic(auto, unfolding(crate::specs::Parsing::read_start))]
+    #[tactic(auto, unfolding(crate::specs::Parsing::read_negative, crate::specs::Parsing::read_positive))]
     fn start_value(&mut self) -> Result<i64, Stop>
         ensures shorter { OnOk result (length self.new.rest.now < length self.old.rest.now) }
         ensures read { Gives (λ z. z) result (map placed_of self.new.rest.now)
@@ -88,27 +48,89 @@ impl Parser<'_> {
         Ok(WrittenVariable { name, start })
     }
 
+    // A count of messages: its word, and the name of a process in parentheses.
+    #[tactic(auto, unfolding(crate::specs::Parsing::read_count))]
+    fn count(&mut self) -> Result<Phrase, Stop>
+        ensures shorter { OnOk result (length self.new.rest.now < length self.old.rest.now) }
+        ensures read { Gives phrase_of result (map placed_of self.new.rest.now)
+            (read_count (map placed_of self.old.rest.now)) }
+    {
+        let (at, direction) = self.direction()?;
+        self.sign(Sign::OpenParenthesis)?;
+        let other = self.name()?;
+        self.sign(Sign::CloseParenthesis)?;
+        Ok(Phrase::Count(at, direction, other))
+    }
+
     #[cycle(expressions)]
     #[tactic(auto, using(crate::proofs::Expressions::expression_parts))]
     fn expression(&mut self) -> Result<Phrase, Stop>
         ensures shorter { OnOk result (length self.new.rest.now < length self.old.rest.now) }
         ensures read { Gives phrase_of result (map placed_of self.new.rest.now)
-            (read_expression true (map placed_of self.old.rest.now)) }
+            (read_expression (map placed_of self.old.rest.now)) }
     {
         if self.is_at_sign(Sign::OpenParenthesis) {
-            let at = self.sign(Sign::OpenParenthesis)?;
-            return self.binary(at);
+            return self.parentheses();
+        }
+        if self.is_at_count() {
+            return self.count();
         }
         self.operand()
     }
 
-    // Two operands and the operator between them, behind the parenthesis that opened at this offset, and the one that closes.
+    // An expression in parentheses.
+    #[cycle(expressions)]
+    #[tactic(auto, unfolding(crate::specs::Parsing::read_parentheses))]
+    fn parentheses(&mut self) -> Result<Phrase, Stop>
+        ensures shorter { OnOk result (length self.new.rest.now < length self.old.rest.now) }
+        ensures read { Gives phrase_of result (map placed_of self.new.rest.now)
+            (read_parentheses read_expression (map placed_of self.old.rest.now)) }
+    {
+        let at = self.sign(Sign::OpenParenthesis)?;
+        if self.is_at_word(b"not") {
+            return self.negation(at);
+        }
+        if self.is_at_sign(Sign::Minus) {
+            return self.negative(at);
+        }
+        self.binary(at)
+    }
+
+    // `not` and its operand, behind the parenthesis that opened at this offset, and the one that closes.
+    #[cycle(expressions)]
+    #[tactic(auto, unfolding(crate::specs::Parsing::read_not))]
+    fn negation(&mut self, at: usize) -> Result<Phrase, Stop>
+        ensures shorter { OnOk result (length self.new.rest.now < length self.old.rest.now) }
+        ensures read { Gives phrase_of result (map placed_of self.new.rest.now)
+            (read_not read_expression at (map placed_of self.old.rest.now)) }
+    {
+        self.word(b"not")?;
+        let operand = self.expression()?;
+        self.sign(Sign::CloseParenthesis)?;
+        Ok(Phrase::Not(at, Box::new(self.alloc, operand)?))
+    }
+
+    // A minus and its operand, and the parenthesis that closes.
+    #[cycle(expressions)]
+    #[tactic(auto, unfolding(crate::specs::Parsing::read_negate))]
+    fn negative(&mut self, at: usize) -> Result<Phrase, Stop>
+        ensures shorter { OnOk result (length self.new.rest.now < length self.old.rest.now) }
+        ensures read { Gives phrase_of result (map placed_of self.new.rest.now)
+            (read_negate read_expression at (map placed_of self.old.rest.now)) }
+    {
+        self.sign(Sign::Minus)?;
+        let operand = self.expression()?;
+        self.sign(Sign::CloseParenthesis)?;
+        Ok(Phrase::Negate(at, Box::new(self.alloc, operand)?))
+    }
+
+    // Two operands and the operator between them, and the parenthesis that closes.
     #[cycle(expressions)]
     #[tactic(auto, unfolding(crate::specs::Parsing::read_binary))]
     fn binary(&mut self, at: usize) -> Result<Phrase, Stop>
         ensures shorter { OnOk result (length self.new.rest.now < length self.old.rest.now) }
         ensures read { Gives phrase_of result (map placed_of self.new.rest.now)
-            (read_binary true (read_expression true) at (map placed_of self.old.rest.now)) }
+            (read_binary read_expression at (map placed_of self.old.rest.now)) }
     {
         let left = self.expression()?;
         let operator = self.operator()?;
@@ -123,7 +145,7 @@ impl Parser<'_> {
     fn assignment(&mut self) -> Result<WrittenAssignment, Stop>
         ensures shorter { OnOk result (length self.new.rest.now < length self.old.rest.now) }
         ensures read { Gives assignment_of result (map placed_of self.new.rest.now)
-            (read_assignment true (map placed_of self.old.rest.now)) }
+            (read_assignment (map placed_of self.old.rest.now)) }
     {
         let variable = self.name()?;
         self.sign(Sign::Becomes)?;
@@ -136,7 +158,7 @@ impl Parser<'_> {
     fn further(&mut self) -> Result<WrittenAssignment, Stop>
         ensures shorter { OnOk result (length self.new.rest.now < length self.old.rest.now) }
         ensures read { Gives assignment_of result (map placed_of self.new.rest.now)
-            (read_further true (map placed_of self.old.rest.now)) }
+            (read_further (map placed_of self.old.rest.now)) }
     {
         self.sign(Sign::Comma)?;
         self.assignment()
@@ -146,7 +168,7 @@ impl Parser<'_> {
     fn variables(&mut self) -> Result<Vec<WrittenVariable>, Stop>
         ensures shorter { OnOk result (length self.new.rest.now ≤ length self.old.rest.now) }
         ensures read { Gives (λ v. map variable_of v.items) result (map placed_of self.new.rest.now)
-            (read_many (begins_word (codes "var")) read_variable (map placed_of self.old.rest.now)) }
+            (read_variables (map placed_of self.old.rest.now)) }
     {
         let mut variables = Vec::new(self.alloc);
         while self.is_at_word(b"var") {
@@ -160,7 +182,7 @@ impl Parser<'_> {
     fn all_further(&mut self) -> Result<Vec<WrittenAssignment>, Stop>
         ensures shorter { OnOk result (length self.new.rest.now ≤ length self.old.rest.now) }
         ensures read { Gives (λ v. map assignment_of v.items) result (map placed_of self.new.rest.now)
-            (read_many (begins_sign sign.Comma) (read_further true) (map placed_of self.old.rest.now)) }
+            (read_all_further (map placed_of self.old.rest.now)) }
     {
         let mut assignments = Vec::new(self.alloc);
         while self.is_at_sign(Sign::Comma) {
@@ -174,7 +196,7 @@ impl Parser<'_> {
     fn send(&mut self) -> Result<(WrittenAction, Vec<WrittenAssignment>), Stop>
         ensures shorter { OnOk result (length self.new.rest.now < length self.old.rest.now) }
         ensures read { Gives (λ body. (action_of body.0, map assignment_of body.1.items)) result (map placed_of self.new.rest.now)
-            (read_send true (map placed_of self.old.rest.now)) }
+            (read_send (map placed_of self.old.rest.now)) }
     {
         self.word(b"send")?;
         let target = self.name()?;
@@ -187,7 +209,7 @@ impl Parser<'_> {
     fn receive(&mut self) -> Result<(WrittenAction, Vec<WrittenAssignment>), Stop>
         ensures shorter { OnOk result (length self.new.rest.now < length self.old.rest.now) }
         ensures read { Gives (λ body. (action_of body.0, map assignment_of body.1.items)) result (map placed_of self.new.rest.now)
-            (read_receive true (map placed_of self.old.rest.now)) }
+            (read_receive (map placed_of self.old.rest.now)) }
     {
         self.word(b"recv")?;
         let source = self.name()?;
@@ -201,7 +223,7 @@ impl Parser<'_> {
     fn local(&mut self) -> Result<(WrittenAction, Vec<WrittenAssignment>), Stop>
         ensures shorter { OnOk result (length self.new.rest.now < length self.old.rest.now) }
         ensures read { Gives (λ body. (action_of body.0, map assignment_of body.1.items)) result (map placed_of self.new.rest.now)
-            (read_local true (map placed_of self.old.rest.now)) }
+            (read_local (map placed_of self.old.rest.now)) }
     {
         let first = self.assignment()?;
         let mut assignments = self.all_further()?;
@@ -212,7 +234,7 @@ impl Parser<'_> {
     fn body(&mut self) -> Result<(WrittenAction, Vec<WrittenAssignment>), Stop>
         ensures shorter { OnOk result (length self.new.rest.now < length self.old.rest.now) }
         ensures read { Gives (λ body. (action_of body.0, map assignment_of body.1.items)) result (map placed_of self.new.rest.now)
-            (read_body true (map placed_of self.old.rest.now)) }
+            (read_body (map placed_of self.old.rest.now)) }
     {
         if self.is_at_word(b"send") {
             return self.send();
@@ -227,7 +249,7 @@ impl Parser<'_> {
     fn command(&mut self) -> Result<WrittenCommand, Stop>
         ensures shorter { OnOk result (length self.new.rest.now < length self.old.rest.now) }
         ensures read { Gives command_of result (map placed_of self.new.rest.now)
-            (read_command true (map placed_of self.old.rest.now)) }
+            (read_command (map placed_of self.old.rest.now)) }
     {
         let at = self.word(b"when")?;
         let guard = self.expression()?;
@@ -246,7 +268,7 @@ impl Parser<'_> {
     fn commands(&mut self) -> Result<Vec<WrittenCommand>, Stop>
         ensures shorter { OnOk result (length self.new.rest.now ≤ length self.old.rest.now) }
         ensures read { Gives (λ v. map command_of v.items) result (map placed_of self.new.rest.now)
-            (read_many (begins_word (codes "when")) (read_command true) (map placed_of self.old.rest.now)) }
+            (read_commands (map placed_of self.old.rest.now)) }
     {
         let mut commands = Vec::new(self.alloc);
         while self.is_at_word(b"when") {
@@ -260,7 +282,7 @@ impl Parser<'_> {
     fn process(&mut self) -> Result<WrittenProcess, Stop>
         ensures shorter { OnOk result (length self.new.rest.now < length self.old.rest.now) }
         ensures read { Gives process_of result (map placed_of self.new.rest.now)
-            (read_process true (map placed_of self.old.rest.now)) }
+            (read_process (map placed_of self.old.rest.now)) }
     {
         self.word(b"process")?;
         let name = self.name()?;
@@ -275,39 +297,57 @@ impl Parser<'_> {
         })
     }
 
-    // Is a token left?
-    fn is_left(&self) -> bool
-        ensures { result ≡ is_left (map placed_of self.now.rest.now) }
-    {
-        !self.rest.is_empty()
-    }
-
-    // All processes that come next, to the end of the tokens.
-    fn all_processes(&mut self) -> Result<Vec<WrittenProcess>, Stop>
+    // All processes that come next.
+    fn further_processes(&mut self) -> Result<Vec<WrittenProcess>, Stop>
         ensures shorter { OnOk result (length self.new.rest.now ≤ length self.old.rest.now) }
         ensures read { Gives (λ v. map process_of v.items) result (map placed_of self.new.rest.now)
-            (read_many is_left (read_process true) (map placed_of self.old.rest.now)) }
+            (read_many (is_word_token (codes "process")) read_process (map placed_of self.old.rest.now)) }
     {
         let mut processes = Vec::new(self.alloc);
-        while self.is_left() {
+        while self.is_at_word(b"process") {
             let process = self.process()?;
             processes.push(process)?;
         }
         Ok(processes)
     }
+
+    // One process or more.
+    #[tactic(auto, unfolding(crate::specs::Parsing::read_several))]
+    fn processes(&mut self) -> Result<Vec<WrittenProcess>, Stop>
+        ensures { Gives (λ v. map process_of v.items) result (map placed_of self.new.rest.now)
+            (read_processes (map placed_of self.old.rest.now)) }
+    {
+        let first = self.process()?;
+        let mut processes = self.further_processes()?;
+        processes.insert(0, first)?;
+        Ok(processes)
+    }
 }
 
 /// The processes that these tokens, all of them, write.
-#[tactic(auto, unfolding(crate::specs::Parsing::read_program))]
+#[tactic(auto, unfolding(crate::specs::Parsing::read_whole))]
 pub(crate) fn program(alloc: Global, tokens: &[Placed]) -> Result<Vec<WrittenProcess>, Stop>
-    ensures { Reads result (read_program true (map placed_of tokens.now)) }
+    ensures { Gives (λ v. map process_of v.items) result [] (read_program (map placed_of tokens.now)) }
 {
     let mut parser = Parser {
         alloc,
         rest: tokens,
     };
-    let first = parser.process()?;
-    let mut processes = parser.all_processes()?;
-    processes.insert(0, first)?;
+    let processes = parser.processes()?;
+    parser.end()?;
     Ok(processes)
+}
+
+/// The expression that these tokens, all of them, write.
+#[tactic(auto, unfolding(crate::specs::Parsing::read_whole))]
+pub(crate) fn predicate(alloc: Global, tokens: &[Placed]) -> Result<Phrase, Stop>
+    ensures { Gives phrase_of result [] (read_predicate (map placed_of tokens.now)) }
+{
+    let mut parser = Parser {
+        alloc,
+        rest: tokens,
+    };
+    let expression = parser.expression()?;
+    parser.end()?;
+    Ok(expression)
 }
