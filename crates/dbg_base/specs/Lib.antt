@@ -7,6 +7,7 @@ pub mod WellFormed
 pub mod LocalStates
 pub mod Evaluation
 pub mod Configurations
+pub mod Copies
 pub mod Firing
 pub mod Histories
 pub mod ModelStates

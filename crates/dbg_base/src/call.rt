@@ -1,15 +1,44 @@
 //! What a seat may ask of a session.
 
+ghost use Rattle.std.specs.Prelude.{◌≡◌, map};
+ghost use Rattle.dbg_base.specs.Calls.{conjunct_of};
+ghost use Rattle.dbg_base.specs.Copies.{IsCopy, IsSamePlan, IsSameCall};
+
 use crate::expr::Expr;
 use crate::ids::{Choice, Pid};
 use crate::name::Name;
+use crate::refusal::Refusal;
 use crate::sequence::Sequence;
 
-/// One part of a breakpoint's predicate: a truth expression over the variables of one process.
+/// One part of a breakpoint's predicate: a truth expression of one process.
 #[derive(Debug, Drop)]
 pub struct Conjunct {
     pub pid: Pid,
     pub expr: Expr,
+}
+
+impl Conjunct {
+    /// The same conjunct once more. It is refused only as `Memory`, where that runs out.
+    pub fn copy(&self) -> Result<Conjunct, Refusal>
+        ensures { IsCopy result (λ made. conjunct_of made ≡ conjunct_of self.now) }
+    {
+        let expr = self.expr.copy()?;
+        Ok(Conjunct {
+            pid: self.pid,
+            expr,
+        })
+    }
+}
+
+// The same conjuncts once more.
+fn copied(conjuncts: &Sequence<Conjunct>) -> Result<Sequence<Conjunct>, Refusal>
+    ensures { IsCopy result (λ made. map conjunct_of made ≡ map conjunct_of conjuncts.now) }
+{
+    let mut made = Vec::new(conjuncts.allocator());
+    for conjunct in conjuncts.items() {
+        made.push(conjunct.copy()?)?;
+    }
+    Ok(Sequence::new(made))
 }
 
 /// A command, which changes the session where it is accepted.
@@ -37,6 +66,26 @@ pub enum Plan {
     Pass(Name),
 }
 
+impl Plan {
+    /// The same command once more. It is refused only as `Memory`, where that runs out.
+    pub fn copy(&self) -> Result<Plan, Refusal>
+        ensures { IsCopy result (λ made. IsSamePlan self.now made) }
+    {
+        match self {
+            Plan::Step(pid, choice) => Ok(Plan::Step(*pid, *choice)),
+            Plan::Next(pid) => Ok(Plan::Next(*pid)),
+            Plan::Undo(pid) => Ok(Plan::Undo(*pid)),
+            Plan::Redo(pid) => Ok(Plan::Redo(*pid)),
+            Plan::Rollback(pid, place) => Ok(Plan::Rollback(*pid, *place)),
+            Plan::Goto(name) => Ok(Plan::Goto(*name)),
+            Plan::Break(name, conjuncts) => Ok(Plan::Break(*name, copied(conjuncts)?)),
+            Plan::Clear(name) => Ok(Plan::Clear(*name)),
+            Plan::Arm(name) => Ok(Plan::Arm(*name)),
+            Plan::Pass(name) => Ok(Plan::Pass(*name)),
+        }
+    }
+}
+
 /// A question, which changes nothing.
 #[derive(Clone, Copy, Debug, PartialEq, Eq)]
 pub enum Query {
@@ -58,6 +107,15 @@ pub enum Query {
     Breaks,
 }
 
+impl Query {
+    /// The same question once more. It takes no memory, and is not refused.
+    pub fn copy(&self) -> Result<Query, Refusal>
+        ensures { IsCopy result (λ made. made ≡ self.now) }
+    {
+        Ok(*self)
+    }
+}
+
 /// One call of a session.
 #[derive(Debug, Drop)]
 pub enum Call {
@@ -67,4 +125,17 @@ pub enum Call {
     Back,
     /// A question.
     Ask(Query),
+}
+
+impl Call {
+    /// The same call once more. It is refused only as `Memory`, where that runs out.
+    pub fn copy(&self) -> Result<Call, Refusal>
+        ensures { IsCopy result (λ made. IsSameCall self.now made) }
+    {
+        match self {
+            Call::Give(plan) => Ok(Call::Give(plan.copy()?)),
+            Call::Back => Ok(Call::Back),
+            Call::Ask(query) => Ok(Call::Ask(query.copy()?)),
+        }
+    }
 }

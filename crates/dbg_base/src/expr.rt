@@ -1,6 +1,12 @@
 //! Expressions of the process language.
 
+ghost use Rattle.std.specs.Prelude.{◌≡◌};
+ghost use Rattle.dbg_base.specs.Copies.{IsCopy};
+ghost use Rattle.dbg_base.specs.Trees.{tree_of};
+
 use crate::ids::Pid;
+use crate::refusal::Refusal;
+use std::alloc::Global;
 
 /// What an expression gives, by its outermost form alone.
 #[derive(Clone, Copy, Debug, PartialEq, Eq)]
@@ -47,4 +53,35 @@ pub enum Expr {
     Not(Box<Expr>),
     Negate(Box<Expr>),
     Binary(Operator, Box<Expr>, Box<Expr>),
+}
+
+// The expression in a box of its own.
+fn boxed(alloc: &Global, expr: Expr) -> Result<Box<Expr>, Refusal>
+    ensures { IsCopy result (λ made. made.value ≡ expr) }
+{
+    Ok(Box::new(*alloc, expr)?)
+}
+
+impl Expr {
+    /// The same expression once more. It is refused only as `Memory`, where that runs out.
+    pub fn copy(&self) -> Result<Expr, Refusal>
+        ensures { IsCopy result (λ made. tree_of made ≡ tree_of self.now) }
+    {
+        match self {
+            Expr::Number(number) => Ok(Expr::Number(*number)),
+            Expr::Variable(index) => Ok(Expr::Variable(*index)),
+            Expr::Truth(truth) => Ok(Expr::Truth(*truth)),
+            Expr::Sent(pid) => Ok(Expr::Sent(*pid)),
+            Expr::Got(pid) => Ok(Expr::Got(*pid)),
+            Expr::Not(operand) => Ok(Expr::Not(boxed(Box::allocator(operand), operand.copy()?)?)),
+            Expr::Negate(operand) => {
+                Ok(Expr::Negate(boxed(Box::allocator(operand), operand.copy()?)?))
+            }
+            Expr::Binary(operator, left, right) => Ok(Expr::Binary(
+                *operator,
+                boxed(Box::allocator(left), left.copy()?)?,
+                boxed(Box::allocator(right), right.copy()?)?,
+            )),
+        }
+    }
 }

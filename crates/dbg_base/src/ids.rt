@@ -1,7 +1,9 @@
 //! Numbers of processes and commands, and cuts.
 
-ghost use Rattle.std.specs.Prelude.{◌≡◌, ℕ, List};
+ghost use Rattle.std.specs.Prelude.{◌≡◌};
+ghost use Rattle.dbg_base.specs.Copies.{IsCopy};
 
+use crate::refusal::Refusal;
 use std::marker::Model;
 
 /// A process, by its place in the program, from 0.
@@ -19,6 +21,8 @@ pub struct Cut {
 }
 
 impl Model for Cut {
+    ghost use Rattle.std.specs.Prelude.{ℕ, List};
+
     ghost Value = { List ℕ };
 
     ghost view = { λ cut. cut.counts.items };
@@ -45,5 +49,12 @@ impl Cut {
     {
         let Cut { counts } = self;
         counts
+    }
+
+    /// The same cut once more. It is refused only as `Memory`, where that runs out.
+    pub fn copy(&self) -> Result<Cut, Refusal>
+        ensures { IsCopy result (λ made. made ≡ self.now) }
+    {
+        Ok(Cut::new(self.counts.clone()?))
     }
 }

@@ -1,5 +1,8 @@
 //! What a session answers.
 
+ghost use Rattle.std.specs.Prelude.{◌≡◌};
+ghost use Rattle.dbg_base.specs.Copies.{IsCopy};
+
 use crate::ids::{Choice, Cut, Pid};
 use crate::name::Name;
 use crate::refusal::Refusal;
@@ -18,12 +21,39 @@ pub enum Done {
     Plain,
 }
 
+impl Done {
+    // The same once more.
+    fn copy(&self) -> Result<Done, Refusal>
+        ensures { IsCopy result (λ made. made ≡ self.now) }
+    {
+        match self {
+            Done::Played(pid, choice) => Ok(Done::Played(*pid, *choice)),
+            Done::Undone(pid, choice) => Ok(Done::Undone(*pid, *choice)),
+            Done::Places(places) => Ok(Done::Places(places.copy()?)),
+            Done::Plain => Ok(Done::Plain),
+        }
+    }
+}
+
 /// The answer to an accepted command.
 #[derive(Debug, Drop)]
 pub struct Reply {
     pub done: Done,
     /// The breakpoint that halts the session after the command, if any.
     pub halted: Option<Name>,
+}
+
+impl Reply {
+    // The same reply once more.
+    fn copy(&self) -> Result<Reply, Refusal>
+        ensures { IsCopy result (λ made. made ≡ self.now) }
+    {
+        let done = self.done.copy()?;
+        Ok(Reply {
+            done,
+            halted: self.halted,
+        })
+    }
 }
 
 /// One component of a frontier.
@@ -56,6 +86,28 @@ pub enum Answer {
     Marks(Sequence<(Name, bool)>),
 }
 
+impl Answer {
+    // The same answer once more.
+    fn copy(&self) -> Result<Answer, Refusal>
+        ensures { IsCopy result (λ made. made ≡ self.now) }
+    {
+        match self {
+            Answer::Values(values) => Ok(Answer::Values(values.copy()?)),
+            Answer::Messages(messages) => Ok(Answer::Messages(messages.copy()?)),
+            Answer::Counts(counts) => Ok(Answer::Counts(counts.copy()?)),
+            Answer::PlaceOf { at, line } => Ok(Answer::PlaceOf {
+                at: *at,
+                line: *line,
+            }),
+            Answer::CanUndo(can) => Ok(Answer::CanUndo(*can)),
+            Answer::CutIs(Some(cut)) => Ok(Answer::CutIs(Some(cut.copy()?))),
+            Answer::CutIs(None) => Ok(Answer::CutIs(None)),
+            Answer::Frontier(heads) => Ok(Answer::Frontier(heads.copy()?)),
+            Answer::Marks(marks) => Ok(Answer::Marks(marks.copy()?)),
+        }
+    }
+}
+
 /// What a session says to a call.
 #[derive(Debug, Drop)]
 pub enum Said {
@@ -65,4 +117,17 @@ pub enum Said {
     Answered(Answer),
     /// The call was refused, and changed nothing.
     Refused(Refusal),
+}
+
+impl Said {
+    /// The same answer once more. It is refused only as `Memory`, where that runs out.
+    pub fn copy(&self) -> Result<Said, Refusal>
+        ensures { IsCopy result (λ made. made ≡ self.now) }
+    {
+        match self {
+            Said::Accepted(reply) => Ok(Said::Accepted(reply.copy()?)),
+            Said::Answered(answer) => Ok(Said::Answered(answer.copy()?)),
+            Said::Refused(refusal) => Ok(Said::Refused(*refusal)),
+        }
+    }
 }

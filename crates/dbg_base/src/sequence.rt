@@ -1,7 +1,10 @@
 //! A list, as a value that contracts compare.
 
-ghost use Rattle.std.specs.Prelude.{◌≡◌, List};
+ghost use Rattle.std.specs.Prelude.{◌≡◌};
+ghost use Rattle.dbg_base.specs.Copies.{IsCopy};
 
+use crate::refusal::Refusal;
+use std::alloc::Global;
 use std::marker::Model;
 
 /// A list of values, which contracts see as that list alone, and not with the memory that it takes.
@@ -11,6 +14,8 @@ pub struct Sequence<T> {
 }
 
 impl<T> Model for Sequence<T> {
+    ghost use Rattle.std.specs.Prelude.{List};
+
     ghost Value = { List T };
 
     ghost view = { λ sequence. sequence.items.items };
@@ -31,11 +36,25 @@ impl<T> Sequence<T> {
         self.items.as_slice()
     }
 
+    // The allocator of the items.
+    pub(crate) fn allocator(&self) -> Global {
+        *self.items.allocator()
+    }
+
     /// Gives the items back. It takes no memory.
     pub fn into_items(self) -> Vec<T>
         ensures { result.items ≡ self }
     {
         let Sequence { items } = self;
         items
+    }
+}
+
+impl<T: Copy> Sequence<T> {
+    // The same items once more.
+    pub(crate) fn copy(&self) -> Result<Sequence<T>, Refusal>
+        ensures { IsCopy result (λ made. made ≡ self.now) }
+    {
+        Ok(Sequence::new(Vec::from_slice(self.allocator(), self.items())?))
     }
 }
