@@ -4,15 +4,6 @@ pub mod Runs
 pub mod Numbers
 pub mod Lexing
 pub mod TokenLists
-pub mod Expressions
-pub mod Repeats
-pub mod Takes
 pub mod Checked
 pub mod CheckedLists
 pub mod TokenLaws
-pub mod Derivations
-pub mod Parsed
-pub mod DerivationsExpressions
-pub mod DerivationsSteps
-pub mod DerivationsBodies
-pub mod DerivationsPrograms

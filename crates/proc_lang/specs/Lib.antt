@@ -2,8 +2,4 @@ pub mod ProcessTrees
 pub mod Programs
 pub mod Scanning
 pub mod Writing
-pub mod Small
-pub mod Parsing
-pub mod Reading
 pub mod Checking
-pub mod Answering

@@ -3,10 +3,7 @@
 
 mod check;
 mod fault;
-pub mod laws;
 mod lexer;
-mod parse;
-mod parser;
 mod process;
 mod program;
 mod scan;
@@ -15,6 +12,5 @@ mod token;
 
 pub use dbg_base::{FaultKind, ProgFault};
 pub use fault::ProgError;
-pub use parse::parse_program;
 pub use process::{Action, Assignment, Guarded};
 pub use program::Program;

@@ -1,8 +1,0 @@
-use Rattle.std.proofs.Common.{◌≡◌, true, sym, subst}
-use Rattle.dbg_base.specs.Trees.{Program}
-use Rattle.dbg_base.specs.WellFormed.{is_well_formed}
-use Rattle.dbg_base.proofs.WellFormedTrees.{says_well_formed}
-use Rattle.proc_lang.proofs.laws.reads_well_formed.Goals as goal
-
-pub returns : goal.returns
-returns c = λ text P reads. subst (λ (Q : Program). is_well_formed Q ≡ true) (sym reads.says) (says_well_formed reads.written reads.checks)
