@@ -1,12 +1,14 @@
--- Worked rows, computed from the definitions: a counter that feeds a consumer.
-use Rattle.std.proofs.Common.{◌≡◌, ℕ, pos, negsuc, List, [], ◌∷◌, ◌++◌, Some, None, Ok, Err, true, false, refl}
+-- Worked rows, computed from the definitions: a counter that feeds a consumer, and two processes that count their messages.
+use Rattle.std.proofs.Common.{◌≡◌, ℕ, ℤ, pos, negsuc, List, [], ◌∷◌, ◌++◌, Some, None, Ok, Err, true, false, refl}
 use Rattle.std.specs.Prelude.{codes}
+use Rattle.dbg_base.specs.declared.expr.Direction.TheVariants.{Sent, Got}
 use Rattle.dbg_base.specs.declared.expr.Operator.TheVariants.{Add, Subtract, Divide, Remainder, Less, Greater, Or, Equal}
 use Rattle.dbg_base.specs.declared.refusal.Refusal.TheVariants.{GuardFalse, ChannelEmpty, UnknownProcess, BadLine}
-use Rattle.dbg_base.specs.Trees.{Number, Variable, Truth, Binary, Local, Sends, Receives, Process, Program}
+use Rattle.dbg_base.specs.Trees.{Number, Variable, Truth, Count, Binary, Local, Sends, Receives, Command, Process, Program}
+use Rattle.dbg_base.specs.LocalStates.{LocalState}
 use Rattle.dbg_base.specs.Evaluation.{Num, Tru, evaluate}
-use Rattle.dbg_base.specs.Configurations.{start_of}
-use Rattle.dbg_base.specs.Firing.{fire}
+use Rattle.dbg_base.specs.Configurations.{start_of, values_of, channel_of}
+use Rattle.dbg_base.specs.Firing.{fire, effect_of}
 use Rattle.dbg_base.specs.Histories.{play, local_state, progress_of}
 use Rattle.dbg_base.specs.ModelStates.{opening_state, after_choice, configuration_of}
 use Rattle.dbg_base.specs.Calls.{Give, Next, Ask, Vars}
@@ -44,25 +46,29 @@ consumer = record {
 abbrev system : Program
 system = counter ∷ consumer ∷ []
 
+-- a process with these values that knows of no other one
+abbrev valued : List ℤ → LocalState
+valued values = record { values = values; sent = []; got = [] }
+
 -- the least signed number of 64 bits by -1, and what rounds toward zero
-quotient_overflows : evaluate (Binary Divide (Number (negsuc 9223372036854775807)) (Number (negsuc 0))) [] ≡ None
+quotient_overflows : evaluate (Binary Divide (Number (negsuc 9223372036854775807)) (Number (negsuc 0))) (valued []) ≡ None
 quotient_overflows = refl
 
-remainder_overflows : evaluate (Binary Remainder (Number (negsuc 9223372036854775807)) (Number (negsuc 0))) [] ≡ None
+remainder_overflows : evaluate (Binary Remainder (Number (negsuc 9223372036854775807)) (Number (negsuc 0))) (valued []) ≡ None
 remainder_overflows = refl
 
-quotient_toward_zero : evaluate (Binary Divide (Number (negsuc 6)) (Number (pos 2))) [] ≡ Some (Num (negsuc 2))
+quotient_toward_zero : evaluate (Binary Divide (Number (negsuc 6)) (Number (pos 2))) (valued []) ≡ Some (Num (negsuc 2))
 quotient_toward_zero = refl
 
-remainder_of_the_dividend : evaluate (Binary Remainder (Number (negsuc 6)) (Number (pos 2))) [] ≡ Some (Num (negsuc 0))
+remainder_of_the_dividend : evaluate (Binary Remainder (Number (negsuc 6)) (Number (pos 2))) (valued []) ≡ Some (Num (negsuc 0))
 remainder_of_the_dividend = refl
 
-sum_overflows : evaluate (Binary Add (Variable 0) (Number (pos 9223372036854775807))) (pos 1 ∷ []) ≡ None
+sum_overflows : evaluate (Binary Add (Variable 0) (Number (pos 9223372036854775807))) (valued (pos 1 ∷ [])) ≡ None
 sum_overflows = refl
 
 -- `((x = 0) or ((x / 0) = 1))`
 or_stops : evaluate (Binary Or (Binary Equal (Variable 0) (Number (pos 0)))
-    (Binary Equal (Binary Divide (Variable 0) (Number (pos 0))) (Number (pos 1)))) (pos 0 ∷ []) ≡ Some (Tru true)
+    (Binary Equal (Binary Divide (Variable 0) (Number (pos 0))) (Number (pos 1)))) (valued (pos 0 ∷ [])) ≡ Some (Tru true)
 or_stops = refl
 
 -- at the start the counter fires, and the consumer doesn't: its first command finds no message, and the guard of its second is false
@@ -84,13 +90,14 @@ abbrev two_and_one : List (List ℕ)
 two_and_one = (0 ∷ 0 ∷ []) ∷ (0 ∷ []) ∷ []
 
 plays_two_and_one : play system two_and_one ≡ record {
-  values = (pos 2 ∷ []) ∷ (pos 1 ∷ pos 1 ∷ []) ∷ [];
+  states = record { values = pos 2 ∷ []; sent = 0 ∷ 2 ∷ []; got = 0 ∷ 0 ∷ [] }
+      ∷ record { values = pos 1 ∷ pos 1 ∷ []; sent = 0 ∷ 0 ∷ []; got = 1 ∷ 0 ∷ [] } ∷ [];
   channels = ([] ∷ (pos 2 ∷ []) ∷ []) ∷ ([] ∷ [] ∷ []) ∷ [];
 }
 plays_two_and_one = refl
 
 -- the local state of the counter after its first event in that play
-counter_after_one : local_state system two_and_one 0 1 ≡ pos 1 ∷ []
+counter_after_one : local_state system two_and_one 0 1 ≡ record { values = pos 1 ∷ []; sent = 0 ∷ 1 ∷ []; got = 0 ∷ 0 ∷ [] }
 counter_after_one = refl
 
 -- a receive without its send is not played
@@ -98,8 +105,73 @@ orphan_stays_unplayed : (progress_of system ([] ∷ (0 ∷ []) ∷ [])).unplayed
 orphan_stays_unplayed = refl
 
 -- after `next a` the variable of a is 1
-after_next : (configuration_of system (after_choice (opening_state system) 0 0)).values ≡ (pos 1 ∷ []) ∷ (pos 0 ∷ pos 0 ∷ []) ∷ []
+after_next : values_of (configuration_of system (after_choice (opening_state system) 0 0)) 0 ≡ pos 1 ∷ []
 after_next = refl
+
+-- messages that are counted: a sends twice, each time the count of those before and 10, and b receives what it has counted
+abbrev sender : Process
+sender = record {
+  name = codes "a";
+  variables = (codes "x", pos 0) ∷ [];
+  commands = record {
+    guard = Binary Less (Count Sent 1) (Number (pos 2));
+    action = Sends 1 (Binary Add (Count Sent 1) (Number (pos 10)));
+    assignments = [];
+  } ∷ [];
+}
+
+abbrev second_receive : Command
+second_receive = record {
+  guard = Binary Equal (Count Got 0) (Number (pos 1));
+  action = Receives 0 0;
+  assignments = (1, Binary Add (Variable 0) (Count Got 0)) ∷ [];
+}
+
+abbrev receiver : Process
+receiver = record {
+  name = codes "b";
+  variables = (codes "y", pos 0) ∷ (codes "z", pos 0) ∷ [];
+  commands = record {
+    guard = Binary Equal (Count Got 0) (Number (pos 0));
+    action = Receives 0 0;
+    assignments = [];
+  } ∷ second_receive ∷ [];
+}
+
+abbrev pair : Program
+pair = sender ∷ receiver ∷ []
+
+-- the play of two sends and two receives
+abbrev two_and_two : List (List ℕ)
+two_and_two = (0 ∷ 0 ∷ []) ∷ (0 ∷ 1 ∷ []) ∷ []
+
+plays_two_and_two : play pair two_and_two ≡ record {
+  states = record { values = pos 0 ∷ []; sent = 0 ∷ 2 ∷ []; got = 0 ∷ 0 ∷ [] }
+      ∷ record { values = pos 11 ∷ pos 12 ∷ []; sent = 0 ∷ 0 ∷ []; got = 2 ∷ 0 ∷ [] } ∷ [];
+  channels = ([] ∷ [] ∷ []) ∷ ([] ∷ [] ∷ []) ∷ [];
+}
+plays_two_and_two = refl
+
+-- what it sends is the count before that send
+sends_ten_and_eleven : channel_of (play pair ((0 ∷ 0 ∷ []) ∷ [] ∷ [])) 0 1 ≡ pos 10 ∷ pos 11 ∷ []
+sends_ten_and_eleven = refl
+
+-- the second receive reads its message, and the count before it
+reads_the_count_before : effect_of second_receive (local_state pair two_and_two 1 1) (Some (pos 11)) ≡ Some (record {
+  sets = (0, pos 11) ∷ (1, pos 12) ∷ [];
+  message = None;
+})
+reads_the_count_before = refl
+
+no_third_send : fire pair (play pair two_and_two) 0 0 ≡ Err GuardFalse
+no_third_send = refl
+
+pair_is_well_formed : is_well_formed pair ≡ true
+pair_is_well_formed = refl
+
+-- a process that is not there has no count
+counts_of_no_process : evaluate (Count Got 2) (local_state pair two_and_two 1 2) ≡ None
+counts_of_no_process = refl
 
 -- the system is as each program that is read; the counter beside itself is not: names differ, and it would send to itself
 system_is_well_formed : is_well_formed system ≡ true

@@ -1,56 +1,54 @@
--- A written program of which no check fails says a well-formed tree.
-use Rattle.std.proofs.Common.{◌≡◌, ◌≢◌, ℕ, ℤ, suc, ◌+◌, ◌<◌, ◌≤◌, eqb, Bool, true, false, not, ◌&&◌, ◌||◌, List, [], ◌∷◌, ◌++◌, length, map}
-use Rattle.std.proofs.Common.{take, drop, get_or, Option, Some, None, refl, sym, ap, ◌∙◌, subst, arith, ◌⊎◌, inl, inr}
-use Rattle.std.specs.Prelude.{nat_lt, nat_le, unwrap_or}
-use Rattle.std.specs.List.{list_all, list_any, flat_map, AllByRecursion}
+-- A written program of which no check fails says a well-formed tree, and an expression of which none fails says one that fits.
+use Rattle.std.proofs.Common.{◌≡◌, ◌≢◌, ℕ, ℤ, suc, ◌+◌, ◌<◌, ◌≤◌, eqb, Bool, true, false, not, ◌||◌, List, [], ◌∷◌, ◌++◌, length, map}
+use Rattle.std.proofs.Common.{drop, get_or, Option, Some, refl, sym, ap, ◌∙◌, subst, arith}
+use Rattle.std.specs.Prelude.{nat_lt, unwrap_or}
+use Rattle.std.specs.List.{list_all, list_any, AllByRecursion}
 use Rattle.std.specs.Str.{bytes_eq}
-use Rattle.std.proofs.lemmas.Bool.{le-leb, lt-ltb, eqb-true}
-use Rattle.std.proofs.lemmas.List.{length-map, length-take, length-drop, get_or-drop, drop-drop}
+use Rattle.std.specs.Cmp.Derive.{both_true}
+use Rattle.std.proofs.lemmas.Bool.{le-leb, lt-ltb, ne_eqb, false_from_ne_true}
+use Rattle.std.proofs.lemmas.Bool.Decides.{nat_tests}
+use Rattle.std.proofs.lemmas.List.{length-map, get_or-drop, drop-drop}
+use Rattle.std.proofs.Math.ListN.{get_or-map}
 use Rattle.std.proofs.lemmas.Slice.Eq.{bytes_eq-Decides}
 use Rattle.dbg_base.specs.declared.expr.Sort.{Sort}
 use Rattle.dbg_base.specs.declared.expr.Sort.TheVariants as sort
-use Rattle.dbg_base.specs.declared.expr.Operator.{Operator}
-use Rattle.dbg_base.specs.declared.fault.ProgFault.{ProgFault}
 use Rattle.dbg_base.specs.declared.fault.FaultKind.{FaultKind}
-use Rattle.dbg_base.specs.declared.fault.FaultKind.TheVariants.{Limit, SelfSend, SetTwice, TypeWrong, NameUnknown, NameTaken}
 use Rattle.dbg_base.specs.declared.limits.TheConstants.{PROCESSES, VARIABLES, COMMANDS}
-use Rattle.dbg_base.specs.Names.{place_from, place_of, is_among}
-use Rattle.dbg_base.specs.Sorts.{is_same_sort, operand_sort}
+use Rattle.dbg_base.specs.Names.{place_from, is_among}
+use Rattle.dbg_base.specs.Sorts.{outcome_sort, operand_sort}
 use Rattle.dbg_base.specs.Trees as tree
-use Rattle.dbg_base.specs.Trees.{Program, names_of}
-use Rattle.dbg_base.specs.Grammar.{Named, Phrase, Number, Name, Truth, Not, Negate, Binary, WrittenAction, Local, Sends, Receives}
+use Rattle.dbg_base.specs.Grammar.{Named, Phrase, Number, Name, Truth, Count, Not, Negate, Binary, WrittenAction, Local, Sends, Receives}
 use Rattle.dbg_base.specs.Grammar.{WrittenAssignment, WrittenCommand, WrittenVariable, WrittenProcess}
-use Rattle.dbg_base.specs.Checks.{sort_of, start_of_phrase, fault_where, unknown, wrong_sort, faults_within, expression_faults}
-use Rattle.dbg_base.specs.Checks.{target_faults, action_faults, set_by_action, assignment_faults, command_faults, taken_faults}
-use Rattle.dbg_base.specs.Checks.{limit_faults, variable_names, process_faults, process_names, check_faults, index_of, phrase_tree}
-use Rattle.dbg_base.specs.Checks.{action_tree, command_tree, process_tree, program_tree}
-use Rattle.dbg_base.specs.WellFormed.{tree_sort, fits_within, is_fit, are_fresh, are_unset, is_other, action_fits, set_before}
-use Rattle.dbg_base.specs.WellFormed.{assignments_fit, command_fits, process_fits, processes_fit, is_well_formed}
+use Rattle.dbg_base.specs.Checks.{Scope, fault_where, unknown, wrong_sort, target_faults, expression_faults, action_faults}
+use Rattle.dbg_base.specs.Checks.{set_by_action, assigned_faults, assignment_faults, command_faults, name_faults, variables_faults}
+use Rattle.dbg_base.specs.Checks.{commands_faults, scope_among, process_faults, processes_faults, process_names, check_faults, index_of}
+use Rattle.dbg_base.specs.Checks.{phrase_tree, action_tree, assignment_tree, command_tree, process_tree, program_tree, scope_of}
+use Rattle.dbg_base.specs.WellFormed.{Bounds, is_other, is_fit, are_fresh, are_unset, action_fits, set_before, assignments_fit}
+use Rattle.dbg_base.specs.WellFormed.{command_fits, bounds_among, bounds_of, process_fits, processes_fit, is_well_formed}
 
-both_true : (a b : Bool) → a ≡ true → b ≡ true → (a && b) ≡ true
-both_true true b x y = y
-both_true false b x y = x
+both_empty : {A : Type 0} (xs ys : List A) → xs ++ ys ≡ [] → (xs ≡ []) × (ys ≡ [])
+both_empty [] ys e = (refl, e)
+both_empty (x ∷ xs) ys e = cc
 
 neither : (b c : Bool) → (b || c) ≡ false → (b ≡ false) × (c ≡ false)
-neither true c e = absurd (let h : true ≡ false = e in cc)
+neither true c e = cc
 neither false c e = (refl, e)
 
 neither_true : (b c : Bool) → b ≡ false → c ≡ false → (b || c) ≡ false
 neither_true true c x y = x
 neither_true false c x y = y
 
-both_empty : {A : Type 0} (xs ys : List A) → xs ++ ys ≡ [] → (xs ≡ []) × (ys ≡ [])
-both_empty [] ys e = (refl, e)
-both_empty (x ∷ xs) ys e = cc
+-- a test that makes no fault, and one whose failure makes none
+fails : (b : Bool) (kind : FaultKind) (at : ℕ) → fault_where b kind at ≡ [] → b ≡ false
+fails true kind at none = cc
+fails false kind at none = refl
 
--- a test that makes no fault
-passes : (b : Bool) (kind : FaultKind) (at : ℕ) → fault_where b kind at ≡ [] → b ≡ false
-passes true kind at e = cc
-passes false kind at e = refl
+holds : (b : Bool) (kind : FaultKind) (at : ℕ) → fault_where (not b) kind at ≡ [] → b ≡ true
+holds true kind at none = refl
+holds false kind at none = cc
 
-not_false : (b : Bool) → not b ≡ false → b ≡ true
-not_false true e = refl
-not_false false e = sym e
+differ : (a b : List ℕ) → bytes_eq a b ≡ false → a ≢ b
+differ a b other same = let equal : bytes_eq a b ≡ true = (bytes_eq-Decides a b).1 same in cc
 
 -- a name that is among these has a place there
 record HasPlace (first : ℕ) (name : List ℕ) (names : List (List ℕ)) : Type 0 where
@@ -84,12 +82,9 @@ place_by first name n names false is behind = place_behind first name n names is
 among_behind : (name n : List ℕ) (names : List (List ℕ)) → is_among name (n ∷ names) ≡ true → bytes_eq n name ≡ false
     → is_among name names ≡ true
 among_behind name n names among other =
-    let apart : bytes_eq name n ≡ false = differ (bytes_eq name n) refl in
+    let apart : bytes_eq name n ≡ false =
+    false_from_ne_true _ (λ is. differ n name other (sym ((bytes_eq-Decides name n).0 is))) in
     rw apart at among
-  where
-    differ : (b : Bool) → bytes_eq name n ≡ b → bytes_eq name n ≡ false
-    differ true is = let same : bytes_eq n name ≡ true = (bytes_eq-Decides n name).1 (sym ((bytes_eq-Decides name n).0 is)) in cc
-    differ false is = is
 
 has_place : (first : ℕ) (name : List ℕ) (names : List (List ℕ)) → is_among name names ≡ true → HasPlace first name names
 has_place first name [] among = absurd (let e : false ≡ true = among in cc)
@@ -108,239 +103,222 @@ among_known names name among =
     record { within = omega (arith, h.within, index); there = ap (λ (k : ℕ). get_or names k []) index ∙ h.there }
 
 named_known : (names : List (List ℕ)) (named : Named) → unknown names named ≡ [] → IsKnown names named.name
-named_known names named none = among_known names named.name (not_false _ (passes _ NameUnknown named.at none))
+named_known names named none = among_known names named.name (holds _ _ _ none)
 
-known_within : (names : List (List ℕ)) (name : List ℕ) → IsKnown names name → nat_lt (index_of names name) (length names) ≡ true
-known_within names name known = lt-ltb _ _ known.within
+-- two names with one index are the same name
+same_name : (names : List (List ℕ)) (a b : List ℕ) → IsKnown names a → IsKnown names b → index_of names a ≡ index_of names b → a ≡ b
+same_name names a b x y e = sym x.there ∙ ap (λ (k : ℕ). get_or names k []) e ∙ y.there
 
--- two indices are the same for one name alone
-same_index : (names : List (List ℕ)) (a b : List ℕ) → IsKnown names a → IsKnown names b → index_of names a ≡ index_of names b → a ≡ b
-same_index names a b x y e = sym x.there ∙ ap (λ (k : ℕ). get_or names k []) e ∙ y.there
+-- as many as may be are not there yet
+below_limit : (n limit : ℕ) → n ≤ limit → eqb n limit ≡ false → n < limit
+below_limit n limit few other = grind (arith, nat_tests)
 
-false_unless : (b : Bool) → (b ≡ true → ⊥) → b ≡ false
-false_unless true f = absurd (f refl)
-false_unless false f = refl
+-- what is named in this scope is numbered within these bounds
+record Matches (scope : Scope) (bounds : Bounds) : Type 0 where
+  processes : length scope.processes ≡ bounds.processes
+  own : get_or scope.processes bounds.own [] ≡ scope.own
+  variables : length scope.variables ≡ bounds.variables
 
--- expressions
-sort_said : (variables : List (List ℕ)) (phrase : Phrase) → tree_sort (phrase_tree variables phrase) ≡ sort_of phrase
-sort_said variables (Number at value) = refl
-sort_said variables (Name at name) = refl
-sort_said variables (Truth at value) = refl
-sort_said variables (Not at operand) = refl
-sort_said variables (Negate at operand) = refl
-sort_said variables (Binary at operator left right) = refl
+module _ (scope : Scope) (bounds : Bounds) (same : Matches scope bounds) where
+  variable_fits : (name : List ℕ) → IsKnown scope.variables name → nat_lt (index_of scope.variables name) bounds.variables ≡ true
+  variable_fits name known = lt-ltb _ _ (omega (arith, known.within, same.variables))
 
-module _ (variables : List (List ℕ)) where
-  sort_fits : (wanted : Sort) (phrase : Phrase) → wrong_sort wanted phrase ≡ []
-      → is_same_sort wanted (tree_sort (phrase_tree variables phrase)) ≡ true
-  sort_fits wanted phrase none =
-      ap (is_same_sort wanted) (sort_said variables phrase)
-      ∙ not_false (is_same_sort wanted (sort_of phrase)) (passes _ TypeWrong (start_of_phrase phrase) none)
+  target_fits : (target : Named) → target_faults scope target ≡ [] → is_other bounds (index_of scope.processes target.name) ≡ true
+  target_fits target none =
+      let parts = both_empty (unknown scope.processes target) _ none in
+      let known = named_known scope.processes target parts.0 in
+      let other : index_of scope.processes target.name ≢ bounds.own = λ at_own.
+      differ _ _ (fails _ _ _ parts.1) (sym known.there ∙ ap (λ (k : ℕ). get_or scope.processes k []) at_own ∙ same.own) in
+      both_true (lt-ltb _ _ (omega (arith, known.within, same.processes))) (ap not (ne_eqb _ _ other))
 
-  whole_fits : (wanted : Sort) (phrase : Phrase)
-      → (faults_within variables phrase ≡ [] → fits_within (length variables) (phrase_tree variables phrase) ≡ true)
-      → expression_faults variables wanted phrase ≡ [] → is_fit (length variables) wanted (phrase_tree variables phrase) ≡ true
-  whole_fits wanted phrase inner none =
-      let parts = both_empty (wrong_sort wanted phrase) (faults_within variables phrase) none in
-      both_true _ _ (sort_fits wanted phrase parts.0) (inner parts.1)
-
-  inner_fits : (phrase : Phrase) → faults_within variables phrase ≡ []
-      → fits_within (length variables) (phrase_tree variables phrase) ≡ true
-  inner_fits (Number at value) none = refl
-  inner_fits (Name at name) none = known_within variables name (named_known variables (record { at = at; name = name }) none)
-  inner_fits (Truth at value) none = refl
-  inner_fits (Not at operand) none = whole_fits sort.Truth operand (inner_fits operand) none
-  inner_fits (Negate at operand) none = whole_fits sort.Number operand (inner_fits operand) none
-  inner_fits (Binary at operator left right) none =
-      let asked = operand_sort operator in
-      let sides = both_empty (expression_faults variables asked left) (expression_faults variables asked right) none in
-      both_true _ _ (whole_fits asked left (inner_fits left) sides.0) (whole_fits asked right (inner_fits right) sides.1)
-
-  phrase_fits : (wanted : Sort) (phrase : Phrase) → expression_faults variables wanted phrase ≡ []
-      → is_fit (length variables) wanted (phrase_tree variables phrase) ≡ true
-  phrase_fits wanted phrase none = whole_fits wanted phrase (inner_fits phrase) none
+  phrase_fits : (wanted : Sort) (phrase : Phrase) → expression_faults scope wanted phrase ≡ []
+      → is_fit bounds wanted (phrase_tree scope phrase) ≡ true
+  phrase_fits wanted (Number at value) none = both_true (holds _ _ _ none) refl
+  phrase_fits wanted (Name at name) none =
+      let parts = both_empty (unknown scope.variables (record { at = at; name = name })) _ none in
+      both_true (holds _ _ _ parts.1) (variable_fits name (named_known scope.variables _ parts.0))
+  phrase_fits wanted (Truth at value) none = both_true (holds _ _ _ none) refl
+  phrase_fits wanted (Count at direction other) none =
+      let parts = both_empty (wrong_sort wanted sort.Number at) _ none in
+      both_true (holds _ _ _ parts.0) (target_fits other parts.1)
+  phrase_fits wanted (Not at operand) none =
+      let parts = both_empty (wrong_sort wanted sort.Truth at) _ none in
+      both_true (holds _ _ _ parts.0) (phrase_fits sort.Truth operand parts.1)
+  phrase_fits wanted (Negate at operand) none =
+      let parts = both_empty (wrong_sort wanted sort.Number at) _ none in
+      both_true (holds _ _ _ parts.0) (phrase_fits sort.Number operand parts.1)
+  phrase_fits wanted (Binary at operator left right) none =
+      let parts = both_empty (wrong_sort wanted (outcome_sort operator) at) _ none in
+      let sides = both_empty (expression_faults scope (operand_sort operator) left) _ parts.1 in
+      both_true (holds _ _ _ parts.0) (both_true (phrase_fits _ left sides.0) (phrase_fits _ right sides.1))
 
   -- no variable that is set before has the index of this one
-  apart : (name e : List ℕ) → IsKnown variables name → IsKnown variables e → bytes_eq name e ≡ false
-      → eqb (index_of variables name) (index_of variables e) ≡ false
-  apart name e x y other = false_unless _ (λ same.
-      let names : name ≡ e = same_index variables name e x y (eqb-true _ _ same) in
-      let equal : bytes_eq name e ≡ true = (bytes_eq-Decides name e).1 names in
-      let bad : true ≡ false = sym equal ∙ other in cc)
-
-  unset : (name : List ℕ) (earlier : List (List ℕ)) → IsKnown variables name → AllByRecursion (IsKnown variables) earlier
+  unset : (name : List ℕ) (earlier : List (List ℕ)) → IsKnown scope.variables name → AllByRecursion (IsKnown scope.variables) earlier
       → is_among name earlier ≡ false
-      → list_any (λ other. eqb (index_of variables name) other) (map (index_of variables) earlier) ≡ false
+      → list_any (λ other. eqb (index_of scope.variables name) other) (map (index_of scope.variables) earlier) ≡ false
   unset name [] known all none = refl
   unset name (e ∷ earlier) known all none =
       let parts = neither (bytes_eq name e) (is_among name earlier) none in
-      neither_true _ _ (apart name e known all.0 parts.0) (unset name earlier known all.1 parts.1)
-
-  -- the variables and values of assignments
-  abbrev assigned : WrittenAssignment → ℕ × tree.Tree
-  assigned a = (index_of variables a.variable.name, phrase_tree variables a.value)
+      let apart = ne_eqb _ _ (λ index. differ name e parts.0 (same_name scope.variables name e known all.0 index)) in
+      neither_true _ _ apart (unset name earlier known all.1 parts.1)
 
   record AssignmentsFit (earlier : List (List ℕ)) (all : List WrittenAssignment) : Type 0 where
-    fit : assignments_fit (length variables) (map assigned all) ≡ true
-    unset_before : are_unset (map (index_of variables) earlier) (map (λ a. a.0) (map assigned all)) ≡ true
+    fit : assignments_fit bounds (map (assignment_tree scope) all) ≡ true
+    unset_before : are_unset (map (index_of scope.variables) earlier) (map (λ a. a.0) (map (assignment_tree scope) all)) ≡ true
 
-  all_assigned : (earlier : List (List ℕ)) (all : List WrittenAssignment) → AllByRecursion (IsKnown variables) earlier
-      → assignment_faults variables earlier all ≡ [] → AssignmentsFit earlier all
+  all_assigned : (earlier : List (List ℕ)) (all : List WrittenAssignment) → AllByRecursion (IsKnown scope.variables) earlier
+      → assignment_faults scope earlier all ≡ [] → AssignmentsFit earlier all
   all_assigned earlier [] known none = record { fit = refl; unset_before = refl }
   all_assigned earlier (a ∷ all) known none =
-      let own : List ProgFault = unknown variables a.variable ++ fault_where (is_among a.variable.name earlier) SetTwice a.variable.at in
-      let parts =
-      both_empty (own ++ expression_faults variables sort.Number a.value)
-      (assignment_faults variables (a.variable.name ∷ earlier) all) none in
-      let first = both_empty own (expression_faults variables sort.Number a.value) parts.0 in
-      let name =
-      both_empty (unknown variables a.variable) (fault_where (is_among a.variable.name earlier) SetTwice a.variable.at) first.0 in
-      let here : IsKnown variables a.variable.name = named_known variables a.variable name.0 in
+      let parts = both_empty (assigned_faults scope earlier a) _ none in
+      let first = both_empty (unknown scope.variables a.variable ++ _) (expression_faults scope sort.Number a.value) parts.0 in
+      let name = both_empty (unknown scope.variables a.variable) _ first.0 in
+      let here = named_known scope.variables a.variable name.0 in
       let behind = all_assigned (a.variable.name ∷ earlier) all (here, known) parts.1 in
-      let fresh = unset a.variable.name earlier here known (passes _ SetTwice a.variable.at name.1) in
       record {
-        fit =
-            both_true _ _ (both_true _ _ (known_within variables a.variable.name here) (phrase_fits sort.Number a.value first.1))
-            behind.fit;
-        unset_before = both_true _ _ (ap not fresh) behind.unset_before;
+        fit = both_true (both_true (variable_fits _ here) (phrase_fits sort.Number a.value first.1)) behind.fit;
+        unset_before = both_true (ap not (unset _ earlier here known (fails _ _ _ name.1))) behind.unset_before;
       }
 
-  module _ (processes : List (List ℕ)) (own : ℕ) where
-    target_fits : (target : Named) → target_faults processes (get_or processes own []) target ≡ []
-        → is_other (length processes) own (index_of processes target.name) ≡ true
-    target_fits target none =
-        let parts =
-        both_empty (unknown processes target) (fault_where (bytes_eq target.name (get_or processes own [])) SelfSend target.at) none in
-        let known = named_known processes target parts.0 in
-        let other : bytes_eq target.name (get_or processes own []) ≡ false = passes _ SelfSend target.at parts.1 in
-        both_true _ _ (known_within processes target.name known) (ap not (false_unless (eqb (index_of processes target.name) own) (λ same.
-        let names : target.name ≡ get_or processes own [] = sym known.there ∙ ap (λ (k : ℕ). get_or processes k []) (eqb-true _ _ same) in
-        let equal : bytes_eq target.name (get_or processes own []) ≡ true = (bytes_eq-Decides _ _).1 names in
-        let bad : true ≡ false = sym equal ∙ other in cc)))
+  record ActionFits (action : WrittenAction) : Type 0 where
+    fits : action_fits bounds (action_tree scope action) ≡ true
+    known : AllByRecursion (IsKnown scope.variables) (set_by_action action)
+    set : set_before (action_tree scope action) ≡ map (index_of scope.variables) (set_by_action action)
 
-    record ActionFits (action : WrittenAction) : Type 0 where
-      fits : action_fits (length processes) own (length variables) (action_tree processes variables action) ≡ true
-      known : AllByRecursion (IsKnown variables) (set_by_action action)
-      set : set_before (action_tree processes variables action) ≡ map (index_of variables) (set_by_action action)
+  action_fit : (action : WrittenAction) → action_faults scope action ≡ [] → ActionFits action
+  action_fit Local none = record { fits = refl; known = tt; set = refl }
+  action_fit (Sends target value) none =
+      let parts = both_empty (target_faults scope target) _ none in
+      record { fits = both_true (target_fits target parts.0) (phrase_fits sort.Number value parts.1); known = tt; set = refl }
+  action_fit (Receives source variable) none =
+      let parts = both_empty (target_faults scope source) _ none in
+      let known = named_known scope.variables variable parts.1 in
+      record { fits = both_true (target_fits source parts.0) (variable_fits _ known); known = (known, tt); set = refl }
 
-    action_fit : (action : WrittenAction) → action_faults processes (get_or processes own []) variables action ≡ [] → ActionFits action
-    action_fit Local none = record { fits = refl; known = tt; set = refl }
-    action_fit (Sends target value) none =
-        let parts =
-        both_empty (target_faults processes (get_or processes own []) target) (expression_faults variables sort.Number value) none in
-        record { fits = both_true _ _ (target_fits target parts.0) (phrase_fits sort.Number value parts.1); known = tt; set = refl }
-    action_fit (Receives source variable) none =
-        let parts = both_empty (target_faults processes (get_or processes own []) source) (unknown variables variable) none in
-        let known = named_known variables variable parts.1 in
-        record {
-          fits = both_true _ _ (target_fits source parts.0) (known_within variables variable.name known);
-          known = (known, tt);
-          set =
-              refl;
-        }
+  command_fit : (command : WrittenCommand) → command_faults scope command ≡ [] → command_fits bounds (command_tree scope command) ≡ true
+  command_fit command none =
+      let parts = both_empty (expression_faults scope sort.Truth command.guard) _ none in
+      let rest = both_empty (action_faults scope command.action) _ parts.1 in
+      let action = action_fit command.action rest.0 in
+      let all = all_assigned (set_by_action command.action) command.assignments action.known rest.1 in
+      both_true (both_true (phrase_fits sort.Truth command.guard parts.0) action.fits)
+      (both_true all.fit (rw action.set all.unset_before))
 
-    command_fit : (command : WrittenCommand) → command_faults processes (get_or processes own []) variables command ≡ []
-        → command_fits (length processes) own (length variables) (command_tree processes variables command) ≡ true
-    command_fit command none =
-        let name : List ℕ = get_or processes own [] in
-        let parts =
-        both_empty (expression_faults variables sort.Truth command.guard ++ action_faults processes name variables command.action)
-        (assignment_faults variables (set_by_action command.action) command.assignments) none in
-        let front =
-        both_empty (expression_faults variables sort.Truth command.guard)
-        (action_faults processes name variables command.action) parts.0 in
-        let action = action_fit command.action front.1 in
-        let all = all_assigned (set_by_action command.action) command.assignments action.known parts.1 in
-        let set =
-        subst (λ (vs : List ℕ). are_unset vs (map (λ a. a.0) (map assigned command.assignments)) ≡ true)
-        (sym action.set) all.unset_before in
-        both_true _ _ (both_true _ _ (phrase_fits sort.Truth command.guard front.0) action.fits) (both_true _ _ all.fit set)
+  record CommandsFit (earlier : ℕ) (all : List WrittenCommand) : Type 0 where
+    few : earlier + length all ≤ COMMANDS
+    fit : list_all (command_fits bounds) (map (command_tree scope) all) ≡ true
 
-    commands_fit : (commands : List WrittenCommand) → flat_map (command_faults processes (get_or processes own []) variables) commands ≡ []
-        → list_all (command_fits (length processes) own (length variables)) (map (command_tree processes variables) commands) ≡ true
-    commands_fit [] none = refl
-    commands_fit (command ∷ commands) none =
-        let name : List ℕ = get_or processes own [] in
-        let parts =
-        both_empty (command_faults processes name variables command)
-        (flat_map (command_faults processes name variables) commands) none in
-        both_true _ _ (command_fit command parts.0) (commands_fit commands parts.1)
+  commands_fit : (earlier : ℕ) (all : List WrittenCommand) → earlier ≤ COMMANDS → commands_faults scope earlier all ≡ []
+      → CommandsFit earlier all
+  commands_fit earlier [] few none = record { few = omega arith; fit = refl }
+  commands_fit earlier (command ∷ all) few none =
+      let parts = both_empty (fault_where (eqb earlier COMMANDS) _ command.at ++ command_faults scope command) _ none in
+      let here = both_empty (fault_where (eqb earlier COMMANDS) _ command.at) _ parts.0 in
+      let room : earlier < COMMANDS = below_limit earlier COMMANDS few (fails _ _ _ here.0) in
+      let behind = commands_fit (earlier + 1) all (omega arith) parts.1 in
+      record { few = omega (arith, behind.few); fit = both_true (command_fit command here.1) behind.fit }
 
--- names that no earlier one has, and no more than may be
-module _ {X Y : Type 0} (named : X → Named) (view : Y → List ℕ) (made : X → Y) (same : (x : X) → view (made x) ≡ (named x).name) where
-  fresh : (earlier : List (List ℕ)) (all : List X) → taken_faults earlier (map named all) ≡ []
-      → are_fresh earlier (map view (map made all)) ≡ true
-  fresh earlier [] none = refl
-  fresh earlier (x ∷ all) none =
-      let parts =
-      both_empty (fault_where (is_among (named x).name earlier) NameTaken (named x).at)
-      (taken_faults ((named x).name ∷ earlier) (map named all)) none in
-      let here : not (is_among (named x).name earlier) ≡ true = ap not (passes _ NameTaken (named x).at parts.0) in
-      let both : (not (is_among (named x).name earlier) && are_fresh ((named x).name ∷ earlier) (map view (map made all))) ≡ true =
-      both_true _ _ here (fresh ((named x).name ∷ earlier) all parts.1) in
-      subst (λ (n : List ℕ). (not (is_among n earlier) && are_fresh (n ∷ earlier) (map view (map made all))) ≡ true) (sym (same x)) both
+-- names that no earlier one has, and with the earlier ones no more than may be
+record NamesFit (limit : ℕ) (earlier names : List (List ℕ)) : Type 0 where
+  few : length earlier + length names ≤ limit
+  fresh : are_fresh earlier names ≡ true
 
-few : {X Y : Type 0} (at : X → ℕ) (made : X → Y) (limit : ℕ) (all : List X) → limit_faults limit (map at all) ≡ []
-    → nat_le (length (map made all)) limit ≡ true
-few at made limit all none =
-    let sizes = ap length none in
-    let most : length (map made all) ≤ limit = omega (arith, simp (length-map, length-take, length-drop) at sizes, length-map all made) in
-    le-leb _ _ most
+no_name : (limit : ℕ) (earlier : List (List ℕ)) → length earlier ≤ limit → NamesFit limit earlier []
+no_name limit earlier few = record { few = omega arith; fresh = refl }
+
+-- there is room for this one, and it is fresh
+record NameFits (limit : ℕ) (earlier : List (List ℕ)) (named : Named) : Type 0 where
+  room : length (named.name ∷ earlier) ≤ limit
+  fresh : not (is_among named.name earlier) ≡ true
+
+name_fits : (limit : ℕ) (earlier : List (List ℕ)) (named : Named) → length earlier ≤ limit → name_faults limit earlier named ≡ []
+    → NameFits limit earlier named
+name_fits limit earlier named few none =
+    let parts = both_empty (fault_where (is_among named.name earlier) _ named.at) _ none in
+    let less : length earlier < limit = below_limit (length earlier) limit few (fails _ _ _ parts.1) in
+    record { room = omega arith; fresh = ap not (fails _ _ _ parts.0) }
+
+one_name_more : (limit : ℕ) (earlier names : List (List ℕ)) (named : Named) → NameFits limit earlier named
+    → NamesFit limit (named.name ∷ earlier) names → NamesFit limit earlier (named.name ∷ names)
+one_name_more limit earlier names named first rest =
+    record { few = omega (arith, rest.few); fresh = both_true first.fresh rest.fresh }
+
+abbrev variable_tree : WrittenVariable → List ℕ × ℤ
+variable_tree variable = (variable.name.name, variable.start)
+
+variables_fit : (earlier : List (List ℕ)) (all : List WrittenVariable) → length earlier ≤ VARIABLES → variables_faults earlier all ≡ []
+    → NamesFit VARIABLES earlier (map (λ variable. variable.0) (map variable_tree all))
+variables_fit earlier [] few none = no_name VARIABLES earlier few
+variables_fit earlier (variable ∷ all) few none =
+    let parts = both_empty (name_faults VARIABLES earlier variable.name) _ none in
+    let first = name_fits VARIABLES earlier variable.name few parts.0 in
+    one_name_more VARIABLES earlier _ variable.name first (variables_fit (variable.name.name ∷ earlier) all first.room parts.1)
+
+-- a process that has this place among all
+process_fit : (names : List (List ℕ)) (own : ℕ) (process : WrittenProcess) → get_or names own [] ≡ process.name.name
+    → process_faults names process ≡ [] → process_fits (length names) own (process_tree names process) ≡ true
+process_fit names own process here none =
+    let parts = both_empty (variables_faults [] process.variables) _ none in
+    let made : tree.Process = process_tree names process in
+    let scope : Scope = scope_among names process in
+    let bounds : Bounds = bounds_among (length names) own made in
+    let same : Matches scope bounds = record {
+      processes = refl;
+      own = here;
+      variables = length-map process.variables _ ∙ sym (length-map process.variables _);
+    } in
+    let variables = variables_fit [] process.variables (omega arith) parts.0 in
+    let commands = commands_fit scope bounds same 0 process.commands (omega arith) parts.1 in
+    both_true
+    (both_true (le-leb (length made.variables) VARIABLES (omega (arith, variables.few, length-map made.variables (λ variable. variable.0))))
+    (le-leb (length made.commands) COMMANDS (omega (arith, commands.few, length-map process.commands (command_tree scope)))))
+    (both_true variables.fresh commands.fit)
 
 -- what stands at the front of what is left of a list
-get_or-drop_first : (names : List (List ℕ)) (k : ℕ) (n : List ℕ) (others : List (List ℕ)) → drop k names ≡ n ∷ others
-    → get_or names k [] ≡ n
-get_or-drop_first names k n others here =
+front_there : (names : List (List ℕ)) (k : ℕ) (n : List ℕ) (others : List (List ℕ)) → drop k names ≡ n ∷ others → get_or names k [] ≡ n
+front_there names k n others here =
     ap (λ (i : ℕ). get_or names i []) (omega arith) ∙ sym (get_or-drop k names 0 []) ∙ ap (λ (l : List (List ℕ)). get_or l 0 []) here
 
 drop_next : (names : List (List ℕ)) (k : ℕ) (n : List ℕ) (others : List (List ℕ)) → drop k names ≡ n ∷ others → drop (k + 1) names ≡ others
 drop_next names k n others here = sym (drop-drop 1 k names) ∙ ap (λ (l : List (List ℕ)). drop 1 l) here
 
--- a process
-process_fit : (processes : List (List ℕ)) (own : ℕ) (process : WrittenProcess) → get_or processes own [] ≡ process.name.name
-    → process_faults processes process ≡ [] → process_fits (length processes) own (process_tree processes process) ≡ true
-process_fit processes own process name none =
-    let variables : List (List ℕ) = variable_names process in
-    let names : List ProgFault = taken_faults [] (map (λ variable. variable.name) process.variables) in
-    let many : List ProgFault = limit_faults VARIABLES (map (λ variable. variable.name.at) process.variables) in
-    let commands : List ProgFault = limit_faults COMMANDS (map (λ command. command.at) process.commands) in
-    let inner : List ProgFault = flat_map (command_faults processes process.name.name variables) process.commands in
-    let last = both_empty (names ++ many ++ commands) inner none in
-    let third = both_empty (names ++ many) commands last.0 in
-    let second = both_empty names many third.0 in
-    let start : WrittenVariable → List ℕ × ℤ = λ variable. (variable.name.name, variable.start) in
-    let count : length (map start process.variables) ≡ length variables =
-    length-map process.variables start ∙ sym (length-map process.variables (λ (variable : WrittenVariable). variable.name.name)) in
-    let fit = commands_fit variables processes own process.commands
-    (subst (λ (n : List ℕ). flat_map (command_faults processes n variables) process.commands ≡ []) (sym name) last.1) in
-    both_true _ _
-    (both_true _ _ (few (λ variable. variable.name.at) start VARIABLES process.variables second.1)
-    (few (λ command. command.at) (command_tree processes variables) COMMANDS process.commands third.1))
-    (both_true _ _ (fresh (λ variable. variable.name) (λ made. made.0) start (λ variable. refl) [] process.variables second.0)
-    (subst (λ (n : ℕ). list_all (command_fits (length processes) own n) (map (command_tree processes variables) process.commands)
-    ≡ true) (sym count) fit))
+record ProcessesFit (names : List (List ℕ)) (earlier : List (List ℕ)) (own : ℕ) (all : List tree.Process) : Type 0 where
+  named : NamesFit PROCESSES earlier (tree.names_of all)
+  fit : processes_fit (length names) own all ≡ true
 
--- the processes from a place on
-processes_all : (names : List (List ℕ)) (own : ℕ) (all : List WrittenProcess) → drop own names ≡ process_names all
-    → flat_map (process_faults names) all ≡ [] → processes_fit (length names) own (map (process_tree names) all) ≡ true
-processes_all names own [] here none = refl
-processes_all names own (process ∷ all) here none =
-    let parts = both_empty (process_faults names process) (flat_map (process_faults names) all) none in
-    let name : get_or names own [] ≡ process.name.name = get_or-drop_first names own (process.name.name) (process_names all) here in
-    both_true _ _ (process_fit names own process name parts.0)
-    (processes_all names (own + 1) all (drop_next names own (process.name.name) (process_names all) here) parts.1)
+-- the processes from a place on, behind these names
+processes_all : (names earlier : List (List ℕ)) (own : ℕ) (all : List WrittenProcess) → length earlier ≤ PROCESSES
+    → drop own names ≡ process_names all → processes_faults names earlier all ≡ []
+    → ProcessesFit names earlier own (map (process_tree names) all)
+processes_all names earlier own [] few here none = record { named = no_name PROCESSES earlier few; fit = refl }
+processes_all names earlier own (process ∷ all) few here none =
+    let parts = both_empty (name_faults PROCESSES earlier process.name ++ process_faults names process) _ none in
+    let first = both_empty (name_faults PROCESSES earlier process.name) _ parts.0 in
+    let name = name_fits PROCESSES earlier process.name few first.0 in
+    let rest = processes_all names (process.name.name ∷ earlier) (own + 1) all name.room (drop_next names own _ _ here) parts.1 in
+    record {
+      named = one_name_more PROCESSES earlier _ process.name name rest.named;
+      fit = both_true (process_fit names own process (front_there names own _ _ here) first.1) rest.fit;
+    }
 
 -- a written program of which no check fails
 pub says_well_formed : (written : List WrittenProcess) → check_faults written ≡ [] → is_well_formed (program_tree written) ≡ true
 says_well_formed written none =
-    let names : List ProgFault = taken_faults [] (map (λ process. process.name) written) in
-    let many : List ProgFault = limit_faults PROCESSES (map (λ process. process.name.at) written) in
-    let last = both_empty (names ++ many) (flat_map (process_faults (process_names written)) written) none in
-    let first = both_empty names many last.0 in
-    let made : WrittenProcess → tree.Process = process_tree (process_names written) in
-    let count : length (process_names written) ≡ length (map made written) =
-    length-map written (λ (process : WrittenProcess). process.name.name) ∙ sym (length-map written made) in
-    both_true _ _
-    (both_true _ _ (few (λ process. process.name.at) made PROCESSES written first.1)
-    (fresh (λ process. process.name) (λ process. process.name) made (λ process. refl) [] written first.0))
-    (subst (λ (n : ℕ). processes_fit n 0 (map made written) ≡ true) count (processes_all (process_names written) 0 written refl last.1))
+    let names : List (List ℕ) = process_names written in
+    let made : List tree.Process = program_tree written in
+    let all = processes_all names [] 0 written (omega arith) refl none in
+    let count : length names ≡ length made = length-map written _ ∙ sym (length-map written (process_tree names)) in
+    both_true
+    (both_true (le-leb (length made) PROCESSES (omega (arith, all.named.few, length-map made (λ process. process.name)))) all.named.fresh)
+    (subst (λ (n : ℕ). processes_fit n 0 made ≡ true) count all.fit)
+
+-- an expression of a process of which no check fails
+pub says_fit : (P : tree.Program) (p : ℕ) (phrase : Phrase) → expression_faults (scope_of P p) sort.Truth phrase ≡ []
+    → is_fit (bounds_of P p) sort.Truth (phrase_tree (scope_of P p) phrase) ≡ true
+says_fit P p phrase none =
+    let same : Matches (scope_of P p) (bounds_of P p) = record {
+      processes = length-map P (λ process. process.name);
+      own = get_or-map (λ (process : tree.Process). process.name) P p tree.no_process;
+      variables = length-map (tree.process_of P p).variables (λ variable. variable.0);
+    } in
+    phrase_fits (scope_of P p) (bounds_of P p) same sort.Truth phrase none
