@@ -1,75 +1,37 @@
 -- Checks along a list, one element at a time: the faults of the whole are those of what is left.
-use Rattle.std.proofs.Common.{◌≡◌, ℕ, zero, suc, ◌+◌, ◌<◌, ◌≤◌, Bool, true, false, ◌||◌, List, [], ◌∷◌, ◌++◌, length, get_or, take, drop}
-use Rattle.std.proofs.Common.{map, refl, sym, ap, ◌∙◌, subst, arith, add-one, ◌⊎◌, inl, inr}
-use Rattle.std.specs.Prelude.{Contains}
-use Rattle.std.specs.List.{list_any, flat_map}
+use Rattle.std.proofs.Common.{◌≡◌, ℕ, ◌+◌, ◌<◌, Bool, true, false, ◌||◌, ◌==◌, List, [], ◌∷◌, ◌++◌, length, get_or, take, drop, map}
+use Rattle.std.proofs.Common.{refl, sym, ap, ◌∙◌, subst, arith}
+use Rattle.std.specs.List.{list_any}
 use Rattle.std.specs.Str.{bytes_eq}
-use Rattle.std.proofs.lemmas.List.{drop_more, drop_all, at_drop_more, drop-map, length-map, map_push, map_more}
-use Rattle.std.proofs.lemmas.List.Elements.{Contains-append_left, Contains-append_right, Contains-append_cases, Contains-push}
-use Rattle.std.proofs.lemmas.List.Elements.{Contains-push_cases}
-use Rattle.dbg_base.specs.declared.fault.ProgFault.{ProgFault}
-use Rattle.dbg_base.specs.declared.fault.FaultKind.{FaultKind}
-use Rattle.dbg_base.specs.declared.fault.FaultKind.TheVariants.{NameTaken, Limit, SetTwice}
-use Rattle.dbg_base.specs.Grammar.{Named, WrittenAssignment}
-use Rattle.dbg_base.specs.Checks.{fault_where, unknown, taken_faults, limit_faults, assignment_faults, expression_faults}
-use Rattle.dbg_base.specs.Names.{is_among}
+use Rattle.std.proofs.lemmas.List.{at_drop_more, length-map, map_push, map_more, take_more, take-map, get_or-map, length-take-le}
+use Rattle.std.proofs.lemmas.Simd.{map-map}
+use Rattle.dbg_base.specs.declared.limits.TheConstants.{PROCESSES, VARIABLES, COMMANDS}
 use Rattle.dbg_base.specs.declared.expr.Sort.TheVariants as sort
+use Rattle.dbg_base.specs.declared.fault.ProgFault.{ProgFault}
+use Rattle.dbg_base.specs.declared.fault.FaultKind.TheVariants.{NameTaken, Limit, SetTwice}
+use Rattle.dbg_base.specs.Grammar.{Named}
+use Rattle.dbg_base.specs.Checks.{Scope, fault_where, unknown, name_faults, variables_faults, processes_faults, process_faults}
+use Rattle.dbg_base.specs.Checks.{assignment_faults, assigned_faults, expression_faults, commands_faults, command_faults, scope_among}
+use Rattle.dbg_base.specs.Checks.{process_names}
+use Rattle.dbg_base.specs.Names.{is_among}
 use Rattle.proc_lang.specs.declared.fault.ProgError.{ProgError}
-use Rattle.proc_lang.specs.declared.fault.ProgError.TheVariants.{Bad, Memory}
-use Rattle.proc_lang.specs.Checking.{IsAmong}
-use Rattle.proc_lang.proofs.Checked.{among_left}
-
--- the faults of the first list are among those of the second
-abbrev pub AreWithin : List ProgFault → List ProgFault → Type 0
-AreWithin xs zs = (f : ProgFault) → Contains xs f → Contains zs f
-
-pub among_within : (e : ProgError) (xs zs : List ProgFault) → AreWithin xs zs → IsAmong e xs → IsAmong e zs
-among_within (Bad fault) xs zs within among = within fault among
-among_within Memory xs zs within among = tt
-
-both_turn : (zs : List ProgFault) (xs ys : List ProgFault) (f : ProgFault) → AreWithin xs zs → AreWithin ys zs
-    → Contains xs f ⊎ Contains ys f → Contains zs f
-both_turn zs xs ys f first second (inl here) = first f here
-both_turn zs xs ys f first second (inr here) = second f here
-
-pub both_within : (xs ys zs : List ProgFault) → AreWithin xs zs → AreWithin ys zs → AreWithin (xs ++ ys) zs
-both_within xs ys zs first second f here = both_turn zs xs ys f first second (Contains-append_cases xs ys f here)
-
-none_contained : (f : ProgFault) → Contains [] f → ⊥
-none_contained f here = omega (arith, here.1)
-
-one_turn : (y f : ProgFault) (zs : List ProgFault) → Contains zs y → Contains [] f ⊎ (y ≡ f) → Contains zs f
-one_turn y f zs there (inl here) = absurd (none_contained f here)
-one_turn y f zs there (inr same) = subst (λ (g : ProgFault). Contains zs g) same there
-
--- the fault of a test, where it is there whenever the test passes
-pub where_within : (b : Bool) (kind : FaultKind) (at : ℕ) (zs : List ProgFault) → (b ≡ true → Contains zs (record { kind = kind; at = at }))
-    → AreWithin (fault_where b kind at) zs
-where_within true kind at zs there f here =
-    one_turn (record { kind = kind; at = at }) f zs (there refl) (Contains-push_cases [] (record { kind = kind; at = at }) f here)
-where_within false kind at zs there f here = absurd (none_contained f here)
+use Rattle.proc_lang.specs.declared.syntax.WrittenVariable.{WrittenVariable}
+use Rattle.proc_lang.specs.declared.syntax.WrittenAssignment.{WrittenAssignment}
+use Rattle.proc_lang.specs.declared.syntax.WrittenCommand.{WrittenCommand}
+use Rattle.proc_lang.specs.declared.syntax.WrittenProcess.{WrittenProcess}
+use Rattle.proc_lang.specs.Writing.{named_of, phrase_of, variable_of, assignment_of, command_of, process_of, processes_of}
+use Rattle.proc_lang.specs.Checking.{IsFirst}
+use Rattle.proc_lang.proofs.Checked.{first_left}
 
 -- what is left, after an element without a fault
 pub goes_on : (whole rest here next : List ProgFault) → whole ≡ rest → rest ≡ here ++ next → here ≡ [] → whole ≡ next
 goes_on whole rest here next so_far step none = so_far ∙ step ∙ ap (λ (l : List ProgFault). l ++ next) none
 
--- a fault of the next element
-pub among_next : (e : ProgError) (whole rest here next : List ProgFault) → whole ≡ rest → rest ≡ here ++ next → IsAmong e here
-    → IsAmong e whole
-among_next e whole rest here next so_far step among =
-    subst (λ (l : List ProgFault). IsAmong e l) (sym (so_far ∙ step)) (among_left e here next among)
-
--- no fault in a whole, so none in its parts
-pub none_in_left : (xs ys : List ProgFault) → xs ++ ys ≡ [] → xs ≡ []
-none_in_left [] ys none = refl
-none_in_left (x ∷ xs) ys none = absurd (let e : ◌≡◌ {A = List ProgFault} (x ∷ (xs ++ ys)) [] = none in cc)
-
--- the faults of an element, and those of what is behind it
-pub flat_here : {X Y : Type 0} (faults : Y → List ProgFault) (h : X → Y) (xs : List X) (i : ℕ) (x : X) → i < length xs → x ≡ get_or xs i x
-    → flat_map faults (map h (drop i xs)) ≡ faults (h x) ++ flat_map faults (map h (drop (i + 1) xs))
-flat_here {X} {Y} faults h xs i x lt here =
-    at_drop_more (λ (rest : List X). flat_map faults (map h rest)) xs i x lt
-    ∙ ap (λ (y : X). faults (h y) ++ flat_map faults (map h (drop (i + 1) xs))) (sym here)
+-- the first fault, which the next element has
+pub first_next : (e : ProgError) (whole rest here next : List ProgFault) → whole ≡ rest → rest ≡ here ++ next → IsFirst e here
+    → IsFirst e whole
+first_next e whole rest here next so_far step first =
+    subst (λ (l : List ProgFault). IsFirst e l) (sym (so_far ∙ step)) (first_left e here next first)
 
 -- one more that was read
 pub reads_more : {X Y Z W : Type 0} (f : Z → W) (g : Y → W) (h : X → Y) (before after : List Z) (z : Z) (xs : List X) (i : ℕ) (x : X)
@@ -86,6 +48,14 @@ reads_more {X} {Y} {Z} {W} f g h before after z xs i x pushed so_far lt here sam
 abbrev pub pile : List (List ℕ) → List (List ℕ) → List (List ℕ)
 pile earlier [] = earlier
 pile earlier (n ∷ names) = pile (n ∷ earlier) names
+
+pile-push : (earlier names : List (List ℕ)) (name : List ℕ) → pile earlier (names ++ name ∷ []) ≡ name ∷ pile earlier names
+pile-push earlier [] name = refl
+pile-push earlier (n ∷ names) name = pile-push (n ∷ earlier) names name
+
+length-pile : (earlier names : List (List ℕ)) → length (pile earlier names) ≡ length earlier + length names
+length-pile earlier [] = omega arith
+length-pile earlier (n ∷ names) = omega (arith, length-pile (n ∷ earlier) names)
 
 or_swap : (a b c : Bool) → ((a || b) || c) ≡ (b || (a || c))
 or_swap true true c = refl
@@ -109,141 +79,118 @@ any_map name f [] = refl
 any_map name f (x ∷ xs) = ap (λ (b : Bool). bytes_eq name (f x) || b) (any_map name f xs)
 
 -- by a test of what the code has seen
-pub pile_any : {X : Type 0} (name : List ℕ) (earlier : List (List ℕ)) (f : X → List ℕ) (xs : List X)
+pile_any : {X : Type 0} (name : List ℕ) (earlier : List (List ℕ)) (f : X → List ℕ) (xs : List X)
     → is_among name (pile earlier (map f xs)) ≡ (is_among name earlier || list_any (λ x. bytes_eq name (f x)) xs)
 pile_any name earlier f xs =
     pile_among name earlier (map f xs) ∙ ap (λ (b : Bool). is_among name earlier || b) (any_map name f xs)
 
-module _ {X Y : Type 0} (k : Y → Named) (h : X → Y) where
-  -- the names that stand before, and the faults from the i-th on
-  abbrev pub seen : List (List ℕ) → ℕ → List X → List (List ℕ)
-  seen earlier i xs = pile earlier (map (λ x. (k (h x)).name) (take i xs))
+-- a name behind others has the same faults whether these are piled up or not
+piled_faults : (limit : ℕ) (names : List (List ℕ)) (named : Named) → name_faults limit (pile [] names) named ≡ name_faults limit names named
+piled_faults limit names named =
+    ap (λ (b : Bool). fault_where b NameTaken named.at ++ fault_where (length (pile [] names) == limit) Limit named.at)
+    (pile_among named.name [] names)
+    ∙ ap (λ (n : ℕ). fault_where (is_among named.name names) NameTaken named.at ++ fault_where (n == limit) Limit named.at)
+    (let e : length (pile [] names) ≡ length names = omega (arith, length-pile [] names) in e)
 
-  abbrev pub taken_rest : List (List ℕ) → ℕ → List X → List ProgFault
-  taken_rest earlier i xs = taken_faults (seen earlier i xs) (map k (map h (drop i xs)))
+-- so many stand before the i-th
+pub length_before : {X : Type 0} (f : X → List ℕ) (names : List (List ℕ)) (xs : List X) (i : ℕ) → names ≡ map f xs → i < length xs
+    → length (take i names) ≡ i
+length_before f names xs i are lt = length-take-le i names (omega (arith, ap length are, length-map xs f))
 
-  taken_suc : (earlier : List (List ℕ)) (xs : List X) (i : ℕ) (d : X) → i < length xs
-      → taken_rest earlier i xs
-      ≡ fault_where (is_among (k (h (get_or xs i d))).name (seen earlier i xs)) NameTaken (k (h (get_or xs i d))).at
-      ++ taken_rest earlier (suc i) xs
-  taken_suc earlier [] i d lt = absurd (omega (arith, lt))
-  taken_suc earlier (x ∷ xs) zero d lt = refl
-  taken_suc earlier (x ∷ xs) (suc i) d lt = taken_suc ((k (h x)).name ∷ earlier) xs i d (omega arith)
+-- Faults of elements with names, each looked at behind the names before it: `F` are those of several, and `here` those of one.
+module _ {X Y : Type 0} (F : List (List ℕ) → List Y → List ProgFault) (h : X → Y) where
+  -- the faults from the i-th on
+  abbrev pub left : List (List ℕ) → List (List ℕ) → ℕ → List X → List ProgFault
+  left earlier names i xs = F (pile earlier (take i names)) (map h (drop i xs))
 
-  pub taken_step : (earlier : List (List ℕ)) (xs : List X) (i : ℕ) (d : X) → i < length xs
-      → taken_rest earlier i xs
-      ≡ fault_where (is_among (k (h (get_or xs i d))).name (seen earlier i xs)) NameTaken (k (h (get_or xs i d))).at
-      ++ taken_rest earlier (i + 1) xs
-  taken_step earlier xs i d lt = rw add-one (taken_suc earlier xs i d lt)
+  more_names : (name : Y → List ℕ) (earlier names : List (List ℕ)) (xs : List X) (i : ℕ) (x : X) → names ≡ map (λ x. name (h x)) xs
+      → i < length xs → x ≡ get_or xs i x → pile earlier (take (i + 1) names) ≡ name (h x) ∷ pile earlier (take i names)
+  more_names name earlier names xs i x are lt at =
+      let within : i < length names = omega (arith, ap length are, length-map xs (λ x. name (h x))) in
+      let read : get_or names i [] ≡ name (h x)
+      = ap (λ (l : List (List ℕ)). get_or l i []) are ∙ get_or-map (λ x. name (h x)) xs i x [] lt ∙ ap (λ (y : X). name (h y)) (sym at) in
+      ap (λ (l : List (List ℕ)). pile earlier l) (take_more names i [] within) ∙ pile-push earlier (take i names) (get_or names i [])
+      ∙ ap (λ (n : List ℕ). n ∷ pile earlier (take i names)) read
 
-  pub taken_end : (earlier : List (List ℕ)) (xs : List X) (i : ℕ) → length xs ≤ i → taken_rest earlier i xs ≡ []
-  taken_end earlier xs i past = ap (λ (rest : List X). taken_faults (seen earlier i xs) (map k (map h rest))) (drop_all i xs past)
+  -- those of the i-th, which the code has read, and those behind it
+  left_here : (here : List (List ℕ) → Y → List ProgFault) (name : Y → List ℕ)
+      → ((earlier : List (List ℕ)) (y : Y) (ys : List Y) → F earlier (y ∷ ys) ≡ here earlier y ++ F (name y ∷ earlier) ys)
+      → (earlier names : List (List ℕ)) (xs : List X) (i : ℕ) (x : X) → names ≡ map (λ x. name (h x)) xs → i < length xs
+      → x ≡ get_or xs i x → left earlier names i xs ≡ here (pile earlier (take i names)) (h x) ++ left earlier names (i + 1) xs
+  left_here here name turn earlier names xs i x are lt at =
+      let before : List (List ℕ) = pile earlier (take i names) in
+      let rest : List Y = map h (drop (i + 1) xs) in
+      at_drop_more (λ (l : List X). F before (map h l)) xs i x lt
+      ∙ ap (λ (y : X). F before (h y ∷ rest)) (sym at) ∙ turn before (h x) rest
+      ∙ ap (λ (names : List (List ℕ)). here before (h x) ++ F names rest) (sym (more_names name earlier names xs i x are lt at))
 
-  -- at an element that the code has read, by what it found among those before
-  pub taken_here : (xs : List X) (i : ℕ) (x : X) (b : Bool) → i < length xs → x ≡ get_or xs i x
-      → b ≡ list_any (λ y. bytes_eq (k (h x)).name (k (h y)).name) (take i xs)
-      → taken_rest [] i xs ≡ fault_where b NameTaken (k (h x)).at ++ taken_rest [] (i + 1) xs
-  taken_here xs i x b lt here test =
-      let next : List ProgFault = taken_rest [] (i + 1) xs in
-      let same : b ≡ is_among (k (h x)).name (seen [] i xs) = test ∙ sym (pile_any (k (h x)).name [] (λ y. (k (h y)).name) (take i xs)) in
-      taken_step [] xs i x lt
-      ∙ ap (λ (y : X). fault_where (is_among (k (h y)).name (seen [] i xs)) NameTaken (k (h y)).at ++ next) (sym here)
-      ∙ ap (λ (t : Bool). fault_where t NameTaken (k (h x)).at ++ next) (sym same)
+-- variables
+abbrev pub variables_left : List (List ℕ) → ℕ → List WrittenVariable → List ProgFault
+variables_left = left variables_faults variable_of []
 
-first_fault : List ℕ → List ProgFault
-first_fault places = map (λ at. record { kind = Limit; at = at }) (take 1 places)
+pub variables_here : (names : List (List ℕ)) (xs : List WrittenVariable) (i : ℕ) (x : WrittenVariable)
+    → names ≡ map (λ x. x.name.name) xs → i < length xs → x ≡ get_or xs i x
+    → variables_left names i xs ≡ name_faults VARIABLES (take i names) (named_of x.name) ++ variables_left names (i + 1) xs
+variables_here names xs i x are lt at =
+    left_here variables_faults variable_of (λ earlier v. name_faults VARIABLES earlier v.name) (λ v. v.name.name) (λ e v others. refl)
+    [] names xs i x are lt at
+    ∙ ap (λ (l : List ProgFault). l ++ variables_left names (i + 1) xs) (piled_faults VARIABLES (take i names) (named_of x.name))
 
-module _ {X Y : Type 0} (at : Y → ℕ) (h : X → Y) where
-  -- the one that is too many
-  pub limit_there : (limit : ℕ) (xs : List X) (i : ℕ) (x : X) → i ≤ limit → limit ≤ i → i < length xs → x ≡ get_or xs i x
-      → Contains (limit_faults limit (map at (map h xs))) (record { kind = Limit; at = at (h x) })
-  unfolding first_fault
-  limit_there limit xs i x le ge lt here =
-      let same : limit ≡ i = omega arith in
-      let rest : drop limit (map at (map h xs)) ≡ at (h x) ∷ map at (map h (drop (i + 1) xs))
-      = ap (λ (n : ℕ). drop n (map at (map h xs))) same ∙ drop-map at i (map h xs) ∙ ap (λ (l : List Y). map at l) (drop-map h i xs)
-      ∙ ap (λ (l : List X). map at (map h l)) (drop_more xs i x lt)
-      ∙ ap (λ (y : X). at (h y) ∷ map at (map h (drop (i + 1) xs))) (sym here) in
-      let r : ProgFault = record { kind = Limit; at = at (h x) } in
-      subst (λ (l : List ProgFault). Contains l r) (sym (ap first_fault rest)) (Contains-push [] r)
+-- processes, where these are the names of all
+abbrev pub processes_left : List (List ℕ) → ℕ → List WrittenProcess → List ProgFault
+processes_left names = left (processes_faults names) process_of [] names
 
-  -- none is too many
-  pub limit_kept : (limit : ℕ) (xs : List X) → length xs ≤ limit → limit_faults limit (map at (map h xs)) ≡ []
-  unfolding first_fault
-  limit_kept limit xs le =
-      ap first_fault (drop_all limit (map at (map h xs)) (omega (arith, length-map (map h xs) at, length-map xs h)))
+pub processes_here : (names : List (List ℕ)) (xs : List WrittenProcess) (i : ℕ) (x : WrittenProcess)
+    → names ≡ map (λ x. x.name.name) xs → i < length xs → x ≡ get_or xs i x
+    → processes_left names i xs
+    ≡ (name_faults PROCESSES (take i names) (named_of x.name) ++ process_faults names (process_of x)) ++ processes_left names (i + 1) xs
+processes_here names xs i x are lt at =
+    left_here (processes_faults names) process_of (λ earlier p. name_faults PROCESSES earlier p.name ++ process_faults names p)
+    (λ p. p.name.name) (λ e p others. refl) [] names xs i x are lt at
+    ∙ ap (λ (l : List ProgFault). (l ++ process_faults names (process_of x)) ++ processes_left names (i + 1) xs)
+    (piled_faults PROCESSES (take i names) (named_of x.name))
 
-module _ {X Y : Type 0} (k : Y → Named) (h : X → Y) where
-  -- a fault of a name that has to be free, of something that may be one too many
-  pub among_fresh : (e : ProgError) (limit : ℕ) (xs : List X) (i : ℕ) (x : X) (b many : Bool) → i ≤ limit → i < length xs
-      → x ≡ get_or xs i x
-      → taken_faults [] (map k (map h xs)) ≡ taken_rest k h [] i xs
-      → b ≡ list_any (λ y. bytes_eq (k (h x)).name (k (h y)).name) (take i xs) → (many ≡ true → limit ≤ i)
-      → IsAmong e (fault_where b NameTaken (k (h x)).at ++ fault_where many Limit (k (h x)).at)
-      → IsAmong e (taken_faults [] (map k (map h xs)) ++ limit_faults limit (map (λ y. (k y).at) (map h xs)))
-  among_fresh e limit xs i x b many le lt here so_far test too_many among =
-      let at : ℕ = (k (h x)).at in
-      let taken : List ProgFault = taken_faults [] (map k (map h xs)) in
-      let limits : List ProgFault = limit_faults limit (map (λ y. (k y).at) (map h xs)) in
-      let step : taken ≡ fault_where b NameTaken at ++ taken_rest k h [] (i + 1) xs = so_far ∙ taken_here k h xs i x b lt here test in
-      let first : AreWithin (fault_where b NameTaken at) (taken ++ limits)
-      = λ f there. Contains-append_left taken limits f
-      (subst (λ (l : List ProgFault). Contains l f) (sym step)
-      (Contains-append_left (fault_where b NameTaken at) (taken_rest k h [] (i + 1) xs) f there)) in
-      let second : AreWithin (fault_where many Limit at) (taken ++ limits)
-      = where_within many Limit at (taken ++ limits)
-      (λ is. Contains-append_right taken limits (record { kind = Limit; at = at })
-      (limit_there (λ y. (k y).at) h limit xs i x le (too_many is) lt here)) in
-      among_within e (fault_where b NameTaken at ++ fault_where many Limit at) (taken ++ limits)
-      (both_within (fault_where b NameTaken at) (fault_where many Limit at) (taken ++ limits) first second) among
+-- assignments, where a command already sets these
+abbrev pub assignments_left : Scope → List (List ℕ) → ℕ → List WrittenAssignment → List ProgFault
+assignments_left scope earlier i xs = left (assignment_faults scope) assignment_of earlier (map (λ a. a.variable.name) xs) i xs
 
-  -- a name that is free
-  pub fresh_goes_on : (xs : List X) (i : ℕ) (x : X) (b many : Bool) → i < length xs → x ≡ get_or xs i x
-      → taken_faults [] (map k (map h xs)) ≡ taken_rest k h [] i xs
-      → b ≡ list_any (λ y. bytes_eq (k (h x)).name (k (h y)).name) (take i xs)
-      → fault_where b NameTaken (k (h x)).at ++ fault_where many Limit (k (h x)).at ≡ []
-      → taken_faults [] (map k (map h xs)) ≡ taken_rest k h [] (i + 1) xs
-  fresh_goes_on xs i x b many lt here so_far test none =
-      goes_on _ _ _ _ so_far (taken_here k h xs i x b lt here test)
-      (none_in_left (fault_where b NameTaken (k (h x)).at) (fault_where many Limit (k (h x)).at) none)
+pub assignments_here : (scope : Scope) (earlier : List (List ℕ)) (xs : List WrittenAssignment) (i : ℕ) (x : WrittenAssignment) (b : Bool)
+    → i < length xs → x ≡ get_or xs i x
+    → b ≡ (is_among x.variable.name earlier || list_any (λ a. bytes_eq x.variable.name a.variable.name) (take i xs))
+    → assignments_left scope earlier i xs
+    ≡ ((unknown scope.variables (named_of x.variable) ++ fault_where b SetTwice x.variable.at)
+    ++ expression_faults scope sort.Number (phrase_of x.value)) ++ assignments_left scope earlier (i + 1) xs
+assignments_here scope earlier xs i x b lt at test =
+    let set : is_among x.variable.name (pile earlier (take i (map (λ a. a.variable.name) xs))) ≡ b
+    = ap (λ (l : List (List ℕ)). is_among x.variable.name (pile earlier l)) (take-map (λ a. a.variable.name) i xs)
+    ∙ pile_any x.variable.name earlier (λ a. a.variable.name) (take i xs) ∙ sym test in
+    left_here (assignment_faults scope) assignment_of (assigned_faults scope) (λ a. a.variable.name) (λ e a others. refl) earlier
+    (map (λ a. a.variable.name) xs) xs i x refl lt at
+    ∙ ap (λ (t : Bool). ((unknown scope.variables (named_of x.variable) ++ fault_where t SetTwice x.variable.at)
+    ++ expression_faults scope sort.Number (phrase_of x.value)) ++ assignments_left scope earlier (i + 1) xs) set
 
--- assignments
-module _ {X : Type 0} (h : X → WrittenAssignment) (variables : List (List ℕ)) where
-  -- the names that are set before, and the faults from the i-th on
-  abbrev pub names_set : List (List ℕ) → ℕ → List X → List (List ℕ)
-  names_set earlier i xs = pile earlier (map (λ x. (h x).variable.name) (take i xs))
+-- commands
+pub commands_here : (scope : Scope) (xs : List WrittenCommand) (i : ℕ) (x : WrittenCommand) → i < length xs → x ≡ get_or xs i x
+    → commands_faults scope i (map command_of (drop i xs))
+    ≡ (fault_where (i == COMMANDS) Limit x.at ++ command_faults scope (command_of x))
+    ++ commands_faults scope (i + 1) (map command_of (drop (i + 1) xs))
+commands_here scope xs i x lt at =
+    at_drop_more (λ (l : List WrittenCommand). commands_faults scope i (map command_of l)) xs i x lt
+    ∙ ap (λ (y : WrittenCommand). commands_faults scope i (command_of y ∷ map command_of (drop (i + 1) xs))) (sym at)
 
-  abbrev pub set_rest : List (List ℕ) → ℕ → List X → List ProgFault
-  set_rest earlier i xs = assignment_faults variables (names_set earlier i xs) (map h (drop i xs))
+-- what a process can name, by the names of its variables that the code has collected
+abbrev pub scope_with : List (List ℕ) → List ℕ → List (List ℕ) → Scope
+scope_with processes own variables = record { processes = processes; own = own; variables = variables }
 
-  -- the faults of one assignment
-  abbrev pub set_faults : WrittenAssignment → Bool → List ProgFault
-  set_faults a is_set =
-      (unknown variables a.variable ++ fault_where is_set SetTwice a.variable.at) ++ expression_faults variables sort.Number a.value
+pub scope_with_is : (processes names collected : List (List ℕ)) (variables : List WrittenVariable) (written : WrittenProcess)
+    → collected ≡ names → names ≡ map (λ variable. variable.name.name) variables → variables ≡ written.variables.items
+    → scope_with processes written.name.name collected ≡ scope_among processes (process_of written)
+scope_with_is processes names collected variables written same are read =
+    ap (λ (l : List (List ℕ)). scope_with processes written.name.name l)
+    (same ∙ are ∙ ap (λ (l : List WrittenVariable). map (λ variable. variable.name.name) l) read
+    ∙ sym (map-map (λ variable. variable.name.name) variable_of written.variables.items))
 
-  set_suc : (earlier : List (List ℕ)) (xs : List X) (i : ℕ) (d : X) → i < length xs
-      → set_rest earlier i xs
-      ≡ set_faults (h (get_or xs i d)) (is_among (h (get_or xs i d)).variable.name (names_set earlier i xs)) ++ set_rest earlier (suc i) xs
-  set_suc earlier [] i d lt = absurd (omega (arith, lt))
-  set_suc earlier (x ∷ xs) zero d lt = refl
-  set_suc earlier (x ∷ xs) (suc i) d lt = set_suc ((h x).variable.name ∷ earlier) xs i d (omega arith)
-
-  set_step : (earlier : List (List ℕ)) (xs : List X) (i : ℕ) (d : X) → i < length xs
-      → set_rest earlier i xs
-      ≡ set_faults (h (get_or xs i d)) (is_among (h (get_or xs i d)).variable.name (names_set earlier i xs)) ++ set_rest earlier (i + 1) xs
-  set_step earlier xs i d lt = rw add-one (set_suc earlier xs i d lt)
-
-  -- at an assignment that the code has read, by what it found set before
-  pub set_here : (earlier : List (List ℕ)) (xs : List X) (i : ℕ) (x : X) (b : Bool) → i < length xs → x ≡ get_or xs i x
-      → b ≡ (is_among (h x).variable.name earlier || list_any (λ y. bytes_eq (h x).variable.name (h y).variable.name) (take i xs))
-      → set_rest earlier i xs ≡ set_faults (h x) b ++ set_rest earlier (i + 1) xs
-  set_here earlier xs i x b lt here test =
-      let next : List ProgFault = set_rest earlier (i + 1) xs in
-      let same : b ≡ is_among (h x).variable.name (names_set earlier i xs)
-      = test ∙ sym (pile_any (h x).variable.name earlier (λ y. (h y).variable.name) (take i xs)) in
-      set_step earlier xs i x lt
-      ∙ ap (λ (y : X). set_faults (h y) (is_among (h y).variable.name (names_set earlier i xs)) ++ next) (sym here)
-      ∙ ap (λ (t : Bool). set_faults (h x) t ++ next) (sym same)
-
-  pub set_end : (earlier : List (List ℕ)) (xs : List X) (i : ℕ) → length xs ≤ i → set_rest earlier i xs ≡ []
-  set_end earlier xs i past = ap (λ (rest : List X). assignment_faults variables (names_set earlier i xs) (map h rest)) (drop_all i xs past)
+-- and the names of all processes
+pub process_names_are : (names collected : List (List ℕ)) (written : List WrittenProcess) → collected ≡ names
+    → names ≡ map (λ process. process.name.name) written → collected ≡ process_names (processes_of written)
+process_names_are names collected written same are = same ∙ are ∙ sym (map-map (λ process. process.name.name) process_of written)

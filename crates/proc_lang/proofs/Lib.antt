@@ -4,6 +4,6 @@ pub mod Runs
 pub mod Numbers
 pub mod Lexing
 pub mod TokenLists
+pub mod TokenLaws
 pub mod Checked
 pub mod CheckedLists
-pub mod TokenLaws

@@ -2,4 +2,5 @@ pub mod ProcessTrees
 pub mod Programs
 pub mod Scanning
 pub mod Writing
+pub mod Scopes
 pub mod Checking

@@ -2,11 +2,14 @@
 #![tactic(auto)]
 
 mod check;
+mod expressions;
 mod fault;
 mod lexer;
 mod process;
 mod program;
 mod scan;
+mod scope;
+mod sorts;
 mod syntax;
 mod token;
 
