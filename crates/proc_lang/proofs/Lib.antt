@@ -11,3 +11,5 @@ pub mod Singles
 pub mod Expressions
 pub mod Commands
 pub mod Wholes
+pub mod Checked
+pub mod CheckedLists

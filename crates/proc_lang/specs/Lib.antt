@@ -4,3 +4,5 @@ pub mod Scanning
 pub mod Writing
 pub mod Parsing
 pub mod Reading
+pub mod Scopes
+pub mod Checking

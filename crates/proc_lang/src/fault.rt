@@ -3,7 +3,7 @@
 ghost use Rattle.std.specs.Prelude.{◌≡◌};
 ghost use Rattle.proc_lang.specs.declared.fault.ProgError.TheVariants.{Bad, Memory};
 
-use dbg_base::ProgFault;
+use dbg_base::{FaultKind, ProgFault};
 use std::alloc::{AllocError, AllocFailed};
 
 /// Why a text was not read.
@@ -12,6 +12,13 @@ pub enum ProgError {
     Bad(ProgFault),
     /// Memory ran out.
     Memory,
+}
+
+/// What is wrong there.
+pub(crate) fn bad(kind: FaultKind, at: usize) -> ProgError
+    ensures { result ≡ Bad (record { kind = kind; at = at }) }
+{
+    ProgError::Bad(ProgFault { kind, at })
 }
 
 impl From<ProgFault> for ProgError {

@@ -1,12 +1,16 @@
 //! The process language: programs of guarded-command processes, read from text.
 #![tactic(auto)]
 
+mod check;
+mod expressions;
 mod fault;
 mod lexer;
 mod parser;
 mod process;
 mod program;
 mod scan;
+mod scope;
+mod sorts;
 mod syntax;
 mod token;
 

@@ -1,0 +1,30 @@
+//! What operators give, and what they ask of their operands.
+
+ghost use Rattle.std.specs.Prelude.{◌≡◌};
+ghost use Rattle.dbg_base.specs.Sorts.{outcome_sort, operand_sort};
+
+use dbg_base::{Operator, Sort};
+
+/// What the operator gives.
+pub(crate) fn outcome_sort(operator: Operator) -> Sort
+    ensures { result ≡ outcome_sort operator }
+{
+    match operator {
+        Operator::Add
+        | Operator::Subtract
+        | Operator::Multiply
+        | Operator::Divide
+        | Operator::Remainder => Sort::Number,
+        _ => Sort::Truth,
+    }
+}
+
+/// What the operator asks of its operands.
+pub(crate) fn operand_sort(operator: Operator) -> Sort
+    ensures { result ≡ operand_sort operator }
+{
+    match operator {
+        Operator::And | Operator::Or => Sort::Truth,
+        _ => Sort::Number,
+    }
+}
