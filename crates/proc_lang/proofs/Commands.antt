@@ -16,7 +16,7 @@ use Rattle.proc_lang.proofs.Steps.{IsReader, Completes, Anything, Takes, Then, L
 use Rattle.proc_lang.proofs.Steps.{either_reader, either_first, either_second}
 use Rattle.proc_lang.proofs.Singles.{WordAt, SignAt, NumberAt, word_reader, word_here, sign_reader, sign_here, name_reader, name_completes}
 use Rattle.proc_lang.proofs.Singles.{name_is_not, number_reader, number_completes}
-use Rattle.proc_lang.proofs.Expressions.{expression_reader, expression_completes}
+use Rattle.proc_lang.proofs.Phrases.{expression_reader, expression_completes}
 use Rattle.proc_lang.proofs.Repeats.{many_reader, many_complete}
 
 -- what derives something with a token takes that token

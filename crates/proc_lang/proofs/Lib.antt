@@ -8,7 +8,7 @@ pub mod TokenLaws
 pub mod Steps
 pub mod Repeats
 pub mod Singles
-pub mod Expressions
+pub mod Phrases
 pub mod Commands
 pub mod Wholes
 pub mod Checked

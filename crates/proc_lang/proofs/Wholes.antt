@@ -18,7 +18,7 @@ use Rattle.proc_lang.proofs.Steps.{SameFirst, IsReader, Completes, Anything, Tak
 use Rattle.proc_lang.proofs.Steps.{both_reader, last_reader}
 use Rattle.proc_lang.proofs.Singles.{WordAt, SignAt, Nothing, word_reader, word_here, sign_reader, sign_here, name_reader, name_completes}
 use Rattle.proc_lang.proofs.Singles.{end_reader}
-use Rattle.proc_lang.proofs.Expressions.{expression_reader, expression_completes}
+use Rattle.proc_lang.proofs.Phrases.{expression_reader, expression_completes}
 use Rattle.proc_lang.proofs.Repeats.{many_reader, many_complete, several_reader, several_complete}
 use Rattle.proc_lang.proofs.Commands.{takes_by, variable_reader, variable_completes, variable_takes, command_reader, command_completes}
 use Rattle.proc_lang.proofs.Commands.{command_takes}

@@ -63,7 +63,7 @@ impl Parser<'_> {
     }
 
     #[cycle(expressions)]
-    #[tactic(auto, using(crate::proofs::Expressions::expression_parts))]
+    #[tactic(auto, using(crate::proofs::Phrases::expression_parts))]
     fn expression(&mut self) -> Result<Phrase, Stop>
         ensures shorter { OnOk result (length self.new.rest.now < length self.old.rest.now) }
         ensures read { Gives phrase_of result (map placed_of self.new.rest.now)
