@@ -13,3 +13,5 @@ pub mod Commands
 pub mod Wholes
 pub mod Checked
 pub mod CheckedLists
+pub mod TokenFaults
+pub mod Texts

@@ -82,14 +82,14 @@ number_is_no_sign (b ∷ bytes) sign x y =
     absurd (false≢true (sym (sign_first sign b bytes [] (append-nil (sign_bytes sign) ∙ sym y)).1 ∙ digit))
 
 -- what writes a token has a first byte, which is no space
-abbrev BeginsOther : List ℕ → Type 0
+abbrev pub BeginsOther : List ℕ → Type 0
 BeginsOther [] = ⊥
 BeginsOther (b ∷ bytes) = is_space b ≡ false
 
 not_space : (b : ℕ) → 33 ≤ b → is_space b ≡ false
 not_space b le = grind (arith, nat_tests)
 
-spells_first : (token : Token) (piece : List ℕ) → Spells token piece → BeginsOther piece
+pub spells_first : (token : Token) (piece : List ℕ) → Spells token piece → BeginsOther piece
 spells_first (Word word) [] writes = let h : is_word [] ≡ true = subst (λ w. is_word w ≡ true) (sym writes.0) writes.1 in false≢true h
 spells_first (Word word) (b ∷ bytes) writes =
     let h = word_first b bytes word writes.0 writes.1 in
@@ -115,7 +115,7 @@ spells_once (Number v) (Symbol t) piece x y = number_is_no_sign piece t x.0 y
 spells_once (Symbol t) (Number v) piece x y = number_is_no_sign piece t y.0 x
 
 -- spaces before what begins with none: they are the same
-gap_once : (gap other left right : List ℕ) → list_all is_space gap ≡ true → list_all is_space other ≡ true → BeginsOther left
+pub gap_once : (gap other left right : List ℕ) → list_all is_space gap ≡ true → list_all is_space other ≡ true → BeginsOther left
     → BeginsOther right
     → gap ++ left ≡ other ++ right → (gap ≡ other) × (left ≡ right)
 gap_once [] [] left right x y p q e = (refl, e)
@@ -135,7 +135,7 @@ gap_once (b ∷ gap) (c ∷ other) left right x y p q e =
     (and_second (is_space c) (list_all is_space other) y) p q tails in
     (cc, rest.1)
 
-begins_append : (piece more : List ℕ) → BeginsOther piece → BeginsOther (piece ++ more)
+pub begins_append : (piece more : List ℕ) → BeginsOther piece → BeginsOther (piece ++ more)
 begins_append [] more h = absurd h
 begins_append (b ∷ piece) more h = h
 
@@ -157,7 +157,7 @@ pub record IsSameStep (gap other piece second more others : List ℕ) (a b : Tok
   pub rests : more ≡ others
   pub tokens : a ≡ b
 
-step_once : (text gap other piece second more others : List ℕ) (a b : Token) → list_all is_space gap ≡ true → list_all is_space other ≡ true
+pub step_once : (text gap other piece second more others : List ℕ) (a b : Token) → list_all is_space gap ≡ true → list_all is_space other ≡ true
     → text ≡ gap ++ piece ++ more → text ≡ other ++ second ++ others → Spells a piece → Spells b second → IsLongest piece more
     → IsLongest second others
     → IsSameStep gap other piece second more others a b
@@ -191,7 +191,7 @@ no_token gap text left piece more all same whole spaces begins =
 placed_same : (p q : Placed) → p.at ≡ q.at → p.token ≡ q.token → p ≡ q
 placed_same p q place token = λ i. record { at = place i; token = token i }
 
-moved_begins : (tokens : List Placed) (at other : ℕ) (text same : List ℕ) (end : ℕ) (rest : List ℕ) → at ≡ other → text ≡ same
+pub moved_begins : (tokens : List Placed) (at other : ℕ) (text same : List ℕ) (end : ℕ) (rest : List ℕ) → at ≡ other → text ≡ same
     → BeginsWith at text tokens end rest → BeginsWith other same tokens end rest
 moved_begins tokens at other text same end rest places texts begins =
     subst (λ t. BeginsWith other t tokens end rest) texts (subst (λ k. BeginsWith k text tokens end rest) places begins)
@@ -215,7 +215,7 @@ pub one_token_list : (text : List ℕ) (tokens others : List Placed) → HasToke
 one_token_list text tokens others x y = one_list tokens others 0 text (length text) (length text) x.1 y.1
 
 -- what is at fault is no space
-fault_begins : (kind : FaultKind) (depth : ℕ) (rest : List ℕ) → FaultsInFront kind depth rest → BeginsOther rest
+pub fault_begins : (kind : FaultKind) (depth : ℕ) (rest : List ℕ) → FaultsInFront kind depth rest → BeginsOther rest
 fault_begins kinds.Byte depth [] found = found.0
 fault_begins kinds.Byte depth (b ∷ rest) found = found.0
 fault_begins kinds.Token depth rest found =
@@ -250,7 +250,7 @@ open_only Slash more others e = let h : ◌≡◌ {A = ℕ} 47 40 = ap (λ z. sl
 open_only Percent more others e = let h : ◌≡◌ {A = ℕ} 37 40 = ap (λ z. slice_index z 0) e in absurd (omega arith)
 
 -- the token that begins with a parenthesis that opens
-opens : (token : Token) (piece more others : List ℕ) → Spells token piece → piece ++ more ≡ 40 ∷ others → token ≡ Symbol OpenParenthesis
+pub opens : (token : Token) (piece more others : List ℕ) → Spells token piece → piece ++ more ≡ 40 ∷ others → token ≡ Symbol OpenParenthesis
 opens (Word word) [] more others writes e = absurd (spells_first (Word word) [] writes)
 opens (Word word) (b ∷ piece) more others writes e =
     let letter = and_first (is_letter b) (list_all is_word_byte piece) (word_first b piece word writes.0 writes.1) in
@@ -266,7 +266,7 @@ opens (Number value) (b ∷ piece) more others writes e =
 opens (Symbol sign) piece more others writes e = ap Symbol (open_only sign more others (ap (λ z. z ++ more) (sym writes) ∙ e))
 
 -- a token with nothing wrong where something is at fault
-clear_front : (kind : FaultKind) (depth : ℕ) (token : Token) (piece more rest : List ℕ) → rest ≡ piece ++ more → Spells token piece
+pub clear_front : (kind : FaultKind) (depth : ℕ) (token : Token) (piece more rest : List ℕ) → rest ≡ piece ++ more → Spells token piece
     → IsLongest piece more → IsWithinLimits token
     → open_behind depth token ≤ OPEN_PARENTHESES → FaultsInFront kind depth rest → ⊥
 clear_front kinds.Byte depth token piece more rest whole writes longest within shallow found = found.1 piece more token writes whole

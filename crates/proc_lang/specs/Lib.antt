@@ -6,3 +6,4 @@ pub mod Parsing
 pub mod Reading
 pub mod Scopes
 pub mod Checking
+pub mod Answering
