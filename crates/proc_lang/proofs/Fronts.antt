@@ -53,11 +53,11 @@ letter_is_no_digit b letter digit =
 letter_is_word_byte : (b : ℕ) → is_letter b ≡ true → is_word_byte b ≡ true
 letter_is_word_byte b letter = or_first (is_letter b || is_digit b) (b == 95) (or_first (is_letter b) (is_digit b) letter)
 
-clash : {A : Type 0} (b : Bool) → b ≡ true → b ≡ false → A
+pub clash : {A : Type 0} (b : Bool) → b ≡ true → b ≡ false → A
 clash b is is_not = absurd (false≢true (sym is_not ∙ is))
 
 -- a token, where no longer piece at the front of these bytes writes one
-stands : (token : Token) (n : ℕ) (bytes : List ℕ) → n ≤ length bytes → Spells token (take n bytes)
+pub stands : (token : Token) (n : ℕ) (bytes : List ℕ) → n ≤ length bytes → Spells token (take n bytes)
     → ((longer more : List ℕ) (other : Token) → Spells other longer → longer ++ more ≡ bytes → length longer ≤ n)
     → StandsInFront token n bytes
 stands token n bytes within spelled no_longer = record {
@@ -72,7 +72,7 @@ stands token n bytes within spelled no_longer = record {
 pub word_first : (c : ℕ) (tail word : List ℕ) → c ∷ tail ≡ word → is_word word ≡ true → is_word (c ∷ tail) ≡ true
 word_first c tail word same h = subst (λ w. is_word w ≡ true) (sym same) h
 
-same_first : (b c : ℕ) (bytes tail more : List ℕ) → (c ∷ tail) ++ more ≡ b ∷ bytes → c ≡ b
+pub same_first : (b c : ℕ) (bytes tail more : List ℕ) → (c ∷ tail) ++ more ≡ b ∷ bytes → c ≡ b
 same_first b c bytes tail more same = cc
 
 -- a word stands where a letter does

@@ -15,3 +15,4 @@ pub mod Checked
 pub mod CheckedLists
 pub mod TokenFaults
 pub mod Texts
+pub mod EachText

@@ -3,7 +3,7 @@ use Rattle.std.proofs.Common.{◌≡◌, ℕ, suc, ◌+◌, ◌<◌, ◌≤◌, 
 use Rattle.std.proofs.Common.{subst, arith, append_assoc, length-append, ◌⊎◌, inl, inr}
 use Rattle.std.specs.Prelude.{Contains, IfOk, slice_get}
 use Rattle.std.specs.List.{AllByRecursion}
-use Rattle.std.proofs.lemmas.Bool.{cases_order}
+use Rattle.std.proofs.lemmas.Bool.{cases_order, cases_lt}
 use Rattle.std.proofs.lemmas.List.Elements.{All-contains, All-from_recursion}
 use Rattle.dbg_base.specs.declared.limits.TheConstants.{INPUT_BYTES}
 use Rattle.dbg_base.specs.declared.fault.ProgFault.{ProgFault}
@@ -20,6 +20,7 @@ use Rattle.proc_lang.specs.Checking.{Checks}
 use Rattle.proc_lang.specs.Answering.{IfBad, Accepts, Refuses}
 use Rattle.proc_lang.proofs.TokenLaws.{one_token_list, no_token_fault}
 use Rattle.proc_lang.proofs.TokenFaults.{one_token_fault, fault_same}
+use Rattle.proc_lang.proofs.EachText.{lexed}
 
 -- a kind is known by its number
 kind_from : ℕ → FaultKind
@@ -169,3 +170,69 @@ module _ {W M : Type 0} (Derives : List Placed → W → Type 0) (faults : W →
       let tokens = one_token_list text x.0 y.0 x.2 y.2 in
       let written = once y.0 x.1 y.1 (subst (λ (ts : List Placed). Derives ts x.1) tokens x.3) y.3 in
       one_first (faults y.1) f g (subst (λ (w : W). IsFirstFault (faults w) f) written x.4) y.4
+
+  -- what the checks say of the first of their faults, and what the grammar says of tokens
+  module _ (first : (text : List ℕ) (tokens : List Placed) (w : W) (f : ProgFault) → HasTokens text tokens → Derives tokens w
+      → slice_get (faults w) 0 ≡ Some f → IsFirstFault (faults w) f) where
+    checks_fault : (text : List ℕ) (tokens : List Placed) (w : W) (f : ProgFault) → HasTokens text tokens → Derives tokens w
+        → slice_get (faults w) 0 ≡ Some f → IsFaultOf Derives faults text f
+    checks_fault text tokens w f has d e = inr (inr (inr (tokens, w, has, d, first text tokens w f has d e)))
+
+    checked_text : (text : List ℕ) (tokens : List Placed) (w : W) → HasTokens text tokens → Derives tokens w
+        → (all : List ProgFault) → faults w ≡ all → ((P : M) × ReadsAs Derives faults says text P) ⊎ ((f : ProgFault) × IsFaultOf Derives faults text f)
+    checked_text text tokens w has d [] none =
+        inl (says w, record { tokens = tokens; written = w; has_tokens = has; derives = d; checks = none; said = refl })
+    checked_text text tokens w has d (f ∷ others) some =
+        inr (f, checks_fault text tokens w f has d (ap (λ (fs : List ProgFault). slice_get fs 0) some))
+
+    -- each text says something or has a first fault
+    pub each_text : ((end : ℕ) (tokens : List Placed) → ((w : W) × Derives tokens w) ⊎ ((f : ProgFault) × IsGrammarFault Derives end tokens f))
+        → (text : List ℕ) → ((P : M) × ReadsAs Derives faults says text P) ⊎ ((f : ProgFault) × IsFaultOf Derives faults text f)
+    each_text parses text =
+        elim (cases_lt INPUT_BYTES (length text))
+        as (λ _. ((P : M) × ReadsAs Derives faults says text P) ⊎ ((f : ProgFault) × IsFaultOf Derives faults text f)) [
+          | inl long ↦ inr (record { kind = kinds.Limit; at = INPUT_BYTES }, inl (long, refl))
+          | inr few ↦ elim (lexed text few)
+              as (λ _. ((P : M) × ReadsAs Derives faults says text P) ⊎ ((f : ProgFault) × IsFaultOf Derives faults text f)) [
+                | inr found ↦ inr (found.0, inr (inl (few, found.1)))
+                | inl has ↦ elim (parses (length text) has.0)
+                    as (λ _. ((P : M) × ReadsAs Derives faults says text P) ⊎ ((f : ProgFault) × IsFaultOf Derives faults text f)) [
+                      | inl d ↦ checked_text text has.0 d.0 has.1 d.1 (faults d.0) refl
+                      | inr found ↦ inr (found.0, inr (inr (inl (has.0, has.1, found.1))))
+                    ]
+              ]
+        ]
+
+    -- what reading a text answered, where the checks were made
+    module _ {X : Type 0} (view : X → M) (text : List ℕ) (tokens : List Placed) (w : W) (has : HasTokens text tokens)
+        (d : Derives tokens w) where
+      pub checked_accepted : (r : Result X ProgError) → Checks r (faults w) (λ x. view x ≡ says w)
+          → IfOk r (λ x. ReadsAs Derives faults says text (view x))
+      checked_accepted (Ok x) passed =
+          record { tokens = tokens; written = w; has_tokens = has; derives = d; checks = passed.0; said = passed.1 }
+      checked_accepted (Err e) passed = tt
+
+      pub checked_refused : (r : Result X ProgError) → Checks r (faults w) (λ x. view x ≡ says w) → IfBad r (IsFaultOf Derives faults text)
+      checked_refused (Ok x) passed = tt
+      checked_refused (Err Memory) passed = tt
+      checked_refused (Err (Bad f)) passed = checks_fault text tokens w f has d passed
+
+  -- a text without tokens
+  pub no_tokens : (text : List ℕ) (e : ProgError) → HasNoTokens text e → (X : Type 0) → IfBad {X = X} (Err e) (IsFaultOf Derives faults text)
+  no_tokens text Memory none X = tt
+  no_tokens text (Bad f) (inl long) X = inl long
+  no_tokens text (Bad f) (inr found) X = inr (inl found)
+
+  -- what is so is answered, since what is answered is so
+  module _ {X : Type 0} (view : X → M) (text : List ℕ) where
+    pub accepts : (r : Result X ProgError) → IfOk r (λ x. ReadsAs Derives faults says text (view x))
+        → IfBad r (IsFaultOf Derives faults text) → (P : M) → ReadsAs Derives faults says text P → Accepts view r P
+    accepts (Ok x) ok bad P reads = reads_once text (view x) P ok reads
+    accepts (Err Memory) ok bad P reads = tt
+    accepts (Err (Bad f)) ok bad P reads = reads_well text P f reads bad
+
+    pub refuses : (r : Result X ProgError) → IfOk r (λ x. ReadsAs Derives faults says text (view x))
+        → IfBad r (IsFaultOf Derives faults text) → (f : ProgFault) → IsFaultOf Derives faults text f → Refuses r f
+    refuses (Ok x) ok bad f is = reads_well text (view x) f ok is
+    refuses (Err Memory) ok bad f is = tt
+    refuses (Err (Bad g)) ok bad f is = fault_once text g f bad is

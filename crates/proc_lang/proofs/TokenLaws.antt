@@ -6,6 +6,7 @@ use Rattle.std.specs.List.{list_all, AllByRecursion}
 use Rattle.std.specs.Str.{bytes_eq}
 use Rattle.std.proofs.lemmas.Bool.{false≢true, leb-true}
 use Rattle.std.proofs.lemmas.Bool.Decides.{nat_tests}
+use Rattle.std.proofs.lemmas.Slice.Eq.{bytes_eq-Decides}
 use Rattle.dbg_base.specs.declared.limits.TheConstants.{OPEN_PARENTHESES}
 use Rattle.dbg_base.specs.Tokens.{Token, Word, Number, Symbol, Placed, sign_bytes, is_space, is_letter, is_digit, is_word_byte, is_word}
 use Rattle.dbg_base.specs.Tokens.{is_numeral, Spells, IsLongest, BeginsWith, IsWithinLimits, StaysShallow, HasTokens, IsTokenFault}
@@ -21,21 +22,20 @@ use Rattle.proc_lang.proofs.Runs.{and_first, and_second}
 use Rattle.proc_lang.proofs.Fronts.{sign_first, letter_is_no_digit, word_first}
 
 -- a sign is known by how it is written
-sign_from : List ℕ → Option Sign
-sign_from bytes =
-    cond (bytes_eq bytes (codes "{")) (Some OpenBrace) (cond (bytes_eq bytes (codes "}")) (Some CloseBrace)
-    (cond (bytes_eq bytes (codes "(")) (Some OpenParenthesis) (cond (bytes_eq bytes (codes ")")) (Some CloseParenthesis)
-    (cond (bytes_eq bytes (codes ";")) (Some Semicolon) (cond (bytes_eq bytes (codes ":")) (Some Colon)
-    (cond (bytes_eq bytes (codes ":=")) (Some Becomes) (cond (bytes_eq bytes (codes ",")) (Some Comma)
-    (cond (bytes_eq bytes (codes "=")) (Some Equals) (cond (bytes_eq bytes (codes "!=")) (Some NotEquals)
-    (cond (bytes_eq bytes (codes "<")) (Some LessThan) (cond (bytes_eq bytes (codes "<=")) (Some AtMost)
-    (cond (bytes_eq bytes (codes ">")) (Some GreaterThan) (cond (bytes_eq bytes (codes ">=")) (Some AtLeast)
-    (cond (bytes_eq bytes (codes "+")) (Some Plus) (cond (bytes_eq bytes (codes "-")) (Some Minus)
-    (cond (bytes_eq bytes (codes "*")) (Some Star) (cond (bytes_eq bytes (codes "/")) (Some Slash)
-    (cond (bytes_eq bytes (codes "%")) (Some Percent) None))))))))))))))))))
+pub all_signs : List Sign
+all_signs =
+    OpenBrace ∷ CloseBrace ∷ OpenParenthesis ∷ CloseParenthesis ∷ Semicolon ∷ Colon ∷ Becomes ∷ Comma ∷ Equals ∷ NotEquals ∷ LessThan
+    ∷ AtMost ∷ GreaterThan ∷ AtLeast ∷ Plus ∷ Minus ∷ Star ∷ Slash ∷ Percent ∷ []
 
-sign_known : (sign : Sign) → sign_from (sign_bytes sign) ≡ Some sign
-unfolding sign_from
+sign_among : List Sign → List ℕ → Option Sign
+sign_among [] bytes = None
+sign_among (sign ∷ signs) bytes = cond (bytes_eq bytes (sign_bytes sign)) (Some sign) (sign_among signs bytes)
+
+pub sign_from : List ℕ → Option Sign
+sign_from = sign_among all_signs
+
+pub sign_known : (sign : Sign) → sign_from (sign_bytes sign) ≡ Some sign
+unfolding sign_from all_signs sign_among
 sign_known OpenBrace = refl
 sign_known CloseBrace = refl
 sign_known OpenParenthesis = refl
@@ -60,8 +60,22 @@ same_sign : (a b : Sign) → sign_bytes a ≡ sign_bytes b → a ≡ b
 same_sign a b e = let known : Some a ≡ Some b = sym (sign_known a) ∙ ap sign_from e ∙ sign_known b in cc
 
 no_sign_empty : {A : Type 0} (sign : Sign) → sign_from [] ≡ Some sign → A
-unfolding sign_from
+unfolding sign_from all_signs sign_among
 no_sign_empty sign e = cc
+
+among_written : (signs : List Sign) (bytes : List ℕ) (sign : Sign) → sign_among signs bytes ≡ Some sign → bytes ≡ sign_bytes sign
+unfolding sign_among
+among_written [] bytes sign e = cc
+among_written (s ∷ signs) bytes sign e =
+    elim (bytes_eq bytes (sign_bytes s)) as (λ b. bytes_eq bytes (sign_bytes s) ≡ b
+    → cond b (Some s) (sign_among signs bytes) ≡ Some sign → bytes ≡ sign_bytes sign) [
+      | true ↦ λ same h. (bytes_eq-Decides bytes (sign_bytes s)).0 same ∙ ap sign_bytes (let is : s ≡ sign = cc in is)
+      | false ↦ λ other h. among_written signs bytes sign h
+    ] refl e
+
+pub sign_written : (bytes : List ℕ) (sign : Sign) → sign_from bytes ≡ Some sign → bytes ≡ sign_bytes sign
+unfolding sign_from
+sign_written bytes sign e = among_written all_signs bytes sign e
 
 word_is_no_number : {A : Type 0} (piece word : List ℕ) → (piece ≡ word) × (is_word word ≡ true) → is_numeral piece ≡ true → A
 word_is_no_number [] word x y = absurd (false≢true y)

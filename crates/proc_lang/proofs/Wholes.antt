@@ -1,6 +1,6 @@
 -- Processes, programs and predicates: what is read is what the grammar derives, the other way round, and where nothing is derived the
 -- first token is found that cannot follow.
-use Rattle.std.proofs.Common.{◌≡◌, ℕ, false, List, [], ◌∷◌, ◌++◌, length, Result, Ok, Err, refl, sym, ap, ◌∙◌, subst, codes, inl, inr}
+use Rattle.std.proofs.Common.{◌≡◌, ℕ, suc, ◌⊎◌, false, List, [], ◌∷◌, ◌++◌, length, Result, Ok, Err, refl, sym, ap, ◌∙◌, subst, codes, inl, inr}
 use Rattle.std.proofs.Common.{◌-◌, drop, append_assoc, append-nil, length-append, arith}
 use Rattle.std.proofs.Math.Seq.{drop-append_seam}
 use Rattle.dbg_base.specs.declared.sign.Sign.TheVariants.{OpenBrace, CloseBrace}
@@ -200,6 +200,32 @@ module _ {A : Type 0} (Derives : List Placed → A → Type 0) (read : List Plac
       ∙ ap (drop (length f.front)) f.whole ∙ drop-append_seam f.front f.left in
       fault_at end n tokens found kind e f.front f.left f.viable f.whole f.again (at ∙ ap (first_offset end) behind)
 
+  at_end : (tokens : List Placed) (found : A × List Placed) → read_whole read tokens ≡ Ok found → found.1 ≡ []
+  unfolding read_whole
+  at_end tokens found e =
+      let a = bind_ok (read tokens) (λ x. read_end x.1 >>= λ end. Ok (x.0, end.1)) found e in
+      let b = bind_ok (read_end a.0.1) (λ end. Ok (a.0.0, end.1)) found a.2 in
+      sym (ok_is a.0.0 found.0 b.0.1 found.1 b.2).1 ∙ end_is a.0.1 b.0 b.1
+    where
+      end_is : (rest : List Placed) (end : Unit {0} × List Placed) → read_end rest ≡ Ok end → end.1 ≡ []
+      end_is [] end h = sym (ok_is tt end.0 [] end.1 h).1
+      end_is (p ∷ rest) end h = absurd (let bad : ◌≡◌ {A = Read (Unit {0})} (Err (suc (length rest))) (Ok end) = h in cc)
+
+  -- tokens derive something, or have a first one that cannot follow
+  pub whole_parses : (end : ℕ) (tokens : List Placed)
+      → ((x : A) × Derives tokens x) ⊎ ((found : ProgFault) × IsGrammarFault Derives end tokens found)
+  whole_parses end tokens = elim (read_whole read tokens) as (λ r. read_whole read tokens ≡ r
+      → ((x : A) × Derives tokens x) ⊎ ((found : ProgFault) × IsGrammarFault Derives end tokens found)) [
+    | Ok found ↦ λ e. inl (
+        found.0,
+        whole_read tokens found.0 (e ∙ ap (λ (l : List Placed). Ok (found.0, l)) (at_end tokens found e)),
+      )
+    | Err n ↦ λ e. inr (
+        record { kind = fault.Grammar; at = offset_of end n tokens },
+        whole_fails end n tokens (record { kind = fault.Grammar; at = offset_of end n tokens }) e refl refl,
+      )
+  ] refl
+
 -- a program
 program_complete : (tokens : List Placed) (x : List WrittenProcess) → DerivesProgram tokens x → read_processes tokens ≡ Ok (x, [])
 program_complete tokens x d = ap read_processes (sym (append-nil tokens)) ∙ processes_complete tokens [] x d refl
@@ -214,6 +240,10 @@ pub program_fails : (end n : ℕ) (tokens : List Placed) (found : ProgFault) →
     → found.at ≡ offset_of end n tokens → IsGrammarFault DerivesProgram end tokens found
 program_fails = whole_fails DerivesProgram read_processes processes_reader program_complete
 
+pub program_parses : (end : ℕ) (tokens : List Placed)
+    → ((x : List WrittenProcess) × DerivesProgram tokens x) ⊎ ((found : ProgFault) × IsGrammarFault DerivesProgram end tokens found)
+program_parses = whole_parses DerivesProgram read_processes processes_reader program_complete
+
 -- a predicate
 predicate_complete : (tokens : List Placed) (x : Phrase) → DerivesExpression tokens x → read_expression tokens ≡ Ok (x, [])
 predicate_complete tokens x d = ap read_expression (sym (append-nil tokens)) ∙ expression_completes tokens [] x d tt
@@ -227,3 +257,7 @@ predicate_once = whole_once DerivesExpression read_expression expression_reader 
 pub predicate_fails : (end n : ℕ) (tokens : List Placed) (found : ProgFault) → read_predicate tokens ≡ Err n → found.kind ≡ fault.Grammar
     → found.at ≡ offset_of end n tokens → IsGrammarFault DerivesExpression end tokens found
 predicate_fails = whole_fails DerivesExpression read_expression expression_reader predicate_complete
+
+pub predicate_parses : (end : ℕ) (tokens : List Placed)
+    → ((x : Phrase) × DerivesExpression tokens x) ⊎ ((found : ProgFault) × IsGrammarFault DerivesExpression end tokens found)
+predicate_parses = whole_parses DerivesExpression read_expression expression_reader predicate_complete
