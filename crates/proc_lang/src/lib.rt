@@ -4,7 +4,9 @@
 mod check;
 mod expressions;
 mod fault;
+mod fitting;
 mod lexer;
+mod predicate;
 mod process;
 mod program;
 mod scan;
@@ -15,5 +17,6 @@ mod token;
 
 pub use dbg_base::{FaultKind, ProgFault};
 pub use fault::ProgError;
+pub use fitting::fits;
 pub use process::{Action, Assignment, Guarded};
 pub use program::Program;
