@@ -1,3 +1,4 @@
 pub mod Padding
 pub mod WellFormedTrees
+pub mod FirstFaults
 mod Rows

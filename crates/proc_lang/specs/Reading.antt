@@ -1,6 +1,9 @@
 -- What a method of the parser answered, against what stands at the front of its tokens.
 use Rattle.std.specs.Prelude.{◌≡◌, ℕ, ◌-◌, List, [], ◌∷◌, length, drop, Result, Ok, Err}
 use Rattle.dbg_base.specs.Tokens as model
+use Rattle.dbg_base.specs.declared.fault.FaultKind.TheVariants as fault
+use Rattle.proc_lang.specs.declared.fault.ProgError.{ProgError}
+use Rattle.proc_lang.specs.declared.fault.ProgError.TheVariants as errors
 use Rattle.proc_lang.specs.declared.parser.Stop.{Stop}
 use Rattle.proc_lang.specs.declared.parser.Stop.TheVariants.{Memory, Unexpected}
 
@@ -18,3 +21,8 @@ first_offset end (p ∷ tokens) = p.at
 -- where the token stands from which on so many are left
 abbrev pub offset_of : ℕ → ℕ → List model.Placed → ℕ
 offset_of end left tokens = first_offset end (drop (length tokens - left) tokens)
+
+-- why nothing was read: the first token that cannot stand where it stands, or the end; or memory ran out
+abbrev pub IsStop : Stop → List model.Placed → ℕ → ProgError → Type 0
+IsStop Memory tokens end error = error ≡ errors.Memory
+IsStop (Unexpected left) tokens end error = error ≡ errors.Bad (record { kind = fault.Grammar; at = offset_of end left tokens })

@@ -1,6 +1,13 @@
--- The names that a process can use, as the model says it.
-use Rattle.dbg_base.specs.Checks as model
+-- What a process can name, as the model says it.
+use Rattle.dbg_base.specs.Checks as names
+use Rattle.dbg_base.specs.WellFormed as places
 use Rattle.proc_lang.specs.declared.scope.Scope.{Scope}
+use Rattle.proc_lang.specs.declared.fitting.Bounds.{Bounds}
 
-abbrev pub scope_of : Scope → model.Scope
+-- by its name
+abbrev pub scope_of : Scope → names.Scope
 scope_of scope = record { processes = scope.processes.now; own = scope.own; variables = scope.variables.now }
+
+-- by its place
+abbrev pub bounds_of : Bounds → places.Bounds
+bounds_of bounds = record { processes = bounds.processes; own = bounds.own.0; variables = bounds.variables }

@@ -4,8 +4,12 @@
 mod check;
 mod expressions;
 mod fault;
+mod fitting;
+pub mod laws;
 mod lexer;
+mod parse;
 mod parser;
+mod predicate;
 mod process;
 mod program;
 mod scan;
@@ -16,5 +20,7 @@ mod token;
 
 pub use dbg_base::{FaultKind, ProgFault};
 pub use fault::ProgError;
+pub use fitting::fits;
+pub use parse::{parse_predicate, parse_program};
 pub use process::{Action, Assignment, Guarded};
 pub use program::Program;

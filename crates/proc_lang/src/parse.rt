@@ -1,0 +1,106 @@
+//! From a text to a program, or to a predicate of one process.
+
+ghost use Rattle.std.specs.Prelude.{◌≡◌, ◌<◌, length, map, IfOk};
+ghost use Rattle.dbg_base.specs.Trees as tree;
+ghost use Rattle.dbg_base.specs.Trees.{tree_of};
+ghost use Rattle.dbg_base.specs.declared.fault.ProgFault.{ProgFault};
+ghost use Rattle.dbg_base.specs.Checks.{Reads, IsFault, ReadsPredicate, IsPredicateFault};
+ghost use Rattle.proc_lang.specs.Programs.{program_of};
+ghost use Rattle.proc_lang.specs.Scanning.{placed_of};
+ghost use Rattle.proc_lang.specs.Reading.{offset_of, IsStop};
+ghost use Rattle.proc_lang.specs.Answering.{IfBad, Accepts, Refuses};
+
+use crate::check::checked;
+use crate::fault::ProgError;
+use crate::lexer::tokens;
+use crate::parser::{self, Stop};
+use crate::predicate::predicate;
+use crate::program::Program;
+use crate::token::Placed;
+use dbg_base::{Expr, FaultKind, Pid, ProgFault};
+use std::alloc::Global;
+
+// Where the token stands from which on so many are left, or the end of the text where none is.
+fn offset_of(tokens: &[Placed], left: usize, end: usize) -> usize
+    ensures { result ≡ offset_of end left (map placed_of tokens.now) }
+{
+    match tokens.get(tokens.len().saturating_sub(left)) {
+        Some(token) => token.at,
+        None => end,
+    }
+}
+
+// Why these tokens were not read, where the text ends at this offset.
+fn stopped(stop: Stop, tokens: &[Placed], end: usize) -> ProgError
+    ensures { IsStop stop (map placed_of tokens.now) end result }
+{
+    match stop {
+        Stop::Memory => ProgError::Memory,
+        Stop::Unexpected { left } => ProgError::Bad(ProgFault {
+            kind: FaultKind::Grammar,
+            at: offset_of(tokens, left, end),
+        }),
+    }
+}
+
+// The program that the text is, or its first fault.
+fn read_program(alloc: Global, text: &[u8]) -> Result<Program, ProgError>
+    ensures accepted { IfOk result (λ P. Reads text.now (program_of P)) }
+    ensures refused { IfBad result (IsFault text.now) }
+{
+    let tokens = tokens(alloc, text)?;
+    match parser::program(alloc, tokens.as_slice()) {
+        Ok(written) => checked(alloc, written.as_slice()),
+        Err(stop) => Err(stopped(stop, tokens.as_slice(), text.len())),
+    }
+}
+
+// The predicate that the text is, or its first fault.
+fn read_predicate(
+    alloc: Global,
+    program: &Program,
+    pid: Pid,
+    text: &[u8],
+) -> Result<Expr, ProgError>
+    requires { pid.0 < length (program_of program.now) }
+    ensures accepted { IfOk result (λ expr. ReadsPredicate (program_of program.now) pid.0 text.now (tree_of expr)) }
+    ensures refused { IfBad result (IsPredicateFault (program_of program.now) pid.0 text.now) }
+{
+    let tokens = tokens(alloc, text)?;
+    match parser::predicate(alloc, tokens.as_slice()) {
+        Ok(phrase) => predicate(alloc, program, pid, &phrase),
+        Err(stop) => Err(stopped(stop, tokens.as_slice(), text.len())),
+    }
+}
+
+/// Reads the text of a program. It answers the program exactly where the text is one, and otherwise exactly the first fault: of the
+/// length, of the tokens, of the grammar, of the checks, each from left to right, and at one offset the lowest kind. Want of memory is
+/// `ProgError::Memory`, which may stand in place of either.
+pub fn parse_program(alloc: Global, text: &[u8]) -> Result<Program, ProgError>
+    // A program that is answered is what the text reads as, and a fault that is answered is its first.
+    ensures accepted { IfOk result (λ P. Reads text.now (program_of P)) }
+    ensures refused { IfBad result (IsFault text.now) }
+    // What the text reads as is answered, and so is its first fault.
+    ensures accepts { (P : tree.Program) → Reads text.now P → Accepts program_of result P }
+    ensures refuses { (fault : ProgFault) → IsFault text.now fault → Refuses result fault }
+{
+    read_program(alloc, text)
+}
+
+/// Reads the text of a predicate: a truth expression over the variables and the counts of a process of the program, and nothing beside
+/// it. It answers as `parse_program` does, with offsets in this text.
+pub fn parse_predicate(
+    alloc: Global,
+    program: &Program,
+    pid: Pid,
+    text: &[u8],
+) -> Result<Expr, ProgError>
+    requires { pid.0 < length (program_of program.now) }
+    ensures accepted { IfOk result (λ expr. ReadsPredicate (program_of program.now) pid.0 text.now (tree_of expr)) }
+    ensures refused { IfBad result (IsPredicateFault (program_of program.now) pid.0 text.now) }
+    ensures accepts { (expression : tree.Tree) → ReadsPredicate (program_of program.now) pid.0 text.now expression
+        → Accepts tree_of result expression }
+    ensures refuses { (fault : ProgFault) → IsPredicateFault (program_of program.now) pid.0 text.now fault → Refuses result fault }
+{
+    read_predicate(alloc, program, pid, text)
+}
