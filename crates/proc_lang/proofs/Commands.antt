@@ -1,6 +1,6 @@
 -- Initial values, variables, assignments, bodies and commands: what is read from the front is what the grammar derives, and the other
 -- way round.
-use Rattle.std.proofs.Common.{◌≡◌, ℕ, ◌<◌, ℤ, pos, neg_ℤ, Bool, true, false, cond, List, [], ◌∷◌, ◌++◌, length, Ok, refl, sym, ap, ◌∙◌}
+use Rattle.std.proofs.Common.{◌≡◌, ℕ, ℤ, pos, neg_ℤ, false, cond, List, [], ◌∷◌, ◌++◌, length, Ok, refl, sym, ap, ◌∙◌}
 use Rattle.std.proofs.Common.{subst, codes, arith, append_assoc, length-append, inl, inr}
 use Rattle.std.specs.Str.{bytes_eq}
 use Rattle.dbg_base.specs.Tokens.{Placed}
@@ -8,12 +8,12 @@ use Rattle.dbg_base.specs.declared.sign.Sign.TheVariants.{Equals, Semicolon, Col
 use Rattle.dbg_base.specs.Grammar.{Named, Phrase, WrittenVariable, WrittenAction, Local, Sends, Receives, WrittenAssignment}
 use Rattle.dbg_base.specs.Grammar.{WrittenCommand, IsName, word_at, number_at, sign_at, DerivesName, DerivesExpression, DerivesStart}
 use Rattle.dbg_base.specs.Grammar.{DerivesVariable, DerivesAssignment, DerivesFurther, DeriveInTurn, DerivesBody, DerivesCommand}
-use Rattle.proc_lang.specs.Parsing.{Read, Body, ◌>>=◌, is_word_token, is_sign_token, begins_word, begins_sign, read_word, read_sign}
+use Rattle.proc_lang.specs.Parsing.{Read, Body, is_word_token, is_sign_token, begins_word, begins_sign, read_word, read_sign}
 use Rattle.proc_lang.specs.Parsing.{read_name, read_number, read_expression, read_negative, read_positive, read_start, read_variable}
 use Rattle.proc_lang.specs.Parsing.{read_assignment, read_further, read_all_further, read_send, read_receive, read_local, read_body}
 use Rattle.proc_lang.specs.Parsing.{read_command}
 use Rattle.proc_lang.proofs.Steps.{IsReader, Completes, Anything, Takes, Then, Last, bind_to, derives_more, both_reader, last_reader}
-use Rattle.proc_lang.proofs.Steps.{either_reader, either_first, either_second}
+use Rattle.proc_lang.proofs.Steps.{either_reader, either_second}
 use Rattle.proc_lang.proofs.Singles.{WordAt, SignAt, NumberAt, word_reader, word_here, sign_reader, sign_here, name_reader, name_completes}
 use Rattle.proc_lang.proofs.Singles.{name_is_not, number_reader, number_completes}
 use Rattle.proc_lang.proofs.Phrases.{expression_reader, expression_completes}

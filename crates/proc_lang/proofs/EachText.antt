@@ -1,10 +1,9 @@
 -- Each text has tokens or a fault among them, found one step after the other.
-use Rattle.std.proofs.Common.{◌≡◌, ℕ, zero, suc, ◌+◌, ◌<◌, ◌≤◌, ◌^◌, Bool, true, false, List, [], ◌∷◌, ◌++◌, length, take, drop, Option, Some}
-use Rattle.std.proofs.Common.{None, refl, sym, ap, ◌∙◌, subst, arith, ◌⊎◌, inl, inr, append-nil, append_assoc, take-append-drop, length-append}
+use Rattle.std.proofs.Common.{◌≡◌, ℕ, zero, suc, ◌+◌, ◌<◌, ◌≤◌, ◌^◌, true, false, List, [], ◌∷◌, ◌++◌, length, take, drop, Option, Some}
+use Rattle.std.proofs.Common.{None, refl, sym, ap, ◌∙◌, subst, arith, ◌⊎◌, inl, inr, append_assoc, take-append-drop, length-append}
 use Rattle.std.proofs.lemmas.List.{length-drop, length-take-le}
 use Rattle.std.specs.List.{list_all, prefix_len}
 use Rattle.std.proofs.lemmas.Bool.{cases_lt, false≢true}
-use Rattle.std.proofs.lemmas.List.Sums.{prefix_len-le-length}
 use Rattle.dbg_base.specs.declared.limits.TheConstants.{NAME_BYTES, OPEN_PARENTHESES, INPUT_BYTES}
 use Rattle.dbg_base.specs.declared.sign.Sign.{Sign}
 use Rattle.dbg_base.specs.declared.sign.Sign.TheVariants.{OpenBrace, CloseBrace, OpenParenthesis, CloseParenthesis, Semicolon, Colon}
@@ -13,8 +12,8 @@ use Rattle.dbg_base.specs.declared.sign.Sign.TheVariants.{Minus, Star, Slash, Pe
 use Rattle.dbg_base.specs.declared.fault.ProgFault.{ProgFault}
 use Rattle.dbg_base.specs.declared.fault.FaultKind.TheVariants as fault
 use Rattle.dbg_base.specs.Tokens.{Token, Word, Number, Symbol, Placed, sign_bytes, is_space, is_letter, is_digit, is_word_byte, is_word, Spells}
-use Rattle.dbg_base.specs.Tokens.{IsLongest, IsWithinLimits, BeginsWithNoToken, HasTokens, IsTokenFault, open_behind}
-use Rattle.proc_lang.specs.Scanning.{BeginsWithNoSign, StandsInFront, IsSignInFront, TakesToken, MeetsFault}
+use Rattle.dbg_base.specs.Tokens.{IsWithinLimits, BeginsWithNoToken, HasTokens, IsTokenFault, open_behind}
+use Rattle.proc_lang.specs.Scanning.{BeginsWithNoSign, StandsInFront, TakesToken, MeetsFault}
 use Rattle.proc_lang.proofs.Runs.{and_first}
 use Rattle.proc_lang.proofs.Fronts.{word_stands, number_stands, stands, clash, same_first, word_first}
 use Rattle.proc_lang.proofs.TokenLaws.{spells_first, sign_from, sign_known, sign_written}
@@ -214,35 +213,35 @@ module _ (left : List ℕ) (at depth : ℕ) (shallow : depth ≤ OPEN_PARENTHESE
   standing_step rest token n cut stands_so =
       elim (limited token) as (λ _. Stepped left at depth) [
         | inl within ↦ elim (deep_or_not depth token shallow) as (λ _. Stepped left at depth) [
-            | inl deep ↦ inr (inr (
-                record { kind = fault.Limit; at = at + gap },
-                meets_limit left rest gap refl cut at (at + gap) depth n token refl stands_so deep.0 deep.1,
-              ))
-            | inr fits ↦ let takes =
-                takes_token left rest gap refl cut at (at + gap) depth (at + gap + n) (open_behind depth token) n token (drop n rest) refl
-                stands_so within refl fits refl refl in
-                inr (inl (record {
-                  p = record { at = at + gap; token = token };
-                  rest = drop n rest;
-                  end = at + gap + n;
-                  behind = open_behind depth token;
-                  takes = takes;
-                  fewer = omega (
-                    arith,
-                    ap length takes.whole,
-                    length-append (takes.gap ++ takes.piece) (drop n rest),
-                    length-append takes.gap takes.piece,
-                    ap length (append_assoc takes.gap takes.piece (drop n rest)),
-                    some_piece token takes.piece takes.spelled,
-                  );
-                }))
-          ]
-        | inr large ↦ inr (inr (
-            record { kind = fault.Token; at = at + gap },
-            meets_fault left rest gap refl cut at (at + gap) depth fault.Token refl
-                (omega (arith, some_piece token (take n rest) stands_so.spelled, length-take-le n rest stands_so.within, stands_so.within))
-                (take n rest, drop n rest, token, stands_so.spelled, stands_so.longest, sym (take-append-drop n rest), large),
+          | inl deep ↦ inr (inr (
+            record { kind = fault.Limit; at = at + gap },
+            meets_limit left rest gap refl cut at (at + gap) depth n token refl stands_so deep.0 deep.1,
           ))
+          | inr fits ↦ let takes =
+              takes_token left rest gap refl cut at (at + gap) depth (at + gap + n) (open_behind depth token) n token (drop n rest) refl
+              stands_so within refl fits refl refl in
+              inr (inl (record {
+                p = record { at = at + gap; token = token };
+                rest = drop n rest;
+                end = at + gap + n;
+                behind = open_behind depth token;
+                takes = takes;
+                fewer = omega (
+                  arith,
+                  ap length takes.whole,
+                  length-append (takes.gap ++ takes.piece) (drop n rest),
+                  length-append takes.gap takes.piece,
+                  ap length (append_assoc takes.gap takes.piece (drop n rest)),
+                  some_piece token takes.piece takes.spelled,
+                );
+              }))
+        ]
+        | inr large ↦ inr (inr (
+          record { kind = fault.Token; at = at + gap },
+          meets_fault left rest gap refl cut at (at + gap) depth fault.Token refl
+              (omega (arith, some_piece token (take n rest) stands_so.spelled, length-take-le n rest stands_so.within, stands_so.within))
+              (take n rest, drop n rest, token, stands_so.spelled, stands_so.longest, sym (take-append-drop n rest), large),
+        ))
       ]
 
   step_by : (rest : List ℕ) → rest ≡ drop gap left → Stepped left at depth
@@ -250,9 +249,9 @@ module _ (left : List ℕ) (at depth : ℕ) (shallow : depth ≤ OPEN_PARENTHESE
   step_by (b ∷ bytes) cut = elim (decided b bytes) as (λ _. Stepped left at depth) [
     | inl found ↦ standing_step (b ∷ bytes) found.0 found.1 cut found.2
     | inr none ↦ inr (inr (
-        record { kind = fault.Byte; at = at + gap },
-        meets_fault left (b ∷ bytes) gap refl cut at (at + gap) depth fault.Byte refl (omega arith) none,
-      ))
+      record { kind = fault.Byte; at = at + gap },
+      meets_fault left (b ∷ bytes) gap refl cut at (at + gap) depth fault.Byte refl (omega arith) none,
+    ))
   ]
 
   step : Stepped left at depth
@@ -269,10 +268,10 @@ lexed_by (suc n) text tokens at depth left few less is shallow =
     elim (step left at depth shallow) as (λ _. Lexed text) [
       | inl spaces ↦ inl (tokens, has_tokens text tokens at depth left few is spaces)
       | inr more ↦ elim more as (λ _. Lexed text) [
-          | inl s ↦ lexed_by n text (tokens ++ s.p ∷ []) s.end s.behind s.rest few (omega (arith, less, s.fewer))
-              (behind_more text tokens at depth left s.p s.rest s.end s.behind is s.takes) s.takes.shallow
-          | inr met ↦ inr (met.0, has_fault text tokens at depth left met.0 is met.1)
-        ]
+        | inl s ↦ lexed_by n text (tokens ++ s.p ∷ []) s.end s.behind s.rest few (omega (arith, less, s.fewer))
+            (behind_more text tokens at depth left s.p s.rest s.end s.behind is s.takes) s.takes.shallow
+        | inr met ↦ inr (met.0, has_fault text tokens at depth left met.0 is met.1)
+      ]
     ]
 
 -- a text that is not too long has tokens or a fault among them

@@ -16,3 +16,4 @@ pub mod CheckedLists
 pub mod TokenFaults
 pub mod Texts
 pub mod EachText
+pub mod Offsets

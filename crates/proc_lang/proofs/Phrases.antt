@@ -1,20 +1,20 @@
 -- Expressions: what is read from the front is what the grammar derives, and the other way round.
-use Rattle.std.proofs.Common.{◌≡◌, ℕ, ◌<◌, ◌≤◌, Bool, true, false, cond, List, [], ◌∷◌, ◌++◌, length, Some, None, Ok, Err, refl, sym, ap, ◌∙◌}
+use Rattle.std.proofs.Common.{◌≡◌, ℕ, ◌<◌, ◌≤◌, Bool, true, false, cond, List, [], ◌∷◌, ◌++◌, length, Some, None, Ok, refl, sym, ap, ◌∙◌}
 use Rattle.std.proofs.Common.{subst, codes, arith, append_assoc}
 use Rattle.std.specs.Option.{is_some}
 use Rattle.std.specs.Str.{bytes_eq}
 use Rattle.dbg_base.specs.declared.expr.Operator.{Operator}
 use Rattle.dbg_base.specs.declared.expr.Direction.{Direction}
 use Rattle.dbg_base.specs.declared.expr.Direction.TheVariants.{Sent, Got}
-use Rattle.dbg_base.specs.Tokens.{Token, Word, Placed}
+use Rattle.dbg_base.specs.Tokens.{Word, Placed}
 use Rattle.dbg_base.specs.declared.sign.Sign.TheVariants.{OpenParenthesis, CloseParenthesis, Minus}
 use Rattle.dbg_base.specs.Grammar.{Named, Phrase, Number, Name, Truth, Count, Not, Negate, Binary, word_at, number_at, sign_at}
 use Rattle.dbg_base.specs.Grammar.{operator_token, direction_word, DerivesName, DerivesExpression, Begins, IsName}
-use Rattle.proc_lang.specs.Parsing.{Read, ◌>>=◌, begins, is_word_token, is_sign_token, begins_word, begins_sign, begins_count, direction_in}
+use Rattle.proc_lang.specs.Parsing.{Read, ◌>>=◌, is_word_token, is_sign_token, begins_word, begins_sign, begins_count, direction_in}
 use Rattle.proc_lang.specs.Parsing.{read_word, read_sign, read_name, read_operator, read_direction, phrase_in, read_operand, read_count}
 use Rattle.proc_lang.specs.Parsing.{read_not, read_negate, read_binary, read_group, read_parentheses, read_by, read_expression}
 use Rattle.proc_lang.proofs.Steps.{IsReader, Completes, Anything, Then, Last, bind_to, bind_same, bind_agree, leaves, derives_more, both_reader}
-use Rattle.proc_lang.proofs.Steps.{both_complete, last_reader, last_completes, either_reader, either_first, either_second, fixed_parts}
+use Rattle.proc_lang.proofs.Steps.{last_reader, either_reader, either_first, either_second, fixed_parts}
 use Rattle.proc_lang.proofs.Steps.{fixed_reader}
 use Rattle.proc_lang.proofs.Singles.{WordAt, SignAt, OperatorAt, DirectionAt, word_reader, word_here, word_takes, sign_reader}
 use Rattle.proc_lang.proofs.Singles.{sign_here, sign_takes, name_reader, name_completes, name_is_not, operator_reader, operator_completes}

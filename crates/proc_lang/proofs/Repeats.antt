@@ -1,6 +1,6 @@
 -- What is read one after the other, as long as a test of the first token passes.
-use Rattle.std.proofs.Common.{◌≡◌, ℕ, ◌<◌, Bool, true, false, cond, List, [], ◌∷◌, ◌++◌, length, map, Result, Ok, Err, refl, sym, ap}
-use Rattle.std.proofs.Common.{◌∙◌, subst, arith, append_assoc, append-nil}
+use Rattle.std.proofs.Common.{◌≡◌, ℕ, ◌<◌, Bool, true, false, cond, List, [], ◌∷◌, ◌++◌, length, map, Ok, Err, refl, sym, ap}
+use Rattle.std.proofs.Common.{◌∙◌, subst, append_assoc, append-nil}
 use Rattle.std.proofs.lemmas.List.{map-append}
 use Rattle.dbg_base.specs.Tokens.{Token, Placed}
 use Rattle.dbg_base.specs.Grammar.{DeriveInTurn}
@@ -9,7 +9,7 @@ use Rattle.proc_lang.specs.Reading.{Gives}
 use Rattle.proc_lang.specs.declared.parser.Stop.{Stop}
 use Rattle.proc_lang.specs.declared.parser.Stop.TheVariants.{Memory, Unexpected}
 use Rattle.proc_lang.proofs.Steps.{IsReader, Completes, Anything, Takes, Then, Last, bind_to, bind_agree, ok_is, derives_more, both_reader}
-use Rattle.proc_lang.proofs.Steps.{last_reader, both_complete, last_completes, either_reader, either_first, either_second, fixed_parts}
+use Rattle.proc_lang.proofs.Steps.{last_reader, either_reader, either_first, either_second, fixed_parts}
 use Rattle.proc_lang.proofs.Steps.{fixed_reader}
 
 -- one, and then the others

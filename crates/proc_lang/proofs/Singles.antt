@@ -1,7 +1,7 @@
 -- Readers of one token: a word, a sign, a name, a number, an operator, the word of a count, an expression of one token; and of none.
-use Rattle.std.proofs.Common.{◌≡◌, ℕ, suc, Bool, true, false, cond, List, [], ◌∷◌, ◌++◌, length, Option, Some, None, Ok, Err, refl, sym, ap}
+use Rattle.std.proofs.Common.{◌≡◌, ℕ, suc, Bool, true, false, cond, List, [], ◌∷◌, length, Option, Some, None, Ok, Err, refl, sym, ap}
 use Rattle.std.proofs.Common.{◌∙◌, subst, codes, ◌⊎◌, inl, inr}
-use Rattle.std.specs.Option.{option_map, is_some}
+use Rattle.std.specs.Option.{option_map}
 use Rattle.std.specs.List.{list_any}
 use Rattle.std.specs.Str.{bytes_eq}
 use Rattle.std.proofs.lemmas.Slice.Eq.{bytes_eq-Decides}
@@ -21,8 +21,8 @@ use Rattle.dbg_base.specs.Grammar as phrase
 use denote.Enum.Bare.{same_true, true_same}
 use Rattle.dbg_base.specs.contracts.sign.Sign.{the_type}
 use Rattle.proc_lang.specs.Parsing.{Read, same_sign, is_word_token, is_sign_token, place_where, read_one, read_word, read_sign, name_in}
-use Rattle.proc_lang.specs.Parsing.{named_in, read_name, number_in, read_number, sign_operator, word_operator, operator_in, read_operator}
-use Rattle.proc_lang.specs.Parsing.{word_direction, direction_in, read_direction, word_phrase, phrase_in, read_operand, read_end}
+use Rattle.proc_lang.specs.Parsing.{named_in, read_name, number_in, read_number, sign_operator, operator_in, read_operator}
+use Rattle.proc_lang.specs.Parsing.{direction_in, read_direction, word_phrase, phrase_in, read_operand, read_end}
 use Rattle.proc_lang.proofs.Steps.{SameFirst, Success, Failure, IsReader, Completes, Anything, Takes, One, ok_is, derives_more}
 use Rattle.proc_lang.proofs.Steps.{one_reader, one_completes, one_takes}
 
@@ -308,12 +308,12 @@ operand_derives at (Word word) e is =
       | inl h ↦ subst (λ (x : Phrase). DerivesExpression (word_at at word ∷ []) x) h.1
           (ap (λ (w : List ℕ). word_at at w ∷ []) (bytes_equal word (codes "true") h.0))
       | inr h ↦ elim h as (λ _. DerivesExpression (word_at at word ∷ []) e) [
-          | inl g ↦ subst (λ (x : Phrase). DerivesExpression (word_at at word ∷ []) x) g.1
-              (ap (λ (w : List ℕ). word_at at w ∷ []) (bytes_equal word (codes "false") g.0))
-          | inr g ↦ let n = name_is (Word word) g.0 g.1 in
-              subst (λ (x : Phrase). DerivesExpression (word_at at word ∷ []) x) g.2
-              (ap (λ (t : Token). record { at = at; token = t } ∷ []) n.0, n.1)
-        ]
+        | inl g ↦ subst (λ (x : Phrase). DerivesExpression (word_at at word ∷ []) x) g.1
+            (ap (λ (w : List ℕ). word_at at w ∷ []) (bytes_equal word (codes "false") g.0))
+        | inr g ↦ let n = name_is (Word word) g.0 g.1 in
+            subst (λ (x : Phrase). DerivesExpression (word_at at word ∷ []) x) g.2
+            (ap (λ (t : Token). record { at = at; token = t } ∷ []) n.0, n.1)
+      ]
     ]
 
 pub operand_reader : IsReader DerivesExpression read_operand

@@ -1,6 +1,6 @@
 -- What a text reads as and its first fault: one thing in all, whatever the start symbol, the checks and the meaning are.
-use Rattle.std.proofs.Common.{◌≡◌, ℕ, suc, ◌+◌, ◌<◌, ◌≤◌, List, [], ◌∷◌, ◌++◌, length, get_or, Option, Some, None, Result, Ok, Err, refl, sym, ap, ◌∙◌}
-use Rattle.std.proofs.Common.{subst, arith, append_assoc, length-append, ◌⊎◌, inl, inr}
+use Rattle.std.proofs.Common.{◌≡◌, ℕ, ◌<◌, List, [], ◌∷◌, ◌++◌, length, get_or, Some, Result, Ok, Err, refl, sym, ap, ◌∙◌}
+use Rattle.std.proofs.Common.{subst, arith, append_assoc, ◌⊎◌, inl, inr}
 use Rattle.std.specs.Prelude.{Contains, IfOk, slice_get}
 use Rattle.std.specs.List.{AllByRecursion}
 use Rattle.std.proofs.lemmas.Bool.{cases_order, cases_lt}
@@ -10,17 +10,27 @@ use Rattle.dbg_base.specs.declared.fault.ProgFault.{ProgFault}
 use Rattle.dbg_base.specs.declared.fault.FaultKind.{FaultKind}
 use Rattle.dbg_base.specs.declared.fault.FaultKind.TheVariants as kinds
 use Rattle.dbg_base.specs.Faults.{kind_number}
-use Rattle.dbg_base.specs.Tokens.{Placed, HasTokens, IsTokenFault}
-use Rattle.dbg_base.specs.Grammar.{Begins, DerivesNothing, IsGrammarFault}
+use Rattle.dbg_base.specs.Tokens.{Placed, HasTokens}
+use Rattle.dbg_base.specs.Grammar.{Begins, IsGrammarFault}
 use Rattle.dbg_base.specs.Checks.{ReadsAs, IsFaultOf, IsFirstFault, IsNotAfter}
 use Rattle.proc_lang.specs.declared.fault.ProgError.{ProgError}
-use Rattle.proc_lang.specs.declared.fault.ProgError.TheVariants.{Bad, Memory}
+use Rattle.proc_lang.specs.declared.fault.ProgError.TheVariants.{Bad}
+use Rattle.proc_lang.specs.declared.fault.ProgError.TheVariants as errors
+use Rattle.proc_lang.specs.declared.parser.Stop.{Stop}
+use Rattle.proc_lang.specs.declared.parser.Stop.TheVariants.{Memory, Unexpected}
+use Rattle.proc_lang.specs.Parsing.{Read}
+use Rattle.proc_lang.specs.Reading.{Gives, IsStop, offset_of}
 use Rattle.proc_lang.specs.Scanning.{HasNoTokens}
 use Rattle.proc_lang.specs.Checking.{Checks}
-use Rattle.proc_lang.specs.Answering.{IfBad, Accepts, Refuses}
+use Rattle.proc_lang.specs.Answering.{Writes, IfBad, Accepts, Refuses}
 use Rattle.proc_lang.proofs.TokenLaws.{one_token_list, no_token_fault}
 use Rattle.proc_lang.proofs.TokenFaults.{one_token_fault, fault_same}
 use Rattle.proc_lang.proofs.EachText.{lexed}
+
+-- an error is passed on, whatever else could have been answered
+pub passed_on : (X Y : Type 0) (e : ProgError) (is_so : ProgFault → Type 0) → IfBad {X = X} (Err e) is_so → IfBad {X = Y} (Err e) is_so
+passed_on X Y errors.Memory is_so bad = tt
+passed_on X Y (Bad f) is_so bad = bad
 
 -- a kind is known by its number
 kind_from : ℕ → FaultKind
@@ -102,9 +112,9 @@ module _ {W M : Type 0} (Derives : List Placed → W → Type 0) (faults : W →
       elim (cases_order (length a) (length b)) as (λ _. p ≡ q) [
         | inl same ↦ same_front a b l m p q (sym whole ∙ also) same
         | inr h ↦ elim h as (λ _. p ≡ q) [
-            | inl lt ↦ later_front a b l (q ∷ m) p tokens whole also stuck y lt
-            | inr gt ↦ later_front b a m (p ∷ l) q tokens also whole blocked x gt
-          ]
+          | inl lt ↦ later_front a b l (q ∷ m) p tokens whole also stuck y lt
+          | inr gt ↦ later_front b a m (p ∷ l) q tokens also whole blocked x gt
+        ]
       ]
 
   one_grammar_fault : (end : ℕ) (tokens : List Placed) (f g : ProgFault) → IsGrammarFault Derives end tokens f
@@ -204,35 +214,46 @@ module _ {W M : Type 0} (Derives : List Placed → W → Type 0) (faults : W →
         ]
 
     -- what reading a text answered, where the checks were made
-    module _ {X : Type 0} (view : X → M) (text : List ℕ) (tokens : List Placed) (w : W) (has : HasTokens text tokens)
-        (d : Derives tokens w) where
+    module _ {X : Type 0} (view : X → M) (text : List ℕ) (w : W) (writes : Writes Derives text w) where
       pub checked_accepted : (r : Result X ProgError) → Checks r (faults w) (λ x. view x ≡ says w)
           → IfOk r (λ x. ReadsAs Derives faults says text (view x))
       checked_accepted (Ok x) passed =
-          record { tokens = tokens; written = w; has_tokens = has; derives = d; checks = passed.0; said = passed.1 }
+          record { tokens = writes.0; written = w; has_tokens = writes.1; derives = writes.2; checks = passed.0; said = passed.1 }
       checked_accepted (Err e) passed = tt
 
       pub checked_refused : (r : Result X ProgError) → Checks r (faults w) (λ x. view x ≡ says w) → IfBad r (IsFaultOf Derives faults text)
       checked_refused (Ok x) passed = tt
-      checked_refused (Err Memory) passed = tt
-      checked_refused (Err (Bad f)) passed = checks_fault text tokens w f has d passed
+      checked_refused (Err errors.Memory) passed = tt
+      checked_refused (Err (Bad f)) passed = checks_fault text writes.0 w f writes.1 writes.2 passed
 
   -- a text without tokens
   pub no_tokens : (text : List ℕ) (e : ProgError) → HasNoTokens text e → (X : Type 0) → IfBad {X = X} (Err e) (IsFaultOf Derives faults text)
-  no_tokens text Memory none X = tt
+  no_tokens text errors.Memory none X = tt
   no_tokens text (Bad f) (inl long) X = inl long
   no_tokens text (Bad f) (inr found) X = inr (inl found)
+
+  -- a text whose tokens can't go on
+  pub stopped_refused : {B Z : Type 0} (read : List Placed → Read B) (view : Z → B) (text : List ℕ) (tokens rest : List Placed) (stop : Stop)
+      (e : ProgError) (X : Type 0)
+      → ((end n : ℕ) (ts : List Placed) (f : ProgFault) → read ts ≡ Err n → f.kind ≡ kinds.Grammar → f.at ≡ offset_of end n ts
+      → IsGrammarFault Derives end ts f)
+      → HasTokens text tokens → Gives {X = Z} view (Err stop) rest (read tokens) → IsStop stop tokens (length text) e
+      → IfBad {X = X} (Err e) (IsFaultOf Derives faults text)
+  stopped_refused read view text tokens rest Memory e X fails has given is = subst (λ (x : ProgError). IfBad {X = X} (Err x) (IsFaultOf Derives faults text)) (sym is) tt
+  stopped_refused read view text tokens rest (Unexpected n) e X fails has given is =
+      subst (λ (x : ProgError). IfBad {X = X} (Err x) (IsFaultOf Derives faults text)) (sym is)
+      (inr (inr (inl (tokens, has, fails (length text) n tokens _ given refl refl))))
 
   -- what is so is answered, since what is answered is so
   module _ {X : Type 0} (view : X → M) (text : List ℕ) where
     pub accepts : (r : Result X ProgError) → IfOk r (λ x. ReadsAs Derives faults says text (view x))
         → IfBad r (IsFaultOf Derives faults text) → (P : M) → ReadsAs Derives faults says text P → Accepts view r P
     accepts (Ok x) ok bad P reads = reads_once text (view x) P ok reads
-    accepts (Err Memory) ok bad P reads = tt
+    accepts (Err errors.Memory) ok bad P reads = tt
     accepts (Err (Bad f)) ok bad P reads = reads_well text P f reads bad
 
     pub refuses : (r : Result X ProgError) → IfOk r (λ x. ReadsAs Derives faults says text (view x))
         → IfBad r (IsFaultOf Derives faults text) → (f : ProgFault) → IsFaultOf Derives faults text f → Refuses r f
     refuses (Ok x) ok bad f is = reads_well text (view x) f ok is
-    refuses (Err Memory) ok bad f is = tt
+    refuses (Err errors.Memory) ok bad f is = tt
     refuses (Err (Bad g)) ok bad f is = fault_once text g f bad is

@@ -41,28 +41,28 @@ kind_once : (a b : FaultKind) (depth : ℕ) (rest : List ℕ) → FaultsInFront 
 kind_once a b depth rest x y =
     elim (form_of a depth rest x).form as (λ _. a ≡ b) [
       | inl f ↦ elim (form_of b depth rest y).form as (λ _. a ≡ b) [
-          | inl g ↦ f.0 ∙ sym g.0
-          | inr g ↦ elim g as (λ _. a ≡ b) [
-              | inl h ↦ absurd (no_token_or_large rest f.1 h.1)
-              | inr h ↦ absurd (no_token_or_deep depth rest f.1 h.1)
-            ]
+        | inl g ↦ f.0 ∙ sym g.0
+        | inr g ↦ elim g as (λ _. a ≡ b) [
+          | inl h ↦ absurd (no_token_or_large rest f.1 h.1)
+          | inr h ↦ absurd (no_token_or_deep depth rest f.1 h.1)
         ]
+      ]
       | inr f ↦ elim f as (λ _. a ≡ b) [
-          | inl f ↦ elim (form_of b depth rest y).form as (λ _. a ≡ b) [
-              | inl g ↦ absurd (no_token_or_large rest g.1 f.1)
-              | inr g ↦ elim g as (λ _. a ≡ b) [
-                  | inl h ↦ f.0 ∙ sym h.0
-                  | inr h ↦ absurd (large_or_deep depth rest f.1 h.1)
-                ]
-            ]
-          | inr f ↦ elim (form_of b depth rest y).form as (λ _. a ≡ b) [
-              | inl g ↦ absurd (no_token_or_deep depth rest g.1 f.1)
-              | inr g ↦ elim g as (λ _. a ≡ b) [
-                  | inl h ↦ absurd (large_or_deep depth rest h.1 f.1)
-                  | inr h ↦ f.0 ∙ sym h.0
-                ]
-            ]
+        | inl f ↦ elim (form_of b depth rest y).form as (λ _. a ≡ b) [
+          | inl g ↦ absurd (no_token_or_large rest g.1 f.1)
+          | inr g ↦ elim g as (λ _. a ≡ b) [
+            | inl h ↦ f.0 ∙ sym h.0
+            | inr h ↦ absurd (large_or_deep depth rest f.1 h.1)
+          ]
         ]
+        | inr f ↦ elim (form_of b depth rest y).form as (λ _. a ≡ b) [
+          | inl g ↦ absurd (no_token_or_deep depth rest g.1 f.1)
+          | inr g ↦ elim g as (λ _. a ≡ b) [
+            | inl h ↦ absurd (large_or_deep depth rest h.1 f.1)
+            | inr h ↦ f.0 ∙ sym h.0
+          ]
+        ]
+      ]
     ]
 
 -- what is wrong behind these tokens, at this offset

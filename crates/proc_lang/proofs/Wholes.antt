@@ -1,13 +1,13 @@
 -- Processes, programs and predicates: what is read is what the grammar derives, the other way round, and where nothing is derived the
 -- first token is found that cannot follow.
-use Rattle.std.proofs.Common.{◌≡◌, ℕ, suc, ◌⊎◌, false, List, [], ◌∷◌, ◌++◌, length, Result, Ok, Err, refl, sym, ap, ◌∙◌, subst, codes, inl, inr}
+use Rattle.std.proofs.Common.{◌≡◌, ℕ, suc, ◌⊎◌, false, List, [], ◌∷◌, ◌++◌, length, Ok, Err, refl, sym, ap, ◌∙◌, subst, codes, inl, inr}
 use Rattle.std.proofs.Common.{◌-◌, drop, append_assoc, append-nil, length-append, arith}
 use Rattle.std.proofs.Math.Seq.{drop-append_seam}
 use Rattle.dbg_base.specs.declared.sign.Sign.TheVariants.{OpenBrace, CloseBrace}
 use Rattle.dbg_base.specs.declared.fault.ProgFault.{ProgFault}
 use Rattle.dbg_base.specs.declared.fault.FaultKind.TheVariants as fault
 use Rattle.dbg_base.specs.Tokens.{Placed}
-use Rattle.dbg_base.specs.Grammar.{Phrase, WrittenVariable, WrittenCommand, WrittenProcess, word_at, sign_at, DerivesName, DerivesExpression}
+use Rattle.dbg_base.specs.Grammar.{Phrase, WrittenCommand, WrittenProcess, word_at, sign_at, DerivesName, DerivesExpression}
 use Rattle.dbg_base.specs.Grammar.{DeriveInTurn, DerivesVariable, DerivesCommand, DerivesProcess, DerivesProgram, Begins}
 use Rattle.dbg_base.specs.Grammar.{DerivesNothing, IsGrammarFault}
 use Rattle.proc_lang.specs.Reading.{first_offset, offset_of}
@@ -19,7 +19,7 @@ use Rattle.proc_lang.proofs.Steps.{both_reader, last_reader}
 use Rattle.proc_lang.proofs.Singles.{WordAt, SignAt, Nothing, word_reader, word_here, sign_reader, sign_here, name_reader, name_completes}
 use Rattle.proc_lang.proofs.Singles.{end_reader}
 use Rattle.proc_lang.proofs.Phrases.{expression_reader, expression_completes}
-use Rattle.proc_lang.proofs.Repeats.{many_reader, many_complete, several_reader, several_complete}
+use Rattle.proc_lang.proofs.Repeats.{many_reader, many_complete, several_complete}
 use Rattle.proc_lang.proofs.Commands.{takes_by, variable_reader, variable_completes, variable_takes, command_reader, command_completes}
 use Rattle.proc_lang.proofs.Commands.{command_takes}
 
@@ -75,7 +75,7 @@ process_reader =
       variables.3,
       commands.3,
       process_whole tokens d.1 d.2 name.1 name.2 start.1 start.2 variables.1 variables.2 commands.1 commands.2 _ _ _ d.5 d.3 name.5
-      start.5 start.3 variables.5 commands.5 end.1,
+          start.5 start.3 variables.5 commands.5 end.1,
     ))
     (both_reader _ _ (read_word (codes "process")) _ (word_reader (codes "process")) (λ word.
     both_reader _ _ read_name _ name_reader (λ name.
@@ -216,15 +216,15 @@ module _ {A : Type 0} (Derives : List Placed → A → Type 0) (read : List Plac
       → ((x : A) × Derives tokens x) ⊎ ((found : ProgFault) × IsGrammarFault Derives end tokens found)
   whole_parses end tokens = elim (read_whole read tokens) as (λ r. read_whole read tokens ≡ r
       → ((x : A) × Derives tokens x) ⊎ ((found : ProgFault) × IsGrammarFault Derives end tokens found)) [
-    | Ok found ↦ λ e. inl (
-        found.0,
-        whole_read tokens found.0 (e ∙ ap (λ (l : List Placed). Ok (found.0, l)) (at_end tokens found e)),
-      )
-    | Err n ↦ λ e. inr (
-        record { kind = fault.Grammar; at = offset_of end n tokens },
-        whole_fails end n tokens (record { kind = fault.Grammar; at = offset_of end n tokens }) e refl refl,
-      )
-  ] refl
+        | Ok found ↦ λ e. inl (
+          found.0,
+          whole_read tokens found.0 (e ∙ ap (λ (l : List Placed). Ok (found.0, l)) (at_end tokens found e)),
+        )
+        | Err n ↦ λ e. inr (
+          record { kind = fault.Grammar; at = offset_of end n tokens },
+          whole_fails end n tokens (record { kind = fault.Grammar; at = offset_of end n tokens }) e refl refl,
+        )
+      ] refl
 
 -- a program
 program_complete : (tokens : List Placed) (x : List WrittenProcess) → DerivesProgram tokens x → read_processes tokens ≡ Ok (x, [])

@@ -1,8 +1,13 @@
 -- What reading a text answers: what it says, or its first fault, unless memory ran out.
-use Rattle.std.specs.Prelude.{◌≡◌, Result, Ok, Err}
+use Rattle.std.specs.Prelude.{◌≡◌, ℕ, List, Result, Ok, Err}
+use Rattle.dbg_base.specs.Tokens.{Placed, HasTokens}
 use Rattle.dbg_base.specs.declared.fault.ProgFault.{ProgFault}
 use Rattle.proc_lang.specs.declared.fault.ProgError.{ProgError}
 use Rattle.proc_lang.specs.declared.fault.ProgError.TheVariants.{Bad, Memory}
+
+-- the text has tokens, and they derive what is written
+abbrev pub Writes : {W : Type 0} → (List Placed → W → Type 0) → List ℕ → W → Type 0
+Writes Derives text written = (tokens : List Placed) × HasTokens text tokens × Derives tokens written
 
 -- a fault that is answered is so
 abbrev pub IfBad : {X : Type 0} → Result X ProgError → (ProgFault → Type 0) → Type 0

@@ -1,6 +1,6 @@
 //! Laws of the process language, over its definitions alone.
 
-ghost use Rattle.std.specs.Prelude.{◌≡◌, ◌<◌, ◌⊎◌, ℕ, List, length, IsTrue};
+ghost use Rattle.std.specs.Prelude.{◌≡◌, ◌⊎◌, ℕ, List, IsTrue};
 ghost use Rattle.dbg_base.specs.Trees.{Tree, Program};
 ghost use Rattle.dbg_base.specs.Tokens.{Placed, HasTokens, IsTokenFault};
 ghost use Rattle.dbg_base.specs.declared.fault.ProgFault.{ProgFault};
@@ -49,6 +49,6 @@ pub fn reads_well_formed()
 
 /// A predicate that is read fits its process: it is a truth expression, and what it names is there.
 pub fn predicate_fits()
-    ensures { (P : Program) (p : ℕ) (text : List ℕ) (tree : Tree) → p < length P → ReadsPredicate P p text tree
+    ensures { (P : Program) (p : ℕ) (text : List ℕ) (tree : Tree) → ReadsPredicate P p text tree
         → IsTrue (is_fit (bounds_of P p) sort.Truth tree) }
 {}

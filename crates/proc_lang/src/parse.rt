@@ -1,14 +1,16 @@
 //! From a text to a program, or to a predicate of one process.
 
-ghost use Rattle.std.specs.Prelude.{◌≡◌, ◌<◌, length, map, IfOk};
+ghost use Rattle.std.specs.Prelude.{◌≡◌, ℕ, ◌<◌, length, map, IfOk};
 ghost use Rattle.dbg_base.specs.Trees as tree;
 ghost use Rattle.dbg_base.specs.Trees.{tree_of};
 ghost use Rattle.dbg_base.specs.declared.fault.ProgFault.{ProgFault};
+ghost use Rattle.dbg_base.specs.Grammar.{DerivesProgram, DerivesExpression};
 ghost use Rattle.dbg_base.specs.Checks.{Reads, IsFault, ReadsPredicate, IsPredicateFault};
 ghost use Rattle.proc_lang.specs.Programs.{program_of};
 ghost use Rattle.proc_lang.specs.Scanning.{placed_of};
+ghost use Rattle.proc_lang.specs.Writing.{phrase_of, processes_of};
 ghost use Rattle.proc_lang.specs.Reading.{offset_of, IsStop};
-ghost use Rattle.proc_lang.specs.Answering.{IfBad, Accepts, Refuses};
+ghost use Rattle.proc_lang.specs.Answering.{Writes, IfBad, Accepts, Refuses};
 
 use crate::check::checked;
 use crate::fault::ProgError;
@@ -16,6 +18,7 @@ use crate::lexer::tokens;
 use crate::parser::{self, Stop};
 use crate::predicate::predicate;
 use crate::program::Program;
+use crate::syntax::{Phrase, WrittenProcess};
 use crate::token::Placed;
 use dbg_base::{Expr, FaultKind, Pid, ProgFault};
 use std::alloc::Global;
@@ -24,9 +27,9 @@ use std::alloc::Global;
 fn offset_of(tokens: &[Placed], left: usize, end: usize) -> usize
     ensures { result ≡ offset_of end left (map placed_of tokens.now) }
 {
-    match tokens.get(tokens.len().saturating_sub(left)) {
-        Some(token) => token.at,
-        None => end,
+    match &tokens[tokens.len().saturating_sub(left)..] {
+        [first, ..] => first.at,
+        [] => end,
     }
 }
 
@@ -43,14 +46,35 @@ fn stopped(stop: Stop, tokens: &[Placed], end: usize) -> ProgError
     }
 }
 
+// What a program text writes, or its first fault but for the checks.
+fn written_program(alloc: Global, text: &[u8]) -> Result<Vec<WrittenProcess>, ProgError>
+    ensures written { IfOk result (λ written. Writes DerivesProgram text.now (processes_of written.items)) }
+    ensures refused { IfBad result (IsFault text.now) }
+{
+    let tokens = tokens(alloc, text)?;
+    match parser::program(alloc, tokens.as_slice()) {
+        Ok(written) => Ok(written),
+        Err(stop) => Err(stopped(stop, tokens.as_slice(), text.len())),
+    }
+}
+
 // The program that the text is, or its first fault.
 fn read_program(alloc: Global, text: &[u8]) -> Result<Program, ProgError>
     ensures accepted { IfOk result (λ P. Reads text.now (program_of P)) }
     ensures refused { IfBad result (IsFault text.now) }
 {
+    let written = written_program(alloc, text)?;
+    checked(alloc, written.as_slice())
+}
+
+// What the text of a predicate writes, or its first fault but for the checks, whatever its process is.
+fn written_predicate(alloc: Global, text: &[u8]) -> Result<Phrase, ProgError>
+    ensures written { IfOk result (λ written. Writes DerivesExpression text.now (phrase_of written)) }
+    ensures refused { (P : tree.Program) (p : ℕ) → IfBad result (IsPredicateFault P p text.now) }
+{
     let tokens = tokens(alloc, text)?;
-    match parser::program(alloc, tokens.as_slice()) {
-        Ok(written) => checked(alloc, written.as_slice()),
+    match parser::predicate(alloc, tokens.as_slice()) {
+        Ok(written) => Ok(written),
         Err(stop) => Err(stopped(stop, tokens.as_slice(), text.len())),
     }
 }
@@ -66,11 +90,8 @@ fn read_predicate(
     ensures accepted { IfOk result (λ expr. ReadsPredicate (program_of program.now) pid.0 text.now (tree_of expr)) }
     ensures refused { IfBad result (IsPredicateFault (program_of program.now) pid.0 text.now) }
 {
-    let tokens = tokens(alloc, text)?;
-    match parser::predicate(alloc, tokens.as_slice()) {
-        Ok(phrase) => predicate(alloc, program, pid, &phrase),
-        Err(stop) => Err(stopped(stop, tokens.as_slice(), text.len())),
-    }
+    let written = written_predicate(alloc, text)?;
+    predicate(alloc, program, pid, &written)
 }
 
 /// Reads the text of a program. It answers the program exactly where the text is one, and otherwise exactly the first fault: of the

@@ -1,4 +1,4 @@
-use Rattle.std.proofs.Common.{◌≡◌, ◌≤◌, length, map}
+use Rattle.std.proofs.Common.{◌≤◌, length, map}
 use Rattle.dbg_base.specs.declared.sign.Sign.TheVariants.{Comma}
 use Rattle.dbg_base.specs.Grammar.{DerivesFurther}
 use Rattle.proc_lang.specs.Scanning.{placed_of}

@@ -1,4 +1,4 @@
-use Rattle.std.proofs.Common.{◌≡◌, ◌≤◌, codes, length, map}
+use Rattle.std.proofs.Common.{◌≤◌, codes, length, map}
 use Rattle.dbg_base.specs.Grammar.{DerivesCommand}
 use Rattle.proc_lang.specs.Scanning.{placed_of}
 use Rattle.proc_lang.specs.Writing.{command_of}

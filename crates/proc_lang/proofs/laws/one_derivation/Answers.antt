@@ -1,0 +1,5 @@
+use Rattle.proc_lang.proofs.Wholes.{program_once}
+use Rattle.proc_lang.proofs.laws.one_derivation.Goals as goal
+
+pub returns : goal.returns
+returns c = program_once
