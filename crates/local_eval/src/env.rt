@@ -104,8 +104,8 @@ impl Env {
         self.counts(Direction::Got)[pid.0 as usize]
     }
 
-    // The counts of messages, by the places of the other processes.
-    pub(crate) fn counts(&self, direction: Direction) -> &[u32]
+    /// How many messages the process has sent to each process, or has received from each, by their places.
+    pub fn counts(&self, direction: Direction) -> &[u32]
         ensures { result.now ≡ counts_of direction self.now }
     {
         match direction {
