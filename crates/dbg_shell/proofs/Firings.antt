@@ -5,7 +5,8 @@ use Rattle.std.specs.Prelude.{slice_get, slice_index_or}
 use Rattle.std.specs.Result.{is_ok}
 use Rattle.std.proofs.lemmas.List.{length-set}
 use Rattle.dbg_base.specs.Trees.{Program, Command, Action, Local, Sends, Receives, process_of, no_process}
-use Rattle.dbg_base.specs.Configurations.{Configuration, values_of, channel_of, with_channel}
+use Rattle.dbg_base.specs.LocalStates.{LocalState}
+use Rattle.dbg_base.specs.Configurations.{Configuration, state_in, channel_of, with_channel}
 use Rattle.dbg_base.specs.Evaluation.{evaluate}
 use Rattle.dbg_base.specs.Firing.{Effect, truth_of, where_true, effect_of, after_effect, deliver, complete, receive, proceed, fire_command}
 use Rattle.dbg_base.specs.Firing.{fire_if, fire}
@@ -46,47 +47,47 @@ pub first_passes : (o : Result (Unit {0}) Refusal) (known : Result Configuration
 first_passes (Ok done) known old new k others t h = absurd cc
 first_passes (Err refusal) known old new k others t h = (ap (λ r. fires_first r k others) h.0, h.1)
 
-delivered_keeps : (c : Configuration) (p target : ℕ) (message : Option ℤ) → length (deliver c p target message).values ≡ length c.values
+delivered_keeps : (c : Configuration) (p target : ℕ) (message : Option ℤ) → length (deliver c p target message).states ≡ length c.states
 delivered_keeps c p target None = refl
 delivered_keeps c p target (Some z) = refl
 
 after_keeps : (c : Configuration) (p : ℕ) (action : Action) (effect : Effect)
-    → length (after_effect c p action effect).values ≡ length c.values
+    → length (after_effect c p action effect).states ≡ length c.states
 after_keeps c p Local effect = simp length-set refl
 after_keeps c p (Sends target value) effect = delivered_keeps _ p target effect.message ∙ simp length-set refl
 after_keeps c p (Receives source variable) effect = simp length-set refl
 
 complete_keeps : (c c' : Configuration) (p : ℕ) (action : Action) (effect : Option Effect) → complete c p action effect ≡ Ok c'
-    → length c'.values ≡ length c.values
+    → length c'.states ≡ length c.states
 complete_keeps c c' p action None h = cc
 complete_keeps c c' p action (Some effect) h =
     let same : after_effect c p action effect ≡ c' = cc in
-    ap (λ (d : Configuration). length d.values) (sym same) ∙ after_keeps c p action effect
+    ap (λ (d : Configuration). length d.states) (sym same) ∙ after_keeps c p action effect
 
 receive_keeps : (command : Command) (c c' : Configuration) (p source : ℕ) (messages : List ℤ) → receive command c p source messages ≡ Ok c'
-    → length c'.values ≡ length c.values
+    → length c'.states ≡ length c.states
 receive_keeps command c c' p source [] h = cc
 receive_keeps command c c' p source (message ∷ messages) h =
-    complete_keeps (with_channel c source p messages) c' p command.action (effect_of command (values_of c p) (Some message)) h
+    complete_keeps (with_channel c source p messages) c' p command.action (effect_of command (state_in c p) (Some message)) h
 
 proceed_keeps : (command : Command) (action : Action) (c c' : Configuration) (p : ℕ) → proceed command action c p ≡ Ok c'
-    → length c'.values ≡ length c.values
-proceed_keeps command Local c c' p h = complete_keeps c c' p Local (effect_of command (values_of c p) None) h
-proceed_keeps command (Sends target value) c c' p h = complete_keeps c c' p (Sends target value) (effect_of command (values_of c p) None) h
+    → length c'.states ≡ length c.states
+proceed_keeps command Local c c' p h = complete_keeps c c' p Local (effect_of command (state_in c p) None) h
+proceed_keeps command (Sends target value) c c' p h = complete_keeps c c' p (Sends target value) (effect_of command (state_in c p) None) h
 proceed_keeps command (Receives source variable) c c' p h = receive_keeps command c c' p source (channel_of c source p) h
 
 where_keeps : (t : Option Bool) (command : Command) (c c' : Configuration) (p : ℕ)
-    → where_true t (proceed command command.action c p) ≡ Ok c' → length c'.values ≡ length c.values
+    → where_true t (proceed command command.action c p) ≡ Ok c' → length c'.states ≡ length c.states
 where_keeps None command c c' p h = cc
 where_keeps (Some false) command c c' p h = cc
 where_keeps (Some true) command c c' p h = proceed_keeps command command.action c c' p h
 
-fire_if_keeps : (o : Option Command) (c c' : Configuration) (p : ℕ) → fire_if o c p ≡ Ok c' → length c'.values ≡ length c.values
+fire_if_keeps : (o : Option Command) (c c' : Configuration) (p : ℕ) → fire_if o c p ≡ Ok c' → length c'.states ≡ length c.states
 fire_if_keeps None c c' p h = cc
-fire_if_keeps (Some command) c c' p h = where_keeps (truth_of (evaluate command.guard (values_of c p))) command c c' p h
+fire_if_keeps (Some command) c c' p h = where_keeps (truth_of (evaluate command.guard (state_in c p))) command c c' p h
 
--- firing keeps how many processes have values
-pub fire_keeps : (P : Program) (c c' : Configuration) (p k : ℕ) → fire P c p k ≡ Ok c' → length c'.values ≡ length c.values
+-- firing keeps how many processes there are
+pub fire_keeps : (P : Program) (c c' : Configuration) (p k : ℕ) → fire P c p k ≡ Ok c' → length c'.states ≡ length c.states
 fire_keeps P c c' p k h = fire_if_keeps (slice_get (process_of P p).commands k) c c' p h
 
 -- the next move, of these lists of choices from process p on
@@ -144,9 +145,9 @@ first_stays (Ok done) known old new at p rest others t h = absurd cc
 first_stays (Err refusal) known old new at p rest others t h = (ap (λ r. first_move r at p rest others) h.0, h.1)
 
 pub fired_keeps : (P : Program) (o : Result (Unit {0}) Refusal) (old new : Configuration) (p k : ℕ) → FiresAs o (fire P old p k) old new
-    → length new.values ≡ length old.values
+    → length new.states ≡ length old.states
 fired_keeps P (Ok done) old new p k h = fire_keeps P old new p k h
-fired_keeps P (Err refusal) old new p k h = ap (λ (c : Configuration). length c.values) h.1
+fired_keeps P (Err refusal) old new p k h = ap (λ (c : Configuration). length c.states) h.1
 
 pub none_moves : (o : Option Progress) (c c' : Configuration) (H H' : History) → o ≡ None → c' ≡ c → H' ≡ H → Moves false o c H c' H'
 none_moves None c c' H H' e f h = (refl, f, h)
@@ -163,10 +164,10 @@ stays_put : (n : ℕ) (P : Program) (at : Progress) → next_move P at ≡ None 
 stays_put zero P at h = refl
 stays_put (suc n) P at h = ap (λ (o : Option Progress). go_on at o (play_moves n P)) h
 
-module _ (P : Program) (c c' : Configuration) (H H' : History) (states : List (List (List ℤ))) where
+module _ (P : Program) (c c' : Configuration) (H H' : History) (states : List (List LocalState)) where
   goes_by : (o : Option Progress) (b : Bool) → next_move P (at_progress c H states) ≡ o → b ≡ true → Moves b o c H c' H'
       → choice_count H' + 1 ≡ choice_count H
-      → (others : List (List (List ℤ))) × (play_moves (choice_count H') P (at_progress c' H' others)
+      → (others : List (List LocalState)) × (play_moves (choice_count H') P (at_progress c' H' others)
       ≡ play_moves (choice_count H) P (at_progress c H states))
   goes_by None b e t m n = absurd cc
   goes_by (Some to) b e t m n =
@@ -180,7 +181,7 @@ module _ (P : Program) (c c' : Configuration) (H H' : History) (states : List (L
 
   -- a play goes on after a move
   pub goes_on : (b : Bool) → b ≡ true → Moves b (next_move P (at_progress c H states)) c H c' H' → choice_count H' + 1 ≡ choice_count H
-      → (others : List (List (List ℤ))) × (play_moves (choice_count H') P (at_progress c' H' others)
+      → (others : List (List LocalState)) × (play_moves (choice_count H') P (at_progress c' H' others)
       ≡ play_moves (choice_count H) P (at_progress c H states))
   goes_on b t m n = goes_by (next_move P (at_progress c H states)) b refl t m n
 

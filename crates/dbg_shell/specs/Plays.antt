@@ -1,7 +1,8 @@
 -- What the code's play does, as the model says it.
-use Rattle.std.specs.Prelude.{◌≡◌, ℕ, ℤ, Bool, true, false, List, map, Option, Some, None}
+use Rattle.std.specs.Prelude.{◌≡◌, ℕ, Bool, true, false, List, map, Option, Some, None}
 use Rattle.std.specs.Borrow.{Bor}
 use Rattle.dbg_base.specs.declared.ids.Choice.{Choice}
+use Rattle.dbg_base.specs.LocalStates.{LocalState}
 use Rattle.dbg_base.specs.Configurations.{Configuration}
 use Rattle.dbg_base.specs.Histories.{History, Progress}
 
@@ -10,7 +11,7 @@ abbrev pub choices_in : List (Bor (List ℕ)) → History
 choices_in lists = map (λ choices. choices.now) lists
 
 -- a play that has come so far; its local states don't tell what comes next
-abbrev pub at_progress : Configuration → History → List (List (List ℤ)) → Progress
+abbrev pub at_progress : Configuration → History → List (List LocalState) → Progress
 at_progress c H states = record { configuration = c; unplayed = H; states = states }
 
 -- the next move was made, or there is none and nothing changed

@@ -2,14 +2,14 @@
 use Rattle.std.specs.Prelude.{◌≡◌, ℕ, ℤ, List, [], ◌∷◌, map, drop, Option, Some, None, Result, Ok, Err}
 use Rattle.dbg_base.specs.Trees.{Action, Local, Sends, Receives}
 use Rattle.dbg_base.specs.Configurations as model
-use Rattle.dbg_base.specs.Configurations.{channel_of, values_of, with_channel, with_values}
-use Rattle.dbg_base.specs.Firing.{deliver, set_all}
+use Rattle.dbg_base.specs.Configurations.{channel_of, state_in, with_channel, with_state}
+use Rattle.dbg_base.specs.Firing.{deliver, with_set, counted}
 use Rattle.dbg_shell.specs.declared.configuration.Configuration.{Configuration}
 use Rattle.dbg_base.specs.declared.refusal.Refusal.{Refusal}
 use Rattle.dbg_base.specs.declared.refusal.Refusal.TheVariants.{ChannelEmpty}
 
 abbrev pub standing : Configuration → model.Configuration
-standing c = record { values = c.values.items; channels = map (λ row. map (λ channel. channel.items) row.items) c.channels.items }
+standing c = record { states = c.states.items; channels = map (λ row. map (λ channel. channel.items) row.items) c.channels.items }
 
 -- the front, if there is one
 abbrev pub first_of : List ℤ → Option ℤ
@@ -22,9 +22,9 @@ exchanged c p Local message = c
 exchanged c p (Sends target value) message = deliver c p target message
 exchanged c p (Receives source variable) message = with_channel c source p (drop 1 (channel_of c source p))
 
--- and the variables are set
+-- and the variables are set, and the message is counted
 abbrev pub made : model.Configuration → ℕ → Action → Option ℤ → List (ℕ × ℤ) → model.Configuration
-made c p action message sets = with_values (exchanged c p action message) p (set_all (values_of c p) sets)
+made c p action message sets = with_state (exchanged c p action message) p (counted action (with_set (state_in c p) sets))
 
 -- a command fired as the model says, or did not and nothing changed
 abbrev pub FiresAs : Result (Unit {0}) Refusal → Result model.Configuration Refusal → model.Configuration → model.Configuration → Type 0

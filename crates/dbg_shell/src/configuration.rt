@@ -4,32 +4,32 @@ ghost use Rattle.std.specs.Prelude.{◌≡◌, ℕ, ℤ, ◌++◌, ◌∷◌, []
 ghost use Rattle.std.specs.Prelude.{OnOk, OnErr};
 ghost use Rattle.std.specs.Option.{option_map};
 ghost use Rattle.dbg_base.specs.Configurations.{start_of, channel_of, with_channel};
-ghost use Rattle.dbg_base.specs.Firing.{set_all};
+ghost use Rattle.dbg_base.specs.Firing.{with_set, counted};
 ghost use Rattle.proc_lang.specs.Programs.{program_of};
 ghost use Rattle.proc_lang.specs.ProcessTrees.{action_tree};
 ghost use Rattle.dbg_shell.specs.Standings.{standing, first_of, exchanged, made};
 
-use dbg_base::Pid;
+use dbg_base::{Direction, Pid};
 use local_eval::{Change, Env};
 use proc_lang::{Action, Program};
 use std::alloc::{AllocError, Global};
 use std::collections::VecDeque;
 
-/// The values of each process's variables, and for each ordered pair of processes the messages from the first to the second.
+/// The local state of each process, and for each ordered pair of processes the messages from the first to the second.
 #[derive(Debug, Drop)]
 pub(crate) struct Configuration {
-    values: Vec<Env>,
+    states: Vec<Env>,
     channels: Vec<Vec<VecDeque<i64>>>,
 }
 
-fn start_values(alloc: Global, program: &Program) -> Result<Vec<Env>, AllocError>
-    ensures { IfOk result (λ values. values.items ≡ (start_of (program_of program.now)).values) }
+fn start_states(alloc: Global, program: &Program) -> Result<Vec<Env>, AllocError>
+    ensures { IfOk result (λ states. states.items ≡ (start_of (program_of program.now)).states) }
 {
-    let mut values = Vec::new(alloc);
+    let mut states = Vec::new(alloc);
     for p in 0..program.processes() {
-        values.push(Env::start(alloc, program, Pid(p))?)?;
+        states.push(Env::start(alloc, program, Pid(p))?)?;
     }
-    Ok(values)
+    Ok(states)
 }
 
 fn empty_channels_from(alloc: Global, processes: u32) -> Result<Vec<VecDeque<i64>>, AllocError>
@@ -54,13 +54,44 @@ fn empty_channels(alloc: Global, processes: u32) -> Result<Vec<Vec<VecDeque<i64>
 }
 
 fn set_all(env: &mut Env, sets: &[(u32, i64)])
-    ensures { env.new ≡ set_all env.old sets.now }
+    ensures { env.new ≡ with_set env.old sets.now }
 {
     for (variable, value) in sets {
         if (*variable as usize) < env.len() {
             env.set(*variable, *value);
         }
     }
+}
+
+// The message that the command sends or receives is counted, where the other process is there. A count without room for one more,
+// which the limit on events rules out, is told as want of memory.
+fn count(env: &mut Env, action: &Action) -> Result<(), AllocError>
+    ensures { OnOk result (env.new ≡ counted (action_tree action.now) env.old) }
+{
+    match action {
+        Action::Local => {}
+        Action::Send { target, .. } => {
+            if let Some(count) = env.counts(Direction::Sent).get(target.0 as usize).copied() {
+                env.set_sent(*target, count.checked_add(1).ok_or(AllocError)?);
+            }
+        }
+        Action::Receive { source, .. } => {
+            if let Some(count) = env.counts(Direction::Got).get(source.0 as usize).copied() {
+                env.set_got(*source, count.checked_add(1).ok_or(AllocError)?);
+            }
+        }
+    }
+    Ok(())
+}
+
+// The local state with these variables set, and with the message of the command counted.
+fn advanced(env: &Env, action: &Action, sets: &[(u32, i64)]) -> Result<Env, AllocError>
+    ensures { IfOk result (λ next. next ≡ counted (action_tree action.now) (with_set env.now sets.now)) }
+{
+    let mut next = env.copy()?;
+    set_all(&mut next, sets);
+    count(&mut next, action)?;
+    Ok(next)
 }
 
 // The value goes to the back of this one of the channels, where it is there. Where memory runs out nothing changes.
@@ -88,21 +119,21 @@ fn pop_at(channels: &mut Vec<VecDeque<i64>>, at: usize)
 }
 
 impl Configuration {
-    /// The initial values, and no message.
+    /// The processes at their start, and no message.
     pub(crate) fn start(alloc: Global, program: &Program) -> Result<Configuration, AllocError>
         ensures { IfOk result (λ configuration. standing configuration ≡ start_of (program_of program.now)) }
     {
         Ok(Configuration {
-            values: start_values(alloc, program)?,
+            states: start_states(alloc, program)?,
             channels: empty_channels(alloc, program.processes())?,
         })
     }
 
-    /// The values of a process.
-    pub(crate) fn values_of(&self, pid: Pid) -> Option<&Env>
-        ensures { option_map (λ env. env.now) result ≡ slice_get (standing self.now).values pid.0 }
+    /// The local state of a process.
+    pub(crate) fn local_state(&self, pid: Pid) -> Option<&Env>
+        ensures { option_map (λ env. env.now) result ≡ slice_get (standing self.now).states pid.0 }
     {
-        self.values.get(pid.0 as usize)
+        self.states.get(pid.0 as usize)
     }
 
     /// The front message from the first process to the second.
@@ -163,8 +194,8 @@ impl Configuration {
         }
     }
 
-    /// Makes the change that a command of the process has: a message is sent or taken, and the variables are set. Where memory runs
-    /// out nothing changes.
+    /// Makes the change that a command of the process has: a message is sent or taken, the variables are set, and the message is
+    /// counted. Where memory runs out nothing changes.
     pub(crate) fn make(
         &mut self,
         pid: Pid,
@@ -175,10 +206,13 @@ impl Configuration {
             ≡ made (standing self.old) pid.0 (action_tree action.now) change.now.message change.now.sets) }
         ensures kept { OnErr result (standing self.new ≡ standing self.old) }
     {
-        self.exchange(pid, action, change.message)?;
-        if let Some(env) = self.values.get_mut(pid.0 as usize) {
-            set_all(env, change.sets.items());
+        let p = pid.0 as usize;
+        if p >= self.states.len() {
+            return self.exchange(pid, action, change.message);
         }
+        let next = advanced(&self.states[p], action, change.sets.items())?;
+        self.exchange(pid, action, change.message)?;
+        self.states[p] = next;
         Ok(())
     }
 }

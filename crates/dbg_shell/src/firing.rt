@@ -36,7 +36,7 @@ fn proceed(
     configuration: &mut Configuration,
     pid: Pid,
 ) -> Result<Result<(), Refusal>, AllocError>
-    requires { pid.0 < length (standing configuration.old).values }
+    requires { pid.0 < length (standing configuration.old).states }
     ensures { Fires result (proceed (command_tree command.now) (action_tree command.now.action) (standing configuration.old) pid.0)
         (standing configuration.old) (standing configuration.new) }
 {
@@ -44,7 +44,7 @@ fn proceed(
         Ok(message) => message,
         Err(refusal) => return Ok(Err(refusal)),
     };
-    let Some(env) = configuration.values_of(pid) else {
+    let Some(env) = configuration.local_state(pid) else {
         return Ok(Err(Refusal::Fault));
     };
     match effect(alloc, command, env, message) {
@@ -63,11 +63,11 @@ fn fire_command(
     configuration: &mut Configuration,
     pid: Pid,
 ) -> Result<Result<(), Refusal>, AllocError>
-    requires { pid.0 < length (standing configuration.old).values }
+    requires { pid.0 < length (standing configuration.old).states }
     ensures { Fires result (fire_command (command_tree command.now) (standing configuration.old) pid.0) (standing configuration.old)
         (standing configuration.new) }
 {
-    let Some(env) = configuration.values_of(pid) else {
+    let Some(env) = configuration.local_state(pid) else {
         return Ok(Err(Refusal::Fault));
     };
     match guard(&command.guard, env) {
@@ -78,8 +78,8 @@ fn fire_command(
 }
 
 /// The process makes the command: its guard is evaluated first; then a receive needs a message; then the value to send and the
-/// assigned values are evaluated; then all variables are set at once, and a message goes its way. A command that does not fire, and
-/// want of memory, change nothing. A command that the process has not counts as one whose guard is false.
+/// assigned values are evaluated; then all variables are set at once, and a message is counted and goes its way. A command that does
+/// not fire, and want of memory, change nothing. A command that the process has not counts as one whose guard is false.
 pub(crate) fn fire(
     alloc: Global,
     program: &Program,
@@ -87,7 +87,7 @@ pub(crate) fn fire(
     pid: Pid,
     choice: Choice,
 ) -> Result<Result<(), Refusal>, AllocError>
-    requires { length (standing configuration.old).values ≡ length (program_of program.now) }
+    requires { length (standing configuration.old).states ≡ length (program_of program.now) }
     ensures { Fires result (fire (program_of program.now) (standing configuration.old) pid.0 choice.0) (standing configuration.old)
         (standing configuration.new) }
 {
@@ -104,7 +104,7 @@ pub(crate) fn fire_lowest(
     configuration: &mut Configuration,
     pid: Pid,
 ) -> Result<Option<Choice>, AllocError>
-    requires { length (standing configuration.old).values ≡ length (program_of program.now) }
+    requires { length (standing configuration.old).states ≡ length (program_of program.now) }
     ensures { IfOk result (λ choice. Chooses choice (lowest_enabled (program_of program.now) (standing configuration.old) pid.0)
         (standing configuration.old) (standing configuration.new)) }
 {

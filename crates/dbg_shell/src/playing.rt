@@ -1,6 +1,7 @@
 //! The play of a history.
 
-ghost use Rattle.std.specs.Prelude.{◌≡◌, ℤ, ◌+◌, List, length, map, slice_get, IfOk, IsTrue};
+ghost use Rattle.std.specs.Prelude.{◌≡◌, ◌+◌, List, length, map, slice_get, IfOk, IsTrue};
+ghost use Rattle.dbg_base.specs.LocalStates.{LocalState};
 ghost use Rattle.dbg_base.specs.Histories.{choice_count, next_move, play};
 ghost use Rattle.proc_lang.specs.Programs.{program_of};
 ghost use Rattle.dbg_shell.specs.Standings.{standing};
@@ -26,11 +27,11 @@ fn play_next(
     unplayed: &mut Vec<&[u32]>,
     configuration: &mut Configuration,
 ) -> Result<bool, AllocError>
-    requires { length (standing configuration.old).values ≡ length (program_of program.now) }
-    ensures sized { IfOk result (λ _. length (standing configuration.new).values ≡ length (program_of program.now)) }
+    requires { length (standing configuration.old).states ≡ length (program_of program.now) }
+    ensures sized { IfOk result (λ _. length (standing configuration.new).states ≡ length (program_of program.now)) }
     ensures shrinks { IfOk result (λ moved. IsTrue moved
         → choice_count (choices_in unplayed.new.items) + 1 ≡ choice_count (choices_in unplayed.old.items)) }
-    ensures moves { IfOk result (λ moved. (states : List (List (List ℤ)))
+    ensures moves { IfOk result (λ moved. (states : List (List LocalState))
         → Moves moved (next_move (program_of program.now) (at_progress (standing configuration.old) (choices_in unplayed.old.items) states))
         (standing configuration.old) (choices_in unplayed.old.items) (standing configuration.new) (choices_in unplayed.new.items)) }
 {
@@ -58,7 +59,7 @@ pub(crate) fn play(
 ) -> Result<Configuration, AllocError>
     ensures played { IfOk result (λ configuration. standing configuration
         ≡ play (program_of program.now) (choices_in history.entry.items)) }
-    ensures sized { IfOk result (λ configuration. length (standing configuration).values ≡ length (program_of program.now)) }
+    ensures sized { IfOk result (λ configuration. length (standing configuration).states ≡ length (program_of program.now)) }
 {
     let mut unplayed = history;
     let mut configuration = Configuration::start(alloc, program)?;

@@ -92,7 +92,7 @@ impl Session {
     fn configuration(&self, alloc: Global, program: &Program) -> Result<Configuration, AllocError>
         ensures stands { IfOk result (λ configuration. standing configuration
             ≡ configuration_of (program_of program.now) (state_of self.now)) }
-        ensures sized { IfOk result (λ configuration. length (standing configuration).values ≡ length (program_of program.now)) }
+        ensures sized { IfOk result (λ configuration. length (standing configuration).states ≡ length (program_of program.now)) }
     {
         play(alloc, program, self.history(alloc)?)
     }
@@ -162,7 +162,9 @@ impl Session {
         let configuration = self
             .configuration(alloc, program)
             .map_err(|_| Refusal::Memory)?;
-        let env = configuration.values_of(pid).ok_or(Refusal::UnknownProcess)?;
+        let env = configuration
+            .local_state(pid)
+            .ok_or(Refusal::UnknownProcess)?;
         let values = Vec::from_slice(alloc, env.values()).map_err(|_| Refusal::Memory)?;
         Ok(Answer::Values(Sequence::new(values)))
     }

@@ -1,6 +1,6 @@
 //! Tests of `local_eval`.
 
-use dbg_base::{Expr, Operator, Pid, Sequence};
+use dbg_base::{Direction, Expr, Operator, Pid, Sequence};
 use local_eval::{Env, EvalError, EvalFault, Value, effect, eval, guard};
 use proc_lang::{Action, Assignment, Guarded, parse_program};
 use std::alloc::{AllocError, Global};
@@ -19,6 +19,20 @@ fn make_env(alloc: Global, values: &[i64]) -> Result<Env, Fail> {
         if (index as usize) < env.len() {
             env.set(index, *value);
         }
+    }
+    Ok(env)
+}
+
+// The environment of a, with two variables that are 0, in a program of a and b, with these counts of messages to b and from it.
+fn make_counts(alloc: Global, sent: u32, got: u32) -> Result<Env, Fail> {
+    let text = "process a { var x = 0; var y = 0; } process b { }";
+    let program = parse_program(alloc, text.as_bytes())?;
+    let mut env = Env::start(alloc, &program, Pid(0))?;
+    if env.counts(Direction::Sent).len() > 1 {
+        env.set_sent(Pid(1), sent);
+    }
+    if env.counts(Direction::Got).len() > 1 {
+        env.set_got(Pid(1), got);
     }
     Ok(env)
 }
@@ -223,5 +237,54 @@ fn a_receive_before_an_assignment(rt: HostRuntime) -> Result<(), Fail> {
             Err(EvalError::Fault)
         )
     );
+    Ok(())
+}
+
+#[test]
+fn counts_of_messages(rt: HostRuntime) -> Result<(), Fail> {
+    let env = make_counts(rt.alloc(), 2, 5)?;
+    assert_eq!(rt; env.counts(Direction::Sent), [0, 2].as_slice());
+    assert_eq!(rt; env.counts(Direction::Got), [0, 5].as_slice());
+    if env.counts(Direction::Sent).len() > 1 && env.counts(Direction::Got).len() > 1 {
+        assert_eq!(rt; (env.sent(Pid(1)), env.got(Pid(1))), (2, 5));
+    }
+    let table = [
+        (Expr::Sent(Pid(1)), Ok(Value::Num(2))),
+        (Expr::Got(Pid(1)), Ok(Value::Num(5))),
+        (Expr::Got(Pid(0)), Ok(Value::Num(0))),
+        (Expr::Sent(Pid(2)), Err(EvalFault)),
+    ];
+    for (expr, want) in &table {
+        assert_eq!(rt; eval(expr, &env), *want, "{expr:?}");
+    }
+    Ok(())
+}
+
+#[test]
+fn a_receive_that_reads_the_count_before(rt: HostRuntime) -> Result<(), Fail> {
+    let env = make_counts(rt.alloc(), 0, 1)?;
+    let mut assignments = Vec::new(rt.alloc());
+    let sum = binary(
+        rt.alloc(),
+        Operator::Add,
+        Expr::Variable(0),
+        Expr::Got(Pid(1)),
+    )?;
+    assignments.push(Assignment {
+        variable: 1,
+        value: sum,
+    })?;
+    let command = Guarded {
+        guard: Expr::Truth(true),
+        action: Action::Receive {
+            source: Pid(1),
+            variable: 0,
+        },
+        assignments: Sequence::new(assignments),
+    };
+    let change = effect(rt.alloc(), &command, &env, Some(11))
+        .ok()
+        .ok_or("no fault and ample memory")?;
+    assert_eq!(rt; change.sets.items(), [(0, 11), (1, 12)].as_slice());
     Ok(())
 }

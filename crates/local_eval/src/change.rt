@@ -1,7 +1,7 @@
 //! What a command does to its process.
 
-ghost use Rattle.std.specs.Prelude.{◌≡◌, IfOk, slice_set};
-ghost use Rattle.dbg_base.specs.Firing.{assigned, effect_with, effect_of};
+ghost use Rattle.std.specs.Prelude.{◌≡◌, [], ◌∷◌, IfOk};
+ghost use Rattle.dbg_base.specs.Firing.{with_set, assigned, effect_with, effect_of};
 ghost use Rattle.proc_lang.specs.ProcessTrees.{assignment_trees, command_tree};
 ghost use Rattle.local_eval.specs.Changes.{Gives};
 
@@ -22,9 +22,9 @@ pub struct Change {
     pub message: Option<i64>,
 }
 
-// The values with one variable set, where it is there.
+// The local state with one variable set, where it is there.
 fn with_value(env: &Env, index: u32, value: i64) -> Result<Env, AllocError>
-    ensures { IfOk result (λ taken. taken ≡ slice_set env.now index value) }
+    ensures { IfOk result (λ taken. taken ≡ with_set env.now ((index, value) ∷ [])) }
 {
     let mut taken = env.copy()?;
     if (index as usize) < taken.len() {
@@ -33,7 +33,7 @@ fn with_value(env: &Env, index: u32, value: i64) -> Result<Env, AllocError>
     Ok(taken)
 }
 
-// The assignments, each evaluated at these values, behind the variables that are set already.
+// The assignments, each evaluated in this local state, behind the variables that are set already.
 fn assign(
     mut sets: Vec<(u32, i64)>,
     message: Option<i64>,
@@ -52,11 +52,11 @@ fn assign(
     })
 }
 
-/// What the command does at these values, where it takes this message if it receives (with none it takes none, and any other
-/// command does without it): the variables that it sets and the value that it sends. A value to send is evaluated at the old values, an
-/// assignment at the old values with the message already
-/// taken, and the guard not at all. It is refused as a fault exactly where an evaluation faults, and as memory where that runs
-/// out, which may come in place of either.
+/// What the command does in this local state of its process, where it takes this message if it receives (with none it takes none,
+/// and any other command does without it): the variables that it sets and the value that it sends. A value to send is evaluated at
+/// the old values, an assignment at the old values with the message already taken, both with the counts as they stand, before this
+/// message is counted, and the guard not at all. It is refused as a fault exactly where an evaluation faults, and as memory where
+/// that runs out, which may come in place of either.
 pub fn effect(
     alloc: Global,
     command: &Guarded,

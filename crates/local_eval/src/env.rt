@@ -1,90 +1,150 @@
-//! The values of a process's variables.
+//! The local state of a process: the values of its variables, and its counts of messages.
 
-ghost use Rattle.std.specs.Prelude.{◌≡◌, ◌<◌, ◌↔◌, ℤ, List, [], length, Some, IsTrue, IfOk, slice_get, slice_set};
+ghost use Rattle.std.specs.Prelude.{◌≡◌, ◌<◌, ◌↔◌, [], length, replicate, Some, IsTrue, IfOk, slice_get, slice_set};
 ghost use Rattle.dbg_base.specs.Trees.{process_of};
-ghost use Rattle.dbg_base.specs.Configurations.{start_values};
+ghost use Rattle.dbg_base.specs.LocalStates.{counts_of, start_values, start_state};
 ghost use Rattle.proc_lang.specs.Programs.{program_of};
 
-use dbg_base::Pid;
+use dbg_base::{Direction, Pid};
 use proc_lang::Program;
 use std::alloc::{AllocError, Global};
 use std::marker::Model;
 
-/// The values of a process's variables, by their places from 0, which contracts see as the list of them.
+/// The local state of a process: the values of its variables, by their places from 0, and for each process how many messages it
+/// has sent to it and how many it has received from it. Contracts see it as these three lists.
 #[derive(Debug, Drop)]
 pub struct Env {
     values: Vec<i64>,
+    sent: Vec<u32>,
+    got: Vec<u32>,
 }
 
 impl Model for Env {
-    ghost Value = { List ℤ };
+    ghost use Rattle.dbg_base.specs.LocalStates.{LocalState};
 
-    ghost view = { λ env. env.values.items };
+    ghost Value = { LocalState };
+
+    ghost view = { λ env. record { values = env.values.items; sent = env.sent.items; got = env.got.items } };
+}
+
+// The initial values of a process.
+fn initial_values(alloc: Global, program: &Program, pid: Pid) -> Result<Vec<i64>, AllocError>
+    ensures { IfOk result (λ values. values.items ≡ start_values (process_of (program_of program.now) pid.0)) }
+{
+    let mut values = Vec::new(alloc);
+    for index in 0..program.variables(pid) {
+        if let Some(value) = program.start_value(pid, index) {
+            values.push(value)?;
+        }
+    }
+    Ok(values)
+}
+
+// No message for each of so many processes.
+fn no_messages(alloc: Global, processes: u32) -> Result<Vec<u32>, AllocError>
+    ensures { IfOk result (λ counts. counts.items ≡ replicate processes 0) }
+{
+    vec![in alloc; 0; processes as usize]
 }
 
 impl Env {
-    // These values. It takes no memory.
-    pub(crate) fn new(values: Vec<i64>) -> Self
-        ensures { result ≡ values.items }
-    {
-        Env { values }
-    }
-
-    /// The initial values of a process, none where the program has no such process. It is refused only where memory
-    /// runs out.
+    /// The start of a process: its initial values, none where the program has no such process, and no message sent to or received
+    /// from any process of the program. It is refused only where memory runs out.
     pub fn start(alloc: Global, program: &Program, pid: Pid) -> Result<Env, AllocError>
-        ensures { IfOk result (λ env. env ≡ start_values (process_of (program_of program.now) pid.0)) }
+        ensures { IfOk result (λ env. env ≡ start_state (program_of program.now) pid.0) }
     {
-        let mut values = Vec::new(alloc);
-        for index in 0..program.variables(pid) {
-            if let Some(value) = program.start_value(pid, index) {
-                values.push(value)?;
-            }
-        }
-        Ok(Env::new(values))
+        let values = initial_values(alloc, program, pid)?;
+        let sent = no_messages(alloc, program.processes())?;
+        let got = no_messages(alloc, program.processes())?;
+        Ok(Env { values, sent, got })
     }
 
     /// How many variables there are. It takes no memory, as all readers do.
     pub fn len(&self) -> usize
-        ensures { result ≡ length self.now }
+        ensures { result ≡ length self.now.values }
     {
         self.values.len()
     }
 
     /// Whether there is no variable.
     pub fn is_empty(&self) -> bool
-        ensures { IsTrue result ↔ (self.now ≡ []) }
+        ensures { IsTrue result ↔ (self.now.values ≡ []) }
     {
         self.values.is_empty()
     }
 
     /// The value of a variable that is there.
     pub fn value(&self, index: u32) -> i64
-        requires { index < length self.now }
-        ensures { slice_get self.now index ≡ Some result }
+        requires { index < length self.now.values }
+        ensures { slice_get self.now.values index ≡ Some result }
     {
         self.values()[index as usize]
     }
 
     /// The values, by the variables' places.
     pub fn values(&self) -> &[i64]
-        ensures { result.now ≡ self.now }
+        ensures { result.now ≡ self.now.values }
     {
         self.values.as_slice()
     }
 
+    /// How many messages the process has sent to one that is there.
+    pub fn sent(&self, pid: Pid) -> u32
+        requires { pid.0 < length self.now.sent }
+        ensures { slice_get self.now.sent pid.0 ≡ Some result }
+    {
+        self.counts(Direction::Sent)[pid.0 as usize]
+    }
+
+    /// How many messages the process has received from one that is there.
+    pub fn got(&self, pid: Pid) -> u32
+        requires { pid.0 < length self.now.got }
+        ensures { slice_get self.now.got pid.0 ≡ Some result }
+    {
+        self.counts(Direction::Got)[pid.0 as usize]
+    }
+
+    /// How many messages the process has sent to each process, or has received from each, by their places.
+    pub fn counts(&self, direction: Direction) -> &[u32]
+        ensures { result.now ≡ counts_of direction self.now }
+    {
+        match direction {
+            Direction::Sent => self.sent.as_slice(),
+            Direction::Got => self.got.as_slice(),
+        }
+    }
+
     /// Sets a variable that is there. It takes no memory.
     pub fn set(&mut self, index: u32, value: i64)
-        requires { index < length self.old }
-        ensures { self.new ≡ slice_set self.old index value }
+        requires { index < length self.old.values }
+        ensures { self.new ≡ record self.old { values = slice_set self.old.values index value } }
     {
         self.values[index as usize] = value;
     }
 
-    /// The same values once more. It is refused only where memory runs out.
+    /// Sets how many messages the process has sent to one that is there. It takes no memory.
+    pub fn set_sent(&mut self, pid: Pid, count: u32)
+        requires { pid.0 < length self.old.sent }
+        ensures { self.new ≡ record self.old { sent = slice_set self.old.sent pid.0 count } }
+    {
+        self.sent[pid.0 as usize] = count;
+    }
+
+    /// Sets how many messages the process has received from one that is there. It takes no memory.
+    pub fn set_got(&mut self, pid: Pid, count: u32)
+        requires { pid.0 < length self.old.got }
+        ensures { self.new ≡ record self.old { got = slice_set self.old.got pid.0 count } }
+    {
+        self.got[pid.0 as usize] = count;
+    }
+
+    /// The same local state once more. It is refused only where memory runs out.
     pub fn copy(&self) -> Result<Env, AllocError>
         ensures { IfOk result (λ env. env ≡ self.now) }
     {
-        Ok(Env::new(self.values.clone()?))
+        let values = self.values.clone()?;
+        let sent = self.sent.clone()?;
+        let got = self.got.clone()?;
+        Ok(Env { values, sent, got })
     }
 }

@@ -3,6 +3,7 @@
 ghost use Rattle.std.specs.Prelude.{◌≡◌, pos, ◌-ℤ◌, slice_get};
 ghost use Rattle.std.specs.Option.{option_map};
 ghost use Rattle.dbg_base.specs.Trees.{tree_of};
+ghost use Rattle.dbg_base.specs.LocalStates.{counts_of};
 ghost use Rattle.dbg_base.specs.Evaluation.{Num, ranged, on_numbers, evaluate};
 ghost use Rattle.dbg_base.specs.Firing.{truth_of};
 ghost use Rattle.local_eval.specs.Outcomes.{value_of, outcome};
@@ -10,7 +11,7 @@ ghost use Rattle.local_eval.specs.Outcomes.{value_of, outcome};
 use crate::env::Env;
 use crate::fault::EvalFault;
 use crate::value::{Value, number, truth};
-use dbg_base::{Expr, Operator};
+use dbg_base::{Direction, Expr, Operator, Pid};
 
 // The number, or a fault where it left its range.
 fn in_range(number: Option<i64>) -> Result<Value, EvalFault>
@@ -24,9 +25,19 @@ fn in_range(number: Option<i64>) -> Result<Value, EvalFault>
 
 // The value of a variable, or a fault where it is not there.
 fn variable(env: &Env, index: u32) -> Result<Value, EvalFault>
-    ensures { outcome value_of result ≡ option_map Num (slice_get env.now index) }
+    ensures { outcome value_of result ≡ option_map Num (slice_get env.now.values index) }
 {
     in_range(env.values().get(index as usize).copied())
+}
+
+// A count of messages, or a fault where there is no such process.
+fn count(env: &Env, direction: Direction, other: Pid) -> Result<Value, EvalFault>
+    ensures { outcome value_of result ≡ option_map (λ n. Num (pos n)) (slice_get (counts_of direction env.now) other.0) }
+{
+    match env.counts(direction).get(other.0 as usize) {
+        Some(count) => Ok(Value::Num(i64::from(*count))),
+        None => Err(EvalFault),
+    }
 }
 
 // The negative of a number, or a fault where it leaves its range.
@@ -56,9 +67,9 @@ fn calculate(operator: Operator, x: i64, y: i64) -> Result<Value, EvalFault>
     }
 }
 
-/// The value of the expression at these values, or a fault: a number that leaves its range, a divisor 0, an operand of the
-/// wrong type or a variable that is not there. Of `and` and `or` the right operand is evaluated only where the left one does
-/// not decide, and is then the value, whatever its type. It takes no memory.
+/// The value of the expression in this local state, or a fault: a number that leaves its range, a divisor 0, an operand of the
+/// wrong type, or a variable or a process that is not there. Of `and` and `or` the right operand is evaluated only where the left
+/// one does not decide, and is then the value, whatever its type. It takes no memory.
 pub fn eval(expr: &Expr, env: &Env) -> Result<Value, EvalFault>
     ensures { outcome value_of result ≡ evaluate (tree_of expr.now) env.now }
 {
@@ -66,6 +77,8 @@ pub fn eval(expr: &Expr, env: &Env) -> Result<Value, EvalFault>
         Expr::Number(number) => Ok(Value::Num(*number)),
         Expr::Variable(index) => variable(env, *index),
         Expr::Truth(truth) => Ok(Value::Truth(*truth)),
+        Expr::Sent(pid) => count(env, Direction::Sent, *pid),
+        Expr::Got(pid) => count(env, Direction::Got, *pid),
         Expr::Not(operand) => Ok(Value::Truth(!truth(eval(operand, env)?)?)),
         Expr::Negate(operand) => negate(number(eval(operand, env)?)?),
         Expr::Binary(Operator::And, left, right) => {
@@ -90,7 +103,7 @@ pub fn eval(expr: &Expr, env: &Env) -> Result<Value, EvalFault>
     }
 }
 
-/// Whether the guard is true at these values, or a fault: its evaluation faults, or it is no truth value. It takes no memory.
+/// Whether the guard is true in this local state, or a fault: its evaluation faults, or it is no truth value. It takes no memory.
 pub fn guard(expr: &Expr, env: &Env) -> Result<bool, EvalFault>
     ensures { outcome (λ b. b) result ≡ truth_of (evaluate (tree_of expr.now) env.now) }
 {

@@ -5,8 +5,8 @@ ghost use Rattle.local_eval.specs.declared.fault.EvalError.TheVariants.{Fault, M
 
 use std::alloc::{AllocError, AllocFailed};
 
-/// An evaluation faulted: a number left its range, a divisor was 0, a variable was not there, or an operand had the wrong type (but for
-/// the right one of `and` and `or`, which is passed on as it is).
+/// An evaluation faulted: a number left its range, a divisor was 0, a variable or a process was not there, or an operand had the
+/// wrong type (but for the right one of `and` and `or`, which is passed on as it is).
 #[derive(Clone, Copy, Debug, PartialEq, Eq)]
 pub struct EvalFault;
 

@@ -1,4 +1,4 @@
-//! What one process computes: its values, its expressions, and what its commands do.
+//! What one process computes: its values and its counts of messages, its expressions, and what its commands do.
 //!
 //! Each function here is equal to its definition in the model, `specs/` of the crate `dbg_base`.
 #![tactic(auto)]

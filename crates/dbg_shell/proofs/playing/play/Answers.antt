@@ -1,5 +1,6 @@
-use Rattle.std.proofs.Common.{◌≡◌, ℤ, List, [], ◌∷◌, length, map, refl, ap, ◌∙◌}
+use Rattle.std.proofs.Common.{◌≡◌, List, [], ◌∷◌, length, map, refl, ap, ◌∙◌}
 use Rattle.std.proofs.lemmas.List.{length-map}
+use Rattle.dbg_base.specs.LocalStates.{LocalState}
 use Rattle.dbg_base.specs.Configurations.{Configuration, start_of}
 use Rattle.dbg_base.specs.Histories.{Progress, play_moves, choice_count}
 use Rattle.proc_lang.specs.Programs.{program_of}
@@ -13,9 +14,9 @@ loop-configuration-init c =
     let P = program_of c.args.program.now in
     let H = choices_in c.args.history.items in
     let begun : standing c.in_ok-configuration.configuration ≡ start_of P = c.in_ok-configuration.ensures in
-    let first : List (List (List ℤ)) = map (λ values. values ∷ []) (start_of P).values in
+    let first : List (List LocalState) = map (λ state. state ∷ []) (start_of P).states in
     record {
-      sized = ap (λ (s : Configuration). length s.values) begun ∙ simp length-map refl;
+      sized = ap (λ (s : Configuration). length s.states) begun ∙ simp length-map refl;
       states = first;
       reaches = ap (λ (s : Configuration). (play_moves (choice_count H) P (at_progress s H first)).configuration) begun;
     }

@@ -1,8 +1,8 @@
 use Rattle.std.proofs.Common.{ℤ, List, [], ◌∷◌, ◌++◌, ap, ◌∙◌, rules, w64, FitsSigned}
 use Rattle.std.proofs.lemmas.Int.{to_z-of_z}
 use Rattle.local_eval.proofs.Starts.{take_one_more, take_no_more}
-use Rattle.local_eval.proofs.env.Env.start.Goals as goal
-use Rattle.local_eval.proofs.env.Env.start.Goals.{in-Some+in_ok-push, in_default}
+use Rattle.local_eval.proofs.env.initial_values.Goals as goal
+use Rattle.local_eval.proofs.env.initial_values.Goals.{in-Some+in_ok-push, in_default}
 
 pub loop-index-preserved : goal.loop-index-preserved
 loop-index-preserved c = elim c.match-start_value.branch [

@@ -1,8 +1,8 @@
 use Rattle.std.proofs.Common.{◌≡◌, take}
 use Rattle.dbg_base.specs.Trees.{process_of}
-use Rattle.dbg_base.specs.Configurations.{start_values}
+use Rattle.dbg_base.specs.LocalStates.{start_values}
 use Rattle.proc_lang.specs.Programs.{program_of}
-use Rattle.local_eval.proofs.env.Env.start.Given as goal
+use Rattle.local_eval.proofs.env.initial_values.Given as goal
 
 abbrev pub invariant-loop-index : goal.invariant-loop-index
 invariant-loop-index l =

@@ -9,7 +9,7 @@ use Rattle.dbg_shell.proofs.configuration.Configuration.send.Goals as goal
 pub returns-in_err-push_at-clause-kept : goal.returns-in_err-push_at-clause-kept
 returns-in_err-push_at-clause-kept c =
     let to : List (List (List ℤ)) → model.Configuration =
-    λ channels. record { values = c.args.self.now.values.items; channels = channels } in
+    λ channels. record { states = c.args.self.now.states.items; channels = channels } in
     on_err c.from_residual.result (ap to (kept_at
     (λ (row : Vec (VecDeque ℤ Global) Global). map (λ channel. channel.items) row.items) c.args.self.now.channels.items c.args.source.0
     c.index_mut.result.now (sym c.index_mut.ensures.value)
@@ -19,7 +19,7 @@ pub returns-in_ok-push_at-clause-sent : goal.returns-in_ok-push_at-clause-sent
 returns-in_ok-push_at-clause-sent c =
     let number : to_z w64 (of_z w64 c.args.value) ≡ c.args.value = search rules in
     let to : List (List (List ℤ)) → model.Configuration =
-    λ channels. record { values = c.args.self.now.values.items; channels = channels } in
+    λ channels. record { states = c.args.self.now.states.items; channels = channels } in
     let sent =
     ap (λ (z : ℤ). slice_set (map (λ (channel : VecDeque ℤ Global). channel.items) c.index_mut.result.now.items) c.args.target.0
     (slice_index_or (map (λ (channel : VecDeque ℤ Global). channel.items) c.index_mut.result.now.items) c.args.target.0 [] ++ z ∷ []))

@@ -9,7 +9,7 @@ use Rattle.dbg_shell.proofs.configuration.Configuration.take.Goals as goal
 pub returns-then-source-len : goal.returns-then-source-len
 returns-then-source-len c =
     let to : List (List (List ℤ)) → model.Configuration =
-    λ channels. record { values = c.args.self.now.values.items; channels = channels } in
+    λ channels. record { states = c.args.self.now.states.items; channels = channels } in
     ap to (changed_at (λ (row : Vec (VecDeque ℤ Global) Global). map (λ channel. channel.items) row.items) c.args.self.now.channels.items
     c.args.source.0 c.index_mut.result.now (sym c.index_mut.ensures.value)
     (omega (arith, c.args.self.now.channels.ok.0)) c.pop_at.new.channels []
