@@ -8,6 +8,7 @@ pub mod UnderWay
 pub mod Splits
 pub mod Requests
 pub mod LineReplies
+pub mod Known
 pub mod InputTexts
 pub mod CheckTexts
 pub mod Cuts

@@ -3,13 +3,12 @@ use Rattle.std.specs.Prelude.{◌≡◌, ℕ, List, [], ◌∷◌, Option, Some,
 use Rattle.std.specs.Bool.{MatchBool}
 use Rattle.std.specs.Fmt.{decimal}
 use Rattle.dbg_base.specs.Trees.{Program}
-use Rattle.dbg_base.specs.Checks.{Reads}
+use Rattle.dbg_base.specs.declared.fault.ProgFault.{ProgFault}
+use Rattle.dbg_base.specs.Checks.{Reads, IsFault}
 use Rattle.dbg_base.specs.Replies.{joined}
-use Rattle.dbg_base.specs.Shell.{Parts, parts_of, read_lines, as_line, is_too_long, too_long_text}
-use Rattle.proc_lang.specs.Small.{IsSmall}
+use Rattle.dbg_base.specs.Shell.{Parts, parts_of, read_lines, as_line, is_too_long, too_long_text, fault_text}
 use Rattle.dbg_shell.specs.declared.outcome.Served.{Served}
 use Rattle.dbg_shell.specs.declared.outcome.Served.TheVariants.{Done, Refused, TooLong}
-use Rattle.dbg_shell.specs.Serving.{IsSmallText, TellsRefusal}
 
 -- how many processes and commands a program has
 abbrev pub size_text : ℕ → ℕ → List ℕ
@@ -20,14 +19,14 @@ size_text processes commands =
 abbrev pub command_count : Program → ℕ
 command_count P = sum_by (λ process. length process.commands) P
 
--- the text is a small program, and its size is told
+-- the text is a program, and its size is told
 abbrev pub TellsSize : List ℕ → Served → List ℕ → Type 0
 TellsSize text served out =
-    (P : Program) × Reads text P × IsSmall P × (served ≡ Done) × (out ≡ size_text (length P) (command_count P))
+    (P : Program) × Reads text P × (served ≡ Done) × (out ≡ size_text (length P) (command_count P))
 
--- the text is no small program, and why it is refused is told
+-- the text is no program, and its first fault is told
 abbrev pub TellsFault : List ℕ → Served → List ℕ → Type 0
-TellsFault text served out = ¬ IsSmallText text × (served ≡ Refused) × TellsRefusal text out
+TellsFault text served out = (fault : ProgFault) × IsFault text fault × (served ≡ Refused) × (out ≡ fault_text fault)
 
 -- what the check of a text writes
 abbrev pub ChecksText : List ℕ → Served → List ℕ → Type 0

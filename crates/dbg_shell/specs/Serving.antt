@@ -1,17 +1,14 @@
 -- What serving an input does.
 use Rattle.std.specs.Prelude.{◌≡◌, ℕ, ◌+◌, ◌≤◌, Bool, true, false, List, ◌++◌, length, drop, slice_range, Option, Some, None, Result}
-use Rattle.std.specs.Prelude.{if◌then◌else◌}
+use Rattle.std.specs.Prelude.{if◌then◌else◌, ◌⊎◌}
 use Rattle.std.specs.Io.KnownBytes.{Appends}
 use Rattle.dbg_base.specs.declared.limits.TheConstants.{INPUT_BYTES}
 use Rattle.dbg_base.specs.Trees.{Program}
-use Rattle.dbg_base.specs.Checks.{Reads}
+use Rattle.dbg_base.specs.Checks.{Reads, IsFault}
 use Rattle.dbg_base.specs.ModelStates.{ModelState, opening_state}
-use Rattle.dbg_base.specs.Shell.{Parts, lines_of, parts_of, read_lines, is_too_long, AnswersLine, AnswersLines, end_text, fault_text}
+use Rattle.dbg_base.specs.Shell.{Parts, lines_of, parts_of, read_lines, is_too_long, AnswersLine, AnswersLines, end_text}
 use Rattle.dbg_base.specs.Shell.{WholeText, Text}
-use Rattle.proc_lang.specs.Small.{IsSmall}
-use Rattle.proc_lang.specs.Answering.{IsRefusal}
 use Rattle.dbg_base.specs.declared.fault.ProgFault.{ProgFault}
-use Rattle.proc_lang.specs.declared.fault.ProgError.TheVariants.{Bad}
 use Rattle.dbg_shell.specs.declared.outcome.Served.{Served}
 use Rattle.dbg_shell.specs.declared.outcome.ServeFault.{ServeFault}
 use Rattle.dbg_shell.specs.declared.outcome.Served.TheVariants.{Done, Refused, TooLong}
@@ -21,26 +18,27 @@ use Rattle.dbg_shell.specs.declared.program_text.TextEnd.TheVariants as ends
 use Rattle.dbg_shell.specs.Spans.{lines_from, MayBe, IsUnderWay}
 use Rattle.dbg_shell.specs.Writing.{AppendsFront, Writes}
 
--- the text is a small program
-abbrev pub IsSmallText : List ℕ → Type 0
-IsSmallText text = (P : Program) × Reads text P × IsSmall P
+-- how a run ends whose program was read
+abbrev pub end_of : List ℕ → Served
+end_of input = if is_too_long input then TooLong else Done
 
--- where there is a program text, it is a small program
-abbrev pub HasSmallText : Option Parts → Type 0
-HasSmallText None = Unit {0}
-HasSmallText (Some parts) = IsSmallText parts.program
+-- how a run ends whose program text has no end
+abbrev pub unended : List ℕ → Served
+unended input = if is_too_long input then TooLong else Refused
 
--- The input has no line that ends a program text, or a small program in front of it.
-abbrev pub IsServed : List ℕ → Type 0
-IsServed input = HasSmallText (parts_of (read_lines input))
+-- A run over the input ends so: as the program text in front is a program or has a fault.
+abbrev pub EndsParts : List ℕ → Option Parts → Served → Type 0
+EndsParts input None served = served ≡ unended input
+EndsParts input (Some parts) served =
+    ((P : Program) × Reads parts.program P × (served ≡ end_of input))
+    ⊎ ((fault : ProgFault) × IsFault parts.program fault × (served ≡ Refused))
 
--- how a run over the input ends, where its program, if one is there, reads as one
-abbrev pub served_by : List ℕ → Option Parts → Served
-served_by input None = if is_too_long input then TooLong else Refused
-served_by input (Some parts) = if is_too_long input then TooLong else Done
+abbrev pub EndsInput : List ℕ → Served → Type 0
+EndsInput input = EndsParts input (parts_of (read_lines input))
 
-abbrev pub served_of : List ℕ → Served
-served_of input = served_by input (parts_of (read_lines input))
+-- the run ended as the input is, and what it wrote is the text of the input
+abbrev pub ServesInput : List ℕ → Served → List ℕ → Type 0
+ServesInput input served out = EndsInput input served × Text input out
 
 -- a text of this form was written
 abbrev pub WritesSome : Option (List ℕ) → Option (List ℕ) → (List ℕ → Type 0) → Type 0
@@ -49,19 +47,6 @@ WritesSome old new IsOut = (out : List ℕ) × IsOut out × Appends old new out
 -- a front of a text of this form was written
 abbrev pub WritesFront : Option (List ℕ) → Option (List ℕ) → (List ℕ → Type 0) → Type 0
 WritesFront old new IsOut = (out : List ℕ) × IsOut out × AppendsFront old new out
-
--- the run ended as the input is, and what it wrote is the text of the input
-abbrev pub ServesInput : List ℕ → Served → Option (List ℕ) → Option (List ℕ) → Type 0
-ServesInput input served old new = (served ≡ served_of input) × WritesSome old new (Text input)
-
--- the line that tells why a text is refused
-abbrev pub TellsRefusal : List ℕ → List ℕ → Type 0
-TellsRefusal text out = (fault : ProgFault) × IsRefusal text (Bad fault) × (out ≡ fault_text fault)
-
--- The program text was refused, and nothing else was written.
-abbrev pub RefusesInput : List ℕ → Served → Option (List ℕ) → Option (List ℕ) → Type 0
-RefusesInput input served old new =
-    (parts : Parts) × (parts_of (read_lines input) ≡ Some parts) × (served ≡ Refused) × WritesSome old new (TellsRefusal parts.program)
 
 -- At most one byte more than may be was read.
 abbrev pub ReadsFew : List ℕ → Option (List ℕ) → Type 0
@@ -95,10 +80,6 @@ pub record WritesAnswer {A : Type 0} (P : Program) (line : List ℕ) (M : ModelS
   pub text : List ℕ
   pub answers : AnswersLine P line M text M'
   pub written : Writes old new result text
-
--- how a run over the command lines ends
-abbrev pub end_of : List ℕ → Served
-end_of input = if is_too_long input then TooLong else Done
 
 -- what is written for these lines and at the end of the input
 abbrev pub RepliesTo : Program → List (List ℕ) → List ℕ → List ℕ → Type 0

@@ -4,10 +4,10 @@ ghost use Rattle.std.specs.Prelude.{◌≡◌, IfOk, IfErr, IfSome};
 ghost use Rattle.std.specs.Io.KnownBytes.{Keeps};
 ghost use Rattle.proc_lang.specs.Programs.{program_of};
 ghost use Rattle.dbg_shell.specs.declared.outcome.ServeFault.TheVariants.{Memory, Read, Write};
-ghost use Rattle.dbg_base.specs.Shell.{Text};
+ghost use Rattle.dbg_shell.specs.declared.outcome.Served.{Served};
 ghost use Rattle.dbg_shell.specs.Spans.{EndsWith, ReadsOn};
 ghost use Rattle.dbg_shell.specs.Sessions.{state_of, IsSized};
-ghost use Rattle.dbg_shell.specs.Serving.{IsServed, ServesInput, RefusesInput, BreaksInput, ReadsFew, WritesAnswer, WritesFront};
+ghost use Rattle.dbg_shell.specs.Serving.{ServesInput, BreaksInput, ReadsFew, WritesAnswer, WritesSome, WritesFront};
 ghost use Rattle.dbg_shell.specs.Serving.{ServesLines, StopsLines, BreaksLines};
 
 use crate::command_line::parse_line;
@@ -89,16 +89,12 @@ pub fn serve<R: Read, W: Write>(
     reader: &mut R,
     writer: &mut W,
 ) -> Result<Served, ServeFault>
-    // Where the reader tells its bytes, and these have no end line or a small program in front of it, and the run ends well: it ends as
-    // the input is, and what is written is the text of the input.
+    // Where the reader tells its bytes, and the run ends well: it ends as the input is, and what is written is the text of the input.
     ensures served { IfOk result (λ served. IfSome (R.remaining reader.old)
-        (λ input. IsServed input → ServesInput input served (W.contents writer.old) (W.contents writer.new))) }
-    // Where the program text is no small program, it is refused, and what is written is one line that tells why.
-    ensures refused { IfOk result (λ served. IfSome (R.remaining reader.old)
-        (λ input. ¬ IsServed input → RefusesInput input served (W.contents writer.old) (W.contents writer.new))) }
-    // Where the writer fails, what is written is a front of a text of the input.
+        (λ input. WritesSome (W.contents writer.old) (W.contents writer.new) (ServesInput input served))) }
+    // Where the writer fails, what is written is a front of that.
     ensures stopped { IfErr result (λ fault. fault ≡ Write → IfSome (R.remaining reader.old)
-        (λ input. IsServed input → WritesFront (W.contents writer.old) (W.contents writer.new) (Text input))) }
+        (λ input. (served : Served) × WritesFront (W.contents writer.old) (W.contents writer.new) (ServesInput input served))) }
     // Where the reader fails, what is written is the replies to the whole lines before it.
     ensures broken { IfErr result (λ fault. fault ≡ Read → IfSome (R.remaining reader.old)
         (λ input. BreaksInput input (R.remaining reader.new) (W.contents writer.old) (W.contents writer.new))) }

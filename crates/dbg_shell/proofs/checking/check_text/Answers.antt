@@ -1,32 +1,36 @@
 use Rattle.std.proofs.Common.{Err, subst}
-use Rattle.dbg_base.specs.Trees.{Program}
-use Rattle.dbg_base.specs.Checks.{Reads}
+use Rattle.dbg_base.specs.Checks.{IsFault}
+use Rattle.dbg_base.specs.Shell.{fault_text}
 use Rattle.proc_lang.specs.declared.fault.ProgError.{ProgError}
-use Rattle.proc_lang.specs.Small.{IsSmall}
-use Rattle.proc_lang.specs.Answering.{Answers, IsRefusal}
-use Rattle.dbg_shell.proofs.CheckTexts.{tells_size, stops_size, tells_fault, stops_fault}
+use Rattle.proc_lang.specs.declared.program.Program.{Program}
+use Rattle.proc_lang.specs.Answering.{IfBad}
+use Rattle.dbg_shell.specs.declared.outcome.Served.TheVariants as outcomes
+use Rattle.dbg_shell.specs.Checking.{size_text, ChecksText}
+use Rattle.dbg_shell.proofs.Known.{line_done, line_cut}
+use Rattle.dbg_shell.proofs.CheckTexts.{size_here, fault_here}
 use Rattle.dbg_shell.proofs.checking.check_text.Goals as goal
 
 pub returns-in-Ok-clause-checked : goal.returns-in-Ok-clause-checked
 returns-in-Ok-clause-checked g c =
-    tells_size _ _ _ _ c.in-Ok.ensures.accepted.0 c.in-Ok.ensures.accepted.1 c.processes.ensures.value c.command_count.ensures _ _ _
-    c.tell_size.ensures.written c.tell_size.ensures.served
+    line_done (ChecksText c.args.text.now) (size_text c.processes.result c.command_count.result) outcomes.Done
+    (size_here _ _ _ _ c.in-Ok.ensures.accepted c.processes.ensures.value c.command_count.ensures) _ _ _ c.tell_size.ensures.written
+    c.tell_size.ensures.served
 
 pub returns-in-Ok-clause-stopped : goal.returns-in-Ok-clause-stopped
 returns-in-Ok-clause-stopped g c =
-    stops_size _ _ _ _ c.in-Ok.ensures.accepted.0 c.in-Ok.ensures.accepted.1 c.processes.ensures.value c.command_count.ensures _ _ _
-    c.tell_size.ensures.written
+    line_cut (ChecksText c.args.text.now) (size_text c.processes.result c.command_count.result) outcomes.Done
+    (size_here _ _ _ _ c.in-Ok.ensures.accepted c.processes.ensures.value c.command_count.ensures) _ _ _ c.tell_size.ensures.written
 
 pub returns-in-Err-Bad-clause-checked : goal.returns-in-Err-Bad-clause-checked
 returns-in-Err-Bad-clause-checked g c =
-    let refused = subst (λ (e : ProgError). IsRefusal c.args.text.now e) c.in-Err-Bad.field-0-is c.in-Err-Bad.ensures.refused in
-    let none : (P : Program) → Reads c.args.text.now P → IsSmall P → ⊥ =
-    λ P reads small. subst (λ (e : ProgError). Answers (Err e) P) c.in-Err-Bad.field-0-is (c.in-Err-Bad.ensures.only P reads small) in
-    tells_fault c.in-Err-Bad.fault _ refused none _ _ _ c.tell_fault.ensures.written c.tell_fault.ensures.served
+    let faulty =
+    subst (λ (e : ProgError). IfBad {X = Program} (Err e) (IsFault c.args.text.now)) c.in-Err-Bad.field-0-is c.in-Err-Bad.ensures.refused in
+    line_done (ChecksText c.args.text.now) (fault_text c.in-Err-Bad.fault) outcomes.Refused (fault_here c.in-Err-Bad.fault _ faulty) _ _ _
+    c.tell_fault.ensures.written c.tell_fault.ensures.served
 
 pub returns-in-Err-Bad-clause-stopped : goal.returns-in-Err-Bad-clause-stopped
 returns-in-Err-Bad-clause-stopped g c =
-    let refused = subst (λ (e : ProgError). IsRefusal c.args.text.now e) c.in-Err-Bad.field-0-is c.in-Err-Bad.ensures.refused in
-    let none : (P : Program) → Reads c.args.text.now P → IsSmall P → ⊥ =
-    λ P reads small. subst (λ (e : ProgError). Answers (Err e) P) c.in-Err-Bad.field-0-is (c.in-Err-Bad.ensures.only P reads small) in
-    stops_fault c.in-Err-Bad.fault _ refused none _ _ _ c.tell_fault.ensures.written
+    let faulty =
+    subst (λ (e : ProgError). IfBad {X = Program} (Err e) (IsFault c.args.text.now)) c.in-Err-Bad.field-0-is c.in-Err-Bad.ensures.refused in
+    line_cut (ChecksText c.args.text.now) (fault_text c.in-Err-Bad.fault) outcomes.Refused (fault_here c.in-Err-Bad.fault _ faulty) _ _ _
+    c.tell_fault.ensures.written
