@@ -15,9 +15,9 @@ pub digit_range : (b : ℕ) → is_digit b ≡ true → (48 ≤ b) × (b ≤ 57)
 digit_range b h = (grind (arith, nat_tests), grind (arith, nat_tests))
 
 -- with a digit more the number still has few digits, and it fits
-pub stays_small : (i n number digit : ℕ) → i < n → n ≤ 9 → number < 10 ^ i → digit ≤ 9
+pub stays_low : (i n number digit : ℕ) → i < n → n ≤ 9 → number < 10 ^ i → digit ≤ 9
     → (number * 10 + digit < 10 ^ (i + 1)) × (number * 10 + digit < 4294967296)
-stays_small i n number digit lt few small d =
+stays_low i n number digit lt few below d =
     let most : 10 ^ i ≤ 10 ^ 8 = pow-le-pow_right {n = 10} (omega arith) {i = i} {j = 8} (omega arith) in
     (grind (arith, common_steps), omega (arith, most))
 

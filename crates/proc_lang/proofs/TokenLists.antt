@@ -122,10 +122,10 @@ begins_length (p ∷ tokens) at text end begins =
 pub has_tokens : (text : List ℕ) (tokens : List Placed) (at depth : ℕ) (rest : List ℕ) → length text ≤ INPUT_BYTES
     → IsBehind text tokens at depth rest
     → list_all is_space rest ≡ true → HasTokens text tokens
-has_tokens text tokens at depth rest small is spaces =
+has_tokens text tokens at depth rest few is spaces =
     let begins = begins_with_gap tokens 0 text at rest rest [] is.begins spaces (sym (append-nil rest)) in
     let end_is : at + length rest ≡ length text = omega (arith, begins_length tokens 0 text (at + length rest) begins) in
-    (small, subst (λ end. BeginsWith 0 text tokens end []) end_is begins, (is.within, is.shallow))
+    (few, subst (λ end. BeginsWith 0 text tokens end []) end_is begins, (is.within, is.shallow))
 
 pub has_fault : (text : List ℕ) (tokens : List Placed) (at depth : ℕ) (rest : List ℕ) (fault : ProgFault)
     → IsBehind text tokens at depth rest → MeetsFault rest at depth fault

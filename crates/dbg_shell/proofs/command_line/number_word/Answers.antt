@@ -1,6 +1,6 @@
 use Rattle.std.proofs.Common.{◌≡◌, ◌+◌, ◌*◌, ◌^◌, ◌<◌, ◌≤◌, length, get_or, true, arith, sym, ◌∙◌, ap}
 use Rattle.dbg_base.specs.Tokens.{is_digit}
-use Rattle.dbg_shell.proofs.Digits.{digit_range, stays_small, digits_more, value_more}
+use Rattle.dbg_shell.proofs.Digits.{digit_range, stays_low, digits_more, value_more}
 use Rattle.dbg_shell.proofs.command_line.number_word.Goals as goal
 use Rattle.dbg_shell.proofs.command_line.number_word.Goals.{After-from, Else-not-is_ascii_digit}
 
@@ -12,13 +12,13 @@ one_more : (c : After-from) → (c.loop-b.number * 10 + c.from.result < 10 ^ (c.
 one_more c =
     let b = get_or c.args.word.now c.loop-b.b-index 0 in
     let range : (48 ≤ b) × (b ≤ 57) = digit_range b (sym c.is_ascii_digit.ensures.value ∙ c.if-not-is_ascii_digit.false) in
-    stays_small c.loop-b.b-index (length c.args.word.now) c.loop-b.number c.from.result c.loop-b-test.true
+    stays_low c.loop-b.b-index (length c.args.word.now) c.loop-b.number c.from.result c.loop-b-test.true
     (omega arith) c.loop-b.invariant.few (omega arith)
 
 pub overflow_mul-number : goal.overflow_mul-number
 overflow_mul-number c =
     let fits =
-    stays_small c.loop-b.b-index (length c.args.word.now) c.loop-b.number 0 c.loop-b-test.true (omega arith) c.loop-b.invariant.few
+    stays_low c.loop-b.b-index (length c.args.word.now) c.loop-b.number 0 c.loop-b-test.true (omega arith) c.loop-b.invariant.few
     (omega arith) in
     omega arith
 
