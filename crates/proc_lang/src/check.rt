@@ -256,7 +256,7 @@ fn process_names(alloc: Global, written: &[WrittenProcess]) -> Result<Vec<Name>,
         .collect(alloc)
 }
 
-/// The program that these processes write, or the first check that fails.
+/// The program that these processes write, or the first check that fails. A text has no more processes than bytes.
 pub(crate) fn checked(alloc: Global, written: &[WrittenProcess]) -> Result<Program, ProgError>
     requires { length written.now < 2 ^ 32 }
     ensures { Checks result (check_faults (processes_of written.now))
