@@ -79,7 +79,8 @@ module _ (bytes : List ℕ) (ended : Bool) (Form : List ℕ → Ending) where
         cut_known bytes ended Form known r old out may (λ input m. line_cut (Form input) text end (form input m) r old out wrote)
 
   module _ (Told : Ending)
-      (leads : (input : List ℕ) → MayBe bytes ended input → (served : Served) (out : List ℕ) → Told served out → Form input served out) where
+      (leads : (input : List ℕ) → MayBe bytes ended input → (served : Served) (out : List ℕ) → Told served out → Form input served out)
+          where
     pub leads_done : (known : Option (List ℕ)) (r : Result Served ServeFault) (old out : Option (List ℕ)) → IfSome known (MayBe bytes ended)
         → Done Told r old out → DoneKnown Form known r old out
     leads_done known r old out may wrote =

@@ -11,7 +11,8 @@ use Rattle.dbg_base.specs.declared.sign.Sign.TheVariants.{Becomes, Comma, Equals
 use Rattle.dbg_base.specs.declared.sign.Sign.TheVariants.{Minus, Star, Slash, Percent}
 use Rattle.dbg_base.specs.declared.fault.ProgFault.{ProgFault}
 use Rattle.dbg_base.specs.declared.fault.FaultKind.TheVariants as fault
-use Rattle.dbg_base.specs.Tokens.{Token, Word, Number, Symbol, Placed, sign_bytes, is_space, is_letter, is_digit, is_word_byte, is_word, Spells}
+use Rattle.dbg_base.specs.Tokens.{Token, Word, Number, Symbol, Placed, sign_bytes, is_space, is_letter, is_digit, is_word_byte, is_word}
+use Rattle.dbg_base.specs.Tokens.{Spells}
 use Rattle.dbg_base.specs.Tokens.{IsWithinLimits, BeginsWithNoToken, HasTokens, IsTokenFault, open_behind}
 use Rattle.proc_lang.specs.Scanning.{BeginsWithNoSign, StandsInFront, TakesToken, MeetsFault}
 use Rattle.proc_lang.proofs.Runs.{and_first}
@@ -148,7 +149,8 @@ module _ (b : ℕ) (bytes : List ℕ) (no_letter : is_letter b ≡ false) (no_di
 -- what stands at the front
 decided : (b : ℕ) (bytes : List ℕ) → ((token : Token) × (n : ℕ) × StandsInFront token n (b ∷ bytes)) ⊎ BeginsWithNoToken (b ∷ bytes)
 decided b bytes =
-    elim (is_letter b) as (λ t. is_letter b ≡ t → ((token : Token) × (n : ℕ) × StandsInFront token n (b ∷ bytes)) ⊎ BeginsWithNoToken (b ∷ bytes)) [
+    elim (is_letter b) as (λ t. is_letter b ≡ t →
+        ((token : Token) × (n : ℕ) × StandsInFront token n (b ∷ bytes)) ⊎ BeginsWithNoToken (b ∷ bytes)) [
       | true ↦ λ letter. inl (_, _, word_stands b bytes letter)
       | false ↦ λ no_letter. elim (is_digit b)
           as (λ t. is_digit b ≡ t → ((token : Token) × (n : ℕ) × StandsInFront token n (b ∷ bytes)) ⊎ BeginsWithNoToken (b ∷ bytes)) [

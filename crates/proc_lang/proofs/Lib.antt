@@ -6,6 +6,7 @@ pub mod Lexing
 pub mod TokenLists
 pub mod TokenLaws
 pub mod Steps
+pub mod Turns
 pub mod Repeats
 pub mod Singles
 pub mod Phrases

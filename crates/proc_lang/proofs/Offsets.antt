@@ -19,4 +19,5 @@ offset_there end left n tokens x other cut some here =
     let start : length (map placed_of tokens) - left ≡ n = omega (arith, cut, length-map tokens placed_of) in
     ap (λ (p : code.Placed). p.at) (here ∙ ap (λ (l : List code.Placed). get_or l 0 other) all)
     ∙ head_there end (drop n tokens) other (omega (arith, some, ap length all))
-    ∙ ap (first_offset end) (sym (drop-map placed_of n tokens)) ∙ ap (λ (k : ℕ). first_offset end (drop k (map placed_of tokens))) (sym start)
+    ∙ ap (first_offset end) (sym (drop-map placed_of n tokens))
+        ∙ ap (λ (k : ℕ). first_offset end (drop k (map placed_of tokens))) (sym start)

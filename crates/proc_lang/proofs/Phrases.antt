@@ -13,9 +13,10 @@ use Rattle.dbg_base.specs.Grammar.{operator_token, direction_word, DerivesName, 
 use Rattle.proc_lang.specs.Parsing.{Read, ◌>>=◌, is_word_token, is_sign_token, begins_word, begins_sign, begins_count, direction_in}
 use Rattle.proc_lang.specs.Parsing.{read_word, read_sign, read_name, read_operator, read_direction, phrase_in, read_operand, read_count}
 use Rattle.proc_lang.specs.Parsing.{read_not, read_negate, read_binary, read_group, read_parentheses, read_by, read_expression}
-use Rattle.proc_lang.proofs.Steps.{IsReader, Completes, Anything, Then, Last, bind_to, bind_same, bind_agree, leaves, derives_more, both_reader}
-use Rattle.proc_lang.proofs.Steps.{last_reader, either_reader, either_first, either_second, fixed_parts}
-use Rattle.proc_lang.proofs.Steps.{fixed_reader}
+use Rattle.proc_lang.proofs.Steps.{IsReader, Completes, Anything, Then, Last, bind_to, bind_same, bind_agree, leaves, derives_more}
+use Rattle.proc_lang.proofs.Steps.{both_reader}
+use Rattle.proc_lang.proofs.Steps.{last_reader, either_reader, either_first, either_second}
+use Rattle.proc_lang.proofs.Turns.{fixed_parts, fixed_reader}
 use Rattle.proc_lang.proofs.Singles.{WordAt, SignAt, OperatorAt, DirectionAt, word_reader, word_here, word_takes, sign_reader}
 use Rattle.proc_lang.proofs.Singles.{sign_here, sign_takes, name_reader, name_completes, name_is_not, operator_reader, operator_completes}
 use Rattle.proc_lang.proofs.Singles.{operator_takes, direction_reader, direction_completes, direction_found, name_phrase, operand_reader}
@@ -58,7 +59,8 @@ count_reader =
     (both_reader _ _ read_direction _ direction_reader (λ word.
     both_reader _ _ (read_sign OpenParenthesis) _ (sign_reader OpenParenthesis) (λ begin.
     both_reader _ _ read_name _ name_reader (λ other.
-    last_reader (λ close. Count word.0 word.1 other) (SignAt CloseParenthesis) (read_sign CloseParenthesis) (sign_reader CloseParenthesis)))))
+    last_reader (λ close. Count word.0 word.1 other) (SignAt CloseParenthesis) (read_sign CloseParenthesis)
+        (sign_reader CloseParenthesis)))))
 
 count_completes : (at : ℕ) (direction : Direction) (other : Named) (front rest : List Placed)
     → DerivesExpression front (Count at direction other) → read_count (front ++ rest) ≡ Ok (Count at direction other, rest)
@@ -75,7 +77,8 @@ abbrev Group : ℕ → List Placed → Phrase → Type 0
 Group at tokens e = DerivesExpression (sign_at at OpenParenthesis ∷ tokens) e
 
 abbrev Negation : ℕ → List Placed → Phrase → Type 0
-Negation at = Then (WordAt (codes "not")) (λ word. Then DerivesExpression (λ operand. Last (λ close. Not at operand) (SignAt CloseParenthesis)))
+Negation at = Then (WordAt (codes "not"))
+    (λ word. Then DerivesExpression (λ operand. Last (λ close. Not at operand) (SignAt CloseParenthesis)))
 
 abbrev Negative : ℕ → List Placed → Phrase → Type 0
 Negative at = Then (SignAt Minus) (λ minus. Then DerivesExpression (λ operand. Last (λ close. Negate at operand) (SignAt CloseParenthesis)))
@@ -129,7 +132,8 @@ module _ (at : ℕ) (tokens : List Placed) (e : Phrase) where
 
 -- an expression in parentheses, where what is within them is read so
 module _ (inner : List Placed → Read Phrase) (reader : IsReader DerivesExpression inner) where
-  closes : (f : ℕ → Phrase) → IsReader (Last f (SignAt CloseParenthesis)) (λ tokens. read_sign CloseParenthesis tokens >>= λ x. Ok (f x.0, x.1))
+  closes : (f : ℕ → Phrase) →
+      IsReader (Last f (SignAt CloseParenthesis)) (λ tokens. read_sign CloseParenthesis tokens >>= λ x. Ok (f x.0, x.1))
   closes f = last_reader f (SignAt CloseParenthesis) (read_sign CloseParenthesis) (sign_reader CloseParenthesis)
 
   not_reader : (at : ℕ) → IsReader (Group at) (read_not inner at)
@@ -195,11 +199,14 @@ module _ (inner : List Placed → Read Phrase) (reader : IsReader DerivesExpress
     group_agree : (at : ℕ) → ((us : List Placed) → length us ≤ length tokens → inner us ≡ other us)
         → read_group inner at tokens ≡ read_group other at tokens
     group_agree at same =
-        ap (λ x. cond (begins_word (codes "not") tokens) x (cond (begins_sign Minus tokens) (read_negate inner at tokens) (read_binary inner at tokens)))
+        ap (λ x. cond (begins_word (codes "not") tokens) x
+            (cond (begins_sign Minus tokens) (read_negate inner at tokens) (read_binary inner at tokens)))
         (not_agree at (λ us lt. same us (omega (arith, lt))))
-        ∙ ap (λ x. cond (begins_word (codes "not") tokens) (read_not other at tokens) (cond (begins_sign Minus tokens) x (read_binary inner at tokens)))
+        ∙ ap (λ x. cond (begins_word (codes "not") tokens) (read_not other at tokens)
+            (cond (begins_sign Minus tokens) x (read_binary inner at tokens)))
         (negate_agree at (λ us lt. same us (omega (arith, lt))))
-        ∙ ap (λ x. cond (begins_word (codes "not") tokens) (read_not other at tokens) (cond (begins_sign Minus tokens) (read_negate other at tokens) x))
+        ∙ ap (λ x. cond (begins_word (codes "not") tokens) (read_not other at tokens)
+            (cond (begins_sign Minus tokens) (read_negate other at tokens) x))
         (binary_agree at same)
 
   by_agree : (other : List Placed → Read Phrase) (tokens : List Placed)
@@ -278,7 +285,8 @@ module _ (inner : List Placed → Read Phrase) (at : ℕ) (tokens : List Placed)
   unfolding read_binary
   complete_binary operator_at close_at operator left right a rest first second =
       bind_to _ _ _ _ first
-      (bind_to _ _ _ _ (operator_completes (record { at = operator_at; token = operator_token operator } ∷ []) a operator (operator_at, refl) tt)
+      (bind_to _ _ _ _ (operator_completes (record { at = operator_at; token = operator_token operator } ∷ []) a operator
+          (operator_at, refl) tt)
       (bind_to _ _ _ _ second
       (bind_to _ _ _ _ (sign_here CloseParenthesis close_at rest) refl)))
 

@@ -9,8 +9,8 @@ use Rattle.proc_lang.specs.Reading.{Gives}
 use Rattle.proc_lang.specs.declared.parser.Stop.{Stop}
 use Rattle.proc_lang.specs.declared.parser.Stop.TheVariants.{Memory, Unexpected}
 use Rattle.proc_lang.proofs.Steps.{IsReader, Completes, Anything, Takes, Then, Last, bind_to, bind_agree, ok_is, derives_more, both_reader}
-use Rattle.proc_lang.proofs.Steps.{last_reader, either_reader, either_first, either_second, fixed_parts}
-use Rattle.proc_lang.proofs.Steps.{fixed_reader}
+use Rattle.proc_lang.proofs.Steps.{last_reader, either_reader, either_first, either_second}
+use Rattle.proc_lang.proofs.Turns.{fixed_parts, fixed_reader}
 
 -- one, and then the others
 module _ {A : Type 0} (Derives : List Placed → A → Type 0) (one : List Placed → Read A) (rest : List Placed → Read (List A)) where
@@ -36,7 +36,8 @@ module _ {A : Type 0} (Derives : List Placed → A → Type 0) (one : List Place
       ap (read_several one rest) (append_assoc first others behind)
       ∙ bind_to _ _ _ _ (complete first (others ++ behind) x d tt) (bind_to _ _ _ _ e refl)
 
-module _ {A : Type 0} (Derives : List Placed → A → Type 0) (test : Token → Bool) (one : List Placed → Read A) (reader : IsReader Derives one)
+module _ {A : Type 0} (Derives : List Placed → A → Type 0) (test : Token → Bool) (one : List Placed → Read A)
+    (reader : IsReader Derives one)
     (takes : Takes one) where
   nothing_reader : IsReader (DeriveInTurn Derives) (λ tokens. Ok ([], tokens))
   nothing_reader = record {
@@ -55,7 +56,8 @@ module _ {A : Type 0} (Derives : List Placed → A → Type 0) (test : Token →
   keeps : (rest : List Placed → Read (List A)) → IsReader (DeriveInTurn Derives) rest
       → IsReader (DeriveInTurn Derives) (many_by test one rest)
   keeps rest others =
-      either_reader (DeriveInTurn Derives) test (read_several one rest) (λ tokens. Ok ([], tokens)) (several_reader Derives one rest reader others)
+      either_reader (DeriveInTurn Derives) test (read_several one rest) (λ tokens. Ok ([], tokens))
+          (several_reader Derives one rest reader others)
       nothing_reader
 
   several_agree : (rest other : List Placed → Read (List A)) (tokens : List Placed)
@@ -138,7 +140,8 @@ module _ {A : Type 0} (Derives : List Placed → A → Type 0) (test : Token →
       sym so_far ∙ ap (with_front (map view xs)) (many_stop left stop) ∙ ap (λ (l : List A). Ok (l, left)) (append-nil (map view xs))
 
   -- where one could not be read, the whole could not be
-  pub reading_stops : {X : Type 0} (view : X → A) (Z : Type 0) (other : Z → List A) (xs : List X) (stop : Stop) (left tokens rest behind : List Placed)
+  pub reading_stops : {X : Type 0} (view : X → A) (Z : Type 0) (other : Z → List A) (xs : List X) (stop : Stop)
+      (left tokens rest behind : List Placed)
       → IsReading view xs left tokens → begins test left ≡ true → Gives view (Err stop) rest (one left)
       → Gives other (Err stop) behind (read_many test one tokens)
   reading_stops view Z other xs Memory left tokens rest behind so_far go given = tt

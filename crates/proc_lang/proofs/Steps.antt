@@ -151,7 +151,8 @@ module _ {A : Type 0} (pick : Placed → Option A) where
         ] same;
       }
 
-  one_succeeds : (tokens rest : List Placed) (x : A) → read_one pick tokens ≡ Ok (x, rest) → Success (One pick) (read_one pick) tokens rest x
+  one_succeeds : (tokens rest : List Placed) (x : A) → read_one pick tokens ≡ Ok (x, rest) →
+      Success (One pick) (read_one pick) tokens rest x
   one_succeeds [] rest x e = cc
   one_succeeds (p ∷ tokens) rest x e =
       let found = picked_ok (pick p) tokens rest x e in
@@ -215,7 +216,8 @@ module _ {A B : Type 0} (First : List Placed → A → Type 0) (Second : A → L
           front = s.front ++ f.front;
           left = f.left;
           viable =
-              (f.viable.0, f.viable.1, (a.0, s.front, f.front ++ f.viable.0, s.derived, f.viable.2, append_assoc s.front f.front f.viable.0));
+              (f.viable.0, f.viable.1, (a.0, s.front, f.front ++ f.viable.0, s.derived, f.viable.2,
+                  append_assoc s.front f.front f.viable.0));
           whole = s.whole ∙ ap (λ (l : List Placed). s.front ++ l) f.whole ∙ sym (append_assoc s.front f.front f.left);
           size = f.size;
           again = λ other same.
@@ -249,7 +251,8 @@ module _ {A B : Type 0} (First : List Placed → A → Type 0) (Second : A → L
         record {
           some = (first.0 ++ second.0, second.1, (first.1, first.0, second.0, first.2, second.2, refl));
           succeeds = both_succeed;
-          fails = λ tokens n e. elim (bind_err (read tokens) (λ x. next x.0 x.1) n e) as (λ _. Failure (Then First Second) read_both tokens n) [
+          fails = λ tokens n e. elim (bind_err (read tokens) (λ x. next x.0 x.1) n e) as
+              (λ _. Failure (Then First Second) read_both tokens n) [
             | inl h ↦ first_fails tokens n h
             | inr h ↦ second_fails tokens n h.0 h.1 h.2
           ];
@@ -373,85 +376,3 @@ module _ {A : Type 0} (Derives : List Placed → A → Type 0) (test : Token →
 
   pub either_second : (tokens : List Placed) (z : Read A) → begins test tokens ≡ false → other_read tokens ≡ z → read_either tokens ≡ z
   either_second tokens z is e = ap (λ (t : Bool). cond t (read tokens) (other_read tokens)) is ∙ e
-
--- A reader that reads parts of what it reads by itself: it stays a reader at each turn, and a turn depends on shorter parts alone.
-module _ {A : Type 0} (Derives : List Placed → A → Type 0) (step : (List Placed → Read A) → List Placed → Read A)
-    (some : Begins Derives []) (keeps : (read : List Placed → Read A) → IsReader Derives read → IsReader Derives (step read))
-    (agrees : (read other : List Placed → Read A) → IsReader Derives read → (tokens : List Placed)
-    → ((us : List Placed) → length us < length tokens → read us ≡ other us) → step read tokens ≡ step other tokens) where
-  unrolled_reader : (n : ℕ) → IsReader Derives (unrolled step n)
-  unrolled_reader zero = record {
-    some = some;
-    succeeds = λ tokens rest x e. absurd (let bad : ◌≡◌ {A = Read A} (Err (length tokens)) (Ok (x, rest)) = e in cc);
-    fails = λ tokens n e. record {
-      front = [];
-      left = tokens;
-      viable = some;
-      whole = refl;
-      size = let same : ◌≡◌ {A = Read A} (Err (length tokens)) (Err n) = e in cc;
-      again = λ other same. refl;
-    };
-  }
-  unrolled_reader (suc n) = keeps (unrolled step n) (unrolled_reader n)
-
-  enough : (n m : ℕ) (tokens : List Placed) → length tokens < n → length tokens < m → unrolled step n tokens ≡ unrolled step m tokens
-  enough zero m tokens less more = absurd (omega arith)
-  enough (suc n) zero tokens less more = absurd (omega arith)
-  enough (suc n) (suc m) tokens less more =
-      agrees (unrolled step n) (unrolled step m) (unrolled_reader n) tokens (λ us lt. enough n m us (omega arith) (omega arith))
-
-  pub fixed_parts : (tokens : List Placed) → fixed step tokens ≡ step (fixed step) tokens
-  unfolding fixed
-  fixed_parts tokens =
-      agrees (unrolled step (length tokens)) (fixed step) (unrolled_reader (length tokens)) tokens
-      (λ us lt. enough (length tokens) (suc (length us)) us lt (omega arith))
-
-  fixed_is : (n : ℕ) (tokens : List Placed) → length tokens < n → fixed step tokens ≡ unrolled step n tokens
-  unfolding fixed
-  fixed_is n tokens lt = enough (suc (length tokens)) n tokens (omega arith) lt
-
-  fixed_succeeds : (tokens rest : List Placed) (x : A) → fixed step tokens ≡ Ok (x, rest) → Success Derives (fixed step) tokens rest x
-  fixed_succeeds tokens rest x e =
-      let s = (unrolled_reader (suc (length tokens))).succeeds tokens rest x (sym (fixed_is (suc (length tokens)) tokens (omega arith)) ∙ e) in
-      record {
-        front = s.front;
-        derived = s.derived;
-        whole = s.whole;
-        again = λ other same.
-            let n : ℕ = suc (length tokens + length (s.front ++ other)) in
-            let t = (unrolled_reader n).succeeds tokens rest x (sym (fixed_is n tokens (omega arith)) ∙ e) in
-            let front : s.front ≡ t.front = append_cancel_right s.front t.front rest (sym s.whole ∙ t.whole) in
-            fixed_is n (s.front ++ other) (omega arith)
-            ∙ ap (λ (l : List Placed). unrolled step n (l ++ other)) front ∙ t.again other same;
-      }
-
-  fixed_fails : (tokens : List Placed) (m : ℕ) → fixed step tokens ≡ Err m → Failure Derives (fixed step) tokens m
-  fixed_fails tokens m e =
-      let s = (unrolled_reader (suc (length tokens))).fails tokens m (sym (fixed_is (suc (length tokens)) tokens (omega arith)) ∙ e) in
-      record {
-        front = s.front;
-        left = s.left;
-        viable = s.viable;
-        whole = s.whole;
-        size = s.size;
-        again = λ other same.
-            let n : ℕ = suc (length tokens + length (s.front ++ other)) in
-            let t = (unrolled_reader n).fails tokens m (sym (fixed_is n tokens (omega arith)) ∙ e) in
-            let sizes = fronts_same s.front t.front s.left t.left (sym s.whole ∙ t.whole) (sym s.size ∙ t.size) in
-            fixed_is n (s.front ++ other) (omega arith)
-            ∙ ap (λ (l : List Placed). unrolled step n (l ++ other)) sizes.0
-            ∙ t.again other (subst (λ (l : List Placed). SameFirst l other) sizes.1 same);
-      }
-    where
-      fronts_same : (a b l m : List Placed) → a ++ l ≡ b ++ m → length l ≡ length m → (a ≡ b) × (l ≡ m)
-      fronts_same [] [] l m e same = (refl, e)
-      fronts_same [] (p ∷ b) l m e same = absurd (omega (arith, ap length e, length-append b m))
-      fronts_same (p ∷ a) [] l m e same = absurd (omega (arith, ap length e, length-append a l))
-      fronts_same (p ∷ a) (q ∷ b) l m e same =
-          let first : p ≡ q = cc in
-          let rest : a ++ l ≡ b ++ m = cc in
-          let more = fronts_same a b l m rest same in
-          (ap (λ (x : Placed). x ∷ a) first ∙ ap (λ (t : List Placed). q ∷ t) more.0, more.1)
-
-  pub fixed_reader : IsReader Derives (fixed step)
-  fixed_reader = record { some = some; succeeds = fixed_succeeds; fails = fixed_fails }

@@ -189,14 +189,16 @@ module _ {W M : Type 0} (Derives : List Placed → W → Type 0) (faults : W →
     checks_fault text tokens w f has d e = inr (inr (inr (tokens, w, has, d, first text tokens w f has d e)))
 
     checked_text : (text : List ℕ) (tokens : List Placed) (w : W) → HasTokens text tokens → Derives tokens w
-        → (all : List ProgFault) → faults w ≡ all → ((P : M) × ReadsAs Derives faults says text P) ⊎ ((f : ProgFault) × IsFaultOf Derives faults text f)
+        → (all : List ProgFault) → faults w ≡ all →
+            ((P : M) × ReadsAs Derives faults says text P) ⊎ ((f : ProgFault) × IsFaultOf Derives faults text f)
     checked_text text tokens w has d [] none =
         inl (says w, record { tokens = tokens; written = w; has_tokens = has; derives = d; checks = none; said = refl })
     checked_text text tokens w has d (f ∷ others) some =
         inr (f, checks_fault text tokens w f has d (ap (λ (fs : List ProgFault). slice_get fs 0) some))
 
     -- each text says something or has a first fault
-    pub each_text : ((end : ℕ) (tokens : List Placed) → ((w : W) × Derives tokens w) ⊎ ((f : ProgFault) × IsGrammarFault Derives end tokens f))
+    pub each_text : ((end : ℕ) (tokens : List Placed) →
+        ((w : W) × Derives tokens w) ⊎ ((f : ProgFault) × IsGrammarFault Derives end tokens f))
         → (text : List ℕ) → ((P : M) × ReadsAs Derives faults says text P) ⊎ ((f : ProgFault) × IsFaultOf Derives faults text f)
     each_text parses text =
         elim (cases_lt INPUT_BYTES (length text))
@@ -227,19 +229,22 @@ module _ {W M : Type 0} (Derives : List Placed → W → Type 0) (faults : W →
       checked_refused (Err (Bad f)) passed = checks_fault text writes.0 w f writes.1 writes.2 passed
 
   -- a text without tokens
-  pub no_tokens : (text : List ℕ) (e : ProgError) → HasNoTokens text e → (X : Type 0) → IfBad {X = X} (Err e) (IsFaultOf Derives faults text)
+  pub no_tokens : (text : List ℕ) (e : ProgError) → HasNoTokens text e → (X : Type 0) →
+      IfBad {X = X} (Err e) (IsFaultOf Derives faults text)
   no_tokens text errors.Memory none X = tt
   no_tokens text (Bad f) (inl long) X = inl long
   no_tokens text (Bad f) (inr found) X = inr (inl found)
 
   -- a text whose tokens can't go on
-  pub stopped_refused : {B Z : Type 0} (read : List Placed → Read B) (view : Z → B) (text : List ℕ) (tokens rest : List Placed) (stop : Stop)
+  pub stopped_refused : {B Z : Type 0} (read : List Placed → Read B) (view : Z → B) (text : List ℕ) (tokens rest : List Placed)
+      (stop : Stop)
       (e : ProgError) (X : Type 0)
       → ((end n : ℕ) (ts : List Placed) (f : ProgFault) → read ts ≡ Err n → f.kind ≡ kinds.Grammar → f.at ≡ offset_of end n ts
       → IsGrammarFault Derives end ts f)
       → HasTokens text tokens → Gives {X = Z} view (Err stop) rest (read tokens) → IsStop stop tokens (length text) e
       → IfBad {X = X} (Err e) (IsFaultOf Derives faults text)
-  stopped_refused read view text tokens rest Memory e X fails has given is = subst (λ (x : ProgError). IfBad {X = X} (Err x) (IsFaultOf Derives faults text)) (sym is) tt
+  stopped_refused read view text tokens rest Memory e X fails has given is =
+      subst (λ (x : ProgError). IfBad {X = X} (Err x) (IsFaultOf Derives faults text)) (sym is) tt
   stopped_refused read view text tokens rest (Unexpected n) e X fails has given is =
       subst (λ (x : ProgError). IfBad {X = X} (Err x) (IsFaultOf Derives faults text)) (sym is)
       (inr (inr (inl (tokens, has, fails (length text) n tokens _ given refl refl))))

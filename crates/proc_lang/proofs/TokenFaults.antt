@@ -79,7 +79,8 @@ in_front p tokens at depth text end stop rest more kind other x y =
     let a = x.begins in
     let b = y.begins in
     let split =
-    gap_once b.0 a.0 more (a.1 ++ a.2) b.1 a.3 (fault_begins other depth more y.found) (begins_append a.1 a.2 (spells_first p.token a.1 a.6))
+    gap_once b.0 a.0 more (a.1 ++ a.2) b.1 a.3 (fault_begins other depth more y.found)
+        (begins_append a.1 a.2 (spells_first p.token a.1 a.6))
     (sym b.2 ∙ a.4 ∙ append_assoc a.0 a.1 a.2) in
     absurd (clear_front other depth p.token a.1 a.2 more split.1 a.6 a.7 x.within.0 x.shallow.0 y.found)
 
@@ -93,8 +94,10 @@ one_fault [] [] at depth text end stop rest more kind other x y =
       kind_once kind other depth more (subst (λ (r : List ℕ). FaultsInFront kind depth r) split.1 x.found) y.found,
       omega (arith, a.3, b.3, ap length split.0),
     )
-one_fault (p ∷ tokens) [] at depth text end stop rest more kind other x y = in_front p tokens at depth text end stop rest more kind other x y
-one_fault [] (q ∷ others) at depth text end stop rest more kind other x y = in_front q others at depth text stop end more rest other kind y x
+one_fault (p ∷ tokens) [] at depth text end stop rest more kind other x y =
+    in_front p tokens at depth text end stop rest more kind other x y
+one_fault [] (q ∷ others) at depth text end stop rest more kind other x y =
+    in_front q others at depth text stop end more rest other kind y x
 one_fault (p ∷ tokens) (q ∷ others) at depth text end stop rest more kind other x y =
     let a = x.begins in
     let b = y.begins in

@@ -171,7 +171,8 @@ pub record IsSameStep (gap other piece second more others : List ℕ) (a b : Tok
   pub rests : more ≡ others
   pub tokens : a ≡ b
 
-pub step_once : (text gap other piece second more others : List ℕ) (a b : Token) → list_all is_space gap ≡ true → list_all is_space other ≡ true
+pub step_once : (text gap other piece second more others : List ℕ) (a b : Token) → list_all is_space gap ≡ true →
+    list_all is_space other ≡ true
     → text ≡ gap ++ piece ++ more → text ≡ other ++ second ++ others → Spells a piece → Spells b second → IsLongest piece more
     → IsLongest second others
     → IsSameStep gap other piece second more others a b

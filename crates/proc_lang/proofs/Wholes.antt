@@ -12,7 +12,8 @@ use Rattle.dbg_base.specs.Grammar.{DeriveInTurn, DerivesVariable, DerivesCommand
 use Rattle.dbg_base.specs.Grammar.{DerivesNothing, IsGrammarFault}
 use Rattle.proc_lang.specs.Reading.{first_offset, offset_of}
 use Rattle.proc_lang.specs.Parsing.{Read, ◌>>=◌, is_word_token, begins_word, read_word, read_sign, read_name, read_variable, read_variables}
-use Rattle.proc_lang.specs.Parsing.{read_command, read_commands, read_process, read_many, read_several, read_processes, read_end, read_whole}
+use Rattle.proc_lang.specs.Parsing.{read_command, read_commands, read_process, read_many, read_several, read_processes, read_end}
+use Rattle.proc_lang.specs.Parsing.{read_whole}
 use Rattle.proc_lang.specs.Parsing.{read_expression, read_program, read_predicate}
 use Rattle.proc_lang.proofs.Steps.{SameFirst, IsReader, Completes, Anything, Takes, Then, Last, bind_to, bind_ok, ok_is, derives_more}
 use Rattle.proc_lang.proofs.Steps.{both_reader, last_reader}
@@ -123,13 +124,15 @@ unfolding read_several
 processes_reader =
     derives_more Program DerivesProgram read_processes program_derives
     (both_reader _ _ read_process _ process_reader (λ first.
-    last_reader (λ others. first ∷ others) (DeriveInTurn DerivesProcess) (read_many (is_word_token (codes "process")) read_process) further_reader))
+    last_reader (λ others. first ∷ others) (DeriveInTurn DerivesProcess)
+        (read_many (is_word_token (codes "process")) read_process) further_reader))
 
 processes_complete : Completes DerivesProgram (λ rest. begins_word (codes "process") rest ≡ false) read_processes
 processes_complete front rest [] d stop = absurd d
 processes_complete front rest (x ∷ xs) d stop =
     ap (λ (l : List Placed). read_processes (l ++ rest)) d.4
-    ∙ several_complete DerivesProcess read_process (read_many (is_word_token (codes "process")) read_process) process_completes d.0 d.1 rest x xs
+    ∙ several_complete DerivesProcess read_process
+        (read_many (is_word_token (codes "process")) read_process) process_completes d.0 d.1 rest x xs
     d.2
     (many_complete DerivesProcess (is_word_token (codes "process")) read_process process_reader process_takes process_completes
     (λ front rest x d. ap (λ (l : List Placed). begins_word (codes "process") (l ++ rest)) d.9) d.1 rest xs d.3 stop)

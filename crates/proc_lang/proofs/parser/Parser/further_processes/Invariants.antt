@@ -10,7 +10,8 @@ use Rattle.proc_lang.proofs.parser.Parser.further_processes.Given as goal
 abbrev pub invariant-loop-self : goal.invariant-loop-self
 invariant-loop-self l = record {
   shorter : length l.self.rest.now ≤ length l.fn.self.rest.now;
-  reading : IsReading DerivesProcess (is_word_token (codes "process")) read_process process_reader process_takes process_of l.processes.items
+  reading : IsReading DerivesProcess
+      (is_word_token (codes "process")) read_process process_reader process_takes process_of l.processes.items
       (map placed_of l.self.rest.now) (map placed_of l.fn.self.rest.now);
 }
 

@@ -10,7 +10,8 @@ use Rattle.proc_lang.proofs.parser.Parser.variables.Given as goal
 abbrev pub invariant-loop-self : goal.invariant-loop-self
 invariant-loop-self l = record {
   shorter : length l.self.rest.now ≤ length l.fn.self.rest.now;
-  reading : IsReading DerivesVariable (is_word_token (codes "var")) read_variable variable_reader variable_takes variable_of l.variables.items
+  reading : IsReading DerivesVariable
+      (is_word_token (codes "var")) read_variable variable_reader variable_takes variable_of l.variables.items
       (map placed_of l.self.rest.now) (map placed_of l.fn.self.rest.now);
 }
 
