@@ -44,7 +44,7 @@ negative_reader =
       sym d.4.2,
     ))
     (both_reader _ _ (read_sign Minus) _ (sign_reader Minus)
-        (λ minus. last_reader (λ value. neg_ℤ (pos value)) NumberAt read_number number_reader))
+    (λ minus. last_reader (λ value. neg_ℤ (pos value)) NumberAt read_number number_reader))
 
 positive_reader : IsReader DerivesStart read_positive
 unfolding read_positive
@@ -232,7 +232,7 @@ local_reader : IsReader WholeBody read_local
 unfolding read_local
 local_reader =
     derives_more (Then DerivesAssignment (λ first. Last (λ others. (Local, first ∷ others)) (DeriveInTurn DerivesFurther))) WholeBody
-        read_local
+    read_local
     (λ tokens body d. subst (λ (b : Body). WholeBody tokens b) d.4.2 (d.1, d.2, d.3, d.4.1, d.5))
     (both_reader _ _ read_assignment _ assignment_reader (λ first.
     last_reader (λ others. (Local, first ∷ others)) (DeriveInTurn DerivesFurther) read_all_further all_further_reader))
@@ -244,7 +244,7 @@ body_reader =
 
 send_completes : (front rest : List Placed) (target : Named) (value : Phrase) (xs : List WrittenAssignment)
     → DerivesBody front (Sends target value) xs → begins_sign Comma rest ≡ false →
-        read_body (front ++ rest) ≡ Ok ((Sends target value, xs), rest)
+    read_body (front ++ rest) ≡ Ok ((Sends target value, xs), rest)
 unfolding read_send
 send_completes front rest target value xs d stop =
     let last : List Placed = d.2 ++ rest in

@@ -150,7 +150,7 @@ module _ (b : ℕ) (bytes : List ℕ) (no_letter : is_letter b ≡ false) (no_di
 decided : (b : ℕ) (bytes : List ℕ) → ((token : Token) × (n : ℕ) × StandsInFront token n (b ∷ bytes)) ⊎ BeginsWithNoToken (b ∷ bytes)
 decided b bytes =
     elim (is_letter b) as (λ t. is_letter b ≡ t →
-        ((token : Token) × (n : ℕ) × StandsInFront token n (b ∷ bytes)) ⊎ BeginsWithNoToken (b ∷ bytes)) [
+    ((token : Token) × (n : ℕ) × StandsInFront token n (b ∷ bytes)) ⊎ BeginsWithNoToken (b ∷ bytes)) [
       | true ↦ λ letter. inl (_, _, word_stands b bytes letter)
       | false ↦ λ no_letter. elim (is_digit b)
           as (λ t. is_digit b ≡ t → ((token : Token) × (n : ℕ) × StandsInFront token n (b ∷ bytes)) ⊎ BeginsWithNoToken (b ∷ bytes)) [

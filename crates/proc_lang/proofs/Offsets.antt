@@ -20,4 +20,4 @@ offset_there end left n tokens x other cut some here =
     ap (λ (p : code.Placed). p.at) (here ∙ ap (λ (l : List code.Placed). get_or l 0 other) all)
     ∙ head_there end (drop n tokens) other (omega (arith, some, ap length all))
     ∙ ap (first_offset end) (sym (drop-map placed_of n tokens))
-        ∙ ap (λ (k : ℕ). first_offset end (drop k (map placed_of tokens))) (sym start)
+    ∙ ap (λ (k : ℕ). first_offset end (drop k (map placed_of tokens))) (sym start)

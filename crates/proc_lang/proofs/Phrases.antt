@@ -60,7 +60,7 @@ count_reader =
     both_reader _ _ (read_sign OpenParenthesis) _ (sign_reader OpenParenthesis) (λ begin.
     both_reader _ _ read_name _ name_reader (λ other.
     last_reader (λ close. Count word.0 word.1 other) (SignAt CloseParenthesis) (read_sign CloseParenthesis)
-        (sign_reader CloseParenthesis)))))
+    (sign_reader CloseParenthesis)))))
 
 count_completes : (at : ℕ) (direction : Direction) (other : Named) (front rest : List Placed)
     → DerivesExpression front (Count at direction other) → read_count (front ++ rest) ≡ Ok (Count at direction other, rest)
@@ -200,13 +200,13 @@ module _ (inner : List Placed → Read Phrase) (reader : IsReader DerivesExpress
         → read_group inner at tokens ≡ read_group other at tokens
     group_agree at same =
         ap (λ x. cond (begins_word (codes "not") tokens) x
-            (cond (begins_sign Minus tokens) (read_negate inner at tokens) (read_binary inner at tokens)))
+        (cond (begins_sign Minus tokens) (read_negate inner at tokens) (read_binary inner at tokens)))
         (not_agree at (λ us lt. same us (omega (arith, lt))))
         ∙ ap (λ x. cond (begins_word (codes "not") tokens) (read_not other at tokens)
-            (cond (begins_sign Minus tokens) x (read_binary inner at tokens)))
+        (cond (begins_sign Minus tokens) x (read_binary inner at tokens)))
         (negate_agree at (λ us lt. same us (omega (arith, lt))))
         ∙ ap (λ x. cond (begins_word (codes "not") tokens) (read_not other at tokens)
-            (cond (begins_sign Minus tokens) (read_negate other at tokens) x))
+        (cond (begins_sign Minus tokens) (read_negate other at tokens) x))
         (binary_agree at same)
 
   by_agree : (other : List Placed → Read Phrase) (tokens : List Placed)
@@ -286,7 +286,7 @@ module _ (inner : List Placed → Read Phrase) (at : ℕ) (tokens : List Placed)
   complete_binary operator_at close_at operator left right a rest first second =
       bind_to _ _ _ _ first
       (bind_to _ _ _ _ (operator_completes (record { at = operator_at; token = operator_token operator } ∷ []) a operator
-          (operator_at, refl) tt)
+      (operator_at, refl) tt)
       (bind_to _ _ _ _ second
       (bind_to _ _ _ _ (sign_here CloseParenthesis close_at rest) refl)))
 

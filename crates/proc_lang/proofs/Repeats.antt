@@ -57,7 +57,7 @@ module _ {A : Type 0} (Derives : List Placed → A → Type 0) (test : Token →
       → IsReader (DeriveInTurn Derives) (many_by test one rest)
   keeps rest others =
       either_reader (DeriveInTurn Derives) test (read_several one rest) (λ tokens. Ok ([], tokens))
-          (several_reader Derives one rest reader others)
+      (several_reader Derives one rest reader others)
       nothing_reader
 
   several_agree : (rest other : List Placed → Read (List A)) (tokens : List Placed)

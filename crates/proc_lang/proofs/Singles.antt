@@ -220,7 +220,7 @@ operator_is (Symbol sign) operator e = sign_is sign operator e
 operator_is (token.Number value) operator e = cc
 operator_is (Word word) operator e =
     elim (chosen_word (bytes_eq word (codes "and")) (bytes_eq word (codes "or")) And Or operator e) as
-        (λ _. Word word ≡ operator_token operator) [
+    (λ _. Word word ≡ operator_token operator) [
       | inl h ↦ ap Word (bytes_equal word (codes "and") h.0) ∙ ap operator_token h.1
       | inr h ↦ ap Word (bytes_equal word (codes "or") h.0) ∙ ap operator_token h.1
     ]
@@ -328,10 +328,10 @@ operand_reader =
 pub name_phrase : (at : ℕ) (name : List ℕ) → IsName name → word_phrase at name ≡ Some (Name at name)
 name_phrase at name is =
     ap (λ (b : Bool). cond b (Some (Truth at true))
-        (cond (bytes_eq name (codes "false")) (Some (Truth at false)) (option_map (Name at) (name_in (Word name)))))
+    (cond (bytes_eq name (codes "false")) (Some (Truth at false)) (option_map (Name at) (name_in (Word name)))))
     (name_is_not (codes "true") name refl is)
     ∙ ap (λ (b : Bool). cond b (Some (Truth at false)) (option_map (Name at) (name_in (Word name))))
-        (name_is_not (codes "false") name refl is)
+    (name_is_not (codes "false") name refl is)
     ∙ ap (option_map (Name at)) (name_found name is)
 
 pub operand_completes : Completes Operand Anything read_operand

@@ -1,11 +1,10 @@
 -- Readers of tokens, and how one is made of others. A reader reads what its relation derives, fails at the first token that cannot
 -- follow, and looks no further than at the first token that it leaves.
-use Rattle.std.proofs.Common.{◌≡◌, ℕ, zero, suc, ◌+◌, ◌<◌, ◌≤◌, Bool, true, false, cond, List, [], ◌∷◌, ◌++◌, length, Option, Some, None}
+use Rattle.std.proofs.Common.{◌≡◌, ℕ, suc, ◌<◌, ◌≤◌, Bool, true, false, cond, List, [], ◌∷◌, ◌++◌, length, Option, Some, None}
 use Rattle.std.proofs.Common.{Result, Ok, Err, refl, sym, ap, ◌∙◌, subst, arith, ◌⊎◌, inl, inr, append_assoc, length-append}
-use Rattle.std.proofs.lemmas.List.{append_cancel_right}
 use Rattle.dbg_base.specs.Tokens.{Token, Placed}
 use Rattle.dbg_base.specs.Grammar.{Begins}
-use Rattle.proc_lang.specs.Parsing.{Read, ◌>>=◌, picked, read_one, begins, unrolled, fixed}
+use Rattle.proc_lang.specs.Parsing.{Read, ◌>>=◌, picked, read_one, begins}
 
 -- the same token comes first, or none does
 abbrev pub SameFirst : List Placed → List Placed → Type 0
@@ -215,9 +214,18 @@ module _ {A B : Type 0} (First : List Placed → A → Type 0) (Second : A → L
         record {
           front = s.front ++ f.front;
           left = f.left;
-          viable =
-              (f.viable.0, f.viable.1, (a.0, s.front, f.front ++ f.viable.0, s.derived, f.viable.2,
-                  append_assoc s.front f.front f.viable.0));
+          viable = (
+            f.viable.0,
+            f.viable.1,
+            (
+              a.0,
+              s.front,
+              f.front ++ f.viable.0,
+              s.derived,
+              f.viable.2,
+              append_assoc s.front f.front f.viable.0,
+            ),
+          );
           whole = s.whole ∙ ap (λ (l : List Placed). s.front ++ l) f.whole ∙ sym (append_assoc s.front f.front f.left);
           size = f.size;
           again = λ other same.
@@ -253,9 +261,9 @@ module _ {A B : Type 0} (First : List Placed → A → Type 0) (Second : A → L
           succeeds = both_succeed;
           fails = λ tokens n e. elim (bind_err (read tokens) (λ x. next x.0 x.1) n e) as
               (λ _. Failure (Then First Second) read_both tokens n) [
-            | inl h ↦ first_fails tokens n h
-            | inr h ↦ second_fails tokens n h.0 h.1 h.2
-          ];
+                | inl h ↦ first_fails tokens n h
+                | inr h ↦ second_fails tokens n h.0 h.1 h.2
+              ];
         }
 
   -- what follows the first one is what the second one derives, with what follows both

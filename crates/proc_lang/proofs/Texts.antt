@@ -190,7 +190,7 @@ module _ {W M : Type 0} (Derives : List Placed → W → Type 0) (faults : W →
 
     checked_text : (text : List ℕ) (tokens : List Placed) (w : W) → HasTokens text tokens → Derives tokens w
         → (all : List ProgFault) → faults w ≡ all →
-            ((P : M) × ReadsAs Derives faults says text P) ⊎ ((f : ProgFault) × IsFaultOf Derives faults text f)
+        ((P : M) × ReadsAs Derives faults says text P) ⊎ ((f : ProgFault) × IsFaultOf Derives faults text f)
     checked_text text tokens w has d [] none =
         inl (says w, record { tokens = tokens; written = w; has_tokens = has; derives = d; checks = none; said = refl })
     checked_text text tokens w has d (f ∷ others) some =

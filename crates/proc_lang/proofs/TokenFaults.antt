@@ -80,7 +80,7 @@ in_front p tokens at depth text end stop rest more kind other x y =
     let b = y.begins in
     let split =
     gap_once b.0 a.0 more (a.1 ++ a.2) b.1 a.3 (fault_begins other depth more y.found)
-        (begins_append a.1 a.2 (spells_first p.token a.1 a.6))
+    (begins_append a.1 a.2 (spells_first p.token a.1 a.6))
     (sym b.2 ∙ a.4 ∙ append_assoc a.0 a.1 a.2) in
     absurd (clear_front other depth p.token a.1 a.2 more split.1 a.6 a.7 x.within.0 x.shallow.0 y.found)
 

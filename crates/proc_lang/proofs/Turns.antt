@@ -58,7 +58,7 @@ module _ {A : Type 0} (Derives : List Placed → A → Type 0) (step : (List Pla
             let t = (unrolled_reader n).succeeds tokens rest x (turn_gives n tokens (Ok (x, rest)) (omega arith) e) in
             let front : s.front ≡ t.front = append_cancel_right s.front t.front rest (sym s.whole ∙ t.whole) in
             let moved : unrolled step n (s.front ++ other) ≡ unrolled step n (t.front ++ other) =
-                ap (λ (l : List Placed). unrolled step n (l ++ other)) front in
+            ap (λ (l : List Placed). unrolled step n (l ++ other)) front in
             fixed_is n (s.front ++ other) (omega arith) ∙ moved ∙ t.again other same;
       }
 
@@ -77,7 +77,7 @@ module _ {A : Type 0} (Derives : List Placed → A → Type 0) (step : (List Pla
             let t = (unrolled_reader n).fails tokens m (turn_gives n tokens (Err m) (omega arith) e) in
             let sizes = fronts_same s.front t.front s.left t.left (sym s.whole ∙ t.whole) (sym s.size ∙ t.size) in
             let moved : unrolled step n (s.front ++ other) ≡ unrolled step n (t.front ++ other) =
-                ap (λ (l : List Placed). unrolled step n (l ++ other)) sizes.0 in
+            ap (λ (l : List Placed). unrolled step n (l ++ other)) sizes.0 in
             fixed_is n (s.front ++ other) (omega arith) ∙ moved
             ∙ t.again other (subst (λ (l : List Placed). SameFirst l other) sizes.1 same);
       }

@@ -125,14 +125,14 @@ processes_reader =
     derives_more Program DerivesProgram read_processes program_derives
     (both_reader _ _ read_process _ process_reader (λ first.
     last_reader (λ others. first ∷ others) (DeriveInTurn DerivesProcess)
-        (read_many (is_word_token (codes "process")) read_process) further_reader))
+    (read_many (is_word_token (codes "process")) read_process) further_reader))
 
 processes_complete : Completes DerivesProgram (λ rest. begins_word (codes "process") rest ≡ false) read_processes
 processes_complete front rest [] d stop = absurd d
 processes_complete front rest (x ∷ xs) d stop =
     ap (λ (l : List Placed). read_processes (l ++ rest)) d.4
     ∙ several_complete DerivesProcess read_process
-        (read_many (is_word_token (codes "process")) read_process) process_completes d.0 d.1 rest x xs
+    (read_many (is_word_token (codes "process")) read_process) process_completes d.0 d.1 rest x xs
     d.2
     (many_complete DerivesProcess (is_word_token (codes "process")) read_process process_reader process_takes process_completes
     (λ front rest x d. ap (λ (l : List Placed). begins_word (codes "process") (l ++ rest)) d.9) d.1 rest xs d.3 stop)

@@ -22,7 +22,7 @@ pub returns-in-Ok-clause-served : goal.returns-in-Ok-clause-served
 returns-in-Ok-clause-served g c =
     let reads = reads_then c.read_program_text.ensures.reads c.serve_lines.ensures.reads in
     serves_program c.read_program_text.new.input.bytes.items c.read_program_text.new.input.ended _ c.read_program_text.new.input.at _
-        c.in_ok-input.ensures.at c.in_ok-span.ensures.splits _ c.before-in-Before.result.now c.in-Before.span c.in-Before.is
+    c.in_ok-input.ensures.at c.in_ok-span.ensures.splits _ c.before-in-Before.result.now c.in-Before.span c.in-Before.is
     c.before-in-Before.ensures c.in-Ok.ensures.accepted c.serve_lines.new.input.bytes.items c.serve_lines.new.input.ended
     c.serve_lines.ensures.reads.narrows _ _ _ _ (known_may c.in_ok-input.ensures.bytes reads) c.serve_lines.ensures.served
 
@@ -30,7 +30,7 @@ pub returns-in-Ok-clause-stopped : goal.returns-in-Ok-clause-stopped
 returns-in-Ok-clause-stopped g c =
     let reads = reads_then c.read_program_text.ensures.reads c.serve_lines.ensures.reads in
     stops_program c.read_program_text.new.input.bytes.items c.read_program_text.new.input.ended _ c.read_program_text.new.input.at _
-        c.in_ok-input.ensures.at c.in_ok-span.ensures.splits _ c.before-in-Before.result.now c.in-Before.span c.in-Before.is
+    c.in_ok-input.ensures.at c.in_ok-span.ensures.splits _ c.before-in-Before.result.now c.in-Before.span c.in-Before.is
     c.before-in-Before.ensures c.in-Ok.ensures.accepted c.serve_lines.new.input.bytes.items c.serve_lines.new.input.ended
     c.serve_lines.ensures.reads.narrows _ _ _ _ (known_may c.in_ok-input.ensures.bytes reads) c.serve_lines.ensures.stopped
 
@@ -38,7 +38,7 @@ pub returns-in-Ok-clause-broken : goal.returns-in-Ok-clause-broken
 returns-in-Ok-clause-broken g c =
     let reads = reads_then c.read_program_text.ensures.reads c.serve_lines.ensures.reads in
     breaks_program c.read_program_text.new.input.bytes.items c.read_program_text.new.input.ended _ c.read_program_text.new.input.at _
-        c.in_ok-input.ensures.at c.in_ok-span.ensures.splits _ c.before-in-Before.result.now c.in-Before.span c.in-Before.is
+    c.in_ok-input.ensures.at c.in_ok-span.ensures.splits _ c.before-in-Before.result.now c.in-Before.span c.in-Before.is
     c.before-in-Before.ensures c.in-Ok.ensures.accepted c.serve_lines.new.input.bytes.items c.serve_lines.new.input.ended
     c.serve_lines.ensures.reads.narrows _ _ _ _ _ _ c.in_ok-input.ensures.bytes reads.keeps c.serve_lines.ensures.broken
 
@@ -46,7 +46,7 @@ pub returns-in-Err-Bad-clause-served : goal.returns-in-Err-Bad-clause-served
 returns-in-Err-Bad-clause-served g c =
     told_done c.read_program_text.new.input.bytes.items c.read_program_text.new.input.ended ServesInput (fault_text c.in-Err-Bad.fault)
     outcomes.Refused (fault_here c.read_program_text.new.input.bytes.items c.read_program_text.new.input.ended _
-        c.read_program_text.new.input.at _ c.in_ok-input.ensures.at c.in_ok-span.ensures.splits
+    c.read_program_text.new.input.at _ c.in_ok-input.ensures.at c.in_ok-span.ensures.splits
     c.before-in-Before.result.now c.in-Before.span c.in-Before.is c.before-in-Before.ensures c.in-Err-Bad.fault
     (subst (λ (e : ProgError). IfBad {X = Program} (Err e) (IsFault c.before-in-Before.result.now)) c.in-Err-Bad.field-0-is
     c.in-Err-Bad.ensures.refused))
@@ -58,7 +58,7 @@ pub returns-in-Err-Bad-clause-stopped : goal.returns-in-Err-Bad-clause-stopped
 returns-in-Err-Bad-clause-stopped g c =
     told_cut c.read_program_text.new.input.bytes.items c.read_program_text.new.input.ended ServesInput (fault_text c.in-Err-Bad.fault)
     outcomes.Refused (fault_here c.read_program_text.new.input.bytes.items c.read_program_text.new.input.ended _
-        c.read_program_text.new.input.at _ c.in_ok-input.ensures.at c.in_ok-span.ensures.splits
+    c.read_program_text.new.input.at _ c.in_ok-input.ensures.at c.in_ok-span.ensures.splits
     c.before-in-Before.result.now c.in-Before.span c.in-Before.is c.before-in-Before.ensures c.in-Err-Bad.fault
     (subst (λ (e : ProgError). IfBad {X = Program} (Err e) (IsFault c.before-in-Before.result.now)) c.in-Err-Bad.field-0-is
     c.in-Err-Bad.ensures.refused))
@@ -70,7 +70,7 @@ pub returns-in-End-clause-served : goal.returns-in-End-clause-served
 returns-in-End-clause-served g c =
     told_done c.read_program_text.new.input.bytes.items c.read_program_text.new.input.ended ServesInput no_end_line_text outcomes.Refused
     (end_here c.read_program_text.new.input.bytes.items c.read_program_text.new.input.ended _ c.read_program_text.new.input.at _
-        c.in_ok-input.ensures.at c.in_ok-span.ensures.splits c.in-End.is)
+    c.in_ok-input.ensures.at c.in_ok-span.ensures.splits c.in-End.is)
     _ _ _ _ (known_may c.in_ok-input.ensures.bytes c.read_program_text.ensures.reads) c.tell_no_end_line.ensures.written
     c.tell_no_end_line.ensures.served
 
@@ -78,14 +78,14 @@ pub returns-in-End-clause-stopped : goal.returns-in-End-clause-stopped
 returns-in-End-clause-stopped g c =
     told_cut c.read_program_text.new.input.bytes.items c.read_program_text.new.input.ended ServesInput no_end_line_text outcomes.Refused
     (end_here c.read_program_text.new.input.bytes.items c.read_program_text.new.input.ended _ c.read_program_text.new.input.at _
-        c.in_ok-input.ensures.at c.in_ok-span.ensures.splits c.in-End.is)
+    c.in_ok-input.ensures.at c.in_ok-span.ensures.splits c.in-End.is)
     _ _ _ _ (known_may c.in_ok-input.ensures.bytes c.read_program_text.ensures.reads) c.tell_no_end_line.ensures.written
 
 pub returns-clause-served : goal.returns-clause-served
 returns-clause-served g c =
     told_done c.read_program_text.new.input.bytes.items c.read_program_text.new.input.ended ServesInput too_long_text outcomes.TooLong
     (too_long_here c.read_program_text.new.input.bytes.items c.read_program_text.new.input.ended _ c.read_program_text.new.input.at _
-        c.in_ok-input.ensures.at c.in_ok-span.ensures.splits c.in-TooLong.is)
+    c.in_ok-input.ensures.at c.in_ok-span.ensures.splits c.in-TooLong.is)
     _ _ _ _ (known_may c.in_ok-input.ensures.bytes c.read_program_text.ensures.reads) c.tell_too_long.ensures.written
     c.tell_too_long.ensures.served
 
@@ -93,5 +93,5 @@ pub returns-clause-stopped : goal.returns-clause-stopped
 returns-clause-stopped g c =
     told_cut c.read_program_text.new.input.bytes.items c.read_program_text.new.input.ended ServesInput too_long_text outcomes.TooLong
     (too_long_here c.read_program_text.new.input.bytes.items c.read_program_text.new.input.ended _ c.read_program_text.new.input.at _
-        c.in_ok-input.ensures.at c.in_ok-span.ensures.splits c.in-TooLong.is)
+    c.in_ok-input.ensures.at c.in_ok-span.ensures.splits c.in-TooLong.is)
     _ _ _ _ (known_may c.in_ok-input.ensures.bytes c.read_program_text.ensures.reads) c.tell_too_long.ensures.written

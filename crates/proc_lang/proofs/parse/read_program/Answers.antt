@@ -13,7 +13,7 @@ use Rattle.proc_lang.proofs.parse.read_program.Goals as goal
 pub checked-requires : goal.checked-requires
 checked-requires c =
     let w = subst (λ ws. Writes DerivesProgram c.args.text.now (processes_of ws))
-        (sym c.as_slice.ensures.value) c.in_ok-written.ensures.written in
+    (sym c.as_slice.ensures.value) c.in_ok-written.ensures.written in
     omega (
       arith,
       few_processes c.args.text.now w.0 (processes_of c.as_slice.result.now) w.1 w.2,

@@ -31,7 +31,7 @@ returns-in-Ok-clause-written c = (
 pub returns-clause-refused : goal.returns-clause-refused
 returns-clause-refused c P p =
     stopped_refused DerivesExpression (expression_faults (scope_of P p) sort.Truth)
-        (phrase_tree (scope_of P p)) predicate_once read_predicate
+    (phrase_tree (scope_of P p)) predicate_once read_predicate
     phrase_of c.args.text.now (map placed_of c.as_slice.result.now) [] c.in-Err.stop c.stopped.result Phrase predicate_fails
     (subst (λ (ps : List code.Placed). HasTokens c.args.text.now (map placed_of ps)) (sym c.as_slice.ensures.value) c.in_ok-tokens.ensures)
     c.in-Err.ensures (subst (λ (ps : List code.Placed). IsStop c.in-Err.stop (map placed_of ps) (length c.args.text.now) c.stopped.result)

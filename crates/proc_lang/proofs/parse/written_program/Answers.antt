@@ -30,7 +30,7 @@ returns-in-Ok-clause-written c = (
 pub returns-clause-refused : goal.returns-clause-refused
 returns-clause-refused c =
     stopped_refused DerivesProgram check_faults program_tree program_once read_program
-        (λ (v : Vec WrittenProcess Global). map process_of v.items)
+    (λ (v : Vec WrittenProcess Global). map process_of v.items)
     c.args.text.now (map placed_of c.as_slice.result.now) [] c.in-Err.stop c.stopped.result (Vec WrittenProcess Global) program_fails
     (subst (λ (ps : List code.Placed). HasTokens c.args.text.now (map placed_of ps)) (sym c.as_slice.ensures.value) c.in_ok-tokens.ensures)
     c.in-Err.ensures (subst (λ (ps : List code.Placed). IsStop c.in-Err.stop (map placed_of ps) (length c.args.text.now) c.stopped.result)

@@ -15,9 +15,9 @@ returns-in_err-assignment-clause-read c =
     let p = err_from_is_err_and c.from_residual.result c.from_residual.ensures.1 in
     rw (p.1, p.2)
     (reading_stops DerivesFurther (is_sign_token Comma) read_further further_reader further_takes assignment_of
-        (Vec WrittenAssignment Global) (λ v. map assignment_of v.items)
+    (Vec WrittenAssignment Global) (λ v. map assignment_of v.items)
     c.loop-self.assignments.items c.in_err-assignment.field-0.0 (map placed_of c.loop-self.self.rest.now)
-        (map placed_of c.args.self.now.rest.now)
+    (map placed_of c.args.self.now.rest.now)
     (map placed_of c.further.new.self.rest.now) (map placed_of c.further.new.self.rest.now) c.loop-self.invariant.reading
     (sym c.loop-self-test.ensures) c.in_err-assignment.ensures.read)
 
@@ -26,7 +26,7 @@ loop-self-preserved c = record {
   shorter = omega (arith, c.in_ok-assignment.ensures.shorter, c.loop-self.invariant.shorter);
   reading =
       reading_more DerivesFurther
-          (is_sign_token Comma) read_further further_reader further_takes assignment_of c.loop-self.assignments.items
+      (is_sign_token Comma) read_further further_reader further_takes assignment_of c.loop-self.assignments.items
       c.push.new.self.items c.in_ok-assignment.assignment (map placed_of c.loop-self.self.rest.now) _ _ c.loop-self.invariant.reading
       (sym c.loop-self-test.ensures) c.in_ok-assignment.ensures.read c.in_ok-push.ensures.items;
 }

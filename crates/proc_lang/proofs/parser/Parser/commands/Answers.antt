@@ -14,7 +14,7 @@ returns-in_err-command-clause-read c =
     let p = err_from_is_err_and c.from_residual.result c.from_residual.ensures.1 in
     rw (p.1, p.2)
     (reading_stops DerivesCommand (is_word_token (codes "when")) read_command command_reader command_takes command_of
-        (Vec WrittenCommand Global) (λ v. map command_of v.items)
+    (Vec WrittenCommand Global) (λ v. map command_of v.items)
     c.loop-self.commands.items c.in_err-command.field-0.0 (map placed_of c.loop-self.self.rest.now) (map placed_of c.args.self.now.rest.now)
     (map placed_of c.command.new.self.rest.now) (map placed_of c.command.new.self.rest.now) c.loop-self.invariant.reading
     (sym c.loop-self-test.ensures) c.in_err-command.ensures.read)
@@ -24,7 +24,7 @@ loop-self-preserved c = record {
   shorter = omega (arith, c.in_ok-command.ensures.shorter, c.loop-self.invariant.shorter);
   reading =
       reading_more DerivesCommand
-          (is_word_token (codes "when")) read_command command_reader command_takes command_of c.loop-self.commands.items
+      (is_word_token (codes "when")) read_command command_reader command_takes command_of c.loop-self.commands.items
       c.push.new.self.items c.in_ok-command.command (map placed_of c.loop-self.self.rest.now) _ _ c.loop-self.invariant.reading
       (sym c.loop-self-test.ensures) c.in_ok-command.ensures.read c.in_ok-push.ensures.items;
 }
@@ -32,5 +32,5 @@ loop-self-preserved c = record {
 pub returns-clause-read : goal.returns-clause-read
 returns-clause-read c =
     reading_ends DerivesCommand
-        (is_word_token (codes "when")) read_command command_reader command_takes command_of c.loop-self.commands.items
+    (is_word_token (codes "when")) read_command command_reader command_takes command_of c.loop-self.commands.items
     (map placed_of c.loop-self.self.rest.now) _ c.loop-self.invariant.reading (sym c.loop-self-test.ensures)

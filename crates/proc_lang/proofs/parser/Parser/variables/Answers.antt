@@ -14,9 +14,9 @@ returns-in_err-variable-clause-read c =
     let p = err_from_is_err_and c.from_residual.result c.from_residual.ensures.1 in
     rw (p.1, p.2)
     (reading_stops DerivesVariable (is_word_token (codes "var")) read_variable variable_reader variable_takes variable_of
-        (Vec WrittenVariable Global) (λ v. map variable_of v.items)
+    (Vec WrittenVariable Global) (λ v. map variable_of v.items)
     c.loop-self.variables.items c.in_err-variable.field-0.0 (map placed_of c.loop-self.self.rest.now)
-        (map placed_of c.args.self.now.rest.now)
+    (map placed_of c.args.self.now.rest.now)
     (map placed_of c.variable.new.self.rest.now) (map placed_of c.variable.new.self.rest.now) c.loop-self.invariant.reading
     (sym c.loop-self-test.ensures) c.in_err-variable.ensures.read)
 
@@ -25,7 +25,7 @@ loop-self-preserved c = record {
   shorter = omega (arith, c.in_ok-variable.ensures.shorter, c.loop-self.invariant.shorter);
   reading =
       reading_more DerivesVariable
-          (is_word_token (codes "var")) read_variable variable_reader variable_takes variable_of c.loop-self.variables.items
+      (is_word_token (codes "var")) read_variable variable_reader variable_takes variable_of c.loop-self.variables.items
       c.push.new.self.items c.in_ok-variable.variable (map placed_of c.loop-self.self.rest.now) _ _ c.loop-self.invariant.reading
       (sym c.loop-self-test.ensures) c.in_ok-variable.ensures.read c.in_ok-push.ensures.items;
 }
@@ -33,5 +33,5 @@ loop-self-preserved c = record {
 pub returns-clause-read : goal.returns-clause-read
 returns-clause-read c =
     reading_ends DerivesVariable
-        (is_word_token (codes "var")) read_variable variable_reader variable_takes variable_of c.loop-self.variables.items
+    (is_word_token (codes "var")) read_variable variable_reader variable_takes variable_of c.loop-self.variables.items
     (map placed_of c.loop-self.self.rest.now) _ c.loop-self.invariant.reading (sym c.loop-self-test.ensures)
