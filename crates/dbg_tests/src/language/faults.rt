@@ -1,6 +1,6 @@
 //! Each kind of fault but for the grammar and the limits, at each place that may have it.
 
-use super::{Group, expect_accepted, expect_groups, expect_refused, expect_refused_at_mark};
+use super::{Group, expect_accepted, expect_groups, expect_refused};
 use std::test::Fail;
 
 const TOKENS: &[Group] = &[
@@ -247,20 +247,10 @@ const SORTS: &[Group] = &[
 ];
 
 #[test]
-fn tokens_are_refused(rt: HostRuntime) -> Result<(), Fail> {
-    expect_groups(&rt, rt.alloc(), TOKENS)?;
-    Ok(())
-}
-
-#[test]
-fn names_are_refused(rt: HostRuntime) -> Result<(), Fail> {
-    expect_groups(&rt, rt.alloc(), NAMES)?;
-    Ok(())
-}
-
-#[test]
-fn sorts_are_refused(rt: HostRuntime) -> Result<(), Fail> {
-    expect_groups(&rt, rt.alloc(), SORTS)?;
+fn each_kind_of_fault_is_told_at_its_place(rt: HostRuntime) -> Result<(), Fail> {
+    for groups in [TOKENS, NAMES, SORTS] {
+        expect_groups(&rt, rt.alloc(), groups)?;
+    }
     Ok(())
 }
 
@@ -283,17 +273,6 @@ fn a_byte_begins_a_token_or_is_refused(rt: HostRuntime) -> Result<(), Fail> {
             let kind = if begins { 3 } else { 1 };
             expect_refused(&rt, alloc, name.as_str(), text.as_slice(), kind, 12)?;
         }
-    }
-    Ok(())
-}
-
-// A byte above 127 alone, which is no text.
-const NO_TEXT: &[&[u8]] = &[b"^\x80", b"process a { ^\xff }", b"process a^\xc3 { }"];
-
-#[test]
-fn bytes_that_are_no_text_are_refused(rt: HostRuntime) -> Result<(), Fail> {
-    for marked in NO_TEXT {
-        expect_refused_at_mark(&rt, rt.alloc(), "no text", marked, 1)?;
     }
     Ok(())
 }

@@ -229,7 +229,7 @@ const NESTED: [(&str, u32, &str, &str); 5] = [
     ("(- ", 31, "sent(b)", "ok 2 processes 1 commands\n"),
     // a front of 40 bytes, 32 parts of 3, and `sent` of 4
     ("(- ", 32, "sent(b)", "program refused 7 at 140\n"),
-    // the innermost operand of the comparisons is no truth value: a front of 40 bytes
+    // a comparison is no number: the outermost one stands behind 40 bytes
     ("(1 < ", 32, "x", "program refused 6 at 40\n"),
 ];
 

@@ -165,62 +165,64 @@ const TRUTHS: &[&str] = &[
     "((sent(b) = 0) or ((x = 1) and true))",
 ];
 
-// The front of a program in which a guard, a body and values may stand.
-const VARIABLES: &str = "process a { var x = 0; var y = 1; var z = 2; when ";
+// What stands in front of a place of a program and behind it, what may stand there, and what has the wrong type.
+struct Place {
+    front: &'static str,
+    back: &'static str,
+    fitting: &'static [&'static str],
+    wrong: &'static [&'static str],
+}
 
-// What stands in front of a value of this program, and behind it.
-const VALUES: &[(&str, &str)] = &[
-    ("true : x := ", "; } process b { }"),
-    ("true : send b ", "; } process b { }"),
-    ("true : send b 1, z := ", ", x := 1; } process b { }"),
-    ("true : recv b x, y := ", "; } process b { }"),
+const PLACES: [Place; 6] = [
+    Place {
+        front: "process a { var x = 0; var y = 1; var z = 2; when true : ",
+        back: "; } process b { }",
+        fitting: BODIES,
+        wrong: &[],
+    },
+    Place {
+        front: "process a { var x = 0; var y = 1; var z = 2; when ",
+        back: " : x := 1; } process b { }",
+        fitting: TRUTHS,
+        wrong: NUMBERS,
+    },
+    Place {
+        front: "process a { var x = 0; var y = 1; var z = 2; when true : x := ",
+        back: "; } process b { }",
+        fitting: NUMBERS,
+        wrong: TRUTHS,
+    },
+    Place {
+        front: "process a { var x = 0; var y = 1; var z = 2; when true : send b ",
+        back: "; } process b { }",
+        fitting: NUMBERS,
+        wrong: TRUTHS,
+    },
+    Place {
+        front: "process a { var x = 0; var y = 1; var z = 2; when true : send b 1, z := ",
+        back: ", x := 1; } process b { }",
+        fitting: NUMBERS,
+        wrong: TRUTHS,
+    },
+    Place {
+        front: "process a { var x = 0; var y = 1; var z = 2; when true : recv b x, y := ",
+        back: "; } process b { }",
+        fitting: NUMBERS,
+        wrong: TRUTHS,
+    },
 ];
 
-const BEHIND_A_GUARD: &str = " : x := 1; } process b { }";
-
 #[test]
-fn bodies_are_accepted(rt: HostRuntime) -> Result<(), Fail> {
+fn each_place_asks_a_type(rt: HostRuntime) -> Result<(), Fail> {
     let alloc = rt.alloc();
-    let front = between(alloc, VARIABLES, "true : ", "")?;
-    for body in BODIES {
-        let mut text = front.clone()?;
-        text.extend_from_slice(body.as_bytes())?;
-        text.extend_from_slice(b"; } process b { }")?;
-        expect_accepted(&rt, alloc, body, text.as_slice(), 2, 1)?;
-    }
-    Ok(())
-}
-
-#[test]
-fn a_guard_is_a_truth_value(rt: HostRuntime) -> Result<(), Fail> {
-    let alloc = rt.alloc();
-    for guard in TRUTHS {
-        let text = between(alloc, VARIABLES, guard, BEHIND_A_GUARD)?;
-        expect_accepted(&rt, alloc, guard, text.as_slice(), 2, 1)?;
-    }
-    for guard in NUMBERS {
-        let text = between(alloc, VARIABLES, guard, BEHIND_A_GUARD)?;
-        expect_refused(&rt, alloc, guard, text.as_slice(), 6, VARIABLES.len())?;
-    }
-    Ok(())
-}
-
-#[test]
-fn a_value_is_a_number(rt: HostRuntime) -> Result<(), Fail> {
-    let alloc = rt.alloc();
-    for (middle, back) in VALUES {
-        let front = between(alloc, VARIABLES, middle, "")?;
-        for value in NUMBERS {
-            let mut text = front.clone()?;
-            text.extend_from_slice(value.as_bytes())?;
-            text.extend_from_slice(back.as_bytes())?;
-            expect_accepted(&rt, alloc, value, text.as_slice(), 2, 1)?;
+    for place in &PLACES {
+        for part in place.fitting {
+            let text = between(alloc, place.front, part, place.back)?;
+            expect_accepted(&rt, alloc, part, text.as_slice(), 2, 1)?;
         }
-        for value in TRUTHS {
-            let mut text = front.clone()?;
-            text.extend_from_slice(value.as_bytes())?;
-            text.extend_from_slice(back.as_bytes())?;
-            expect_refused(&rt, alloc, value, text.as_slice(), 6, front.len())?;
+        for part in place.wrong {
+            let text = between(alloc, place.front, part, place.back)?;
+            expect_refused(&rt, alloc, part, text.as_slice(), 6, place.front.len())?;
         }
     }
     Ok(())
