@@ -1,115 +1,116 @@
-//! Tests of `proc_lang`.
+//! Tests of `proc_lang`. In the texts of the tables `^` marks the place that is expected to be told; it is taken out before a text is
+//! read, so that expected offsets are seen and not counted.
 
-use dbg_base::{Choice, Expr, Name, Operator, Pid};
-use proc_lang::{Action, ProgError, parse_program};
-use std::test::Fail;
+mod faults;
+mod grammar;
+mod limits;
+mod predicates;
+mod prefixes;
+mod programs;
+mod readers;
+mod ties;
 
-const COUNTER: &[u8] = b"process a {
-  var x = 0;
-  when (x < 3) : send b (x + 1), x := (x + 1);
-}
-process b {
-  var y = 0;
-  var n = -12;
-  when true : recv a y, n := (n + 1);
-  when (n > 0) : n := (n - 1);
-}
-";
+use crate::shell::checked;
+use proc_lang::{ProgError, parse_program};
+use std::alloc::{AllocError, Global};
+use std::process::Abort;
 
-fn name(text: &str) -> Option<Name> {
-    Name::new(text.as_bytes())
-}
+// What a case shows, and a text with its mark.
+type Case = (&'static str, &'static str);
 
-#[test]
-fn readers_tell_what_the_text_says(rt: HostRuntime) -> Result<(), Fail> {
-    let program = parse_program(rt.alloc(), COUNTER)?;
-    assert_eq!(rt; program.processes(), 2);
-    assert_eq!(rt; program.process_name(Pid(1)), name("b"));
-    assert_eq!(rt; program.process_name(Pid(2)), None);
-    let b = name("b").ok_or("a name")?;
-    assert_eq!(rt; program.find_process(b), Some(Pid(1)));
-    let z = name("z").ok_or("a name")?;
-    assert_eq!(rt; program.find_process(z), None);
-    assert_eq!(rt; program.variables(Pid(1)), 2);
-    assert_eq!(rt; program.variables(Pid(2)), 0);
-    assert_eq!(rt; program.variable_name(Pid(1), 1), name("n"));
-    assert_eq!(rt; program.variable_name(Pid(1), 2), None);
-    assert_eq!(rt; program.start_value(Pid(1), 1), Some(-12));
-    assert_eq!(rt; program.start_value(Pid(1), 2), None);
-    assert_eq!(rt; program.commands(Pid(1)), 2);
-    assert_eq!(rt; program.commands(Pid(2)), 0);
-    assert!(rt; program.command(Pid(1), Choice(2)).is_none());
-    Ok(())
+// Cases that have a fault of one kind, each between the same texts.
+#[derive(Clone, Copy)]
+struct Group {
+    kind: u32,
+    front: &'static str,
+    back: &'static str,
+    cases: &'static [Case],
 }
 
-#[test]
-fn a_command_is_read_whole(rt: HostRuntime) -> Result<(), Fail> {
-    let program = parse_program(rt.alloc(), COUNTER)?;
-    let send = program.command(Pid(0), Choice(0)).ok_or("the send")?;
-    let Expr::Binary(operator, _, _) = &send.guard else {
-        return Err(Fail::from("a comparison"));
-    };
-    assert_eq!(rt; *operator, Operator::Less);
-    let Action::Send { target, .. } = &send.action else {
-        return Err(Fail::from("a send"));
-    };
-    assert_eq!(rt; *target, Pid(1));
-    assert_eq!(rt; send.assignments.items().len(), 1);
-    let receive = program.command(Pid(1), Choice(0)).ok_or("the receive")?;
-    let Action::Receive { source, variable } = &receive.action else {
-        return Err(Fail::from("a receive"));
-    };
-    assert_eq!(rt; *source, Pid(0));
-    assert_eq!(rt; *variable, 0);
-    Ok(())
-}
-
-// Each text with the number of its fault and the offset.
-const REFUSED: &[(&str, u32, usize)] = &[
-    ("", 3, 0),
-    ("process A {}", 1, 8),
-    ("process a { ! }", 1, 12),
-    ("process a { var x = 9223372036854775808; }", 2, 20),
-    ("process aaaaaaaaaaaaaaaaaaaaaaaaaaaaaaaaa { }", 2, 8),
-    ("process a { when true : }", 3, 24),
-    ("process a {", 3, 11),
-    ("process process { }", 3, 8),
-    ("process a { when x + 1 : x := 1; }", 3, 19),
-    ("process a { } }", 3, 14),
-    ("process a { } process a { }", 4, 22),
-    (
-        "process a { var x = 1; var x = 2; when y : x := 1; }",
-        4,
-        27,
-    ),
-    ("process a { when x : x := 1; }", 5, 17),
-    ("process a { var x = 0; when true : send b x; }", 5, 40),
-    ("process a { var x = 0; when true : y := x; }", 5, 35),
-    ("process a { var x = 0; when x : x := 1; }", 6, 28),
-    ("process a { var x = 0; when true : x := true; }", 6, 40),
-    ("process a { var x = 0; when (x < true) : x := 1; }", 6, 33),
-    ("process a { var x = 0; when true : send a x; }", 8, 40),
-    (
-        "process a { var x = 0; when true : x := 1, x := 2; }",
-        9,
-        43,
-    ),
-    (
-        "process a { var x = 0; when true : recv b x, x := 2; } process b { }",
-        9,
-        45,
-    ),
-];
-
-#[test]
-fn refused_texts_are_told_their_first_fault(rt: HostRuntime) {
-    for (text, kind, at) in REFUSED {
-        match parse_program(rt.alloc(), text.as_bytes()) {
-            Err(ProgError::Bad(fault)) => {
-                assert_eq!(rt; fault.kind.number(), *kind, "the kind of `{text}`");
-                assert_eq!(rt; fault.at, *at, "the offset of `{text}`");
-            }
-            _ => assert!(rt; false, "`{text}` is refused"),
+// A text without its mark, and the offset at which the mark stands.
+fn unmarked(alloc: Global, marked: &[u8]) -> Result<(Vec<u8>, usize), AllocError> {
+    let mut text = Vec::new(alloc);
+    let mut at = 0;
+    for b in marked {
+        if *b == b'^' {
+            at = text.len();
+        } else {
+            text.push(*b)?;
         }
+    }
+    Ok((text, at))
+}
+
+// Three texts, one behind the other.
+fn between(alloc: Global, front: &str, text: &str, back: &str) -> Result<Vec<u8>, AllocError> {
+    let mut all = Vec::from_slice(alloc, front.as_bytes())?;
+    all.extend_from_slice(text.as_bytes())?;
+    all.extend_from_slice(back.as_bytes())?;
+    Ok(all)
+}
+
+fn expect_told(rt: &impl Abort, alloc: Global, name: &str, text: &[u8], want: &str, status: u8) {
+    let (told, code) = checked(alloc, text);
+    assert_eq!(rt; told.as_slice(), want.as_bytes(), "{name}");
+    assert_eq!(rt; code, status, "{name}");
+}
+
+// The text is a program of so many processes and commands.
+fn expect_accepted(
+    rt: &impl Abort,
+    alloc: Global,
+    name: &str,
+    text: &[u8],
+    processes: u32,
+    commands: u32,
+) -> Result<(), AllocError> {
+    let want = format!(in alloc; "ok {processes} processes {commands} commands\n")?;
+    expect_told(rt, alloc, name, text, want.as_str(), 0);
+    Ok(())
+}
+
+// The text has a first fault of this kind, at this offset.
+fn expect_refused(
+    rt: &impl Abort,
+    alloc: Global,
+    name: &str,
+    text: &[u8],
+    kind: u32,
+    at: usize,
+) -> Result<(), AllocError> {
+    let want = format!(in alloc; "program refused {kind} at {at}\n")?;
+    expect_told(rt, alloc, name, text, want.as_str(), 3);
+    Ok(())
+}
+
+// The same, at the mark of the text.
+fn expect_refused_at_mark(
+    rt: &impl Abort,
+    alloc: Global,
+    name: &str,
+    marked: &[u8],
+    kind: u32,
+) -> Result<(), AllocError> {
+    let (text, at) = unmarked(alloc, marked)?;
+    expect_refused(rt, alloc, name, text.as_slice(), kind, at)
+}
+
+// Each case of these groups is refused.
+fn expect_groups(rt: &impl Abort, alloc: Global, groups: &[Group]) -> Result<(), AllocError> {
+    for group in groups {
+        for (name, case) in group.cases {
+            let marked = between(alloc, group.front, case, group.back)?;
+            expect_refused_at_mark(rt, alloc, name, marked.as_slice(), group.kind)?;
+        }
+    }
+    Ok(())
+}
+
+// The kind of the first fault of a text and its offset, or None where it is a program.
+fn first_fault(alloc: Global, text: &[u8]) -> Option<(u32, usize)> {
+    match parse_program(alloc, text) {
+        Ok(_) => None,
+        Err(ProgError::Bad(fault)) => Some((fault.kind.number(), fault.at)),
+        Err(ProgError::Memory) => Some((0, 0)),
     }
 }

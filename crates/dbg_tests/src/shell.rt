@@ -1,13 +1,14 @@
 //! Tests of `dbg_shell`, with expected texts from the tables of the program's documents.
 
+mod examples;
 mod faults;
 mod jobs;
-mod limits;
 mod lines;
 mod programs;
 mod replies;
 mod sessions;
 
+use dbg_shell::{check, serve, status};
 use proc_lang::{Program, parse_program};
 use std::alloc::{AllocError, Global};
 use std::process::Abort;
@@ -37,4 +38,22 @@ fn joined(alloc: Global, front: &str, back: &str) -> Result<Vec<u8>, AllocError>
     let mut all = Vec::from_slice(alloc, front.as_bytes())?;
     all.extend_from_slice(back.as_bytes())?;
     Ok(all)
+}
+
+// What `check` writes for a text, and the status.
+pub(crate) fn checked(alloc: Global, text: &[u8]) -> (Vec<u8>, u8) {
+    let mut reader = text;
+    let mut writer = Vec::new(alloc);
+    let outcome = check(alloc, &mut reader, &mut writer);
+    let code = status(&outcome);
+    (writer, code)
+}
+
+// What `serve` writes for an input, and the status.
+fn served(alloc: Global, input: &[u8]) -> (Vec<u8>, u8) {
+    let mut reader = input;
+    let mut writer = Vec::new(alloc);
+    let outcome = serve(alloc, &mut reader, &mut writer);
+    let code = status(&outcome);
+    (writer, code)
 }

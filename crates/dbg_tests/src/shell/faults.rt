@@ -1,5 +1,4 @@
-use super::sessions::served;
-use super::{TWO, joined};
+use super::{TWO, joined, served};
 use dbg_shell::{check, serve, status};
 use std::alloc::Global;
 use std::cell::Cell;

@@ -1,37 +1,52 @@
-use super::{TWO, joined};
-use dbg_shell::{check, status};
+use super::{TWO, checked, joined};
 use std::alloc::{AllocError, Global};
 use std::test::Fail;
 
-// What `check` writes for a text, and the status.
-pub(super) fn checked(alloc: Global, text: &[u8]) -> (Vec<u8>, u8) {
-    let mut reader = text;
-    let mut writer = Vec::new(alloc);
-    let outcome = check(alloc, &mut reader, &mut writer);
-    let code = status(&outcome);
-    (writer, code)
-}
-
-pub(super) const REFUSED: [(&str, &str); 8] = [
+// Each text stands in front of a line end and a line `%%`.
+pub(super) const REFUSED: [(&str, &str); 14] = [
     ("process A {}", "program refused 1 at 8\n"),
+    ("process a { ! }", "program refused 1 at 12\n"),
     (
         "process a { var x = 9223372036854775808; }",
         "program refused 2 at 20\n",
     ),
+    // 33 letters
+    (
+        "process aaaaaaaaaaaaaaaaaaaaaaaaaaaaaaaaa",
+        "program refused 2 at 8\n",
+    ),
     ("process a { when true : }", "program refused 3 at 24\n"),
+    // 11 bytes and the line end
+    ("process a {", "program refused 3 at 12\n"),
+    ("process a { } process a { }", "program refused 4 at 22\n"),
+    (
+        "process a { var x = 1; var x = 2; when y : x := 1; }",
+        "program refused 4 at 27\n",
+    ),
     (
         "process a { when x : x := 1; }",
         "program refused 5 at 17\n",
     ),
     (
+        "process a { var x = 0; when x : x := 1; }",
+        "program refused 6 at 28\n",
+    ),
+    // 17 bytes and 32 parentheses before the 33rd
+    (
+        "process a { when (((((((((((((((((((((((((((((((((",
+        "program refused 7 at 49\n",
+    ),
+    (
         "process a { var x = 0; when true : send a x; }",
         "program refused 8 at 40\n",
     ),
-    ("process a {", "program refused 3 at 12\n"),
-    ("process a { } process a { }", "program refused 4 at 22\n"),
     (
-        "process a { var x = 0; when x : x := 1; }",
-        "program refused 6 at 28\n",
+        "process a { when (sent(a) = 0) : send b 1; }",
+        "program refused 8 at 23\n",
+    ),
+    (
+        "process a { var x = 0; when true : x := 1, x := 2; }",
+        "program refused 9 at 43\n",
     ),
 ];
 

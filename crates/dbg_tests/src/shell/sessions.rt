@@ -1,22 +1,12 @@
 use super::programs::REFUSED;
-use super::{TWO, joined};
-use dbg_shell::{serve, status};
+use super::{TWO, joined, served};
 use std::alloc::{AllocError, Global};
 use std::test::Fail;
-
-// What `serve` writes for an input, and the status.
-pub(super) fn served(alloc: Global, input: &[u8]) -> (Vec<u8>, u8) {
-    let mut reader = input;
-    let mut writer = Vec::new(alloc);
-    let outcome = serve(alloc, &mut reader, &mut writer);
-    let code = status(&outcome);
-    (writer, code)
-}
 
 const NUMBER: &str = "process a { var x = 1; when true : x := (x + 9223372036854775807); }\n";
 
 const SWAP: &str = "process p { var u = 1; var v = 2; when true : send q (u + v), u := v, v := u; }
-process q { var y = 0; var z = 0; when (z < 1) : recv p y, z := (y + z); }
+process q { var y = 0; var z = 0; when (z = 0) : recv p y, z := (y + z); }
 ";
 
 const PAIR: &str =
@@ -24,8 +14,43 @@ const PAIR: &str =
 process r { var v = 0; when true : recv s v; }
 ";
 
+const LEAST: &str = "process a {
+  var x = -9223372036854775807;
+  when true : x := (x - 1);
+  when true : x := (x / (- 1));
+  when true : x := (x % (- 1));
+  when true : x := (x / 2);
+}
+";
+
+const COUNTS: &str = "process a {
+  var x = 0;
+  when (sent(b) < 2) : send b (sent(b) + 10);
+}
+process b {
+  var y = 0;
+  var z = 0;
+  when (got(a) = 0) : recv a y;
+  when (got(a) = 1) : recv a y, z := (y + got(a));
+}
+";
+
+// Its second command fires where the first has set what each operator gives of negative numbers. The guards of the last two have a
+// right operand that faults: it counts only where the left one does not decide.
+const OPERATORS: &str = "process a {
+  var q = 0;
+  var r = 0;
+  var s = 0;
+  var p = 0;
+  when (q = 0) : q := ((- 7) / 2), r := ((- 7) % 2), s := (3 - 10), p := ((- 4) * 3);
+  when ((q < r) and ((q <= (- 3)) and ((r >= (- 1)) and ((p != s) and (not (s > 0)))))) : q := (q + (- s));
+  when ((q = 4) or ((q / 0) = 1)) : q := 5;
+  when ((q = 4) and ((q / 0) = 1)) : q := 6;
+}
+";
+
 // A name, a program, the lines behind it and what is written for them.
-const SESSIONS: [(&str, &str, &str, &str); 19] = [
+const SESSIONS: [(&str, &str, &str, &str); 22] = [
     ("no line", TWO, "%%\n", ""),
     ("no line, and no line end", TWO, "%%", ""),
     (
@@ -118,6 +143,24 @@ const SESSIONS: [(&str, &str, &str, &str); 19] = [
         PAIR,
         "%%\n1 next s\n1 next s\n1 next r\n1 vars r\n1 vars s\n",
         "ok s 0\nok s 0\nok r 0\nvars r v=5\nvars s u=1\n",
+    ),
+    (
+        "the least number",
+        LEAST,
+        "%%\n1 next a\n1 vars a\n1 next a\n1 vars a\n",
+        "ok a 0\nvars a x=-9223372036854775808\nok a 3\nvars a x=-4611686018427387904\n",
+    ),
+    (
+        "counts of messages, read before the event",
+        COUNTS,
+        "%%\n1 next a\n1 next a\n1 next a\n1 next b\n1 vars b\n1 next b\n1 vars b\n1 next b\n",
+        "ok a 0\nok a 0\nno 24\nok b 0\nvars b y=10 z=0\nok b 1\nvars b y=11 z=12\nno 24\n",
+    ),
+    (
+        "each operator",
+        OPERATORS,
+        "%%\n1 next a\n1 vars a\n1 next a\n1 vars a\n1 next a\n1 vars a\n1 next a\n",
+        "ok a 0\nvars a q=-3 r=-1 s=-7 p=-12\nok a 1\nvars a q=4 r=-1 s=-7 p=-12\nok a 2\nvars a q=5 r=-1 s=-7 p=-12\nno 24\n",
     ),
     (
         "no variable",
