@@ -1,6 +1,8 @@
 -- What a session is, apart from the code that keeps it.
-use Rattle.std.specs.Prelude.{ℕ, ◌+◌, List, [], ◌∷◌, ◌++◌, length, replicate, take, Option, None, slice_index, slice_index_or, slice_set}
-use Rattle.dbg_base.specs.Trees.{Program}
+use Rattle.std.specs.Prelude.{◌≡◌, ℕ, zero, suc, ◌+◌, ◌-◌, ◌<◌, ◌≤◌, List, [], ◌∷◌, ◌++◌, length, replicate, take, drop, Option, Some, None}
+use Rattle.std.specs.Prelude.{slice_get, slice_index, slice_index_or, slice_set}
+use Rattle.dbg_base.specs.declared.limits.TheConstants.{EVENTS}
+use Rattle.dbg_base.specs.Trees.{Program, process_of}
 use Rattle.dbg_base.specs.Configurations.{Configuration}
 use Rattle.dbg_base.specs.Histories.{History, play}
 
@@ -40,6 +42,34 @@ after_choice M p k = record M {
   lines = slice_set M.lines p (take (place_at M p) (line_of M p) ++ k ∷ []);
   places = slice_set M.places p (place_at M p + 1);
 }
+
+-- the choices that can be made again, the next one first
+abbrev pub redo_line : ModelState → ℕ → List ℕ
+redo_line M p = drop (place_at M p) (line_of M p)
+
+-- the choice of process p's last event
+abbrev pub choice_before : ℕ → List ℕ → Option ℕ
+choice_before zero line = None
+choice_before (suc n) line = slice_get line n
+
+abbrev pub last_choice : ModelState → ℕ → Option ℕ
+last_choice M p = choice_before (place_at M p) (line_of M p)
+
+-- process p made the choice at its place again: the line stays
+abbrev pub after_redo : ModelState → ℕ → ModelState
+after_redo M p = record M { places = slice_set M.places p (place_at M p + 1) }
+
+-- process p's last event was taken back: the line stays
+abbrev pub after_undo : ModelState → ℕ → ModelState
+after_undo M p = record M { places = slice_set M.places p (place_at M p - 1) }
+
+-- M is a state of this program: a line and a place for each process, the place in the line, and the choices those of commands
+pub record IsStateOf (P : Program) (M : ModelState) : Type 0 where
+  pub lines : length M.lines ≡ length P
+  pub places : length M.places ≡ length P
+  pub within : (p : ℕ) → place_at M p ≤ length (line_of M p)
+  pub few : (p : ℕ) → length (line_of M p) ≤ EVENTS
+  pub commands : (p n k : ℕ) → slice_get (line_of M p) n ≡ Some k → k < length (process_of P p).commands
 
 -- the breakpoint that halts the session, if one does: none can be set yet
 abbrev pub halted_of : Program → ModelState → Option (List ℕ)

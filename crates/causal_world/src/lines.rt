@@ -1,0 +1,149 @@
+//! The lines of choices, with the place in each.
+
+ghost use Rattle.std.specs.Prelude.{◌≡◌, ◌<◌, ◌++◌, ◌∷◌, [], length, map, take, drop, replicate, IfOk, OnOk, OnErr, slice_get};
+ghost use Rattle.dbg_base.specs.declared.limits.TheConstants.{EVENTS};
+ghost use Rattle.dbg_base.specs.ModelStates.{line_of, place_at, redo_line, last_choice, after_choice, after_redo, after_undo};
+
+use dbg_base::{Choice, Pid};
+use std::alloc::{AllocError, Global};
+use std::marker::Model;
+
+/// For each process its line of choices and its place in it, which contracts see as a state of the model.
+#[derive(Debug, Drop)]
+pub(crate) struct Lines {
+    lines: Vec<Vec<u32>>,
+    places: Vec<u32>,
+}
+
+impl Model for Lines {
+    ghost use Rattle.std.specs.Prelude.{map};
+    ghost use Rattle.dbg_base.specs.ModelStates.{ModelState};
+
+    ghost Value = { ModelState };
+
+    ghost view = { λ l. record { lines = map (λ line. line.items) l.lines.items; places = l.places.items } };
+}
+
+fn empty_lines(alloc: Global, processes: u32) -> Result<Vec<Vec<u32>>, AllocError>
+    ensures { IfOk result (λ lines. map (λ line. line.items) lines.items ≡ replicate processes []) }
+{
+    let mut lines = Vec::new(alloc);
+    for _ in 0..processes {
+        lines.push(Vec::new(alloc))?;
+    }
+    Ok(lines)
+}
+
+// The line is cut at the place, and the choice is appended. Where memory runs out nothing changes.
+fn append_choice(line: &mut Vec<u32>, place: usize, choice: u32) -> Result<(), AllocError>
+    ensures appended { OnOk result (line.new.items ≡ take place line.old.items ++ choice ∷ []) }
+    ensures kept { OnErr result (line.new.items ≡ line.old.items) }
+{
+    if place < line.len() {
+        line[place] = choice;
+        line.truncate(place + 1);
+    } else {
+        line.push(choice)?;
+    }
+    Ok(())
+}
+
+// The choices of a line from a place on.
+fn behind(line: &[u32], place: usize) -> &[u32]
+    ensures { result.now ≡ drop place line.now }
+{
+    line.get(place..).unwrap_or(&[])
+}
+
+impl Lines {
+    /// Empty lines.
+    pub(crate) fn new(alloc: Global, processes: u32) -> Result<Lines, AllocError>
+        ensures { IfOk result (λ lines. lines ≡ record { lines = replicate processes []; places = replicate processes 0 }) }
+    {
+        Ok(Lines {
+            lines: empty_lines(alloc, processes)?,
+            places: vec![in alloc; 0u32; processes as usize]?,
+        })
+    }
+
+    // The line of a process, empty where there is none.
+    fn line(&self, pid: Pid) -> &[u32]
+        ensures { result.now ≡ line_of self.now pid.0 }
+    {
+        match self.lines.get(pid.0 as usize) {
+            Some(line) => line.as_slice(),
+            None => &[],
+        }
+    }
+
+    /// The place of a process, 0 where there is none.
+    pub(crate) fn place(&self, pid: Pid) -> u32
+        ensures { result ≡ place_at self.now pid.0 }
+    {
+        self.places.get(pid.0 as usize).copied().unwrap_or(0)
+    }
+
+    /// The length of the line of a process.
+    pub(crate) fn line_len(&self, pid: Pid) -> usize
+        ensures { result ≡ length (line_of self.now pid.0) }
+    {
+        self.line(pid).len()
+    }
+
+    /// The choice at the place of a process, which can be made again.
+    pub(crate) fn next(&self, pid: Pid) -> Option<u32>
+        ensures { result ≡ slice_get (line_of self.now pid.0) (place_at self.now pid.0) }
+    {
+        self.line(pid).get(self.place(pid) as usize).copied()
+    }
+
+    /// The choice before the place of a process, which it made last.
+    pub(crate) fn last(&self, pid: Pid) -> Option<u32>
+        ensures { result ≡ last_choice self.now pid.0 }
+    {
+        let before = self.place(pid).checked_sub(1)?;
+        self.line(pid).get(before as usize).copied()
+    }
+
+    /// The choices from the place on. It is refused only where memory runs out.
+    pub(crate) fn redo_line(&self, alloc: Global, pid: Pid) -> Result<Vec<u32>, AllocError>
+        ensures { IfOk result (λ choices. choices.items ≡ redo_line self.now pid.0) }
+    {
+        Vec::from_slice(alloc, behind(self.line(pid), self.place(pid) as usize))
+    }
+
+    /// The line is cut at its place, the choice is appended, and the place moves on. Where memory runs out nothing changes.
+    pub(crate) fn append(&mut self, pid: Pid, choice: Choice) -> Result<(), AllocError>
+        requires line { pid.0 < length self.old.lines }
+        requires place { pid.0 < length self.old.places }
+        requires room { place_at self.old pid.0 < EVENTS }
+        ensures appended { OnOk result (self.new ≡ after_choice self.old pid.0 choice.0) }
+        ensures kept { OnErr result (self.new ≡ self.old) }
+    {
+        let p = pid.0 as usize;
+        let place = self.places[p];
+        append_choice(&mut self.lines[p], place as usize, choice.0)?;
+        self.places[p] = place + 1;
+        Ok(())
+    }
+
+    /// The place moves on, and the line stays.
+    pub(crate) fn advance(&mut self, pid: Pid)
+        requires place { pid.0 < length self.old.places }
+        requires room { place_at self.old pid.0 < EVENTS }
+        ensures { self.new ≡ after_redo self.old pid.0 }
+    {
+        let p = pid.0 as usize;
+        self.places[p] = self.places[p] + 1;
+    }
+
+    /// The place moves back, and the line stays.
+    pub(crate) fn retreat(&mut self, pid: Pid)
+        ensures { self.new ≡ after_undo self.old pid.0 }
+    {
+        let p = pid.0 as usize;
+        if p < self.places.len() {
+            self.places[p] = self.places[p].saturating_sub(1);
+        }
+    }
+}
