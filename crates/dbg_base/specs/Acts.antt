@@ -1,11 +1,11 @@
 -- What a command does: accepted it changes the state, and refused it changes nothing.
 use Rattle.std.specs.Prelude.{◌≡◌, ℕ, ◌+◌, ◌<◌, List, [], ◌∷◌, length, Option, Some, None, ok_or, Result, Ok, Err, nat_lt, slice_get}
-use Rattle.std.specs.Prelude.{if◌then◌else◌}
+use Rattle.std.specs.Prelude.{if◌then◌else◌, ◌⊎◌}
 use Rattle.std.specs.Bool.{MatchBool}
 use Rattle.dbg_base.specs.declared.said.Said.{Said}
 use Rattle.dbg_base.specs.declared.said.Said.TheVariants.{Accepted, Refused}
 use Rattle.dbg_base.specs.declared.said.Done.{Done}
-use Rattle.dbg_base.specs.declared.said.Done.TheVariants.{Played}
+use Rattle.dbg_base.specs.declared.said.Done.TheVariants.{Played, Undone}
 use Rattle.dbg_base.specs.declared.refusal.Refusal.{Refusal}
 use Rattle.dbg_base.specs.declared.refusal.Refusal.TheVariants.{UnknownProcess, UnknownChoice, ProcessFull, NothingToRedo, NoneEnabled}
 use Rattle.dbg_base.specs.declared.refusal.Refusal.TheVariants.{NothingToUndo, Consequence}
@@ -15,9 +15,9 @@ use Rattle.dbg_base.specs.Configurations.{Configuration}
 use Rattle.dbg_base.specs.Firing.{fire, fire_command}
 use Rattle.dbg_base.specs.Histories.{IsPossible}
 use Rattle.dbg_base.specs.Orders.{target_in}
-use Rattle.dbg_base.specs.Calls.{Plan, Next}
+use Rattle.dbg_base.specs.Calls.{Plan, Step, Next, Undo, Redo}
 use Rattle.dbg_base.specs.ModelStates.{ModelState, line_of, place_at, history_of, configuration_of, last_choice, after_choice, after_undo}
-use Rattle.dbg_base.specs.ModelStates.{halted_of}
+use Rattle.dbg_base.specs.ModelStates.{after_redo, halted_of}
 
 -- the refusal is told, and nothing is changed
 abbrev pub Refuses : Refusal → ModelState → Said → ModelState → Type 0
@@ -26,10 +26,6 @@ Refuses refusal M said M' = (said ≡ Refused refusal) × (M' ≡ M)
 -- the command was accepted, did this, and left M'
 abbrev pub Accepts : Program → Done → Said → ModelState → Type 0
 Accepts P done said M' = said ≡ Accepted (record { done = done; halted = halted_of P M' })
-
--- process p makes choice k
-abbrev pub Plays : Program → ℕ → ℕ → ModelState → Said → ModelState → Type 0
-Plays P p k M said M' = Accepts P (Played (record { 0 = p }) (record { 0 = k })) said M' × (M' ≡ after_choice M p k)
 
 -- the first of the commands that fires, where the first of them has the number k, or none
 abbrev pub fires_first : Result Configuration Refusal → ℕ → Option ℕ → Option ℕ
@@ -91,20 +87,32 @@ CannotUndo P M p NothingToUndo = place_at M p ≡ 0
 CannotUndo P M p (Consequence q) = IsNeeded P M p q.0
 CannotUndo P M p refusal = ⊥
 
--- the choice is made, or refused where there is none
-abbrev pub PlaysChosen : Program → Option ℕ → ℕ → ModelState → Said → ModelState → Type 0
-PlaysChosen P None p M said M' = Refuses NoneEnabled M said M'
-PlaysChosen P (Some k) p M said M' = Plays P p k M said M'
+-- The process makes this choice, which leaves the state that `after` tells, or it makes none and tells why.
+abbrev pub Plays : Program → ℕ → Result ℕ Refusal → (ℕ → ModelState) → ModelState → Said → ModelState → Type 0
+Plays P p (Ok k) after M said M' = Accepts P (Played (record { 0 = p }) (record { 0 = k })) said M' × (M' ≡ after k)
+Plays P p (Err refusal) after M said M' = Refuses refusal M said M'
 
--- the process makes its first command that fires; it is refused without such a process, with no event left, or where none fires
-abbrev pub ActsNext : Program → ℕ → ModelState → Said → ModelState → Type 0
-ActsNext P p M said M' =
-    MatchBool (nat_lt p (length P))
-    (MatchBool (nat_lt (place_at M p) EVENTS)
-    (PlaysChosen P (lowest_enabled P (configuration_of P M) p) p M said M')
-    (Refuses ProcessFull M said M'))
-    (Refuses UnknownProcess M said M')
+-- the last event of process p is taken back
+pub record TakesBack (P : Program) (p : ℕ) (M : ModelState) (said : Said) (M' : ModelState) : Type 0 where
+  pub may : MayUndo P M p
+  pub choice : ℕ
+  pub was : last_choice M p ≡ Some choice
+  pub told : Accepts P (Undone (record { 0 = p }) (record { 0 = choice })) said M'
+  pub left : M' ≡ after_undo M p
+
+-- the last event of process p stays, for this reason
+pub record KeepsEvent (P : Program) (p : ℕ) (M : ModelState) (said : Said) (M' : ModelState) : Type 0 where
+  pub refusal : Refusal
+  pub why : CannotUndo P M p refusal
+  pub told : Refuses refusal M said M'
+
+-- a command about a process is refused where there is no such process
+abbrev pub WithProcess : Program → ℕ → Type 0 → ModelState → Said → ModelState → Type 0
+WithProcess P p Does M said M' = MatchBool (nat_lt p (length P)) Does (Refuses UnknownProcess M said M')
 
 -- the plan was given at M, was answered so, and left M'
 abbrev pub Acts : Program → Plan → ModelState → Said → ModelState → Type 0
-Acts P (Next p) M said M' = ActsNext P p M said M'
+Acts P (Step p k) M said M' = WithProcess P p (Plays P p (step_choice P M p k) (after_choice M p) M said M') M said M'
+Acts P (Next p) M said M' = WithProcess P p (Plays P p (next_choice P M p) (after_choice M p) M said M') M said M'
+Acts P (Redo p) M said M' = WithProcess P p (Plays P p (redo_choice P M p) (λ k. after_redo M p) M said M') M said M'
+Acts P (Undo p) M said M' = WithProcess P p (TakesBack P p M said M' ⊎ KeepsEvent P p M said M') M said M'

@@ -13,11 +13,17 @@ use Rattle.dbg_base.specs.Trees.{Tree, tree_of}
 
 -- a command, which changes the session where it is accepted
 pub data Plan : Type 0 where
+  Step : (process choice : ℕ) → Plan
   Next : (process : ℕ) → Plan
+  Undo : (process : ℕ) → Plan
+  Redo : (process : ℕ) → Plan
 
 -- a question, which changes nothing
 pub data Query : Type 0 where
   Vars : (process : ℕ) → Query
+  Chan : (source target : ℕ) → Query
+  Place : (process : ℕ) → Query
+  Can : (process : ℕ) → Query
 
 pub data Call : Type 0 where
   Give : (plan : Plan) → Call
@@ -30,12 +36,18 @@ pub record Conjunct : Type 0 where
 
 -- the plan of the code as the model's, and none for one that no line gives yet
 abbrev pub plan_of : plan.Plan → Option Plan
+plan_of (plans.Step pid choice) = Some (Step pid.0 choice.0)
 plan_of (plans.Next pid) = Some (Next pid.0)
+plan_of (plans.Undo pid) = Some (Undo pid.0)
+plan_of (plans.Redo pid) = Some (Redo pid.0)
 plan_of given = None
 
 -- the same for a query
 abbrev pub query_of : query.Query → Option Query
 query_of (queries.Vars pid) = Some (Vars pid.0)
+query_of (queries.Chan source target) = Some (Chan source.0 target.0)
+query_of (queries.Place pid) = Some (Place pid.0)
+query_of (queries.Can pid) = Some (Can pid.0)
 query_of asked = None
 
 -- the same for a call
@@ -55,6 +67,9 @@ asked_query given = None
 -- a query as the code has it
 abbrev pub query_told : Query → query.Query
 query_told (Vars p) = queries.Vars (record { 0 = p })
+query_told (Chan i j) = queries.Chan (record { 0 = i }) (record { 0 = j })
+query_told (Place p) = queries.Place (record { 0 = p })
+query_told (Can p) = queries.Can (record { 0 = p })
 
 -- the query of a call that asks
 abbrev pub asked_by : Call → Option query.Query

@@ -8,7 +8,7 @@ use Rattle.dbg_base.specs.declared.refusal.Refusal.{Refusal}
 use Rattle.dbg_base.specs.declared.refusal.Refusal.TheVariants.{UnknownProcess, BadLine}
 use Rattle.dbg_base.specs.declared.limits.TheConstants.{LINE_BYTES, NAME_BYTES, SEATS}
 use Rattle.dbg_base.specs.Names.{place_of}
-use Rattle.dbg_base.specs.Calls.{Call, Give, Next, Ask, Vars}
+use Rattle.dbg_base.specs.Calls.{Call, Give, Step, Next, Undo, Redo, Ask, Vars, Chan, Place, Can}
 use Rattle.dbg_base.specs.Trees.{Program, names_of}
 use Rattle.dbg_base.specs.Tokens.{is_word, is_numeral}
 
@@ -65,17 +65,48 @@ named_process P name = ok_or (place_of name (names_of P)) UnknownProcess
 abbrev pub process_call : List ℕ → Result ℕ Refusal → Result Call Refusal
 process_call word process =
     if bytes_eq word (codes "next") then map_ok (λ p. Give (Next p)) process
+    else (if bytes_eq word (codes "undo") then map_ok (λ p. Give (Undo p)) process
+    else (if bytes_eq word (codes "redo") then map_ok (λ p. Give (Redo p)) process
     else (if bytes_eq word (codes "vars") then map_ok (λ p. Ask (Vars p)) process
-    else Err BadLine)
+    else (if bytes_eq word (codes "place") then map_ok (λ p. Ask (Place p)) process
+    else (if bytes_eq word (codes "can") then map_ok (λ p. Ask (Can p)) process
+    else Err BadLine)))))
 
 -- goes on with a name, and a word that is none makes the line a bad one
 abbrev pub with_name : Option (List ℕ) → (List ℕ → Result Call Refusal) → Result Call Refusal
 with_name None go = Err BadLine
 with_name (Some name) go = go name
 
+-- the same with a number
+abbrev pub with_number : Option ℕ → (ℕ → Result Call Refusal) → Result Call Refusal
+with_number None go = Err BadLine
+with_number (Some number) go = go number
+
+-- goes on with two processes, of which the first that is missing is told
+abbrev pub with_both : (ℕ → ℕ → Call) → Result ℕ Refusal → Result ℕ Refusal → Result Call Refusal
+with_both call (Err refusal) second = Err refusal
+with_both call (Ok first) second = map_ok (call first) second
+
+-- the process makes the command of this number
+abbrev pub step_call : Program → List ℕ → List ℕ → Result Call Refusal
+step_call P process choice = with_number (number_word choice) (λ k. map_ok (λ p. Give (Step p k)) (named_process P process))
+
+-- the messages from a process to another
+abbrev pub chan_call : Program → List ℕ → List ℕ → Result Call Refusal
+chan_call P source target =
+    with_name (name_word target) (λ name. with_both (λ i j. Ask (Chan i j)) (named_process P source) (named_process P name))
+
+-- the call of a word that is about a process and one of its commands, or about a sender and a receiver
+abbrev pub pair_call : Program → List ℕ → List ℕ → List ℕ → Result Call Refusal
+pair_call P word first second =
+    if bytes_eq word (codes "step") then step_call P first second
+    else (if bytes_eq word (codes "chan") then chan_call P first second
+    else Err BadLine)
+
 -- The call of a command word and its arguments. The shape of all of them comes first, and then what they name.
 abbrev pub call_of_words : Program → List (List ℕ) → Result Call Refusal
 call_of_words P (word ∷ process ∷ []) = with_name (name_word process) (λ name. process_call word (named_process P name))
+call_of_words P (word ∷ first ∷ second ∷ []) = with_name (name_word first) (λ name. pair_call P word name second)
 call_of_words P words = Err BadLine
 
 -- a call, and the seat that makes it

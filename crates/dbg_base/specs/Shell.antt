@@ -15,7 +15,7 @@ use Rattle.dbg_base.specs.Checks.{Reads, IsFault}
 use Rattle.dbg_base.specs.Calls.{Call, Give, Ask, asked_by}
 use Rattle.dbg_base.specs.ModelStates.{ModelState, opening_state}
 use Rattle.dbg_base.specs.Acts.{Refuses, Acts}
-use Rattle.dbg_base.specs.Views.{answer}
+use Rattle.dbg_base.specs.Views.{Answers}
 use Rattle.dbg_base.specs.CommandLines.{Request, without_return, parsed_line}
 use Rattle.dbg_base.specs.Replies.{joined, reply_text, refusal_text}
 
@@ -86,7 +86,7 @@ as_line text = text ++ 10 ∷ []
 -- A seat's call was made at M, was answered so, and left M'. What is said may depend on the seat.
 abbrev pub Says : Program → ℕ → Call → ModelState → Said → ModelState → Type 0
 Says P seat (Give plan) M said M' = Acts P plan M said M'
-Says P seat (Ask query) M said M' = (said ≡ answer P M query) × (M' ≡ M)
+Says P seat (Ask query) M said M' = Answers P M query said × (M' ≡ M)
 
 -- a call was answered at M, or refused for want of memory, which changes nothing
 abbrev pub SaysOrRefuses : Program → ℕ → Call → ModelState → Said → ModelState → Type 0

@@ -5,7 +5,7 @@ use Rattle.std.specs.List.{prefix_len}
 use Rattle.std.proofs.lemmas.Bool.{eqb-true, not-true}
 use Rattle.std.proofs.lemmas.Grind.{common_steps}
 use Rattle.dbg_base.specs.CommandLines.{is_blank, words_of, before_first_word, without_return}
-use Rattle.dbg_shell.specs.Lines.{begins_word, only}
+use Rattle.dbg_shell.specs.Lines.{begins_word}
 
 -- a byte of a word
 abbrev pub is_inner : ℕ → Bool
@@ -59,11 +59,6 @@ return_missing [] h = refl
 return_missing (b ∷ []) h = kept_by b (eqb b 13) refl (h 0 refl)
 return_missing (b ∷ c ∷ line) h = ap (λ rest. b ∷ rest) (return_missing (c ∷ line) (λ n e. h (suc n) (ap suc e)))
 
--- one word alone
-pub only_is : (words : List (List ℕ)) (word : List ℕ) → Some word ≡ only words → words ≡ word ∷ []
-only_is [] word e = cc
-only_is (w ∷ []) word e = cc
-only_is (w ∷ v ∷ words) word e = cc
 
 -- all that is left
 pub drop_whole : (n : ℕ) (bytes : List ℕ) → drop n bytes ≡ take (length bytes - n) (drop n bytes)

@@ -11,10 +11,6 @@ abbrev pub begins_word : List ℕ → Bool
 begins_word [] = true
 begins_word (b ∷ bytes) = not (is_blank b)
 
--- the word, where there is one alone
-abbrev pub only : List (List ℕ) → Option (List ℕ)
-only (word ∷ []) = Some word
-only words = None
 
 -- the call of the code, where there is one
 abbrev pub called : Result call.Call Refusal → Result (Option Call) Refusal

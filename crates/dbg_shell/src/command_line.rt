@@ -5,12 +5,12 @@ ghost use Rattle.std.specs.List.{list_all, prefix_len};
 ghost use Rattle.std.specs.Option.{option_map};
 ghost use Rattle.dbg_base.specs.Tokens.{is_letter, is_word_byte};
 ghost use Rattle.dbg_base.specs.CommandLines.{is_blank, words_of, without_return, number_word, seat_word, name_word, map_ok, named_process};
-ghost use Rattle.dbg_base.specs.CommandLines.{process_call, call_of_words, parsed_line};
+ghost use Rattle.dbg_base.specs.CommandLines.{process_call, step_call, chan_call, call_of_words, parsed_line};
 ghost use Rattle.proc_lang.specs.Programs.{program_of};
-ghost use Rattle.dbg_shell.specs.Lines.{begins_word, only, called, asked, requested};
+ghost use Rattle.dbg_shell.specs.Lines.{begins_word, called, asked, requested};
 
 use dbg_base::limits::{LINE_BYTES, NAME_BYTES, SEATS};
-use dbg_base::{Call, Name, Pid, Plan, Query, Refusal};
+use dbg_base::{Call, Choice, Name, Pid, Plan, Query, Refusal};
 use proc_lang::Program;
 
 /// What a command line asks for: a seat's call.
@@ -73,17 +73,6 @@ fn first_word(bytes: &[u8]) -> Option<(&[u8], &[u8])>
     }
     let n = word_length(begun);
     Some((&begun[..n], &begun[n..]))
-}
-
-// The word, where there is no other.
-fn only_word(bytes: &[u8]) -> Option<&[u8]>
-    ensures { option_map (λ word. word.now) result ≡ only (words_of bytes.now) }
-{
-    let (word, rest) = first_word(bytes)?;
-    match first_word(rest) {
-        Some(_) => None,
-        None => Some(word),
-    }
 }
 
 // A number of one to nine digits.
@@ -155,11 +144,38 @@ fn process_call(word: &[u8], process: Result<Pid, Refusal>) -> Result<Call, Refu
 {
     if word == b"next".as_slice() {
         Ok(Call::Give(Plan::Next(process?)))
+    } else if word == b"undo".as_slice() {
+        Ok(Call::Give(Plan::Undo(process?)))
+    } else if word == b"redo".as_slice() {
+        Ok(Call::Give(Plan::Redo(process?)))
     } else if word == b"vars".as_slice() {
         Ok(Call::Ask(Query::Vars(process?)))
+    } else if word == b"place".as_slice() {
+        Ok(Call::Ask(Query::Place(process?)))
+    } else if word == b"can".as_slice() {
+        Ok(Call::Ask(Query::Can(process?)))
     } else {
         Err(Refusal::BadLine)
     }
+}
+
+// The call that makes the process give this command.
+fn step_call(program: &Program, process: Name, choice: &[u8]) -> Result<Call, Refusal>
+    ensures { called result ≡ map_ok Some (step_call (program_of program.now) process choice.now) }
+{
+    let choice = number_word(choice).ok_or(Refusal::BadLine)?;
+    let pid = named_process(program, process)?;
+    Ok(Call::Give(Plan::Step(pid, Choice(choice))))
+}
+
+// The call that asks for the messages between two processes.
+fn chan_call(program: &Program, source: Name, target: &[u8]) -> Result<Call, Refusal>
+    ensures { called result ≡ map_ok Some (chan_call (program_of program.now) source target.now) }
+{
+    let target = name_word(target).ok_or(Refusal::BadLine)?;
+    let source = named_process(program, source)?;
+    let target = named_process(program, target)?;
+    Ok(Call::Ask(Query::Chan(source, target)))
 }
 
 // The call of a word and its only argument.
@@ -170,13 +186,38 @@ fn call_with(program: &Program, word: &[u8], argument: &[u8]) -> Result<Call, Re
     process_call(word, named_process(program, name))
 }
 
+// The call of a word and its two arguments.
+fn call_with_two(
+    program: &Program,
+    word: &[u8],
+    first: &[u8],
+    second: &[u8],
+) -> Result<Call, Refusal>
+    ensures { called result ≡ map_ok Some (call_of_words (program_of program.now) (word.now ∷ first.now ∷ second.now ∷ [])) }
+{
+    let name = name_word(first).ok_or(Refusal::BadLine)?;
+    if word == b"step".as_slice() {
+        step_call(program, name, second)
+    } else if word == b"chan".as_slice() {
+        chan_call(program, name, second)
+    } else {
+        Err(Refusal::BadLine)
+    }
+}
+
 // The call of a command word and its arguments.
 fn parse_call(program: &Program, bytes: &[u8]) -> Result<Call, Refusal>
     ensures { called result ≡ map_ok Some (call_of_words (program_of program.now) (words_of bytes.now)) }
 {
     let (word, rest) = first_word(bytes).ok_or(Refusal::BadLine)?;
-    let argument = only_word(rest).ok_or(Refusal::BadLine)?;
-    call_with(program, word, argument)
+    let (first, rest) = first_word(rest).ok_or(Refusal::BadLine)?;
+    let Some((second, rest)) = first_word(rest) else {
+        return call_with(program, word, first);
+    };
+    match first_word(rest) {
+        None => call_with_two(program, word, first, second),
+        Some(_) => Err(Refusal::BadLine),
+    }
 }
 
 /// The seat and the call of a command line, nothing for a blank one, or why the line is refused. The bytes are the line without its
