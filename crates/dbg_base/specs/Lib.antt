@@ -10,6 +10,7 @@ pub mod Configurations
 pub mod Copies
 pub mod Firing
 pub mod Histories
+pub mod Orders
 pub mod ModelStates
 pub mod Calls
 pub mod Acts
