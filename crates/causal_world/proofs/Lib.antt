@@ -1,0 +1,3 @@
+pub mod Grids
+pub mod Moves
+pub mod Diamonds
