@@ -1,3 +1,4 @@
 pub mod Grids
 pub mod Moves
 pub mod Diamonds
+pub mod Bubbling
