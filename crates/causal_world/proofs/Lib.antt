@@ -1,2 +1,7 @@
+pub mod Grids
+pub mod Moves
+pub mod Diamonds
+pub mod Bubbling
 pub mod Results
-pub mod States
+pub mod LineStates
+pub mod Happenings

@@ -1,4 +1,5 @@
-//! The world: where a system of processes stands, changed in place by its events and by taking them back.
+//! The world of a system of processes, which its events change in place and which gives them back, and the laws of its histories.
 #![tactic(auto)]
 
+pub mod laws;
 mod lines;
