@@ -1,4 +1,5 @@
 pub mod Padding
 pub mod WellFormedTrees
 pub mod FirstFaults
+pub mod Places
 mod Rows
