@@ -1,5 +1,5 @@
 -- Whether an expression is true in a local state.
-use Rattle.std.specs.Prelude.{Bool, true, false, Option, Some, None}
+use Rattle.std.specs.Prelude.{Bool, false, Option, Some, None}
 use Rattle.dbg_base.specs.Trees.{Tree}
 use Rattle.dbg_base.specs.LocalStates.{LocalState}
 use Rattle.dbg_base.specs.Evaluation.{evaluate}

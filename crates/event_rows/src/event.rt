@@ -30,7 +30,11 @@ impl Model for Event {
 }
 
 // What this local state has for the variables, and what they are set to.
-fn settings_from(alloc: Global, env: &Env, sets: &[(u32, i64)]) -> Result<SmallVec<Setting, 2>, AllocError>
+fn settings_from(
+    alloc: Global,
+    env: &Env,
+    sets: &[(u32, i64)],
+) -> Result<SmallVec<Setting, 2>, AllocError>
     ensures { IfOk result (λ settings. settings.items ≡ settings_of env.now.values sets.now) }
 {
     let mut settings = SmallVec::new(alloc);

@@ -13,9 +13,17 @@ pub enum Exchange {
     /// Nothing.
     Nothing,
     /// The value was sent to the target.
-    Sent { target: Pid, value: i64, count: u32 },
+    Sent {
+        target: Pid,
+        value: i64,
+        count: u32,
+    },
     /// The message was received from the source.
-    Took { source: Pid, message: i64, count: u32 },
+    Took {
+        source: Pid,
+        message: i64,
+        count: u32,
+    },
 }
 
 // The process counts the messages up to this one, where the other process is there.

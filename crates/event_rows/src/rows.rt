@@ -32,9 +32,9 @@ impl Model for Rows {
     ghost Value = { RowsState };
 
     ghost view = { λ rows. record {
-        starts = rows.starts.items;
-        events = map (λ line. line.events) rows.lines.items;
-        room = map (λ line. line.room) rows.lines.items;
+      starts = rows.starts.items;
+      events = map (λ line. line.events) rows.lines.items;
+      room = map (λ line. line.room) rows.lines.items;
     } };
 }
 

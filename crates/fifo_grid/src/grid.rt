@@ -24,8 +24,8 @@ impl Model for Grid {
     ghost Value = { GridState };
 
     ghost view = { λ grid. record {
-        channels = map (λ row. row.messages) grid.rows.items;
-        room = map (λ row. row.room) grid.rows.items;
+      channels = map (λ row. row.messages) grid.rows.items;
+      room = map (λ row. row.room) grid.rows.items;
     } };
 }
 

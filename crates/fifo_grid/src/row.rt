@@ -22,8 +22,8 @@ impl Model for Row {
     ghost Value = { RowState };
 
     ghost view = { λ row. record {
-        messages = map (λ queue. queue.messages) row.queues.items;
-        room = map (λ queue. queue.room) row.queues.items;
+      messages = map (λ queue. queue.messages) row.queues.items;
+      room = map (λ queue. queue.room) row.queues.items;
     } };
 }
 

@@ -14,4 +14,3 @@ returns-clause-grows c =
     rw (← c.self.view_is) (related_after (λ (r s : List ℕ). (b : ℕ) → get_or r b 0 ≤ get_or s b 0) (λ (r : List ℕ) (b : ℕ). omega arith) (λ (row : RowState). row.room) []
     c.self.inside.rows.items c.args.from.0 c.index_mut-row.result.now c.pop_front.new.self (sym c.index_mut-row.ensures.value)
     (omega (arith, c.self.inside.rows.ok.0)) c.pop_front.ensures.grows)
-

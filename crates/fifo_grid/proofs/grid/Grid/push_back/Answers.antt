@@ -19,4 +19,3 @@ returns-clause-room c =
     (let there : c.args.from.0 < length (map (λ (row : RowState). row.room) c.self.inside.rows.items) =
     row_below_at (map (λ (row : RowState). row.room) c.self.inside.rows.items) c.args.from.0 c.args.to.0 (rw (← c.self.view_is) at c.requires) in
     omega (arith, length-map c.self.inside.rows.items (λ (row : RowState). row.room))) c.push_back.new.self [] (λ (row : List ℕ). set row c.args.to.0 (get_or row c.args.to.0 0 - 1)) c.push_back.ensures.room)
-

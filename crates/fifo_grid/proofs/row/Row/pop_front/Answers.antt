@@ -14,4 +14,3 @@ returns-clause-grows c =
     rw (← c.self.view_is) (related_after (λ (a b : ℕ). a ≤ b) (λ (b : ℕ). omega arith) (λ (queue : QueueState). queue.room) 0
     c.self.inside.queues.items c.args.at c.index_mut-queue.result.now c.pop_front.new.self (sym c.index_mut-queue.ensures.value)
     (omega (arith, c.self.inside.queues.ok.0)) c.pop_front.ensures.grows)
-

@@ -19,4 +19,3 @@ returns-clause-room c =
     (let there : c.args.at < length (map (λ (queue : QueueState). queue.room) c.self.inside.queues.items) =
     below_at (map (λ (queue : QueueState). queue.room) c.self.inside.queues.items) c.args.at (rw (← c.self.view_is) at c.requires) in
     omega (arith, length-map c.self.inside.queues.items (λ (queue : QueueState). queue.room))) c.unpop_front.new.self 0 (λ (n : ℕ). n - 1) c.unpop_front.ensures.room)
-
