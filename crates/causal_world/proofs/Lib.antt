@@ -2,6 +2,10 @@ pub mod Grids
 pub mod Moves
 pub mod Diamonds
 pub mod Bubbling
+pub mod Joining
+pub mod Playing
+pub mod States
+pub mod Histories
 pub mod Results
 pub mod LineStates
 pub mod Happenings
