@@ -12,13 +12,9 @@ use Rattle.dbg_base.specs.Firing.{truth_of, Effect, effect_with, sending, assign
 use Rattle.dbg_base.specs.Firing.{receive, proceed, where_true, fire_command, fire_if, counted}
 use Rattle.event_rows.specs.EventValues.{EventValue}
 use Rattle.event_rows.specs.Events.{after_event}
-use Rattle.event_rows.specs.Settings.{new_values, setting_of, settings_of}
+use Rattle.event_rows.specs.Settings.{new_values, settings_of}
+use Rattle.event_rows.proofs.Undone.{new_values_of}
 use Rattle.causal_world.specs.Scenes.{message_for, exchange_for, event_by, event_of, event_if, channels_after, with_done}
-
--- the settings set what is set
-pub same_sets : (values : List ℤ) (sets : List (ℕ × ℤ)) → new_values (settings_of values sets) ≡ sets
-same_sets values [] = refl
-same_sets values (s ∷ sets) = ap (λ (rest : List (ℕ × ℤ)). s ∷ rest) (same_sets values sets)
 
 abbrev Reached : Type 0
 Reached = Result Configuration Refusal
@@ -28,41 +24,44 @@ Reached = Result Configuration Refusal
 abbrev state_after : LocalState → Action → List (ℕ × ℤ) → LocalState
 state_after state action sets = counted action (with_set state sets)
 
-local_done : (c : Configuration) (p k : ℕ) (effect : Effect) → after_effect c p Local effect ≡ with_done c p (event_by c p k Local effect)
+local_done : (c : Configuration) (p k : ℕ) (effect : Effect) → after_effect c p Local effect ≡ with_done c p (event_by k Local (state_in c p) None effect)
 local_done c p k effect =
     ap (λ (sets : List (ℕ × ℤ)). record { states = set c.states p (state_after (state_in c p) Local sets); channels = c.channels })
-    (sym (same_sets (state_in c p).values effect.sets))
+    (sym (new_values_of (state_in c p).values effect.sets))
 
 sent_done : (c : Configuration) (p k target : ℕ) (value : Tree) (sets : List (ℕ × ℤ)) (z : ℤ)
     → after_effect c p (Sends target value) (record { sets = sets; message = Some z })
-      ≡ with_done c p (event_by c p k (Sends target value) (record { sets = sets; message = Some z }))
+      ≡ with_done c p (event_by k (Sends target value) (state_in c p) None (record { sets = sets; message = Some z }))
 sent_done c p k target value sets z =
     ap (λ (known : List (ℕ × ℤ)). record {
       states = set c.states p (state_after (state_in c p) (Sends target value) known);
       channels = (with_channel c p target (channel_of c p target ++ z ∷ [])).channels;
     })
-    (sym (same_sets (state_in c p).values sets))
+    (sym (new_values_of (state_in c p).values sets))
 
 -- with the front of its channel taken
 taken_done : (c : Configuration) (p k source variable : ℕ) (m : ℤ) (rest : List ℤ) (effect : Effect) → channel_of c source p ≡ m ∷ rest
     → after_effect (with_channel c source p rest) p (Receives source variable) effect
-      ≡ with_done c p (event_by c p k (Receives source variable) effect)
+      ≡ with_done c p (event_by k (Receives source variable) (state_in c p) (message_for c p (Receives source variable)) effect)
 taken_done c p k source variable m rest effect front =
     let state = state_in c p in
-    let to : List (ℕ × ℤ) → List ℤ → Option ℤ → Configuration =
-    λ sets messages taken. record {
-      states = set c.states p (after_event (record {
-        choice = k;
-        settings = settings_of state.values effect.sets;
-        exchange = exchange_for state (Receives source variable) effect.message taken;
-      }) state);
-      channels = (with_channel c source p messages).channels;
-    } in
+    let action : Action = Receives source variable in
+    let known = new_values (settings_of state.values effect.sets) in
+    let taking : List ℤ → Configuration =
+    λ messages. with_done c p (record {
+      choice = k;
+      settings = settings_of state.values effect.sets;
+      exchange = exchange_for state action effect.message (slice_get messages 0);
+    }) in
     ap (λ (sets : List (ℕ × ℤ)). record {
-      states = set c.states p (state_after state (Receives source variable) sets);
+      states = set c.states p (state_after state action sets);
       channels = (with_channel c source p rest).channels;
-    }) (sym (same_sets state.values effect.sets))
-    ∙ ap (λ (messages : List ℤ). to effect.sets (drop 1 messages) (slice_get messages 0)) (sym front)
+    }) (sym (new_values_of state.values effect.sets))
+    ∙ ap (λ (messages : List ℤ). record {
+      states = set c.states p (state_after state action known);
+      channels = (with_channel c source p (drop 1 messages)).channels;
+    }) (sym front)
+    ∙ ap taking (sym front)
 
 -- What a command needs in order to fire, part by part.
 
@@ -97,10 +96,10 @@ sent_effect (Some z) sets effect e = let w = with_message z sets effect e in (w.
 -- the same behind the guard, where the effect is known
 pub effect_done : (command : Command) (action : Action) (c : Configuration) (p k : ℕ) (effect : Effect) → command.action ≡ action
     → effect_by action command.assignments (state_in c p) (message_for c p action) ≡ Some effect
-    → event_of c p k command ≡ Some (event_by c p k action effect)
+    → event_if c p k (Some command) ≡ Some (event_by k action (state_in c p) (message_for c p action) effect)
 effect_done command action c p k effect same e =
-    ap (λ (a : Action). option_map (event_by c p k a) (effect_by a command.assignments (state_in c p) (message_for c p a))) same
-    ∙ ap (option_map (event_by c p k action)) e
+    ap (λ (a : Action). option_map (event_by k a (state_in c p) (message_for c p a)) (effect_by a command.assignments (state_in c p) (message_for c p a))) same
+    ∙ ap (option_map (event_by k action (state_in c p) (message_for c p action))) e
 
 received : (command : Command) (source variable : ℕ) (c : Configuration) (p k : ℕ) (d : Configuration) (messages : List ℤ)
     → command.action ≡ Receives source variable → channel_of c source p ≡ messages → receive command c p source messages ≡ Ok d
@@ -112,7 +111,7 @@ received command source variable c p k d (m ∷ rest) same front e =
     let action : Action = Receives source variable in
     let taken : message_for c p action ≡ Some m = ap (λ (messages : List ℤ). slice_get messages 0) front in
     record {
-      event = event_by c p k action effect;
+      event = event_by k action (state_in c p) (message_for c p action) effect;
       is = effect_done command action c p k effect same
           (ap (effect_by action command.assignments (state_in c p)) taken
           ∙ ap (λ (a : Action). effect_by a command.assignments (state_in c p) (Some m)) (sym same) ∙ done.1);
@@ -125,7 +124,7 @@ proceeds : (command : Command) (action : Action) (c : Configuration) (p k : ℕ)
 proceeds command Local c p k d same e =
     let done = completed c p Local (effect_of command (state_in c p) None) d e in
     record {
-      event = event_by c p k Local done.0;
+      event = event_by k Local (state_in c p) None done.0;
       is = effect_done command Local c p k done.0 same
           (ap (λ (a : Action). effect_by a command.assignments (state_in c p) None) (sym same) ∙ done.1);
       leads = done.2 ∙ local_done c p k done.0;
@@ -137,10 +136,10 @@ proceeds command (Sends target value) c p k d same e =
     ap (λ (a : Action). effect_by a command.assignments (state_in c p) None) (sym same) ∙ done.1 in
     let sent = sent_effect (number_of (evaluate value (state_in c p))) (assigned command.assignments (state_in c p)) done.0 known in
     record {
-      event = event_by c p k action done.0;
+      event = event_by k action (state_in c p) None done.0;
       is = effect_done command action c p k done.0 same known;
       leads = done.2 ∙ ap (after_effect c p action) sent.2 ∙ sent_done c p k target value sent.0 sent.1
-          ∙ ap (λ (effect : Effect). with_done c p (event_by c p k action effect)) (sym sent.2);
+          ∙ ap (λ (effect : Effect). with_done c p (event_by k action (state_in c p) None effect)) (sym sent.2);
     }
 proceeds command (Receives source variable) c p k d same e =
     received command source variable c p k d (channel_of c source p) same refl e

@@ -9,3 +9,5 @@ pub mod Histories
 pub mod Results
 pub mod LineStates
 pub mod Happenings
+pub mod Traces
+pub mod Records

@@ -39,22 +39,21 @@ exchange_for state (Receives source variable) sent (Some message) =
     Took (record { 0 = source }) message (slice_index_or state.got source 0 + 1)
 exchange_for state action sent taken = Nothing
 
--- what process p does at c by choice k, which is this command with this effect
-abbrev pub event_by : Configuration → ℕ → ℕ → Action → Effect → EventValue
-event_by c p k action effect = record {
+-- what choice k does in this local state, where it is this action with this effect and takes this message
+abbrev pub event_by : ℕ → Action → LocalState → Option ℤ → Effect → EventValue
+event_by k action state taken effect = record {
   choice = k;
-  settings = settings_of (state_in c p).values effect.sets;
-  exchange = exchange_for (state_in c p) action effect.message (message_for c p action);
+  settings = settings_of state.values effect.sets;
+  exchange = exchange_for state action effect.message taken;
 }
 
--- what it does by this command, unless an evaluation faults
-abbrev pub event_of : Configuration → ℕ → ℕ → Command → Option EventValue
-event_of c p k command =
-    option_map (event_by c p k command.action) (effect_of command (state_in c p) (message_for c p command.action))
+-- what it does where it is this command, unless an evaluation faults
+abbrev pub event_of : ℕ → Command → LocalState → Option ℤ → Option EventValue
+event_of k command state taken = option_map (event_by k command.action state taken) (effect_of command state taken)
 
 abbrev pub event_if : Configuration → ℕ → ℕ → Option Command → Option EventValue
 event_if c p k None = None
-event_if c p k (Some command) = event_of c p k command
+event_if c p k (Some command) = event_of k command (state_in c p) (message_for c p command.action)
 
 -- what process p does at c by choice k
 abbrev pub event_at : Program → Configuration → ℕ → ℕ → Option EventValue
