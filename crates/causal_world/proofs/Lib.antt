@@ -4,5 +4,7 @@ pub mod Diamonds
 pub mod Bubbling
 pub mod Joining
 pub mod Playing
+pub mod Pushes
 pub mod States
 pub mod Histories
+pub mod Growing
