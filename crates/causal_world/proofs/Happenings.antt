@@ -1,9 +1,11 @@
 -- A command that fires makes an event, and leads to where that event leads.
 use Rattle.std.proofs.Common.{◌≡◌, ℕ, ℤ, List, [], ◌∷◌, ◌++◌, map, set, drop, Bool, true, false, Option, Some, None, Result, Ok, Err}
-use Rattle.std.proofs.Common.{refl, sym, ap, ◌∙◌}
+use Rattle.std.proofs.Common.{refl, sym, ap, ◌∙◌, subst}
+use Rattle.std.specs.Prelude.{IfOk}
 use Rattle.std.specs.Prelude.{slice_get}
 use Rattle.std.specs.Option.{option_map}
 use Rattle.dbg_base.specs.declared.refusal.Refusal.{Refusal}
+use Rattle.dbg_base.specs.declared.refusal.Refusal.TheVariants.{Fault, ChannelEmpty}
 use Rattle.dbg_base.specs.Trees.{Tree, Action, Local, Sends, Receives, Command, Program, command_of}
 use Rattle.dbg_base.specs.Evaluation.{evaluate, number_of}
 use Rattle.dbg_base.specs.LocalStates.{LocalState}
@@ -14,6 +16,7 @@ use Rattle.event_rows.specs.EventValues.{EventValue}
 use Rattle.event_rows.specs.Events.{after_event}
 use Rattle.event_rows.specs.Settings.{new_values, settings_of}
 use Rattle.event_rows.proofs.Undone.{new_values_of}
+use Rattle.causal_world.specs.Deciding.{TakesFront, Takes, MakesEvent, DecidesBy, Decides}
 use Rattle.causal_world.specs.Scenes.{message_for, exchange_for, event_by, event_of, event_if, channels_after, with_done}
 
 abbrev Reached : Type 0
@@ -149,3 +152,134 @@ makes None c p k d e = cc
 makes (Some command) c p k d e =
     let open_ = guard_true (truth_of (evaluate command.guard (state_in c p))) (proceed command command.action c p) d e in
     proceeds command command.action c p k d refl open_.1
+
+-- The other way round: where a command's event is known, it leads there.
+
+done_by : (o : Option Effect) (k : ℕ) (action : Action) (state : LocalState) (taken : Option ℤ) (event : EventValue)
+    → option_map (event_by k action state taken) o ≡ Some event
+    → (effect : Effect) × (o ≡ Some effect) × (event ≡ event_by k action state taken effect)
+done_by None k action state taken event e = cc
+done_by (Some effect) k action state taken event e = (effect, refl, cc)
+
+abbrev Leads : Command → Action → Configuration → ℕ → ℕ → EventValue → Type 0
+Leads command action c p k event =
+    (event_if c p k (Some command) ≡ Some event) × (proceed command action c p ≡ Ok (with_done c p event))
+
+received_by : (command : Command) (source variable : ℕ) (c : Configuration) (p k : ℕ) (effect : Effect) (messages : List ℤ)
+    → command.action ≡ Receives source variable → channel_of c source p ≡ messages
+    → effect_by (Receives source variable) command.assignments (state_in c p) (slice_get messages 0) ≡ Some effect
+    → TakesFront (Ok (slice_get messages 0)) (slice_get messages 0)
+    → receive command c p source messages
+      ≡ Ok (with_done c p (event_by k (Receives source variable) (state_in c p) (slice_get messages 0) effect))
+received_by command source variable c p k effect [] same front e takes = cc
+received_by command source variable c p k effect (m ∷ rest) same front e takes =
+    let action : Action = Receives source variable in
+    ap (complete (with_channel c source p rest) p command.action)
+    (ap (λ (a : Action). effect_by a command.assignments (state_in c p) (Some m)) same ∙ e)
+    ∙ ap (λ (a : Action). Ok (after_effect (with_channel c source p rest) p a effect)) same
+    ∙ ap (λ (d : Configuration). Ok d) (taken_done c p k source variable m rest effect front)
+    ∙ ap (λ (messages : List ℤ). Ok (with_done c p (event_by k action (state_in c p) (slice_get messages 0) effect))) front
+
+leads_by : (command : Command) (action : Action) (c : Configuration) (p k : ℕ) (effect : Effect) → command.action ≡ action
+    → effect_by action command.assignments (state_in c p) (message_for c p action) ≡ Some effect
+    → Takes (Ok (message_for c p action)) action c p
+    → Leads command action c p k (event_by k action (state_in c p) (message_for c p action) effect)
+leads_by command Local c p k effect same e takes = (
+  effect_done command Local c p k effect same e,
+  ap (complete c p Local) (ap (λ (a : Action). effect_by a command.assignments (state_in c p) None) same ∙ e)
+  ∙ ap (λ (d : Configuration). Ok d) (local_done c p k effect),
+)
+leads_by command (Sends target value) c p k effect same e takes =
+    let action : Action = Sends target value in
+    let sent = sent_effect (number_of (evaluate value (state_in c p))) (assigned command.assignments (state_in c p)) effect e in (
+      effect_done command action c p k effect same e,
+      ap (complete c p action) (ap (λ (a : Action). effect_by a command.assignments (state_in c p) None) same ∙ e)
+      ∙ ap (λ (d : Configuration). Ok d) (ap (after_effect c p action) sent.2 ∙ sent_done c p k target value sent.0 sent.1
+      ∙ ap (λ (known : Effect). with_done c p (event_by k action (state_in c p) None known)) (sym sent.2)),
+    )
+leads_by command (Receives source variable) c p k effect same e takes = (
+  effect_done command (Receives source variable) c p k effect same e,
+  received_by command source variable c p k effect (channel_of c source p) same refl e takes,
+)
+
+front_taken : (taken first : Option ℤ) → TakesFront (Ok taken) first → taken ≡ first
+front_taken taken None takes = cc
+front_taken taken (Some m) takes = cc
+
+takes_is : (action : Action) (c : Configuration) (p : ℕ) (taken : Option ℤ) → Takes (Ok taken) action c p → taken ≡ message_for c p action
+takes_is Local c p taken takes = cc
+takes_is (Sends target value) c p taken takes = cc
+takes_is (Receives source variable) c p taken takes = front_taken taken (slice_get (channel_of c source p) 0) takes
+
+-- the command's event is known: it fires, and leads there
+pub decided : (command : Command) (c : Configuration) (p k : ℕ) (taken : Option ℤ) (event : EventValue)
+    → Takes (Ok taken) command.action c p → event_of k command (state_in c p) taken ≡ Some event
+    → Leads command command.action c p k event
+decided command c p k taken event takes e =
+    let same : taken ≡ message_for c p command.action = takes_is command.action c p taken takes in
+    let known = done_by (effect_of command (state_in c p) taken) k command.action (state_in c p) taken event e in
+    let effect : effect_by command.action command.assignments (state_in c p) (message_for c p command.action) ≡ Some known.0 =
+    ap (effect_of command (state_in c p)) (sym same) ∙ known.1 in
+    let leads =
+    leads_by command command.action c p k known.0 refl effect (subst (λ (t : Option ℤ). Takes (Ok t) command.action c p) same takes) in
+    subst (λ (v : EventValue). Leads command command.action c p k v)
+    (ap (λ (t : Option ℤ). event_by k command.action (state_in c p) t known.0) (sym same) ∙ sym known.2) leads
+
+-- an evaluation faults
+
+received_fault : (command : Command) (source variable : ℕ) (c : Configuration) (p : ℕ) (messages : List ℤ)
+    → command.action ≡ Receives source variable
+    → effect_by (Receives source variable) command.assignments (state_in c p) (slice_get messages 0) ≡ None
+    → TakesFront (Ok (slice_get messages 0)) (slice_get messages 0) → receive command c p source messages ≡ Err Fault
+received_fault command source variable c p [] same e takes = cc
+received_fault command source variable c p (m ∷ rest) same e takes =
+    ap (complete (with_channel c source p rest) p command.action)
+    (ap (λ (a : Action). effect_by a command.assignments (state_in c p) (Some m)) same ∙ e)
+
+fault_by : (command : Command) (action : Action) (c : Configuration) (p : ℕ) → command.action ≡ action
+    → effect_by action command.assignments (state_in c p) (message_for c p action) ≡ None
+    → Takes (Ok (message_for c p action)) action c p → proceed command action c p ≡ Err Fault
+fault_by command Local c p same e takes =
+    ap (complete c p Local) (ap (λ (a : Action). effect_by a command.assignments (state_in c p) None) same ∙ e)
+fault_by command (Sends target value) c p same e takes =
+    ap (complete c p (Sends target value)) (ap (λ (a : Action). effect_by a command.assignments (state_in c p) None) same ∙ e)
+fault_by command (Receives source variable) c p same e takes =
+    received_fault command source variable c p (channel_of c source p) same e takes
+
+pub faulted : (command : Command) (c : Configuration) (p : ℕ) (taken : Option ℤ) → Takes (Ok taken) command.action c p
+    → effect_of command (state_in c p) taken ≡ None → proceed command command.action c p ≡ Err Fault
+faulted command c p taken takes e =
+    let same : taken ≡ message_for c p command.action = takes_is command.action c p taken takes in
+    fault_by command command.action c p refl (ap (effect_of command (state_in c p)) (sym same) ∙ e)
+    (subst (λ (t : Option ℤ). Takes (Ok t) command.action c p) same takes)
+
+-- there is nothing to take
+
+received_nothing : (command : Command) (source : ℕ) (c : Configuration) (p : ℕ) (refusal : Refusal) (messages : List ℤ)
+    → TakesFront (Err refusal) (slice_get messages 0) → receive command c p source messages ≡ Err refusal
+received_nothing command source c p refusal [] takes =
+    let same : ChannelEmpty ≡ refusal = cc in ap (λ (r : Refusal). Err r) same
+received_nothing command source c p refusal (m ∷ rest) takes = cc
+
+pub nothing_taken : (command : Command) (action : Action) (c : Configuration) (p : ℕ) (refusal : Refusal) → Takes (Err refusal) action c p
+    → proceed command action c p ≡ Err refusal
+nothing_taken command Local c p refusal takes = cc
+nothing_taken command (Sends target value) c p refusal takes = cc
+nothing_taken command (Receives source variable) c p refusal takes =
+    received_nothing command source c p refusal (channel_of c source p) takes
+
+decides_by : (found : Result EventValue Refusal) (command : Command) (c : Configuration) (p k : ℕ) (taken : Option ℤ)
+    → Takes (Ok taken) command.action c p → MakesEvent found k command (state_in c p) taken
+    → DecidesBy found (event_if c p k (Some command)) (proceed command command.action c p) c p
+decides_by (Ok event) command c p k taken takes is = decided command c p k taken event takes is
+decides_by (Err refusal) command c p k taken takes is =
+    faulted command c p taken takes is.1 ∙ ap (λ (r : Refusal). Err r) (sym is.0)
+
+-- what was found out of a command that takes this message in this local state of its process
+pub decides : {E : Type 0} (result : Result (Result EventValue Refusal) E) (command : Command) (c : Configuration) (p k : ℕ)
+    (taken : Option ℤ) (state : LocalState) → state ≡ state_in c p → Takes (Ok taken) command.action c p
+    → IfOk result (λ found. MakesEvent found k command state taken)
+    → Decides result (event_if c p k (Some command)) (proceed command command.action c p) c p
+decides (Ok found) command c p k taken state same takes is =
+    decides_by found command c p k taken takes (subst (λ (s : LocalState). MakesEvent found k command s taken) same is)
+decides (Err e) command c p k taken state same takes is = tt

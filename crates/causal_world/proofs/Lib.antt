@@ -4,10 +4,13 @@ pub mod Diamonds
 pub mod Bubbling
 pub mod Joining
 pub mod Playing
+pub mod Pushes
 pub mod States
 pub mod Histories
+pub mod Growing
 pub mod Results
 pub mod LineStates
 pub mod Happenings
 pub mod Traces
 pub mod Records
+pub mod Forth

@@ -15,7 +15,8 @@ use Rattle.causal_world.proofs.Moves.{Move, Keeps, Puts, Takes, channels_after, 
 use Rattle.causal_world.proofs.Diamonds.{stays_ready, other_state}
 use Rattle.causal_world.proofs.Happenings.{makes}
 use Rattle.causal_world.proofs.Bubbling.{first_step}
-use Rattle.causal_world.proofs.States.{push, kept_state}
+use Rattle.causal_world.proofs.Pushes.{push}
+use Rattle.causal_world.proofs.States.{kept_state}
 use Rattle.causal_world.proofs.Traces.{goes_marked}
 
 no_event : EventValue

@@ -12,19 +12,8 @@ use Rattle.causal_world.proofs.Moves.{fires}
 use Rattle.causal_world.proofs.Diamonds.{other_state, diamond}
 use Rattle.causal_world.proofs.Bubbling.{IsOrderOf, first_step}
 use Rattle.causal_world.proofs.Joining.{joined}
+use Rattle.causal_world.proofs.Pushes.{push, pushes_swap}
 use Rattle.causal_world.proofs.Playing.{listed}
-
--- one thing more at the end of a list
-abbrev pub push : {A : Type 0} → List (List A) → ℕ → A → List (List A)
-push lists p x = set lists p (get_or lists p [] ++ x ∷ [])
-
-pub pushes_swap : {A : Type 0} (lists : List (List A)) (p q : ℕ) (x y : A) → p ≢ q
-    → push (push lists p x) q y ≡ push (push lists q y) p x
-pushes_swap {A} lists p q x y apart =
-    ap (λ (l : List A). set (push lists p x) q (l ++ y ∷ []))
-      (get_or-set_other lists p q (get_or lists p [] ++ x ∷ []) [] (λ (e : q ≡ p). apart (sym e)))
-    ∙ set_comm lists p q (get_or lists p [] ++ x ∷ []) (get_or lists q [] ++ y ∷ []) apart
-    ∙ ap (λ (l : List A). set (push lists q y) p (l ++ x ∷ [])) (sym (get_or-set_other lists q p (get_or lists q [] ++ y ∷ []) [] apart))
 
 -- one event
 pub states_step : (P : Program) (c d : Configuration) (states : List (List LocalState)) (e : Event) (E : List Event)

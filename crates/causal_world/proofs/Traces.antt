@@ -8,7 +8,7 @@ use Rattle.dbg_base.specs.Firing.{fire}
 use Rattle.dbg_base.specs.Orders.{Event, order_from, IsLegalFrom, IsSwap, GoesOver, Stays, Swaps}
 use Rattle.causal_world.proofs.Diamonds.{diamond}
 use Rattle.causal_world.proofs.Bubbling.{first_step}
-use Rattle.causal_world.proofs.States.{push, pushes_swap}
+use Rattle.causal_world.proofs.Pushes.{push, pushes_swap}
 
 -- `from` writes `mark` of each event behind what it has of the event's process
 module _ {A : Type 0} (P : Program) (mark : Configuration → Event → A)

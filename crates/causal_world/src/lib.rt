@@ -2,4 +2,5 @@
 #![tactic(auto)]
 
 pub mod laws;
+mod deciding;
 mod lines;

@@ -5,6 +5,9 @@ use Rattle.dbg_base.specs.declared.refusal.Refusal.TheVariants.{GuardFalse, Chan
 use Rattle.dbg_base.specs.Trees.{Number, Truth, Local, Sends, Receives, Command, Process, Program, command_of}
 use Rattle.dbg_base.specs.Configurations.{start_of}
 use Rattle.dbg_base.specs.Histories.{History, play, progress_of}
+use Rattle.dbg_base.specs.Counts.{sent as sent_among, got as got_among}
+use Rattle.dbg_base.specs.Cuts.{history_at}
+use Rattle.dbg_base.specs.Reversal.{before_last, taken_in, unfire, after_undos, unfire_all}
 use Rattle.dbg_base.specs.Orders.{Event, order, choices_of, states_of, IsSwap, GoesOver, Stays, Swaps, target_in, source_in}
 
 abbrev send : Command
@@ -89,3 +92,35 @@ receives_from_the_sender = refl
 
 local_sends_to_none : target_in (command_of system 1 1) ≡ None
 local_sends_to_none = refl
+
+-- two sends, and one receive: what is counted, cut and taken back
+two_sent : sent_among system two_and_one 0 1 2 ≡ 2
+two_sent = refl
+
+one_got : got_among system two_and_one 1 0 1 ≡ 1
+one_got = refl
+
+cut_at_one : history_at two_and_one (1 ∷ 1 ∷ []) ≡ (0 ∷ []) ∷ (0 ∷ []) ∷ []
+cut_at_one = refl
+
+-- the receive is made behind the two sends, since the lower-numbered process goes first
+receives_behind_both : before_last system two_and_one 1 ≡ play system ((0 ∷ 0 ∷ []) ∷ [] ∷ [])
+receives_behind_both = refl
+
+sends_at_the_start : before_last system ((0 ∷ []) ∷ (0 ∷ []) ∷ []) 0 ≡ start_of system
+sends_at_the_start = refl
+
+took_seven : taken_in system two_and_one 1 0 ≡ pos 7
+took_seven = refl
+
+undoes_the_receive : unfire system two_and_one (play system two_and_one) 1 ≡ play system ((0 ∷ 0 ∷ []) ∷ [] ∷ [])
+undoes_the_receive = refl
+
+undoes_a_send : unfire system two_and_one (play system two_and_one) 0 ≡ play system ((0 ∷ []) ∷ (0 ∷ []) ∷ [])
+undoes_a_send = refl
+
+undoes_all : unfire_all system two_and_one (0 ∷ 1 ∷ 0 ∷ []) (play system two_and_one) ≡ start_of system
+undoes_all = refl
+
+nothing_is_left : after_undos two_and_one (0 ∷ 1 ∷ 0 ∷ []) ≡ [] ∷ [] ∷ []
+nothing_is_left = refl
