@@ -8,3 +8,4 @@ pub mod Pushes
 pub mod States
 pub mod Histories
 pub mod Growing
+pub mod Fronts
