@@ -9,3 +9,5 @@ pub mod States
 pub mod Histories
 pub mod Growing
 pub mod Fronts
+pub mod Sizes
+pub mod Ends
