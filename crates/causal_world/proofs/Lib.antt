@@ -11,3 +11,4 @@ pub mod Growing
 pub mod Fronts
 pub mod Sizes
 pub mod Ends
+pub mod Lasts
