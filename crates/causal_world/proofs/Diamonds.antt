@@ -10,7 +10,7 @@ use Rattle.causal_world.proofs.Grids.{Grid, cell, change, row_within, cell_withi
 use Rattle.causal_world.proofs.Moves.{Move, Keeps, Puts, Takes, channels_after, IsReady, after_move, Fires, fires}
 
 -- a message that is put behind leaves the front as it is
-put_behind : (g : Grid) (p t s q : ℕ) (v m : ℤ) (rest : List ℤ) → cell g s q ≡ m ∷ rest
+pub put_behind : (g : Grid) (p t s q : ℕ) (v m : ℤ) (rest : List ℤ) → cell g s q ≡ m ∷ rest
     → (later : List ℤ) × (cell (change g p t (λ messages. messages ++ v ∷ [])) s q ≡ m ∷ later)
 put_behind g p t s q v m rest e =
     let other = λ (apart : p ≡ s → t ≢ q).

@@ -8,6 +8,10 @@ pub mod Pushes
 pub mod States
 pub mod Histories
 pub mod Growing
+pub mod Fronts
+pub mod Sizes
+pub mod Ends
+pub mod Lasts
 pub mod Results
 pub mod LineStates
 pub mod Happenings

@@ -92,7 +92,7 @@ moves P from first ((l ∷ left) ∷ H) i k rest m front fires none =
       (λ j x y z. moves P from (first + 1) H j k rest m x y z)
 
 -- one move more at the front
-one_move : (n : ℕ) (P : Program) (from to : Progress) (o : Option Progress) → next_move P from ≡ o → o ≡ Some to
+pub one_move : (n : ℕ) (P : Program) (from to : Progress) (o : Option Progress) → next_move P from ≡ o → o ≡ Some to
     → play_moves (suc n) P from ≡ play_moves n P to
 one_move n P from to o e leads = ap (λ (x : Option Progress). go_on from x (play_moves n P)) (e ∙ leads)
 
