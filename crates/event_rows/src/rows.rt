@@ -1,7 +1,7 @@
 //! The events of all processes.
 
 ghost use Rattle.std.specs.Prelude.{◌≡◌, ℕ, ◌+◌, ◌-◌, ◌<◌, ◌≤◌, ◌++◌, ◌∷◌, [], Bool, false, length, map, take, replicate, slice_get};
-ghost use Rattle.std.specs.Prelude.{slice_set, slice_index_or, IfOk, OnOk, IsSome, ◌↔◌};
+ghost use Rattle.std.specs.Prelude.{slice_set, slice_index_or, IfOk, OnOk, IsSome, IsTrue, ◌↔◌};
 ghost use Rattle.std.specs.Option.{option_map, option_to_list};
 ghost use Rattle.dbg_base.specs.Trees.{tree_of};
 ghost use Rattle.dbg_base.specs.LocalStates.{no_state, start_among};
@@ -108,7 +108,14 @@ impl Rows {
         })
     }
 
-    /// How many events the process has, which is none where it is not there. It takes no memory, as `event` and `last` do not.
+    /// Whether the process is there. It takes no memory, as all readers but `past` and `truths` do.
+    pub fn has(&self, pid: Pid) -> bool
+        ensures { IsTrue result ↔ (pid.0 < length self.now.events) }
+    {
+        (pid.0 as usize) < self.lines.len()
+    }
+
+    /// How many events the process has, which is none where it is not there.
     pub fn len(&self, pid: Pid) -> usize
         ensures { result ≡ length (slice_index_or self.now.events pid.0 []) }
     {
