@@ -2,5 +2,6 @@
 #![tactic(auto)]
 
 pub mod laws;
+mod channels;
 mod deciding;
 mod lines;
