@@ -12,3 +12,5 @@ pub mod Fronts
 pub mod Sizes
 pub mod Ends
 pub mod Lasts
+pub mod Squares
+pub mod Undone
