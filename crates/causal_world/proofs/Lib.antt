@@ -14,3 +14,4 @@ pub mod Ends
 pub mod Lasts
 pub mod Squares
 pub mod Undone
+pub mod Unfiring
