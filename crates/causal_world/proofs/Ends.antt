@@ -8,7 +8,7 @@ use Rattle.dbg_base.specs.Configurations.{Configuration, state_in, channel_of}
 use Rattle.dbg_base.specs.Firing.{fire}
 use Rattle.dbg_base.specs.Histories.{History}
 use Rattle.dbg_base.specs.Orders.{Event, order_from, target_in, source_in}
-use Rattle.causal_world.proofs.Grids.{Grid, cell, change, row_within, cell_within, cell-put_other, cell-put_same}
+use Rattle.causal_world.proofs.Grids.{Grid, cell, put, change, row_within, cell_within, cell-put_other, cell-put_same}
 use Rattle.causal_world.proofs.Sizes.{put_cases, fire_not_put, fire_most, fire_takes}
 use Rattle.causal_world.proofs.Moves.{Move, Keeps, Puts, Takes, channels_after, IsReady, move_target, move_source, after_move, fires}
 use Rattle.causal_world.proofs.Diamonds.{put_behind, other_state, diamond}
@@ -74,7 +74,8 @@ put_before g s q v m rest some front =
     ⊎_elim
       (λ (now : cell (change g s q (λ messages. messages ++ v ∷ [])) s q ≡ cell g s q ++ v ∷ []).
         front_before (cell g s q) v m rest some (sym now ∙ front))
-      (λ (same : change g s q (λ messages. messages ++ v ∷ []) ≡ g). (rest, ap (λ (x : Grid). cell x s q) (sym same) ∙ front))
+      (λ (same : (y : List ℤ) → put g s q y ≡ g).
+        (rest, ap (λ (x : Grid). cell x s q) (sym (same (cell g s q ++ v ∷ []))) ∙ front))
       (put_cases g s q (cell g s q ++ v ∷ []))
 
 ready_before : (a b : Move) (p q : ℕ) (g : Grid) → p ≢ q

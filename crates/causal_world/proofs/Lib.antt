@@ -18,3 +18,7 @@ pub mod Happenings
 pub mod Traces
 pub mod Records
 pub mod Forth
+pub mod Squares
+pub mod Undone
+pub mod Unfiring
+pub mod Back

@@ -1,6 +1,6 @@
 -- How many messages are on a channel before and after a move.
 use Rattle.std.proofs.Common.{◌≡◌, ◌≢◌, ℕ, ℤ, suc, ◌+◌, ◌<◌, ◌≤◌, ◌⊎◌, List, [], ◌∷◌, ◌++◌, length, get_or, set, drop, Option, Some, None, Ok}
-use Rattle.std.proofs.Common.{refl, sym, ap, ◌∙◌, subst, ⊎_elim, arith}
+use Rattle.std.proofs.Common.{refl, sym, ap, ◌∙◌, subst, inl, inr, ⊎_elim, arith}
 use Rattle.std.proofs.lemmas.Bool.{cases_eq}
 use Rattle.std.proofs.lemmas.List.{length-append, set_past, set-get_or}
 use Rattle.dbg_base.specs.Trees.{Program, command_of}
@@ -20,14 +20,14 @@ put_past_cell : (g : Grid) (i j : ℕ) (x : List ℤ) → length (row g i) ≤ j
 put_past_cell g i j x past = ap (λ (r : List (List ℤ)). set g i r) (set_past (get_or g i []) j x past) ∙ set-get_or g i []
 
 -- a cell that is changed: it is changed, or it was not there
-pub put_cases : (g : Grid) (i j : ℕ) (x : List ℤ) → (cell (put g i j x) i j ≡ x) ⊎ (put g i j x ≡ g)
+pub put_cases : (g : Grid) (i j : ℕ) (x : List ℤ) → (cell (put g i j x) i j ≡ x) ⊎ ((y : List ℤ) → put g i j y ≡ g)
 put_cases g i j x =
     ⊎_elim
       (λ (here : i < length g). ⊎_elim
-        (λ (there : j < length (row g i)). Rattle.std.proofs.Common.inl (cell-put_same g i j x here there))
-        (λ (past : length (row g i) ≤ j). Rattle.std.proofs.Common.inr (put_past_cell g i j x past))
+        (λ (there : j < length (row g i)). inl (cell-put_same g i j x here there))
+        (λ (past : length (row g i) ≤ j). inr (λ y. put_past_cell g i j y past))
         (within_or_past (length (row g i)) j))
-      (λ (past : length g ≤ i). Rattle.std.proofs.Common.inr (put_past_row g i j x past))
+      (λ (past : length g ≤ i). inr (λ y. put_past_row g i j y past))
       (within_or_past (length g) i)
 
 pub size_taken : (g : Grid) (i j : ℕ) (m : ℤ) (rest : List ℤ) → cell g i j ≡ m ∷ rest
@@ -53,9 +53,9 @@ size_put_most g i j v =
         let size : length (cell (change g i j (λ messages. messages ++ v ∷ [])) i j) ≡ suc (length (cell g i j)) =
           ap (λ (l : List ℤ). length l) same ∙ size_more (cell g i j) v in
         omega arith)
-      (λ (same : change g i j (λ messages. messages ++ v ∷ []) ≡ g).
+      (λ (same : (y : List ℤ) → put g i j y ≡ g).
         let size : length (cell (change g i j (λ messages. messages ++ v ∷ [])) i j) ≡ length (cell g i j) =
-          ap (λ (x : Grid). length (cell x i j)) same in
+          ap (λ (x : Grid). length (cell x i j)) (same (cell g i j ++ v ∷ [])) in
         omega arith)
       (put_cases g i j (cell g i j ++ v ∷ []))
 
