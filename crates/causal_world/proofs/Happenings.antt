@@ -155,7 +155,7 @@ makes (Some command) c p k d e =
 
 -- The other way round: where a command's event is known, it leads there.
 
-done_by : (o : Option Effect) (k : ℕ) (action : Action) (state : LocalState) (taken : Option ℤ) (event : EventValue)
+pub done_by : (o : Option Effect) (k : ℕ) (action : Action) (state : LocalState) (taken : Option ℤ) (event : EventValue)
     → option_map (event_by k action state taken) o ≡ Some event
     → (effect : Effect) × (o ≡ Some effect) × (event ≡ event_by k action state taken effect)
 done_by None k action state taken event e = cc

@@ -9,6 +9,7 @@ use Rattle.dbg_base.specs.Configurations.{Configuration, start_of, state_in, cha
 use Rattle.dbg_base.specs.Firing.{Effect, effect_of, fire}
 use Rattle.dbg_base.specs.Histories.{IsPossible}
 use Rattle.dbg_base.specs.Orders.{Event, order, choices_of}
+use Rattle.dbg_base.specs.Reversal.{without_back}
 use Rattle.dbg_base.specs.ModelStates.{ModelState, history_of, configuration_of, after_choice, after_redo, after_undo, IsStateOf}
 use Rattle.fifo_grid.specs.Grids.{messages_at, with_messages}
 use Rattle.event_rows.specs.declared.exchange.Exchange.{Exchange}
@@ -106,8 +107,7 @@ channels_after channels p (Took source message count) =
 abbrev pub channels_before : List (List (List ℤ)) → ℕ → Exchange → List (List (List ℤ))
 channels_before channels p Nothing = channels
 channels_before channels p (Sent target value count) =
-    let messages = messages_at channels p target.0 in
-    with_messages channels p target.0 (take (length messages - 1) messages)
+    with_messages channels p target.0 (without_back (messages_at channels p target.0))
 channels_before channels p (Took source message count) =
     with_messages channels source.0 p (message ∷ messages_at channels source.0 p)
 
@@ -134,13 +134,12 @@ made w p event state = record w {
 }
 
 -- the last event of process p is taken back
-abbrev pub without_last : List (List EventValue) → ℕ → List (List EventValue)
-without_last events p =
-    let own = slice_index_or events p [] in slice_set events p (take (length own - 1) own)
+abbrev pub without_event : List (List EventValue) → ℕ → List (List EventValue)
+without_event events p = slice_set events p (without_back (slice_index_or events p []))
 
 abbrev pub unmade : Scene → ℕ → EventValue → Scene
 unmade w p event = record w {
   state = after_undo w.state p;
   standing = with_undone w.standing p event;
-  events = without_last w.events p;
+  events = without_event w.events p;
 }

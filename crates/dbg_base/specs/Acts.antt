@@ -15,8 +15,9 @@ use Rattle.dbg_base.specs.Configurations.{Configuration}
 use Rattle.dbg_base.specs.Firing.{fire, fire_command}
 use Rattle.dbg_base.specs.Histories.{IsPossible}
 use Rattle.dbg_base.specs.Orders.{target_in}
+use Rattle.dbg_base.specs.Reversal.{without_last}
 use Rattle.dbg_base.specs.Calls.{Plan, Next}
-use Rattle.dbg_base.specs.ModelStates.{ModelState, line_of, place_at, history_of, configuration_of, last_choice, after_choice, after_undo}
+use Rattle.dbg_base.specs.ModelStates.{ModelState, line_of, place_at, history_of, configuration_of, last_choice, after_choice}
 use Rattle.dbg_base.specs.ModelStates.{halted_of}
 
 -- the refusal is told, and nothing is changed
@@ -69,20 +70,15 @@ choice_again P c p (Some k) = if_fires k (fire P c p k)
 abbrev pub redo_choice : Program → ModelState → ℕ → Result ℕ Refusal
 redo_choice P M p = choice_again P (configuration_of P M) p (slice_get (line_of M p) (place_at M p))
 
--- Process p's last event may be undone: it has one, and the events without it are possible, so that no other event needs it.
-pub record MayUndo (P : Program) (M : ModelState) (p : ℕ) : Type 0 where
-  pub some : 0 < place_at M p
-  pub possible : IsPossible P (history_of (after_undo M p))
-
 -- the process to which the last event of process p sends
 abbrev pub last_target : Program → ModelState → ℕ → Option ℕ → Option ℕ
 last_target P M p None = None
 last_target P M p (Some k) = target_in (command_of P p k)
 
--- It may not: another event needs it, that of the process which received its message.
+-- Process p's last event may not be undone: the events without it are not possible, since process q has received its message.
 pub record IsNeeded (P : Program) (M : ModelState) (p q : ℕ) : Type 0 where
   pub some : 0 < place_at M p
-  pub impossible : ¬ IsPossible P (history_of (after_undo M p))
+  pub impossible : ¬ IsPossible P (without_last (history_of M) p)
   pub receiver : last_target P M p (last_choice M p) ≡ Some q
 
 -- why it may not be undone
