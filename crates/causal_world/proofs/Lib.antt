@@ -22,3 +22,4 @@ pub mod Squares
 pub mod Undone
 pub mod Unfiring
 pub mod Back
+pub mod Lowest

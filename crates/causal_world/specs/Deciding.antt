@@ -2,12 +2,14 @@
 use Rattle.std.specs.Prelude.{◌≡◌, ℕ, ℤ, List, [], ◌∷◌, Option, Some, None, Result, Ok, Err, slice_get}
 use Rattle.dbg_base.specs.declared.refusal.Refusal.{Refusal}
 use Rattle.dbg_base.specs.declared.refusal.Refusal.TheVariants.{Fault, ChannelEmpty}
-use Rattle.dbg_base.specs.Trees.{Action, Sends, Receives, Command}
+use Rattle.dbg_base.specs.declared.ids.Choice.{Choice}
+use Rattle.dbg_base.specs.Trees.{Action, Sends, Receives, Command, Program}
 use Rattle.dbg_base.specs.LocalStates.{LocalState}
 use Rattle.dbg_base.specs.Configurations.{Configuration, channel_of}
-use Rattle.dbg_base.specs.Firing.{effect_of}
+use Rattle.dbg_base.specs.Firing.{effect_of, fire}
+use Rattle.dbg_base.specs.Acts.{lowest_enabled}
 use Rattle.event_rows.specs.EventValues.{EventValue}
-use Rattle.causal_world.specs.Scenes.{event_of, with_done}
+use Rattle.causal_world.specs.Scenes.{event_of, event_at, with_done}
 
 -- the message of an action that takes one, and none of another
 abbrev pub TakesFront : Result (Option ℤ) Refusal → Option ℤ → Type 0
@@ -34,3 +36,10 @@ abbrev pub Decides : {E : Type 0} → Result (Result EventValue Refusal) E → O
     → Configuration → ℕ → Type 0
 Decides (Ok found) event_is fires c p = DecidesBy found event_is fires c p
 Decides (Err e) event_is fires c p = Unit {0}
+
+-- the first choice that fires with its event, or that none fires
+abbrev pub Finds : Program → Option (Choice × EventValue) → Configuration → ℕ → Type 0
+Finds P None c p = lowest_enabled P c p ≡ None
+Finds P (Some found) c p =
+    (lowest_enabled P c p ≡ Some found.0.0) × (event_at P c p found.0.0 ≡ Some found.1)
+    × (fire P c p found.0.0 ≡ Ok (with_done c p found.1))

@@ -25,6 +25,14 @@ pub record Scene : Type 0 where
   pub starts : List LocalState
   pub events : List (List EventValue)
 
+abbrev pub scene : ModelState → List LocalState → List (List (List ℤ)) → List LocalState → List (List EventValue) → Scene
+scene state states channels starts events = record {
+  state = state;
+  standing = record { states = states; channels = channels };
+  starts = starts;
+  events = events;
+}
+
 -- What an event is.
 
 -- the message that process p takes by this action: the front of its channel

@@ -6,14 +6,14 @@ ghost use Rattle.dbg_base.specs.Configurations.{Configuration, state_in, channel
 ghost use Rattle.dbg_base.specs.Firing.{fire, fire_command, proceed};
 ghost use Rattle.proc_lang.specs.Programs.{program_of};
 ghost use Rattle.proc_lang.specs.ProcessTrees.{action_tree, command_tree};
-ghost use Rattle.causal_world.specs.Scenes.{message_for, exchange_for, event_if, event_of};
-ghost use Rattle.causal_world.specs.Deciding.{Takes, MakesEvent, Decides};
+ghost use Rattle.causal_world.specs.Scenes.{exchange_for, event_if, event_at};
+ghost use Rattle.causal_world.specs.Deciding.{Takes, MakesEvent, Decides, Finds};
 
 use dbg_base::{Choice, Direction, Pid, Refusal};
 use event_rows::{Event, Exchange};
 use fifo_grid::Grid;
 use local_eval::{Env, EvalError, effect, guard};
-use proc_lang::{Action, Guarded};
+use proc_lang::{Action, Guarded, Program};
 use std::alloc::{AllocError, Global};
 
 // The message that the action takes, if it receives one.
@@ -105,9 +105,9 @@ fn proceed(
     event(alloc, command, choice, &envs[pid.0 as usize], taken)
 }
 
-/// What the process does by this command, which is its choice, or why the command does not fire: its guard is evaluated first; then a
-/// receive needs a message; then the value to send and the assigned values are evaluated.
-pub(crate) fn decide(
+// What the process does by this command, which is its choice, or why the command does not fire: its guard is evaluated first; then a
+// receive needs a message; then the value to send and the assigned values are evaluated.
+fn decide(
     alloc: Global,
     command: &Guarded,
     choice: Choice,
@@ -125,4 +125,44 @@ pub(crate) fn decide(
         Ok(false) => Ok(Err(Refusal::GuardFalse)),
         Err(_) => Ok(Err(Refusal::Fault)),
     }
+}
+
+/// What the process does by this choice, or why its command does not fire. A command that the process has not counts as one whose
+/// guard is false.
+pub(crate) fn try_choice(
+    alloc: Global,
+    program: &Program,
+    choice: Choice,
+    envs: &[Env],
+    grid: &Grid,
+    pid: Pid,
+) -> Result<Result<Event, Refusal>, AllocError>
+    requires { pid.0 < length envs.now }
+    ensures { let c : Configuration = record { states = envs.now; channels = grid.now.channels } in
+        Decides result (event_at (program_of program.now) c pid.0 choice.0) (fire (program_of program.now) c pid.0 choice.0) c pid.0 }
+{
+    match program.command(pid, choice) {
+        Some(command) => decide(alloc, command, choice, envs, grid, pid),
+        None => Ok(Err(Refusal::GuardFalse)),
+    }
+}
+
+/// The first command of the process that fires, with what the process does by it, or None where none fires.
+pub(crate) fn lowest(
+    alloc: Global,
+    program: &Program,
+    envs: &[Env],
+    grid: &Grid,
+    pid: Pid,
+) -> Result<Option<(Choice, Event)>, AllocError>
+    requires { pid.0 < length envs.now }
+    ensures { let c : Configuration = record { states = envs.now; channels = grid.now.channels } in
+        IfOk result (λ found. Finds (program_of program.now) found c pid.0) }
+{
+    for k in 0..program.commands(pid) {
+        if let Ok(event) = try_choice(alloc, program, Choice(k), envs, grid, pid)? {
+            return Ok(Some((Choice(k), event)));
+        }
+    }
+    Ok(None)
 }

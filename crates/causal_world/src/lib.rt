@@ -5,3 +5,6 @@ pub mod laws;
 mod channels;
 mod deciding;
 mod lines;
+mod world;
+
+pub use world::{Cutoff, Rolled, World};
