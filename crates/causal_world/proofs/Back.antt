@@ -113,7 +113,7 @@ sized P c d (e ∷ E) legal =
     let f = fires (command_of P e.process e.choice) c e.process step.0 step.1 in
     sized P step.0 d E step.2 ∙ ap (λ (x : Configuration). length x.states) f.leads ∙ length-set c.states e.process f.state
 
-length_with : (events : List (List EventValue)) (p : ℕ) (o : Option EventValue) → length (with_event events p o) ≡ length events
+pub length_with : (events : List (List EventValue)) (p : ℕ) (o : Option EventValue) → length (with_event events p o) ≡ length events
 length_with events p None = refl
 length_with events p (Some event) = length-set events p (get_or events p [] ++ event ∷ [])
 
@@ -166,7 +166,7 @@ pub record WentBack (P : Program) (w : Scene) (p : ℕ) : Type 0 where
   pub may : MayUndo P (history_of w.state) p
   pub of : IsWorldOf P (unmade w p event)
 
-get_last : {A : Type 0} (l : List A) (x : A) → slice_get (l ++ x ∷ []) (length (l ++ x ∷ []) - 1) ≡ Some x
+pub get_last : {A : Type 0} (l : List A) (x : A) → slice_get (l ++ x ∷ []) (length (l ++ x ∷ []) - 1) ≡ Some x
 get_last {A} l x =
     let size : length (l ++ x ∷ []) - 1 ≡ length l = omega (arith, length_push l x) in
     ap (slice_get (l ++ x ∷ [])) size ∙ at_end l x

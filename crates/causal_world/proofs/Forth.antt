@@ -21,7 +21,7 @@ use Rattle.causal_world.proofs.Records.{events_step}
 
 -- One event more at the end of a list.
 
-no_choices : (n p : ℕ) → ◌≡◌ {A = List ℕ} (get_or (replicate n []) p []) []
+pub no_choices : (n p : ℕ) → ◌≡◌ {A = List ℕ} (get_or (replicate n []) p []) []
 no_choices zero p = refl
 no_choices (suc n) zero = refl
 no_choices (suc n) (suc p) = no_choices n p

@@ -90,7 +90,7 @@ with_message : (z : ℤ) (sets : Option (List (ℕ × ℤ))) (effect : Effect) �
 with_message z None effect e = cc
 with_message z (Some sets) effect e = (sets, cc)
 
-sent_effect : (o : Option ℤ) (sets : Option (List (ℕ × ℤ))) (effect : Effect)
+pub sent_effect : (o : Option ℤ) (sets : Option (List (ℕ × ℤ))) (effect : Effect)
     → sending o (λ z. effect_with [] (Some z) sets) ≡ Some effect
     → (known : List (ℕ × ℤ)) × (z : ℤ) × (effect ≡ record { sets = known; message = Some z })
 sent_effect None sets effect e = cc

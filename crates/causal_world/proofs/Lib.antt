@@ -23,3 +23,5 @@ pub mod Undone
 pub mod Unfiring
 pub mod Back
 pub mod Lowest
+pub mod Standing
+pub mod Calls

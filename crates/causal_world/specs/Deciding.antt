@@ -1,9 +1,9 @@
 -- What is found out before a process makes a choice.
-use Rattle.std.specs.Prelude.{◌≡◌, ℕ, ℤ, List, [], ◌∷◌, Option, Some, None, Result, Ok, Err, slice_get}
+use Rattle.std.specs.Prelude.{◌≡◌, ℕ, ◌<◌, ℤ, List, length, [], ◌∷◌, Option, Some, None, Result, Ok, Err, slice_get}
 use Rattle.dbg_base.specs.declared.refusal.Refusal.{Refusal}
 use Rattle.dbg_base.specs.declared.refusal.Refusal.TheVariants.{Fault, ChannelEmpty}
 use Rattle.dbg_base.specs.declared.ids.Choice.{Choice}
-use Rattle.dbg_base.specs.Trees.{Action, Sends, Receives, Command, Program}
+use Rattle.dbg_base.specs.Trees.{Action, Sends, Receives, Command, Program, process_of}
 use Rattle.dbg_base.specs.LocalStates.{LocalState}
 use Rattle.dbg_base.specs.Configurations.{Configuration, channel_of}
 use Rattle.dbg_base.specs.Firing.{effect_of, fire}
@@ -41,5 +41,5 @@ Decides (Err e) event_is fires c p = Unit {0}
 abbrev pub Finds : Program → Option (Choice × EventValue) → Configuration → ℕ → Type 0
 Finds P None c p = lowest_enabled P c p ≡ None
 Finds P (Some found) c p =
-    (lowest_enabled P c p ≡ Some found.0.0) × (event_at P c p found.0.0 ≡ Some found.1)
+    (lowest_enabled P c p ≡ Some found.0.0) × (found.0.0 < length (process_of P p).commands) × (event_at P c p found.0.0 ≡ Some found.1)
     × (fire P c p found.0.0 ≡ Ok (with_done c p found.1))

@@ -3,6 +3,7 @@
 ghost use Rattle.std.specs.Prelude.{◌≡◌, OnOk};
 ghost use Rattle.causal_world.specs.Scenes.{channels_after, channels_before};
 ghost use Rattle.causal_world.specs.Room.{HasRoomAfter, HasRoomBefore};
+ghost use Rattle.causal_world.specs.Worlds.{ReceivedBy};
 
 use dbg_base::Pid;
 use event_rows::Exchange;
@@ -74,5 +75,22 @@ pub(crate) fn go_before(grid: &mut Grid, pid: Pid, exchange: Exchange)
                 grid.unpop_front(source, pid, message);
             }
         }
+    }
+}
+
+/// The process that has received what the exchange sent, if it sent something: no message is left for it then, since what was sent
+/// last is received last.
+pub(crate) fn received(grid: &Grid, pid: Pid, exchange: Exchange) -> Option<Pid>
+    ensures { ReceivedBy grid.now.channels pid.0 exchange result }
+{
+    match exchange {
+        Exchange::Sent { target, .. } => {
+            if grid.has(pid, target) && grid.len(pid, target) == 0 {
+                Some(target)
+            } else {
+                None
+            }
+        }
+        _ => None,
     }
 }

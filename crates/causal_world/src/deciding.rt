@@ -160,8 +160,9 @@ pub(crate) fn lowest(
         IfOk result (λ found. Finds (program_of program.now) found c pid.0) }
 {
     for k in 0..program.commands(pid) {
-        if let Ok(event) = try_choice(alloc, program, Choice(k), envs, grid, pid)? {
-            return Ok(Some((Choice(k), event)));
+        match try_choice(alloc, program, Choice(k), envs, grid, pid)? {
+            Ok(event) => return Ok(Some((Choice(k), event))),
+            Err(_refusal) => {}
         }
     }
     Ok(None)

@@ -4,7 +4,7 @@ ghost use Rattle.std.specs.Prelude.{◌≡◌, ◌<◌, ◌⊎◌, length, map, 
 ghost use Rattle.std.specs.Option.{option_map};
 ghost use Rattle.dbg_base.specs.declared.limits.TheConstants.{EVENTS};
 ghost use Rattle.dbg_base.specs.declared.refusal.Refusal.TheVariants.{Memory};
-ghost use Rattle.dbg_base.specs.Trees.{Program};
+ghost use Rattle.dbg_base.specs.Trees as tree;
 ghost use Rattle.dbg_base.specs.LocalStates.{no_state};
 ghost use Rattle.dbg_base.specs.Configurations.{start_of, values_of, channel_of};
 ghost use Rattle.dbg_base.specs.ModelStates.{opening_state, line_of, place_at, redo_line, history_of, last_choice};
@@ -17,7 +17,7 @@ ghost use Rattle.causal_world.specs.Scenes.{IsWorldOf, channels_after, channels_
 ghost use Rattle.causal_world.specs.Room.{HasRoomAfter, HasRoomBefore};
 ghost use Rattle.causal_world.specs.Worlds.{CanMake, Undoable};
 
-use crate::channels::{go_after, go_before, make_room_after, make_room_before};
+use crate::channels::{go_after, go_before, make_room_after, make_room_before, received};
 use crate::deciding::{lowest, try_choice};
 use crate::lines::Lines;
 use dbg_base::limits::EVENTS;
@@ -295,22 +295,20 @@ impl World {
     fn undoable(&self, pid: Pid) -> Result<Exchange, Refusal>
         ensures { Undoable self.now pid.0 result }
     {
-        let event = self.rows.last(pid).ok_or(Refusal::NothingToUndo)?;
-        match event.exchange() {
-            Exchange::Sent { target, .. }
-                if self.grid.has(pid, target) && self.grid.len(pid, target) == 0 =>
-            {
-                Err(Refusal::Consequence(target))
-            }
-            exchange => Ok(exchange),
+        let Some(event) = self.rows.last(pid) else {
+            return Err(Refusal::NothingToUndo);
+        };
+        match received(&self.grid, pid, event.exchange()) {
+            Some(target) => Err(Refusal::Consequence(target)),
+            None => Ok(event.exchange()),
         }
     }
 
     /// Whether the last event of the process may be undone, or why not: `NothingToUndo` where it has none, and `Consequence` where the
     /// process that is told has received the message that the event sent.
     pub fn can_undo(&self, pid: Pid) -> Result<(), Refusal>
-        ensures may { OnOk result ((P : Program) → IsWorldOf P self.now → MayUndo P (history_of self.now.state) pid.0) }
-        ensures why { IfErr result (λ refusal. (P : Program) → IsWorldOf P self.now → CannotUndo P self.now.state pid.0 refusal) }
+        ensures may { OnOk result ((P : tree.Program) → IsWorldOf P self.now → MayUndo P (history_of self.now.state) pid.0) }
+        ensures why { IfErr result (λ refusal. (P : tree.Program) → IsWorldOf P self.now → CannotUndo P self.now.state pid.0 refusal) }
     {
         let _exchange = self.undoable(pid)?;
         Ok(())
@@ -320,16 +318,18 @@ impl World {
     /// channel, and one that it took is at the front again. The place moves back, and the line stays. It is refused, and changes
     /// nothing, as `can_undo` tells, or as `Memory`, where that runs out.
     pub fn undo(&mut self, pid: Pid) -> Result<Rolled, Refusal>
-        ensures of { (P : Program) → IsWorldOf P self.old → IsWorldOf P self.new }
-        ensures may { OnOk result ((P : Program) → IsWorldOf P self.old → MayUndo P (history_of self.old.state) pid.0) }
+        ensures of { (P : tree.Program) → IsWorldOf P self.old → IsWorldOf P self.new }
+        ensures may { OnOk result ((P : tree.Program) → IsWorldOf P self.old → MayUndo P (history_of self.old.state) pid.0) }
         ensures moves { OnOk result (self.new.state ≡ after_undo self.old.state pid.0) }
         ensures refuses { IfErr result (λ refusal.
-            ((P : Program) → IsWorldOf P self.old → CannotUndo P self.old.state pid.0 refusal) ⊎ (refusal ≡ Memory)) }
+            ((P : tree.Program) → IsWorldOf P self.old → CannotUndo P self.old.state pid.0 refusal) ⊎ (refusal ≡ Memory)) }
         ensures kept { OnErr result (self.new ≡ self.old) }
     {
         let exchange = self.undoable(pid)?;
         make_room_before(&mut self.grid, pid, exchange)?;
-        let event = self.rows.pop(pid).ok_or(Refusal::NothingToUndo)?;
+        let Some(event) = self.rows.pop(pid) else {
+            return Err(Refusal::NothingToUndo);
+        };
         self.lines.retreat(pid);
         revert(&mut self.envs, &mut self.grid, pid, &event);
         Ok(Rolled { pid, event })
