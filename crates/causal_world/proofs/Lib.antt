@@ -15,3 +15,4 @@ pub mod Lasts
 pub mod Squares
 pub mod Undone
 pub mod Unfiring
+pub mod Counting
