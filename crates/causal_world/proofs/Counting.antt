@@ -70,6 +70,20 @@ one_or_none q i (Some t) j =
       }))
       (cases_eq q i)
 
+pub sends_one : (P : Program) (p k t : ℕ) → target_in (command_of P p k) ≡ Some t → sends_by P p k p t ≡ 1
+sends_one P p k t to =
+    ⊎_elim
+      (λ (s : IsOne p p (target_in (command_of P p k)) t). s.one)
+      (λ (s : IsNone p p (target_in (command_of P p k)) t). absurd (s.apart refl to))
+      (one_or_none p p (target_in (command_of P p k)) t)
+
+pub gets_none : (P : Program) (p k j i : ℕ) → p ≢ j → gets_by P p k j i ≡ 0
+gets_none P p k j i apart =
+    ⊎_elim
+      (λ (s : IsOne p j (source_in (command_of P p k)) i). absurd (apart s.own))
+      (λ (s : IsNone p j (source_in (command_of P p k)) i). s.none)
+      (one_or_none p j (source_in (command_of P p k)) i)
+
 -- a line of which the first choice is taken
 line_count : (H : History) (q k i : ℕ) (rest : List ℕ) (f : ℕ → ℕ → Bool) → get_or H q [] ≡ k ∷ rest
     → count_by (f i) (get_or H i []) ≡ cond (q == i) (cond (f q k) 1 0) 0 + count_by (f i) (get_or (set H q rest) i [])
@@ -180,7 +194,7 @@ step_balance P c d q k i j square i_there j_there fire_is =
       (one_or_none q i (target_in (command_of P q k)) j)
 
 -- and a whole list
-no_counts : (H : History) (i : ℕ) (f : ℕ → Bool) → get_or H i [] ≡ [] → count_by f (get_or H i []) ≡ 0
+pub no_counts : (H : History) (i : ℕ) (f : ℕ → Bool) → get_or H i [] ≡ [] → count_by f (get_or H i []) ≡ 0
 no_counts H i f none = ap (λ (l : List ℕ). count_by f l) none
 
 pub balance_most : (P : Program) (c d : Configuration) (H : History) (E : List Event) (i j : ℕ) → order_from P c E ≡ Ok d → IsOrderOf H E

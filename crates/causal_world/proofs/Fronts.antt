@@ -42,7 +42,7 @@ pub record IsSplit (H front rest : History) : Type 0 where
   pub size : length H ≡ length rest
   pub lines : (q : ℕ) → get_or H q [] ≡ get_or front q [] ++ get_or rest q []
 
-split_behind : (H front rest : History) (p k : ℕ) (left : List ℕ) → get_or front p [] ≡ k ∷ left → p < length H → IsSplit H front rest
+pub split_behind : (H front rest : History) (p k : ℕ) (left : List ℕ) → get_or front p [] ≡ k ∷ left → p < length H → IsSplit H front rest
     → IsSplit (set H p (left ++ get_or rest p [])) (set front p left) rest
 split_behind H front rest p k left e within s = record {
   size = length-set H p (left ++ get_or rest p []) ∙ s.size;

@@ -16,3 +16,4 @@ pub mod Squares
 pub mod Undone
 pub mod Unfiring
 pub mod Counting
+pub mod Cutting

@@ -34,7 +34,7 @@ move_square n Keeps p g s = s
 move_square n (Puts target value) p g s = put_square n g p target (cell g p target ++ value ∷ []) s
 move_square n (Takes source message) p g s = put_square n g source p (drop 1 (cell g source p)) s
 
-square_start : (P : Program) → IsSquare (length P) (start_of P).channels
+pub square_start : (P : Program) → IsSquare (length P) (start_of P).channels
 square_start P = record {
   rows = length-replicate (length P) (replicate (length P) []);
   columns = λ i within. ap (λ (r : List (List ℤ)). length r) (get_or-replicate (length P) i (replicate (length P) []) [] within)
