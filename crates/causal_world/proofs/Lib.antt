@@ -17,3 +17,4 @@ pub mod Undone
 pub mod Unfiring
 pub mod Counting
 pub mod Cutting
+pub mod Chains
