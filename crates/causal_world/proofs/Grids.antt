@@ -1,6 +1,6 @@
 -- Grids of lists: for each row and column a list.
-use Rattle.std.proofs.Common.{◌≡◌, ◌≢◌, ℕ, ◌<◌, ◌≤◌, ◌⊎◌, List, [], ◌∷◌, ◌++◌, length, get_or, set, drop, refl, sym, ap, ◌∙◌, ⊎_elim, arith}
-use Rattle.std.proofs.lemmas.List.{get_or-set_same, get_or-set_other, set-set, set_comm, get_or_past, set_past, length-set, set-get_or}
+use Rattle.std.proofs.Common.{◌≡◌, ◌≢◌, ℕ, ◌<◌, ◌≤◌, ◌⊎◌, List, [], ◌∷◌, length, get_or, set, sym, ap, ◌∙◌, arith}
+use Rattle.std.proofs.lemmas.List.{get_or-set_same, get_or-set_other, set-set, set_comm, get_or_past, set_past, set-get_or}
 use Rattle.std.proofs.lemmas.Bool.{cases_eq}
 use Rattle.std.specs.Prelude.{ℤ}
 
@@ -57,11 +57,11 @@ changes_swap g i j k l f h apart =
     ap (λ (x : List ℤ). put (change g i j f) k l (h x)) (cell-put_other g i j k l (f (cell g i j)) apart)
     ∙ put_comm g i j k l (f (cell g i j)) (h (cell g k l)) apart
     ∙ ap (λ (x : List ℤ). put (change g k l h) i j (f x))
-      (sym (cell-put_other g k l i j (h (cell g k l)) (λ (a : k ≡ i) (b : l ≡ j). apart (sym a) (sym b))))
+    (sym (cell-put_other g k l i j (h (cell g k l)) (λ (a : k ≡ i) (b : l ≡ j). apart (sym a) (sym b))))
 
 pub change_twice : (g : Grid) (i j : ℕ) (x : ℤ) (xs : List ℤ) (f h : List ℤ → List ℤ) → cell g i j ≡ x ∷ xs
     → change (change g i j f) i j h ≡ put g i j (h (f (cell g i j)))
 change_twice g i j x xs f h e =
     ap (λ (y : List ℤ). put (change g i j f) i j (h y))
-      (cell-put_same g i j (f (cell g i j)) (row_within g i j x xs e) (cell_within g i j x xs e))
+    (cell-put_same g i j (f (cell g i j)) (row_within g i j x xs e) (cell_within g i j x xs e))
     ∙ put-put g i j (f (cell g i j)) (h (f (cell g i j)))

@@ -7,9 +7,11 @@ use Rattle.causal_world.proofs.laws.any_undo.Goals as goal
 
 pub returns-clause-reached : goal.returns-clause-reached
 returns-clause-reached c P H undos all permitted =
-    let front = front_after P H undos permitted in
-    (cut_of (after_undos H undos), front_consistent P H (after_undos H undos) (unfired_all P H undos all permitted).0 front,
-      front_is_cut H (after_undos H undos) front)
+    let front = front_after P H undos permitted in (
+      cut_of (after_undos H undos),
+      front_consistent P H (after_undos H undos) (unfired_all P H undos all permitted).0 front,
+      front_is_cut H (after_undos H undos) front,
+    )
 
 pub returns-clause-leads : goal.returns-clause-leads
 returns-clause-leads c P H cut all consistent =
