@@ -17,7 +17,8 @@ use Rattle.causal_world.proofs.Growing.{front_within}
 use Rattle.causal_world.proofs.Fronts.{IsSplit, split_behind}
 use Rattle.causal_world.proofs.Ends.{IsWaiting, are_others, to_end}
 use Rattle.causal_world.proofs.Squares.{IsSquare, square_fire, square_start}
-use Rattle.causal_world.proofs.Counting.{sends_left, gets_left, sends_by, gets_by, sends_step, gets_step, step_balance, balanced, no_counts, sends_one, gets_none}
+use Rattle.causal_world.proofs.Counting.{sends_left, gets_left, sends_by, gets_by, sends_step, gets_step, step_balance, balanced}
+use Rattle.causal_world.proofs.Counting.{no_counts, sends_one, gets_none}
 
 -- no process receives more in F than it finds at c and others send in F
 abbrev Fits : Program → Configuration → History → Type 0

@@ -6,7 +6,8 @@ use Rattle.dbg_base.specs.Trees.{Program, command_of}
 use Rattle.dbg_base.specs.LocalStates.{LocalState, no_state}
 use Rattle.dbg_base.specs.Configurations.{Configuration, state_in}
 use Rattle.dbg_base.specs.Firing.{fire}
-use Rattle.causal_world.proofs.Grids.{Grid, cell, change, row_within, cell_within, cell-put_other, cell-put_same, put-put, changes_swap, change_twice}
+use Rattle.causal_world.proofs.Grids.{Grid, cell, change, row_within, cell_within, cell-put_other, cell-put_same, put-put, changes_swap}
+use Rattle.causal_world.proofs.Grids.{change_twice}
 use Rattle.causal_world.proofs.Moves.{Move, Keeps, Puts, Takes, channels_after, IsReady, after_move, fires}
 
 -- a message that is put behind leaves the front as it is

@@ -1,7 +1,9 @@
 -- One choice more: the history stays possible, its play is one event longer, and so are the local states.
-use Rattle.std.proofs.Common.{◌≡◌, ◌≢◌, ℕ, suc, ◌+◌, ◌<◌, ◌≤◌, List, [], ◌∷◌, ◌++◌, length, get_or, set, map, Ok, refl, sym, ap, ◌∙◌, subst, ⊎_elim, arith}
+use Rattle.std.proofs.Common.{◌≡◌, ◌≢◌, ℕ, suc, ◌+◌, ◌<◌, ◌≤◌, List, [], ◌∷◌, ◌++◌, length, get_or, set, map, Ok, refl, sym, ap, ◌∙◌}
+use Rattle.std.proofs.Common.{subst, ⊎_elim, arith}
 use Rattle.std.proofs.lemmas.Bool.{cases_eq}
-use Rattle.std.proofs.lemmas.List.{set-get_or, get_or-map, length-map, length-set, length-append, get_or_append_left, get_or_push, get_or_past, get_or-set_same, get_or-set_other}
+use Rattle.std.proofs.lemmas.List.{set-get_or, get_or-map, length-map, length-set, length-append, get_or_append_left, get_or_push}
+use Rattle.std.proofs.lemmas.List.{get_or_past, get_or-set_same, get_or-set_other}
 use Rattle.dbg_base.specs.Trees.{Program}
 use Rattle.dbg_base.specs.LocalStates.{LocalState, no_state, start_among}
 use Rattle.dbg_base.specs.Configurations.{Configuration, start_of, state_in}
@@ -203,7 +205,8 @@ pub last_stands : (P : Program) (H : History) (p : ℕ) → IsPossible P H → p
     → StandsAt (progress_of P H).states p (length (get_or H p [])) (play P H)
 last_stands P H p all within =
     let l = listed P H all in
-    let s = stands P (start_of P) (play P H) (map (λ state. state ∷ []) (start_of P).states) H l.events p 0 l.legal l.takes (starts P p within) in
+    let opening = map (λ (state : LocalState). state ∷ []) (start_of P).states in
+    let s = stands P (start_of P) (play P H) opening H l.events p 0 l.legal l.takes (starts P p within) in
     let size : 0 + length (get_or H p []) ≡ length (get_or H p []) = omega arith in
     subst (λ (x : List (List LocalState)). StandsAt x p (length (get_or H p [])) (play P H)) l.states
     (subst (λ (m : ℕ). StandsAt (states_of P l.events) p m (play P H)) size s)
@@ -234,6 +237,7 @@ pub local_new : (P : Program) (H : History) (p k : ℕ) (d : Configuration) → 
 local_new P H p k d all within fires =
     let states = (progress_of P H).states in
     let s = last_stands P H p all (is_there P (play P H) d p k fires) in
-    ap (λ (x : List (List LocalState)). get_or (get_or x p []) (suc (length (get_or H p []))) no_state) (states_more P H p k d all within fires)
+    ap (λ (x : List (List LocalState)). get_or (get_or x p []) (suc (length (get_or H p []))) no_state)
+    (states_more P H p k d all within fires)
     ∙ ap (λ (l : List LocalState). get_or l (suc (length (get_or H p []))) no_state) (push_same states p (state_in d p) s.there)
     ∙ get_or_push (get_or states p []) (state_in d p) no_state (suc (length (get_or H p []))) s.size

@@ -1,11 +1,13 @@
 -- What a command that fires reads and writes: its process's local state, and one channel at most.
-use Rattle.std.proofs.Common.{◌≡◌, ℕ, ℤ, List, [], ◌∷◌, ◌++◌, set, drop, Bool, true, false, Option, Some, None, Result, Ok, refl, sym, ap, ◌∙◌}
+use Rattle.std.proofs.Common.{◌≡◌, ℕ, ℤ, List, [], ◌∷◌, ◌++◌, set, drop, Bool, true, false, Option, Some, None, Result, Ok, refl, sym}
+use Rattle.std.proofs.Common.{ap, ◌∙◌}
 use Rattle.dbg_base.specs.declared.refusal.Refusal.{Refusal}
 use Rattle.dbg_base.specs.Trees.{Tree, Action, Local, Sends, Receives, Command}
 use Rattle.dbg_base.specs.Evaluation.{evaluate, number_of}
 use Rattle.dbg_base.specs.LocalStates.{LocalState}
 use Rattle.dbg_base.specs.Configurations.{Configuration, state_in, channel_of, with_channel, with_state}
-use Rattle.dbg_base.specs.Firing.{truth_of, Effect, effect_with, sending, assigned, with_set, effect_by, effect_of, counted, deliver, advanced}
+use Rattle.dbg_base.specs.Firing.{truth_of, Effect, effect_with, sending, assigned, with_set, effect_by, effect_of, counted, deliver}
+use Rattle.dbg_base.specs.Firing.{advanced}
 use Rattle.dbg_base.specs.Firing.{after_effect, complete, receive, proceed, where_true, fire_if}
 use Rattle.dbg_base.specs.Orders.{target_of, target_in, source_of, source_in}
 use Rattle.causal_world.proofs.Grids.{Grid, cell, change}

@@ -41,7 +41,8 @@ square_start P = record {
       ∙ length-replicate (length P) [];
 }
 
-pub square_fire : (P : Program) (n : ℕ) (c d : Configuration) (p k : ℕ) → fire P c p k ≡ Ok d → IsSquare n c.channels → IsSquare n d.channels
+pub square_fire : (P : Program) (n : ℕ) (c d : Configuration) (p k : ℕ) → fire P c p k ≡ Ok d → IsSquare n c.channels
+    → IsSquare n d.channels
 square_fire P n c d p k fire_is s =
     let f = fires (command_of P p k) c p d fire_is in
     subst (λ (x : Configuration). IsSquare n x.channels) (sym f.leads) (move_square n f.move p c.channels s)

@@ -6,7 +6,8 @@ use Rattle.dbg_base.specs.LocalStates.{LocalState}
 use Rattle.dbg_base.specs.Configurations.{Configuration, start_of, state_in}
 use Rattle.dbg_base.specs.Firing.{fire}
 use Rattle.dbg_base.specs.Histories.{History, IsPossible, progress_of}
-use Rattle.dbg_base.specs.Orders.{Event, order_from, order, IsLegalFrom, states_then, states_from, states_of, with_state_of, IsSwap, GoesOver, Stays, Swaps}
+use Rattle.dbg_base.specs.Orders.{Event, order_from, order, IsLegalFrom, states_then, states_from, states_of, with_state_of, IsSwap}
+use Rattle.dbg_base.specs.Orders.{GoesOver, Stays, Swaps}
 use Rattle.causal_world.proofs.Moves.{fires}
 use Rattle.causal_world.proofs.Diamonds.{other_state, diamond}
 use Rattle.causal_world.proofs.Bubbling.{IsOrderOf, first_step}

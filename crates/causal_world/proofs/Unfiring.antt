@@ -1,14 +1,14 @@
 -- Taking back the last choice gives the play of the history without it.
 use Rattle.std.proofs.Common.{◌≡◌, ℕ, ℤ, pos, ◌+◌, ◌-◌, ◌<◌, ◌≤◌, List, [], ◌∷◌, ◌++◌, length, get_or, set, drop, Option, Some, None}
-use Rattle.std.proofs.Common.{refl, sym, ap, ◌∙◌, subst, ⊎_elim, arith}
+use Rattle.std.proofs.Common.{Ok, refl, sym, ap, ◌∙◌, subst, ⊎_elim, arith}
 use Rattle.std.specs.Prelude.{slice_index, slice_index_or}
 use Rattle.std.proofs.lemmas.List.{set-set, set-get_or, length-append, length-set, take_at, take_more, take_all, get_or_push, get_or_past}
 use Rattle.dbg_base.specs.Trees.{Action, Local, Sends, Receives, Command, Program, command_of}
 use Rattle.dbg_base.specs.LocalStates.{LocalState, no_state}
 use Rattle.dbg_base.specs.Configurations.{Configuration, start_of, state_in, channel_of, with_channel, with_state}
 use Rattle.dbg_base.specs.Histories.{History, IsPossible, play, local_state}
-use Rattle.dbg_base.specs.Orders.{with_last, target_of, target_in, source_of, source_in}
-use Rattle.dbg_base.specs.Reversal.{without_back, without_last, last_choice, MayUndo, taken_in, unmoved, unmoved_if, unfire}
+use Rattle.dbg_base.specs.Orders.{Event, order_from, with_last, target_of, target_in, source_of, source_in}
+use Rattle.dbg_base.specs.Reversal.{without_back, without_last, last_choice, MayUndo, before_last, taken_in, unmoved, unmoved_if, unfire}
 use Rattle.dbg_base.specs.Reversal.{IsPermitted, after_undos, unfire_all}
 use Rattle.causal_world.proofs.Grids.{Grid, cell, put, change, row_within, cell_within, cell-put_same, put-put, put_kept}
 use Rattle.causal_world.proofs.Moves.{Move, Keeps, Puts, Takes, IsReady, move_target, move_source, after_move, fires}
@@ -18,7 +18,7 @@ use Rattle.causal_world.proofs.Pushes.{push_same, set_push, push_set}
 use Rattle.causal_world.proofs.Growing.{order_both, last_state, local_kept}
 use Rattle.causal_world.proofs.Fronts.{last_fires}
 use Rattle.causal_world.proofs.Sizes.{put_cases}
-use Rattle.causal_world.proofs.Ends.{to_end, front_stays}
+use Rattle.causal_world.proofs.Ends.{AreOthers, to_end, front_stays}
 use Rattle.causal_world.proofs.Lasts.{around_last}
 use Rattle.causal_world.proofs.Undone.{waits}
 
@@ -151,24 +151,34 @@ ready_front (Puts target value) p s g from ready = cc
 ready_front (Takes source message) p s g from ready =
     let same : source ≡ s = cc in (message, ready.0, subst (λ (x : ℕ). cell g x p ≡ message ∷ ready.0) same ready.1)
 
+-- a message that was at the front when p made its last choice is at the front behind the events of the other processes
+taken_behind : (P : Program) (H : History) (p s : ℕ) (before between : Configuration) (E : List Event)
+    → (m : ℤ) × (rest : List ℤ) × (channel_of before s p ≡ m ∷ rest) → before_last P H p ≡ before → order_from P before E ≡ Ok between
+    → AreOthers p E → (rest : List ℤ) × (channel_of between s p ≡ taken_in P H p s ∷ rest)
+taken_behind P H p s before between E front made legal others =
+    let taken : taken_in P H p s ≡ front.0 = taken_at (before_last P H p) made in
+    let later = front_stays P before between s p front.0 front.1 E legal others front.2 in
+    (later.0, later.1 ∙ ap (λ (m : ℤ). m ∷ later.0) (sym taken))
+  where
+    taken_at : (c : Configuration) → c ≡ before → slice_index_or (channel_of c s p) 0 (pos 0) ≡ front.0
+    taken_at c same =
+        ap (λ (x : Configuration). slice_index_or (channel_of x s p) 0 (pos 0)) same
+        ∙ ap (λ (l : List ℤ). slice_index_or l 0 (pos 0)) front.2
+
 -- what the last choice took in the play is at the front of its channel in the play of the history without it
 pub taken_front : (P : Program) (B : History) (p k s : ℕ) → p < length B → IsPossible P B → IsPossible P (with_last B p k)
     → source_in (command_of P p k) ≡ Some s → (rest : List ℤ) × (channel_of (play P B) s p ≡ taken_in P (with_last B p k) p s ∷ rest)
 taken_front P B p k s within shorter longer from =
     let a = around_last P B p k within longer in
     let e = to_end P a.before a.after (play P (with_last B p k)) p k a.behind a.fires a.goes_on a.others
-    (waits P B p k within shorter longer) in
+      (waits P B p k within shorter longer) in
     let ends : play P B ≡ e.between =
-    (possible P B (a.front ++ a.behind) e.between (order_both P (start_of P) a.before e.between a.front a.behind a.leads e.first) a.takes).1 in
+      (possible P B (a.front ++ a.behind) e.between
+        (order_both P (start_of P) a.before e.between a.front a.behind a.leads e.first) a.takes).1 in
     let f = fires (command_of P p k) a.before p a.after a.fires in
-    let front = ready_front f.move p s a.before.channels (sym f.receives ∙ from) f.ready in
-    let taken : taken_in P (with_last B p k) p s ≡ front.0 =
-    ap (λ (x : Configuration). slice_index_or (channel_of x s p) 0 (pos 0)) a.made
-    ∙ ap (λ (l : List ℤ). slice_index_or l 0 (pos 0)) front.2 in
-    let later = front_stays P a.before e.between s p front.0 front.1 a.behind e.first a.others front.2 in (
-      later.0,
-      ap (λ (x : Configuration). channel_of x s p) ends ∙ later.1 ∙ ap (λ (m : ℤ). m ∷ later.0) (sym taken),
-    )
+    subst (λ (x : Configuration). (rest : List ℤ) × (channel_of x s p ≡ taken_in P (with_last B p k) p s ∷ rest)) (sym ends)
+      (taken_behind P (with_last B p k) p s a.before e.between a.behind
+        (ready_front f.move p s a.before.channels (sym f.receives ∙ from) f.ready) a.made e.first a.others)
 
 -- Taking back the last choice of a history from its play on leads to the play of the history without it.
 pub unfired : (P : Program) (B : History) (p k : ℕ) → p < length B → IsPossible P B → IsPossible P (with_last B p k)
