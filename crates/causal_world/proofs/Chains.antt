@@ -166,7 +166,7 @@ no_messages zero j = refl
 no_messages (suc n) zero = refl
 no_messages (suc n) (suc j) = no_messages n j
 
-nothing_sent : (m n i j : ℕ) → get_or (get_or (replicate m (replicate n [])) i []) j [] ≡ (let none : List ℤ = [] in none)
+pub nothing_sent : (m n i j : ℕ) → get_or (get_or (replicate m (replicate n [])) i []) j [] ≡ (let none : List ℤ = [] in none)
 nothing_sent zero n i j = refl
 nothing_sent (suc m) n zero j = no_messages n j
 nothing_sent (suc m) n (suc i) j = nothing_sent m n i j

@@ -27,7 +27,7 @@ abbrev pub gets_left : Program → History → ℕ → ℕ → ℕ
 gets_left P H j i = count_by (receives_from P j i) (get_or H j [])
 
 -- one where process q is i and the other process is j
-abbrev once : ℕ → ℕ → Option ℕ → ℕ → ℕ
+abbrev pub once : ℕ → ℕ → Option ℕ → ℕ → ℕ
 once q i o j = cond (q == i) (cond (is_process j o) 1 0) 0
 
 -- a choice of q that sends to j counts once for i
@@ -37,20 +37,20 @@ sends_by P q k i j = once q i (target_in (command_of P q k)) j
 abbrev pub gets_by : Program → ℕ → ℕ → ℕ → ℕ → ℕ
 gets_by P q k j i = once q j (source_in (command_of P q k)) i
 
-record IsOne (q i : ℕ) (o : Option ℕ) (j : ℕ) : Type 0 where
-  own : q ≡ i
-  other : o ≡ Some j
-  one : once q i o j ≡ 1
+pub record IsOne (q i : ℕ) (o : Option ℕ) (j : ℕ) : Type 0 where
+  pub own : q ≡ i
+  pub other : o ≡ Some j
+  pub one : once q i o j ≡ 1
 
-record IsNone (q i : ℕ) (o : Option ℕ) (j : ℕ) : Type 0 where
-  apart : q ≡ i → o ≡ Some j → ⊥
-  none : once q i o j ≡ 0
+pub record IsNone (q i : ℕ) (o : Option ℕ) (j : ℕ) : Type 0 where
+  pub apart : q ≡ i → o ≡ Some j → ⊥
+  pub none : once q i o j ≡ 0
 
 none_of_none : (b : Bool) → cond {A = ℕ} b (cond false 1 0) 0 ≡ 0
 none_of_none true = refl
 none_of_none false = refl
 
-one_or_none : (q i : ℕ) (o : Option ℕ) (j : ℕ) → IsOne q i o j ⊎ IsNone q i o j
+pub one_or_none : (q i : ℕ) (o : Option ℕ) (j : ℕ) → IsOne q i o j ⊎ IsNone q i o j
 one_or_none q i None j = inr (record { apart = λ x y. (cc); none = none_of_none (q == i) })
 one_or_none q i (Some t) j =
     ⊎_elim
@@ -86,7 +86,7 @@ gets_none P p k j i apart =
     (one_or_none p j (source_in (command_of P p k)) i)
 
 -- a line of which the first choice is taken
-line_count : (H : History) (q k i : ℕ) (rest : List ℕ) (f : ℕ → ℕ → Bool) → get_or H q [] ≡ k ∷ rest
+pub line_count : (H : History) (q k i : ℕ) (rest : List ℕ) (f : ℕ → ℕ → Bool) → get_or H q [] ≡ k ∷ rest
     → count_by (f i) (get_or H i []) ≡ cond (q == i) (cond (f q k) 1 0) 0 + count_by (f i) (get_or (set H q rest) i [])
 line_count H q k i rest f front =
     ⊎_elim

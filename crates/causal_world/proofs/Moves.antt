@@ -4,7 +4,7 @@ use Rattle.std.proofs.Common.{ap, ◌∙◌}
 use Rattle.dbg_base.specs.declared.refusal.Refusal.{Refusal}
 use Rattle.dbg_base.specs.Trees.{Tree, Action, Local, Sends, Receives, Command}
 use Rattle.dbg_base.specs.Evaluation.{evaluate, number_of}
-use Rattle.dbg_base.specs.LocalStates.{LocalState}
+use Rattle.dbg_base.specs.LocalStates.{LocalState, one_more}
 use Rattle.dbg_base.specs.Configurations.{Configuration, state_in, channel_of, with_channel, with_state}
 use Rattle.dbg_base.specs.Firing.{truth_of, Effect, effect_with, sending, assigned, with_set, effect_by, effect_of, counted, deliver}
 use Rattle.dbg_base.specs.Firing.{advanced}
@@ -33,6 +33,17 @@ move_target Keeps = None
 move_target (Puts target value) = Some target
 move_target (Takes source message) = None
 
+-- the counts of messages sent and received behind the move
+abbrev pub sent_after : Move → List ℕ → List ℕ
+sent_after Keeps counts = counts
+sent_after (Puts target value) counts = one_more counts target
+sent_after (Takes source message) counts = counts
+
+abbrev pub got_after : Move → List ℕ → List ℕ
+got_after Keeps counts = counts
+got_after (Puts target value) counts = counts
+got_after (Takes source message) counts = one_more counts source
+
 abbrev pub move_source : Move → Option ℕ
 move_source Keeps = None
 move_source (Puts target value) = None
@@ -49,6 +60,8 @@ pub record Fires (o : Option Command) (c : Configuration) (p : ℕ) (d : Configu
   pub state : LocalState
   pub sends : target_in o ≡ move_target move
   pub receives : source_in o ≡ move_source move
+  pub sent : state.sent ≡ sent_after move (state_in c p).sent
+  pub got : state.got ≡ got_after move (state_in c p).got
   pub ready : IsReady move p c.channels
   pub leads : d ≡ after_move move p state c
   pub again : (b : Configuration) → state_in b p ≡ state_in c p → IsReady move p b.channels
@@ -60,6 +73,8 @@ record Proceeds (command : Command) (action : Action) (c : Configuration) (p : �
   state : LocalState
   sends : target_of action ≡ move_target move
   receives : source_of action ≡ move_source move
+  sent : state.sent ≡ sent_after move (state_in c p).sent
+  got : state.got ≡ got_after move (state_in c p).got
   ready : IsReady move p c.channels
   leads : d ≡ after_move move p state c
   again : (b : Configuration) → state_in b p ≡ state_in c p → IsReady move p b.channels
@@ -150,6 +165,8 @@ received command source variable c p d (m ∷ rest) same front e =
       state = state;
       sends = refl;
       receives = refl;
+      sent = refl;
+      got = refl;
       ready = (rest, front);
       leads = done.2
           ∙ ap (λ (action : Action). after_effect (with_channel c source p rest) p action effect) same
@@ -171,6 +188,8 @@ proceeds command Local c p d same e =
       state = state;
       sends = refl;
       receives = refl;
+      sent = refl;
+      got = refl;
       ready = tt;
       leads = done.2;
       again = λ b there ready.
@@ -187,6 +206,8 @@ proceeds command (Sends target value) c p d same e =
       state = state;
       sends = refl;
       receives = refl;
+      sent = refl;
+      got = refl;
       ready = tt;
       leads = done.2 ∙ sent_effect c p target value effect sent.0 state sent.1 refl;
       again = λ b there ready.
@@ -208,6 +229,8 @@ fires (Some command) c p d e =
       state = does.state;
       sends = does.sends;
       receives = does.receives;
+      sent = does.sent;
+      got = does.got;
       ready = does.ready;
       leads = does.leads;
       again = λ b there ready.

@@ -171,14 +171,14 @@ pub taken_front : (P : Program) (B : History) (p k s : ℕ) → p < length B →
 taken_front P B p k s within shorter longer from =
     let a = around_last P B p k within longer in
     let e = to_end P a.before a.after (play P (with_last B p k)) p k a.behind a.fires a.goes_on a.others
-      (waits P B p k within shorter longer) in
+    (waits P B p k within shorter longer) in
     let ends : play P B ≡ e.between =
-      (possible P B (a.front ++ a.behind) e.between
-        (order_both P (start_of P) a.before e.between a.front a.behind a.leads e.first) a.takes).1 in
+    (possible P B (a.front ++ a.behind) e.between
+    (order_both P (start_of P) a.before e.between a.front a.behind a.leads e.first) a.takes).1 in
     let f = fires (command_of P p k) a.before p a.after a.fires in
     subst (λ (x : Configuration). (rest : List ℤ) × (channel_of x s p ≡ taken_in P (with_last B p k) p s ∷ rest)) (sym ends)
-      (taken_behind P (with_last B p k) p s a.before e.between a.behind
-        (ready_front f.move p s a.before.channels (sym f.receives ∙ from) f.ready) a.made e.first a.others)
+    (taken_behind P (with_last B p k) p s a.before e.between a.behind
+    (ready_front f.move p s a.before.channels (sym f.receives ∙ from) f.ready) a.made e.first a.others)
 
 -- Taking back the last choice of a history from its play on leads to the play of the history without it.
 pub unfired : (P : Program) (B : History) (p k : ℕ) → p < length B → IsPossible P B → IsPossible P (with_last B p k)
