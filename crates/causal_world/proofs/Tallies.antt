@@ -2,7 +2,8 @@
 use Rattle.std.proofs.Common.{◌≡◌, ◌≢◌, ℕ, ℤ, ◌+◌, ◌<◌, ◌≤◌, ◌⊎◌, List, [], ◌∷◌, length, get_or, set, replicate, Option, Some, None, Ok}
 use Rattle.std.proofs.Common.{refl, sym, ap, ◌∙◌, subst, ⊎_elim, arith, count_by}
 use Rattle.std.proofs.lemmas.Bool.{cases_eq}
-use Rattle.std.proofs.lemmas.List.{get_or-set_same, get_or-set_other, get_or-map, get_or-replicate, get_or_past, length-set, length-replicate}
+use Rattle.std.proofs.lemmas.List.{get_or-set_same, get_or-set_other, get_or-map, get_or-replicate}
+use Rattle.std.proofs.lemmas.List.{get_or_past, length-set, length-replicate}
 use Rattle.dbg_base.specs.Trees.{Program, no_process, process_of, Command, command_of}
 use Rattle.dbg_base.specs.LocalStates.{LocalState, no_state, one_more, start_among}
 use Rattle.dbg_base.specs.Configurations.{Configuration, start_of, state_in, channel_of}
