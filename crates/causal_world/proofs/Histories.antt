@@ -1,6 +1,6 @@
 -- The history of a legal list, and one choice more.
-use Rattle.std.proofs.Common.{◌≡◌, ℕ, zero, suc, ◌<◌, ◌≤◌, ◌⊎◌, List, [], ◌∷◌, length, get_or, replicate, Ok, refl, sym, ap, ◌∙◌, subst}
-use Rattle.std.proofs.Common.{⊎_elim, arith}
+use Rattle.std.proofs.Common.{◌≡◌, ℕ, zero, suc, ◌<◌, ◌≤◌, List, [], ◌∷◌, length, get_or, replicate, Ok, refl, sym, ap, ◌∙◌, subst}
+use Rattle.std.proofs.Common.{⊎_elim}
 use Rattle.std.specs.Prelude.{slice_get}
 use Rattle.std.proofs.lemmas.List.{set-set, set-get_or, get_or_past, get_or-set_same, length-set, length-replicate}
 use Rattle.dbg_base.specs.Trees.{Process, Program, no_process, process_of}
@@ -8,6 +8,7 @@ use Rattle.dbg_base.specs.Configurations.{Configuration}
 use Rattle.dbg_base.specs.Firing.{fire_if, fire}
 use Rattle.dbg_base.specs.Histories.{History}
 use Rattle.dbg_base.specs.Orders.{Event, order_from, choices_of}
+use Rattle.causal_world.proofs.Grids.{within_or_past}
 use Rattle.causal_world.proofs.Bubbling.{IsEmpty, IsOrderOf, first_step}
 
 -- a process that fires is there
@@ -17,9 +18,6 @@ not_there P c d p k past fires =
     let same : fire P c p k ≡ fire_if (slice_get no_process.commands k) c p =
     ap (λ (process : Process). fire_if (slice_get process.commands k) c p) none in
     cc
-
-within_or_past : (n p : ℕ) → (p < n) ⊎ (n ≤ p)
-within_or_past n p = grind arith
 
 pub is_there : (P : Program) (c d : Configuration) (p k : ℕ) → fire P c p k ≡ Ok d → p < length P
 is_there P c d p k fires =

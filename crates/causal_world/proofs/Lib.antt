@@ -18,6 +18,6 @@ pub mod Unfiring
 pub mod Counting
 pub mod Cutting
 pub mod Chains
+pub mod Tallies
 pub mod Permits
 pub mod Lines
-pub mod Tallies

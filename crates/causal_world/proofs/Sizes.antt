@@ -7,11 +7,8 @@ use Rattle.dbg_base.specs.Trees.{Program, command_of}
 use Rattle.dbg_base.specs.Configurations.{Configuration, channel_of}
 use Rattle.dbg_base.specs.Firing.{fire}
 use Rattle.dbg_base.specs.Orders.{target_in, source_in}
-use Rattle.causal_world.proofs.Grids.{Grid, row, cell, put, change, Apart, row_within, cell_within, cell-put_other, cell-put_same}
+use Rattle.causal_world.proofs.Grids.{Grid, row, cell, put, change, Apart, within_or_past, row_within, cell_within, cell-put_other, cell-put_same}
 use Rattle.causal_world.proofs.Moves.{Move, Keeps, Puts, Takes, channels_after, IsReady, move_target, move_source, fires}
-
-within_or_past : (n p : ℕ) → (p < n) ⊎ (n ≤ p)
-within_or_past n p = grind arith
 
 put_past_row : (g : Grid) (i j : ℕ) (x : List ℤ) → length g ≤ i → put g i j x ≡ g
 put_past_row g i j x past = set_past g i (set (get_or g i []) j x) past

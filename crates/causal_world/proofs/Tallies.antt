@@ -1,5 +1,5 @@
 -- The counts in the local states are those of the choices that were made.
-use Rattle.std.proofs.Common.{◌≡◌, ◌≢◌, ℕ, ℤ, ◌+◌, ◌<◌, ◌≤◌, ◌⊎◌, List, [], ◌∷◌, length, get_or, set, replicate, Option, Some, None, Ok}
+use Rattle.std.proofs.Common.{◌≡◌, ◌≢◌, ℕ, ℤ, ◌+◌, ◌<◌, ◌≤◌, List, [], ◌∷◌, length, get_or, set, replicate, Option, Some, None, Ok}
 use Rattle.std.proofs.Common.{refl, sym, ap, ◌∙◌, subst, ⊎_elim, arith, count_by}
 use Rattle.std.proofs.lemmas.Bool.{cases_eq}
 use Rattle.std.proofs.lemmas.List.{get_or-set_same, get_or-set_other, get_or-map, get_or-replicate}
@@ -11,6 +11,7 @@ use Rattle.dbg_base.specs.Firing.{fire_if, fire}
 use Rattle.dbg_base.specs.Histories.{History, IsPossible, play}
 use Rattle.dbg_base.specs.Orders.{Event, order_from, target_in, source_in}
 use Rattle.dbg_base.specs.Counts.{is_process}
+use Rattle.causal_world.proofs.Grids.{within_or_past}
 use Rattle.causal_world.proofs.Moves.{Move, Keeps, Puts, Takes, move_target, move_source, sent_after, got_after, fires}
 use Rattle.causal_world.proofs.Bubbling.{IsOrderOf, none_left, first_step}
 use Rattle.causal_world.proofs.Playing.{listed}
@@ -109,9 +110,6 @@ module _ (counts : LocalState → List ℕ) (partner : Option Command → Option
       ap (λ (s : LocalState). length (counts s)) (get_or_past c.states i no_state past) ∙ side.none in
       absurd (omega arith))
       (within_or_past (length c.states) i)
-    where
-      within_or_past : (n p : ℕ) → (p < n) ⊎ (n ≤ p)
-      within_or_past n p = grind arith
 
   tally_own : (o : Option Command) (c d : Configuration) (i j : ℕ) → fire_if o c i ≡ Ok d → j < length (counts (state_in c i))
       → Tallied counts c d i j (once i i (partner o) j)
