@@ -7,7 +7,8 @@ use Rattle.dbg_base.specs.Trees.{Program, command_of}
 use Rattle.dbg_base.specs.Configurations.{Configuration, channel_of}
 use Rattle.dbg_base.specs.Firing.{fire}
 use Rattle.dbg_base.specs.Orders.{target_in, source_in}
-use Rattle.causal_world.proofs.Grids.{Grid, row, cell, put, change, Apart, within_or_past, row_within, cell_within, cell-put_other, cell-put_same}
+use Rattle.causal_world.proofs.Grids.{Grid, row, cell, put, change, Apart, within_or_past, row_within, cell_within}
+use Rattle.causal_world.proofs.Grids.{cell-put_other, cell-put_same}
 use Rattle.causal_world.proofs.Moves.{Move, Keeps, Puts, Takes, channels_after, IsReady, move_target, move_source, fires}
 
 put_past_row : (g : Grid) (i j : ℕ) (x : List ℤ) → length g ≤ i → put g i j x ≡ g
