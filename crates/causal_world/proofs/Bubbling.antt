@@ -1,5 +1,6 @@
 -- An event that can fire now can be brought to the front of a list in which it comes later.
-use Rattle.std.proofs.Common.{◌≡◌, ◌≢◌, ℕ, zero, suc, List, [], ◌∷◌, ◌++◌, length, get_or, set, Result, Ok, Err, refl, sym, ap, ◌∙◌, subst, ⊎_elim}
+use Rattle.std.proofs.Common.{◌≡◌, ◌≢◌, ℕ, zero, suc, List, [], ◌∷◌, length, get_or, set, Result, Ok, Err, refl, sym, ap, ◌∙◌, subst}
+use Rattle.std.proofs.Common.{⊎_elim}
 use Rattle.std.specs.List.{AllByRecursion}
 use Rattle.std.proofs.lemmas.Bool.{cases_eq}
 use Rattle.std.proofs.lemmas.List.{set_comm, get_or-set_other}
@@ -8,7 +9,7 @@ use Rattle.dbg_base.specs.Trees.{Program}
 use Rattle.dbg_base.specs.Configurations.{Configuration}
 use Rattle.dbg_base.specs.Firing.{fire}
 use Rattle.dbg_base.specs.Histories.{History}
-use Rattle.dbg_base.specs.Orders.{Event, and_then, order_from, IsLegalFrom, IsSwap, GoesOver, Stays, Swaps}
+use Rattle.dbg_base.specs.Orders.{Event, and_then, order_from, IsSwap, GoesOver, Stays, Swaps}
 use Rattle.causal_world.proofs.Diamonds.{diamond}
 
 -- no choice is left
@@ -90,7 +91,7 @@ taken_same P c m d H e f rest left E process legal here order front fires =
     let choice : e.choice ≡ f.choice = cc in
     let same : e ≡ f = (λ i. record { process = process i; choice = choice i }) in
     subst (λ (x : Event). get_or H x.process [] ≡ x.choice ∷ rest → fire P c x.process x.choice ≡ Ok m → Bubbled P c m d H x rest (e ∷ E))
-      same (λ x y. taken_here P c m d H e rest left E legal here order x y) front fires
+    same (λ x y. taken_here P c m d H e rest left E legal here order x y) front fires
 
 pub bubble : (P : Program) (c m d : Configuration) (H : History) (f : Event) (rest : List ℕ) (E : List Event) → order_from P c E ≡ Ok d
     → IsOrderOf H E → get_or H f.process [] ≡ f.choice ∷ rest → fire P c f.process f.choice ≡ Ok m → Bubbled P c m d H f rest E
@@ -98,37 +99,40 @@ bubble P c m d H f rest [] legal order front fires =
     absurd (let none : get_or H f.process [] ≡ [] = none_left H f.process order in cc)
 bubble P c m d H f rest (e ∷ E) legal order front fires =
     ⊎_elim
-      (λ (same : e.process ≡ f.process). taken_same P c m d H e f rest order.0 E same legal order.1 order.2 front fires)
-      (λ (apart : e.process ≢ f.process).
-        let back : f.process ≢ e.process = λ x. apart (sym x) in
-        let step = first_step (fire P c e.process e.choice) (λ x. order_from P x E) d legal in
-        let dia = diamond P c e.process e.choice f.process f.choice step.0 m apart step.1 fires in
-        let left = order.0 in
-        let deeper = bubble P step.0 dia.meet d (set H e.process left) f rest E step.2 order.2
-          (get_or-set_other H e.process f.process left [] back ∙ front) dia.one in
-        let legal_here : order_from P m (e ∷ deeper.others) ≡ Ok d =
-          legal_behind P m dia.meet d e deeper.others dia.other deeper.legal in
-        let before : order_from P c (e ∷ f ∷ deeper.others) ≡ Ok d =
-          legal_behind P c step.0 d e (f ∷ deeper.others) step.1
-            (legal_behind P step.0 dia.meet d f deeper.others dia.one deeper.legal) in
-        record {
-          others = e ∷ deeper.others;
-          order = (left, get_or-set_other H f.process e.process rest [] apart ∙ order.1,
-            subst (λ (x : History). IsOrderOf x deeper.others) (set_comm H e.process f.process left rest apart) deeper.order);
-          legal = legal_here;
-          swaps = goes_both P c (e ∷ E) (e ∷ f ∷ deeper.others) (f ∷ e ∷ deeper.others)
-            (goes_behind P c step.0 e E (f ∷ deeper.others) step.1 deeper.swaps)
-            (Swaps (d, before)
-              (record {
-                front = [];
-                one = e;
-                other = f;
-                behind = deeper.others;
-                before = refl;
-                after = refl;
-                apart = apart;
-              })
-              (Stays (d, legal_behind P c m d f (e ∷ deeper.others) fires legal_here)));
-          shorter = ap (λ (n : ℕ). suc n) deeper.shorter;
-        })
-      (cases_eq e.process f.process)
+    (λ (same : e.process ≡ f.process). taken_same P c m d H e f rest order.0 E same legal order.1 order.2 front fires)
+    (λ (apart : e.process ≢ f.process).
+    let back : f.process ≢ e.process = λ x. apart (sym x) in
+    let step = first_step (fire P c e.process e.choice) (λ x. order_from P x E) d legal in
+    let dia = diamond P c e.process e.choice f.process f.choice step.0 m apart step.1 fires in
+    let left = order.0 in
+    let deeper = bubble P step.0 dia.meet d (set H e.process left) f rest E step.2 order.2
+    (get_or-set_other H e.process f.process left [] back ∙ front) dia.one in
+    let legal_here : order_from P m (e ∷ deeper.others) ≡ Ok d =
+    legal_behind P m dia.meet d e deeper.others dia.other deeper.legal in
+    let before : order_from P c (e ∷ f ∷ deeper.others) ≡ Ok d =
+    legal_behind P c step.0 d e (f ∷ deeper.others) step.1
+    (legal_behind P step.0 dia.meet d f deeper.others dia.one deeper.legal) in
+    record {
+      others = e ∷ deeper.others;
+      order = (
+        left,
+        get_or-set_other H f.process e.process rest [] apart ∙ order.1,
+        subst (λ (x : History). IsOrderOf x deeper.others) (set_comm H e.process f.process left rest apart) deeper.order,
+      );
+      legal = legal_here;
+      swaps = goes_both P c (e ∷ E) (e ∷ f ∷ deeper.others) (f ∷ e ∷ deeper.others)
+          (goes_behind P c step.0 e E (f ∷ deeper.others) step.1 deeper.swaps)
+          (Swaps (d, before)
+          (record {
+            front = [];
+            one = e;
+            other = f;
+            behind = deeper.others;
+            before = refl;
+            after = refl;
+            apart = apart;
+          })
+          (Stays (d, legal_behind P c m d f (e ∷ deeper.others) fires legal_here)));
+      shorter = ap (λ (n : ℕ). suc n) deeper.shorter;
+    })
+    (cases_eq e.process f.process)

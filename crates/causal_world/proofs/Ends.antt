@@ -1,18 +1,18 @@
 -- An event goes behind the events of the other processes that follow it, unless one of them took its message.
-use Rattle.std.proofs.Common.{◌≡◌, ◌≢◌, ℕ, ℤ, suc, ◌+◌, ◌<◌, ◌≤◌, List, [], ◌∷◌, ◌++◌, length, get_or, set, drop, Some, Ok}
+use Rattle.std.proofs.Common.{◌≡◌, ◌≢◌, ℕ, ℤ, ◌<◌, ◌≤◌, List, [], ◌∷◌, ◌++◌, length, get_or, set, drop, Some, Ok}
 use Rattle.std.proofs.Common.{refl, sym, ap, ◌∙◌, subst, ⊎_elim, arith}
 use Rattle.std.proofs.lemmas.Bool.{cases_eq}
-use Rattle.std.proofs.lemmas.List.{get_or-set_other, length-append, length-drop}
+use Rattle.std.proofs.lemmas.List.{get_or-set_other}
 use Rattle.dbg_base.specs.Trees.{Program, command_of}
-use Rattle.dbg_base.specs.Configurations.{Configuration, state_in, channel_of}
+use Rattle.dbg_base.specs.Configurations.{Configuration, channel_of}
 use Rattle.dbg_base.specs.Firing.{fire}
 use Rattle.dbg_base.specs.Histories.{History}
 use Rattle.dbg_base.specs.Orders.{Event, order_from, target_in, source_in}
-use Rattle.causal_world.proofs.Grids.{Grid, cell, put, change, row_within, cell_within, cell-put_other, cell-put_same}
+use Rattle.causal_world.proofs.Grids.{Grid, cell, put, change, cell-put_other}
 use Rattle.causal_world.proofs.Sizes.{put_cases, fire_not_put, fire_most, fire_takes}
 use Rattle.causal_world.proofs.Moves.{Move, Keeps, Puts, Takes, channels_after, IsReady, move_target, move_source, after_move, fires}
 use Rattle.causal_world.proofs.Diamonds.{put_behind, other_state, diamond}
-use Rattle.causal_world.proofs.Bubbling.{IsOrderOf, none_left, first_step, legal_behind}
+use Rattle.causal_world.proofs.Bubbling.{IsOrderOf, first_step, legal_behind}
 use Rattle.causal_world.proofs.Histories.{is_there}
 
 -- none of the events is of process p
@@ -24,9 +24,11 @@ pub are_others : (H : History) (p : ℕ) (E : List Event) → get_or H p [] ≡ 
 are_others H p [] none takes = tt
 are_others H p (e ∷ E) none takes =
     let apart : e.process ≢ p = λ same.
-      (let some : get_or H p [] ≡ e.choice ∷ takes.0 = subst (λ (x : ℕ). get_or H x [] ≡ e.choice ∷ takes.0) same takes.1 in cc) in
-    (apart, are_others (set H e.process takes.0) p E
-      (get_or-set_other H e.process p takes.0 [] (λ (x : p ≡ e.process). apart (sym x)) ∙ none) takes.2)
+    (let some : get_or H p [] ≡ e.choice ∷ takes.0 = subst (λ (x : ℕ). get_or H x [] ≡ e.choice ∷ takes.0) same takes.1 in cc) in (
+      apart,
+      are_others (set H e.process takes.0) p E
+          (get_or-set_other H e.process p takes.0 [] (λ (x : p ≡ e.process). apart (sym x)) ∙ none) takes.2,
+    )
 
 -- while p does not fire, a channel from p gets no longer
 pub shorter : (P : Program) (c d : Configuration) (p t : ℕ) (E : List Event) → order_from P c E ≡ Ok d → AreOthers p E
@@ -72,11 +74,11 @@ put_before : (g : Grid) (s q : ℕ) (v m : ℤ) (rest : List ℤ) → 0 < length
     → cell (change g s q (λ messages. messages ++ v ∷ [])) s q ≡ m ∷ rest → (earlier : List ℤ) × (cell g s q ≡ m ∷ earlier)
 put_before g s q v m rest some front =
     ⊎_elim
-      (λ (now : cell (change g s q (λ messages. messages ++ v ∷ [])) s q ≡ cell g s q ++ v ∷ []).
-        front_before (cell g s q) v m rest some (sym now ∙ front))
-      (λ (same : (y : List ℤ) → put g s q y ≡ g).
-        (rest, ap (λ (x : Grid). cell x s q) (sym (same (cell g s q ++ v ∷ []))) ∙ front))
-      (put_cases g s q (cell g s q ++ v ∷ []))
+    (λ (now : cell (change g s q (λ messages. messages ++ v ∷ [])) s q ≡ cell g s q ++ v ∷ []).
+    front_before (cell g s q) v m rest some (sym now ∙ front))
+    (λ (same : (y : List ℤ) → put g s q y ≡ g).
+    (rest, ap (λ (x : Grid). cell x s q) (sym (same (cell g s q ++ v ∷ []))) ∙ front))
+    (put_cases g s q (cell g s q ++ v ∷ []))
 
 ready_before : (a b : Move) (p q : ℕ) (g : Grid) → p ≢ q
     → (move_target a ≡ Some q → move_source b ≡ Some p → 0 < length (cell g p q))
@@ -88,21 +90,21 @@ ready_before (Takes other taken) (Takes source message) p q g apart some ready =
     (ready.0, sym (cell-put_other g other p source q (drop 1 (cell g other p)) (λ x. apart)) ∙ ready.1)
 ready_before (Puts target value) (Takes source message) p q g apart some ready =
     let other = λ (away : p ≡ source → target ≢ q).
-      (sym (cell-put_other g p target source q (cell g p target ++ value ∷ []) away) ∙ ready.1) in
+    (sym (cell-put_other g p target source q (cell g p target ++ value ∷ []) away) ∙ ready.1) in
     ⊎_elim
-      (λ (same : p ≡ source). ⊎_elim
-        (λ (one : target ≡ q).
-          let there : cell (change g source q (λ messages. messages ++ value ∷ [])) source q ≡ message ∷ ready.0 =
-            subst (λ (x : ℕ). cell (change g x q (λ messages. messages ++ value ∷ [])) source q ≡ message ∷ ready.0) same
-              (subst (λ (y : ℕ). cell (change g p y (λ messages. messages ++ value ∷ [])) source q ≡ message ∷ ready.0) one ready.1) in
-          put_before g source q value message ready.0
-            (subst (λ (x : ℕ). 0 < length (cell g x q)) same
-              (some (ap (λ (t : ℕ). Some t) one) (ap (λ (t : ℕ). Some t) (sym same))))
-            there)
-        (λ (away : target ≢ q). (ready.0, other (λ x. away)))
-        (cases_eq target q))
-      (λ (away : p ≢ source). (ready.0, other (λ x y. away x)))
-      (cases_eq p source)
+    (λ (same : p ≡ source). ⊎_elim
+    (λ (one : target ≡ q).
+    let there : cell (change g source q (λ messages. messages ++ value ∷ [])) source q ≡ message ∷ ready.0 =
+    subst (λ (x : ℕ). cell (change g x q (λ messages. messages ++ value ∷ [])) source q ≡ message ∷ ready.0) same
+    (subst (λ (y : ℕ). cell (change g p y (λ messages. messages ++ value ∷ [])) source q ≡ message ∷ ready.0) one ready.1) in
+    put_before g source q value message ready.0
+    (subst (λ (x : ℕ). 0 < length (cell g x q)) same
+    (some (ap (λ (t : ℕ). Some t) one) (ap (λ (t : ℕ). Some t) (sym same))))
+    there)
+    (λ (away : target ≢ q). (ready.0, other (λ x. away)))
+    (cases_eq target q))
+    (λ (away : p ≢ source). (ready.0, other (λ x y. away x)))
+    (cases_eq p source)
 
 -- two events in the other order
 pub record Pulled (P : Program) (c g : Configuration) (p k q l : ℕ) : Type 0 where
@@ -117,10 +119,10 @@ pull P c d g p k q l apart one other some =
     let a = fires (command_of P p k) c p d one in
     let b = fires (command_of P q l) d q g other in
     let ready_there : IsReady b.move q (channels_after a.move p c.channels) =
-      subst (λ (x : Configuration). IsReady b.move q x.channels) a.leads b.ready in
+    subst (λ (x : Configuration). IsReady b.move q x.channels) a.leads b.ready in
     let there : fire P c q l ≡ Ok (after_move b.move q b.state c) =
-      b.again c (sym (other_state a.move a.state c d p q apart a.leads))
-        (ready_before a.move b.move p q c.channels apart (λ x y. some (a.sends ∙ x) (b.receives ∙ y)) ready_there) in
+    b.again c (sym (other_state a.move a.state c d p q apart a.leads))
+    (ready_before a.move b.move p q c.channels apart (λ x y. some (a.sends ∙ x) (b.receives ∙ y)) ready_there) in
     let dia = diamond P c p k q l d (after_move b.move q b.state c) apart one there in
     let meets = dia.one in
     let same : dia.meet ≡ g = cc in
@@ -142,8 +144,8 @@ to_end P c d g p k (e ∷ E) one legal others waiting =
     let step = first_step (fire P d q e.choice) (λ x. order_from P x E) g legal in
     let apart : p ≢ q = λ same. others.0 (sym same) in
     let some = λ (target : target_in (command_of P p k) ≡ Some q) (source : source_in (command_of P q e.choice) ≡ Some p).
-      still_there P c d step.0 g p k e E one step.1 step.2 others.1 source
-        (waiting q target others.0 (is_there P d step.0 q e.choice step.1)) in
+    still_there P c d step.0 g p k e E one step.1 step.2 others.1 source
+    (waiting q target others.0 (is_there P d step.0 q e.choice step.1)) in
     let pulled = pull P c d step.0 p k q e.choice apart one step.1 some in
     let rest = to_end P pulled.between step.0 g p k E pulled.second step.2 others.1 waiting in
     record {

@@ -1,8 +1,10 @@
 -- One choice more: the history stays possible, its play is one event longer, and so are the local states.
-use Rattle.std.proofs.Common.{◌≡◌, ◌≢◌, ℕ, zero, suc, ◌+◌, ◌<◌, ◌≤◌, List, [], ◌∷◌, ◌++◌, length, get_or, set, map, Ok, refl, sym, ap, ◌∙◌, subst, ⊎_elim, arith}
+use Rattle.std.proofs.Common.{◌≡◌, ◌≢◌, ℕ, suc, ◌+◌, ◌<◌, ◌≤◌, List, [], ◌∷◌, ◌++◌, length, get_or, set, map, Ok, refl, sym, ap, ◌∙◌}
+use Rattle.std.proofs.Common.{subst, ⊎_elim, arith}
 use Rattle.std.proofs.lemmas.Bool.{cases_eq}
-use Rattle.std.proofs.lemmas.List.{set-get_or, get_or-map, length-map, length-set, length-append, get_or_append_left, get_or_push, get_or_past, get_or-set_same, get_or-set_other}
-use Rattle.dbg_base.specs.Trees.{Program, Process, no_process}
+use Rattle.std.proofs.lemmas.List.{set-get_or, get_or-map, length-map, length-set, length-append, get_or_append_left, get_or_push}
+use Rattle.std.proofs.lemmas.List.{get_or_past, get_or-set_same, get_or-set_other}
+use Rattle.dbg_base.specs.Trees.{Program}
 use Rattle.dbg_base.specs.LocalStates.{LocalState, no_state, start_among}
 use Rattle.dbg_base.specs.Configurations.{Configuration, start_of, state_in}
 use Rattle.dbg_base.specs.Firing.{fire}
@@ -40,34 +42,39 @@ one_event P c d p k fires = legal_behind P c d d (record { process = p; choice =
 more_same : (H : History) (k : ℕ) (e : Event) (left : List ℕ) (E : List Event) → e.process < length H
     → get_or H e.process [] ≡ e.choice ∷ left → IsOrderOf (with_last (set H e.process left) e.process k) E
     → IsOrderOf (with_last H e.process k) (e ∷ E)
-more_same H k e left E within front rest =
-    (left ++ k ∷ [],
-      push_same H e.process k within ∙ ap (λ (l : List ℕ). l ++ k ∷ []) front,
-      subst (λ (X : History). IsOrderOf X E)
-        (push_set H e.process k left within ∙ sym (set_push H e.process k (left ++ k ∷ []))) rest)
+more_same H k e left E within front rest = (
+  left ++ k ∷ [],
+  push_same H e.process k within ∙ ap (λ (l : List ℕ). l ++ k ∷ []) front,
+  subst (λ (X : History). IsOrderOf X E)
+      (push_set H e.process k left within ∙ sym (set_push H e.process k (left ++ k ∷ []))) rest,
+)
 
 more_other : (H : History) (p k : ℕ) (e : Event) (left : List ℕ) (E : List Event) → e.process ≢ p
     → get_or H e.process [] ≡ e.choice ∷ left → IsOrderOf (with_last (set H e.process left) p k) E → IsOrderOf (with_last H p k) (e ∷ E)
-more_other H p k e left E apart front rest =
-    (left, push_other H p e.process k apart ∙ front,
-      subst (λ (X : History). IsOrderOf X E) (push_set_other H p e.process k left apart) rest)
+more_other H p k e left E apart front rest = (
+  left,
+  push_other H p e.process k apart ∙ front,
+  subst (λ (X : History). IsOrderOf X E) (push_set_other H p e.process k left apart) rest,
+)
 
 pub order_more : (H : History) (p k : ℕ) (E : List Event) → p < length H → IsOrderOf H E
     → IsOrderOf (with_last H p k) (E ++ record { process = p; choice = k } ∷ [])
 order_more H p k [] within empty =
-    let none : get_or H p [] ≡ [] = none_left H p empty in
-    ([], push_same H p k within ∙ ap (λ (l : List ℕ). l ++ k ∷ []) none,
+    let none : get_or H p [] ≡ [] = none_left H p empty in (
+      [],
+      push_same H p k within ∙ ap (λ (l : List ℕ). l ++ k ∷ []) none,
       subst IsEmpty
-        (sym (set_push H p k [] ∙ ap (λ (l : List ℕ). set H p l) (sym none) ∙ set-get_or H p [])) empty)
+          (sym (set_push H p k [] ∙ ap (λ (l : List ℕ). set H p l) (sym none) ∙ set-get_or H p [])) empty,
+    )
 order_more H p k (e ∷ E) within takes =
     let rest = order_more (set H e.process takes.0) p k E (rw (length-set H e.process takes.0) within) takes.2 in
     let more : List Event = E ++ record { process = p; choice = k } ∷ [] in
     ⊎_elim
-      (λ (same : e.process ≡ p).
-        subst (λ (x : ℕ). x < length H → IsOrderOf (with_last (set H e.process takes.0) x k) more → IsOrderOf (with_last H x k) (e ∷ more))
-          same (λ x y. more_same H k e takes.0 more x takes.1 y) within rest)
-      (λ (apart : e.process ≢ p). more_other H p k e takes.0 more apart takes.1 rest)
-      (cases_eq e.process p)
+    (λ (same : e.process ≡ p).
+    subst (λ (x : ℕ). x < length H → IsOrderOf (with_last (set H e.process takes.0) x k) more → IsOrderOf (with_last H x k) (e ∷ more))
+    same (λ x y. more_same H k e takes.0 more x takes.1 y) within rest)
+    (λ (apart : e.process ≢ p). more_other H p k e takes.0 more apart takes.1 rest)
+    (cases_eq e.process p)
 
 -- where H is possible, and p's choice k fires behind its play, H with k more is possible too, and its play is what that led to
 pub one_more : (P : Program) (H : History) (p k : ℕ) (d : Configuration) → IsPossible P H → p < length H → fire P (play P H) p k ≡ Ok d
@@ -75,9 +82,9 @@ pub one_more : (P : Program) (H : History) (p k : ℕ) (d : Configuration) → I
 one_more P H p k d all within fires =
     let l = listed P H all in
     possible P (with_last H p k) (l.events ++ record { process = p; choice = k } ∷ []) d
-      (order_both P (start_of P) (play P H) d l.events (record { process = p; choice = k } ∷ []) l.legal
-        (one_event P (play P H) d p k fires))
-      (order_more H p k l.events within l.takes)
+    (order_both P (start_of P) (play P H) d l.events (record { process = p; choice = k } ∷ []) l.legal
+    (one_event P (play P H) d p k fires))
+    (order_more H p k l.events within l.takes)
 
 -- the local states of one event more
 states_append : (P : Program) (c d b : Configuration) (states : List (List LocalState)) (E : List Event) (e : Event)
@@ -99,9 +106,9 @@ states_more P H p k d all within fires =
     let l = listed P H all in
     let e : Event = record { process = p; choice = k } in
     let legal : order P (l.events ++ e ∷ []) ≡ Ok d =
-      order_both P (start_of P) (play P H) d l.events (e ∷ []) l.legal (one_event P (play P H) d p k fires) in
+    order_both P (start_of P) (play P H) d l.events (e ∷ []) l.legal (one_event P (play P H) d p k fires) in
     sym (same_states P (with_last H p k) (l.events ++ e ∷ []) d legal (order_more H p k l.events within l.takes)
-      (one_more P H p k d all within fires).0)
+    (one_more P H p k d all within fires).0)
     ∙ states_append P (start_of P) (play P H) d _ l.events e l.legal fires
     ∙ ap (λ (s : List (List LocalState)). push s p (state_in d p)) l.states
 
@@ -120,7 +127,7 @@ stands_same states p n c d s =
       there = rw (length-push states p (state_in d p)) s.there;
       size = ap (λ (l : List LocalState). length l) more ∙ length-append line (state_in d p ∷ []) ∙ omega (arith, s.size);
       last = ap (λ (l : List LocalState). get_or l (suc n) no_state) more
-        ∙ get_or_push line (state_in d p) no_state (suc n) s.size;
+          ∙ get_or_push line (state_in d p) no_state (suc n) s.size;
     }
 
 stands_other : (states : List (List LocalState)) (p q n : ℕ) (c d : Configuration) → p ≢ q → state_in d p ≡ state_in c p
@@ -163,30 +170,30 @@ stands P c d states H (e ∷ E) p n legal takes s =
     let step = first_step (fire P c e.process e.choice) (λ x. order_from P x E) d legal in
     let after = set H e.process takes.0 in
     let later = λ (m : ℕ) (t : StandsAt (with_state_of states e.process step.0) p m step.0).
-      stands P step.0 d (with_state_of states e.process step.0) after E p m step.2 takes.2 t in
+    stands P step.0 d (with_state_of states e.process step.0) after E p m step.2 takes.2 t in
     subst (λ (x : List (List LocalState)). StandsAt x p (n + length (get_or H p [])) d)
-      (sym (states_step P c step.0 states e E step.1))
-      (⊎_elim
-        (λ (same : e.process ≡ p).
-          let size : suc n + length (get_or after p []) ≡ n + length (get_or H p []) =
-            left_same H e.process p e.choice n takes.0 same takes.1 in
-          subst (λ (m : ℕ). StandsAt (states_from P step.0 (with_state_of states e.process step.0) E) p m d) size
-            (later (suc n) (subst (λ (x : ℕ). StandsAt (with_state_of states x step.0) p (suc n) step.0) (sym same)
-              (stands_same states p n c step.0 s))))
-        (λ (apart : e.process ≢ p).
-          let size : n + length (get_or after p []) ≡ n + length (get_or H p []) =
-            left_other H e.process p n takes.0 apart in
-          subst (λ (m : ℕ). StandsAt (states_from P step.0 (with_state_of states e.process step.0) E) p m d) size
-            (later n (stands_other states p e.process n c step.0 (λ (x : p ≡ e.process). apart (sym x))
-              (kept_state P c step.0 e.process e.choice p apart step.1) s)))
-        (cases_eq e.process p))
+    (sym (states_step P c step.0 states e E step.1))
+    (⊎_elim
+    (λ (same : e.process ≡ p).
+    let size : suc n + length (get_or after p []) ≡ n + length (get_or H p []) =
+    left_same H e.process p e.choice n takes.0 same takes.1 in
+    subst (λ (m : ℕ). StandsAt (states_from P step.0 (with_state_of states e.process step.0) E) p m d) size
+    (later (suc n) (subst (λ (x : ℕ). StandsAt (with_state_of states x step.0) p (suc n) step.0) (sym same)
+    (stands_same states p n c step.0 s))))
+    (λ (apart : e.process ≢ p).
+    let size : n + length (get_or after p []) ≡ n + length (get_or H p []) =
+    left_other H e.process p n takes.0 apart in
+    subst (λ (m : ℕ). StandsAt (states_from P step.0 (with_state_of states e.process step.0) E) p m d) size
+    (later n (stands_other states p e.process n c step.0 (λ (x : p ≡ e.process). apart (sym x))
+    (kept_state P c step.0 e.process e.choice p apart step.1) s)))
+    (cases_eq e.process p))
 
 starts : (P : Program) (p : ℕ) → p < length P → StandsAt (map (λ state. state ∷ []) (start_of P).states) p 0 (start_of P)
 starts P p within =
     let start = (start_of P).states in
     let here : p < length start = rw (length-map P (start_among (length P))) within in
     let line : get_or (map (λ (state : LocalState). state ∷ []) start) p [] ≡ get_or start p no_state ∷ [] =
-      get_or-map (λ (state : LocalState). state ∷ []) start p no_state [] here in
+    get_or-map (λ (state : LocalState). state ∷ []) start p no_state [] here in
     record {
       there = rw (length-map start (λ (state : LocalState). state ∷ [])) here;
       size = ap (λ (l : List LocalState). length l) line;
@@ -198,10 +205,11 @@ pub last_stands : (P : Program) (H : History) (p : ℕ) → IsPossible P H → p
     → StandsAt (progress_of P H).states p (length (get_or H p [])) (play P H)
 last_stands P H p all within =
     let l = listed P H all in
-    let s = stands P (start_of P) (play P H) (map (λ state. state ∷ []) (start_of P).states) H l.events p 0 l.legal l.takes (starts P p within) in
+    let opening = map (λ (state : LocalState). state ∷ []) (start_of P).states in
+    let s = stands P (start_of P) (play P H) opening H l.events p 0 l.legal l.takes (starts P p within) in
     let size : 0 + length (get_or H p []) ≡ length (get_or H p []) = omega arith in
     subst (λ (x : List (List LocalState)). StandsAt x p (length (get_or H p [])) (play P H)) l.states
-      (subst (λ (m : ℕ). StandsAt (states_of P l.events) p m (play P H)) size s)
+    (subst (λ (m : ℕ). StandsAt (states_of P l.events) p m (play P H)) size s)
 
 pub last_state : (P : Program) (H : History) (p : ℕ) → IsPossible P H → p < length P
     → local_state P H p (length (get_or H p [])) ≡ state_in (play P H) p
@@ -216,12 +224,12 @@ local_kept P H p k q n d all within fires there few =
     let s = last_stands P H q all there in
     ap (λ (x : List (List LocalState)). get_or (get_or x q []) n no_state) (states_more P H p k d all within fires)
     ∙ ⊎_elim
-      (λ (same : q ≡ p).
-        subst (λ (x : ℕ). get_or (get_or (push states x (state_in d x)) q []) n no_state ≡ get_or (get_or states q []) n no_state) same
-          (ap (λ (l : List LocalState). get_or l n no_state) (push_same states q (state_in d q) s.there)
-          ∙ get_or_append_left (get_or states q []) (state_in d q ∷ []) no_state n (omega (arith, s.size))))
-      (λ (apart : q ≢ p). ap (λ (l : List LocalState). get_or l n no_state) (push_other states p q (state_in d p) apart))
-      (cases_eq q p)
+    (λ (same : q ≡ p).
+    subst (λ (x : ℕ). get_or (get_or (push states x (state_in d x)) q []) n no_state ≡ get_or (get_or states q []) n no_state) same
+    (ap (λ (l : List LocalState). get_or l n no_state) (push_same states q (state_in d q) s.there)
+    ∙ get_or_append_left (get_or states q []) (state_in d q ∷ []) no_state n (omega (arith, s.size))))
+    (λ (apart : q ≢ p). ap (λ (l : List LocalState). get_or l n no_state) (push_other states p q (state_in d p) apart))
+    (cases_eq q p)
 
 -- and its process's new one is the last
 pub local_new : (P : Program) (H : History) (p k : ℕ) (d : Configuration) → IsPossible P H → p < length H → fire P (play P H) p k ≡ Ok d
@@ -229,6 +237,7 @@ pub local_new : (P : Program) (H : History) (p k : ℕ) (d : Configuration) → 
 local_new P H p k d all within fires =
     let states = (progress_of P H).states in
     let s = last_stands P H p all (is_there P (play P H) d p k fires) in
-    ap (λ (x : List (List LocalState)). get_or (get_or x p []) (suc (length (get_or H p []))) no_state) (states_more P H p k d all within fires)
+    ap (λ (x : List (List LocalState)). get_or (get_or x p []) (suc (length (get_or H p []))) no_state)
+    (states_more P H p k d all within fires)
     ∙ ap (λ (l : List LocalState). get_or l (suc (length (get_or H p []))) no_state) (push_same states p (state_in d p) s.there)
     ∙ get_or_push (get_or states p []) (state_in d p) no_state (suc (length (get_or H p []))) s.size

@@ -1,5 +1,5 @@
 -- Two legal lists of one history go over into each other by swaps.
-use Rattle.std.proofs.Common.{◌≡◌, ℕ, List, [], ◌∷◌, get_or, set, Ok}
+use Rattle.std.proofs.Common.{◌≡◌, List, [], ◌∷◌, get_or, set, Ok}
 use Rattle.dbg_base.specs.Trees.{Program}
 use Rattle.dbg_base.specs.Configurations.{Configuration}
 use Rattle.dbg_base.specs.Firing.{fire}
@@ -16,5 +16,5 @@ joined P c d b H E (f ∷ F) legal other order later =
     let step = first_step (fire P c f.process f.choice) (λ x. order_from P x F) b other in
     let first = bubble P c step.0 d H f later.0 E legal order later.1 step.1 in
     goes_both P c E (f ∷ first.others) (f ∷ F) first.swaps
-      (goes_behind P c step.0 f first.others F step.1
-        (joined P step.0 d b (set H f.process later.0) first.others F first.legal step.2 first.order later.2))
+    (goes_behind P c step.0 f first.others F step.1
+    (joined P step.0 d b (set H f.process later.0) first.others F first.legal step.2 first.order later.2))

@@ -1,12 +1,14 @@
 -- What a command that fires reads and writes: its process's local state, and one channel at most.
-use Rattle.std.proofs.Common.{◌≡◌, ℕ, ℤ, List, [], ◌∷◌, ◌++◌, set, drop, Bool, true, false, Option, Some, None, Result, Ok, Err, refl, sym, ap, ◌∙◌}
+use Rattle.std.proofs.Common.{◌≡◌, ℕ, ℤ, List, [], ◌∷◌, ◌++◌, set, drop, Bool, true, false, Option, Some, None, Result, Ok, refl, sym}
+use Rattle.std.proofs.Common.{ap, ◌∙◌}
 use Rattle.dbg_base.specs.declared.refusal.Refusal.{Refusal}
-use Rattle.dbg_base.specs.Trees.{Tree, Action, Local, Sends, Receives, Command, Program, command_of}
-use Rattle.dbg_base.specs.Evaluation.{Value, evaluate, number_of}
-use Rattle.dbg_base.specs.LocalStates.{LocalState}
+use Rattle.dbg_base.specs.Trees.{Tree, Action, Local, Sends, Receives, Command}
+use Rattle.dbg_base.specs.Evaluation.{evaluate, number_of}
+use Rattle.dbg_base.specs.LocalStates.{LocalState, one_more}
 use Rattle.dbg_base.specs.Configurations.{Configuration, state_in, channel_of, with_channel, with_state}
-use Rattle.dbg_base.specs.Firing.{truth_of, Effect, effect_with, sending, assigned, with_set, effect_by, effect_of, counted, deliver, advanced}
-use Rattle.dbg_base.specs.Firing.{after_effect, complete, receive, proceed, where_true, fire_command, fire_if, fire}
+use Rattle.dbg_base.specs.Firing.{truth_of, Effect, effect_with, sending, assigned, with_set, effect_by, effect_of, counted, deliver}
+use Rattle.dbg_base.specs.Firing.{advanced}
+use Rattle.dbg_base.specs.Firing.{after_effect, complete, receive, proceed, where_true, fire_if}
 use Rattle.dbg_base.specs.Orders.{target_of, target_in, source_of, source_in}
 use Rattle.causal_world.proofs.Grids.{Grid, cell, change}
 
@@ -31,6 +33,17 @@ move_target Keeps = None
 move_target (Puts target value) = Some target
 move_target (Takes source message) = None
 
+-- the counts of messages sent and received behind the move
+abbrev pub sent_after : Move → List ℕ → List ℕ
+sent_after Keeps counts = counts
+sent_after (Puts target value) counts = one_more counts target
+sent_after (Takes source message) counts = counts
+
+abbrev pub got_after : Move → List ℕ → List ℕ
+got_after Keeps counts = counts
+got_after (Puts target value) counts = counts
+got_after (Takes source message) counts = one_more counts source
+
 abbrev pub move_source : Move → Option ℕ
 move_source Keeps = None
 move_source (Puts target value) = None
@@ -47,10 +60,12 @@ pub record Fires (o : Option Command) (c : Configuration) (p : ℕ) (d : Configu
   pub state : LocalState
   pub sends : target_in o ≡ move_target move
   pub receives : source_in o ≡ move_source move
+  pub sent : state.sent ≡ sent_after move (state_in c p).sent
+  pub got : state.got ≡ got_after move (state_in c p).got
   pub ready : IsReady move p c.channels
   pub leads : d ≡ after_move move p state c
   pub again : (b : Configuration) → state_in b p ≡ state_in c p → IsReady move p b.channels
-    → fire_if o b p ≡ Ok (after_move move p state b)
+      → fire_if o b p ≡ Ok (after_move move p state b)
 
 -- the same behind the guard
 record Proceeds (command : Command) (action : Action) (c : Configuration) (p : ℕ) (d : Configuration) : Type 0 where
@@ -58,10 +73,12 @@ record Proceeds (command : Command) (action : Action) (c : Configuration) (p : �
   state : LocalState
   sends : target_of action ≡ move_target move
   receives : source_of action ≡ move_source move
+  sent : state.sent ≡ sent_after move (state_in c p).sent
+  got : state.got ≡ got_after move (state_in c p).got
   ready : IsReady move p c.channels
   leads : d ≡ after_move move p state c
   again : (b : Configuration) → state_in b p ≡ state_in c p → IsReady move p b.channels
-    → proceed command action b p ≡ Ok (after_move move p state b)
+      → proceed command action b p ≡ Ok (after_move move p state b)
 
 abbrev Reached : Type 0
 Reached = Result Configuration Refusal
@@ -99,7 +116,7 @@ sent_by : (command : Command) (target : ℕ) (value : Tree) (state : LocalState)
     → effect_of command state None ≡ Some effect → (z : ℤ) × (effect.message ≡ Some z)
 sent_by command target value state effect same e =
     message_sent (number_of (evaluate value state)) (assigned command.assignments state) effect
-      (ap (λ (action : Action). effect_by action command.assignments state None) (sym same) ∙ e)
+    (ap (λ (action : Action). effect_by action command.assignments state None) (sym same) ∙ e)
 
 sent_effect : (b : Configuration) (p target : ℕ) (value : Tree) (effect : Effect) (z : ℤ) (state : LocalState) → effect.message ≡ Some z
     → counted (Sends target value) (with_set (state_in b p) effect.sets) ≡ state
@@ -129,7 +146,7 @@ receives_front : (command : Command) (b : Configuration) (p source variable : �
     → command.action ≡ Receives source variable → cell b.channels source p ≡ m ∷ rest
     → effect_of command (state_in b p) (Some m) ≡ Some effect
     → proceed command (Receives source variable) b p
-      ≡ Ok (after_effect (with_channel b source p rest) p (Receives source variable) effect)
+    ≡ Ok (after_effect (with_channel b source p rest) p (Receives source variable) effect)
 receives_front command b p source variable m rest effect same front e =
     ap (receive command b p source) front
     ∙ ap (complete (with_channel b source p rest) p command.action) e
@@ -148,13 +165,15 @@ received command source variable c p d (m ∷ rest) same front e =
       state = state;
       sends = refl;
       receives = refl;
+      sent = refl;
+      got = refl;
       ready = (rest, front);
       leads = done.2
-        ∙ ap (λ (action : Action). after_effect (with_channel c source p rest) p action effect) same
-        ∙ taken_effect c p source variable m rest effect state front refl;
+          ∙ ap (λ (action : Action). after_effect (with_channel c source p rest) p action effect) same
+          ∙ taken_effect c p source variable m rest effect state front refl;
       again = λ b there ready.
-        receives_front command b p source variable m ready.0 effect same ready.1 (effect_again command b c p (Some m) effect there done.1)
-        ∙ ap (λ (x : Configuration). Ok x) (taken_effect b p source variable m ready.0 effect state ready.1
+          receives_front command b p source variable m ready.0 effect same ready.1 (effect_again command b c p (Some m) effect there done.1)
+          ∙ ap (λ (x : Configuration). Ok x) (taken_effect b p source variable m ready.0 effect state ready.1
           (counted_again (Receives source variable) b c p effect there));
     }
 
@@ -169,11 +188,13 @@ proceeds command Local c p d same e =
       state = state;
       sends = refl;
       receives = refl;
+      sent = refl;
+      got = refl;
       ready = tt;
       leads = done.2;
       again = λ b there ready.
-        ap (complete b p Local) (effect_again command b c p None effect there done.1)
-        ∙ ap (λ (x : Configuration). Ok x) (local_effect b p effect state (counted_again Local b c p effect there));
+          ap (complete b p Local) (effect_again command b c p None effect there done.1)
+          ∙ ap (λ (x : Configuration). Ok x) (local_effect b p effect state (counted_again Local b c p effect there));
     }
 proceeds command (Sends target value) c p d same e =
     let done = completed c p (Sends target value) (effect_of command (state_in c p) None) d e in
@@ -185,11 +206,13 @@ proceeds command (Sends target value) c p d same e =
       state = state;
       sends = refl;
       receives = refl;
+      sent = refl;
+      got = refl;
       ready = tt;
       leads = done.2 ∙ sent_effect c p target value effect sent.0 state sent.1 refl;
       again = λ b there ready.
-        ap (complete b p (Sends target value)) (effect_again command b c p None effect there done.1)
-        ∙ ap (λ (x : Configuration). Ok x)
+          ap (complete b p (Sends target value)) (effect_again command b c p None effect there done.1)
+          ∙ ap (λ (x : Configuration). Ok x)
           (sent_effect b p target value effect sent.0 state sent.1 (counted_again (Sends target value) b c p effect there));
     }
 proceeds command (Receives source variable) c p d same e =
@@ -206,10 +229,11 @@ fires (Some command) c p d e =
       state = does.state;
       sends = does.sends;
       receives = does.receives;
+      sent = does.sent;
+      got = does.got;
       ready = does.ready;
       leads = does.leads;
       again = λ b there ready.
-        passes (truth b) (proceed command command.action b p) (after_move does.move p does.state b)
+          passes (truth b) (proceed command command.action b p) (after_move does.move p does.state b)
           (ap (λ (s : LocalState). truth_of (evaluate command.guard s)) there ∙ open_.0) (does.again b there ready);
     }
-

@@ -3,12 +3,11 @@ use Rattle.std.proofs.Common.{◌≡◌, ℕ, zero, suc, ◌+◌, List, [], ◌�
 use Rattle.std.proofs.Common.{refl, sym, ap, ◌∙◌, subst, arith}
 use Rattle.dbg_base.specs.declared.refusal.Refusal.{Refusal}
 use Rattle.dbg_base.specs.Trees.{Program}
-use Rattle.dbg_base.specs.LocalStates.{LocalState}
-use Rattle.dbg_base.specs.Configurations.{Configuration, start_of}
+use Rattle.dbg_base.specs.Configurations.{Configuration}
 use Rattle.dbg_base.specs.Firing.{fire}
 use Rattle.dbg_base.specs.Histories.{History, Progress, opening_of, moved, first_move, move_from, next_move, go_on, play_moves}
 use Rattle.dbg_base.specs.Histories.{choice_count, progress_of, play, IsPossible}
-use Rattle.dbg_base.specs.Orders.{Event, order_from, order, states_then, states_from, states_of, with_state_of}
+use Rattle.dbg_base.specs.Orders.{Event, order_from, order, states_then, states_from, states_of}
 use Rattle.causal_world.proofs.Bubbling.{IsEmpty, IsOrderOf, first_step, legal_behind, bubble}
 
 -- the move that the play makes, where the choices of process `first` and those behind it are H
@@ -89,7 +88,7 @@ moves P from first ([] ∷ H) (suc i) k rest m front fires none =
     moves P from (first + 1) H i k rest m front (fires_later P from.configuration m first i k fires) none
 moves P from first ((l ∷ left) ∷ H) i k rest m front fires none =
     moves_by P from first i k l rest left H m (fire P from.configuration first l) refl front fires none
-      (λ j x y z. moves P from (first + 1) H j k rest m x y z)
+    (λ j x y z. moves P from (first + 1) H j k rest m x y z)
 
 -- one move more at the front
 pub one_move : (n : ℕ) (P : Program) (from to : Progress) (o : Option Progress) → next_move P from ≡ o → o ≡ Some to
@@ -108,14 +107,14 @@ played_by n P from d e E None next size legal order later =
     let step = first_step (fire P from.configuration e.process e.choice) (λ x. order_from P x E) d legal in
     let place : e.process ≡ 0 + e.process = omega arith in
     absurd (moves P from 0 from.unplayed e.process e.choice order.0 step.0 order.1
-      (subst (λ (p : ℕ). fire P from.configuration p e.choice ≡ Ok step.0) place step.1) next)
+    (subst (λ (p : ℕ). fire P from.configuration p e.choice ≡ Ok step.0) place step.1) next)
 played_by n P from d e E (Some to) next size legal order later =
     let f = found P from 0 from.unplayed to next in
     let place : f.offset ≡ f.process = omega (arith, f.place) in
     let front : get_or from.unplayed f.process [] ≡ f.choice ∷ f.rest =
-      subst (λ (p : ℕ). get_or from.unplayed p [] ≡ f.choice ∷ f.rest) place f.front in
+    subst (λ (p : ℕ). get_or from.unplayed p [] ≡ f.choice ∷ f.rest) place f.front in
     let first = bubble P from.configuration f.reached d from.unplayed (record { process = f.process; choice = f.choice }) f.rest (e ∷ E)
-      legal order front f.fires in
+    legal order front f.fires in
     let size_there : length first.others ≡ n = omega (arith, first.shorter) in
     let rest = later (moved from f.process f.rest f.reached) first.others size_there first.legal first.order in
     let move = one_move n P from (moved from f.process f.rest f.reached) (Some to) next (ap (λ (x : Progress). Some x) f.leads) in
@@ -176,7 +175,7 @@ listing_behind P from to p k rest m front fires l = record {
   order = (rest, front, l.order);
   legal = legal_behind P from.configuration m to.configuration (record { process = p; choice = k }) l.events fires l.legal;
   states =
-    ap (λ (r : Result Configuration Refusal). states_then r from.states p (λ d later. states_from P d later l.events)) fires ∙ l.states;
+      ap (λ (r : Result Configuration Refusal). states_then r from.states p (λ d later. states_from P d later l.events)) fires ∙ l.states;
 }
 
 listing_by : (n : ℕ) (P : Program) (from : Progress) (o : Option Progress) → next_move P from ≡ o
@@ -188,8 +187,8 @@ listing_by n P from (Some to) next empty later =
     let f = found P from 0 from.unplayed to next in
     let place : f.offset ≡ f.process = omega (arith, f.place) in
     listing_behind P from (play_moves n P to) f.process f.choice f.rest f.reached
-      (subst (λ (p : ℕ). get_or from.unplayed p [] ≡ f.choice ∷ f.rest) place f.front) f.fires
-      (subst (λ (x : Progress). Listing P x (play_moves n P to)) f.leads (later to empty))
+    (subst (λ (p : ℕ). get_or from.unplayed p [] ≡ f.choice ∷ f.rest) place f.front) f.fires
+    (subst (λ (x : Progress). Listing P x (play_moves n P to)) f.leads (later to empty))
 
 pub lists : (n : ℕ) (P : Program) (from : Progress) → IsEmpty (play_moves n P from).unplayed → Listing P from (play_moves n P from)
 lists zero P from empty = record { events = []; order = empty; legal = refl; states = refl }

@@ -1,5 +1,5 @@
 -- Lists of lists, one of which gets one thing more at its end.
-use Rattle.std.proofs.Common.{◌≡◌, ◌≢◌, ℕ, ◌<◌, List, [], ◌∷◌, ◌++◌, length, get_or, set, refl, sym, ap, ◌∙◌}
+use Rattle.std.proofs.Common.{◌≡◌, ◌≢◌, ℕ, ◌<◌, List, [], ◌∷◌, ◌++◌, length, get_or, set, sym, ap, ◌∙◌}
 use Rattle.std.proofs.lemmas.List.{set_comm, set-set, get_or-set_same, get_or-set_other, length-set}
 
 abbrev pub push : {A : Type 0} → List (List A) → ℕ → A → List (List A)

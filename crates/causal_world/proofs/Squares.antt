@@ -1,5 +1,5 @@
 -- The channels of each configuration that is reached are a square.
-use Rattle.std.proofs.Common.{◌≡◌, ℕ, ℤ, ◌<◌, List, [], ◌∷◌, ◌++◌, length, get_or, set, replicate, drop, Ok, refl, sym, ap, ◌∙◌, subst, ⊎_elim, arith}
+use Rattle.std.proofs.Common.{◌≡◌, ℕ, ℤ, ◌<◌, List, [], ◌∷◌, ◌++◌, length, get_or, set, replicate, drop, Ok, sym, ap, ◌∙◌, subst, ⊎_elim}
 use Rattle.std.proofs.lemmas.Bool.{cases_eq}
 use Rattle.std.proofs.lemmas.List.{length-set, length-replicate, get_or-replicate, get_or-set_same, get_or-set_other}
 use Rattle.dbg_base.specs.Trees.{Program, command_of}
@@ -21,12 +21,12 @@ put_square : (n : ℕ) (g : Grid) (i j : ℕ) (x : List ℤ) → IsSquare n g �
 put_square n g i j x s = record {
   rows = length-set g i (set (get_or g i []) j x) ∙ s.rows;
   columns = λ k within. ⊎_elim
-    (λ (same : i ≡ k). subst (λ (y : ℕ). y < n → length (row (put g i j x) y) ≡ n) same
+      (λ (same : i ≡ k). subst (λ (y : ℕ). y < n → length (row (put g i j x) y) ≡ n) same
       (λ there. ap (λ (r : List (List ℤ)). length r) (get_or-set_same g i (set (get_or g i []) j x) [] (rw s.rows there))
-        ∙ length-set (get_or g i []) j x ∙ s.columns i there) within)
-    (λ (apart : i ≡ k → ⊥). ap (λ (r : List (List ℤ)). length r)
+      ∙ length-set (get_or g i []) j x ∙ s.columns i there) within)
+      (λ (apart : i ≡ k → ⊥). ap (λ (r : List (List ℤ)). length r)
       (get_or-set_other g i k (set (get_or g i []) j x) [] (λ (y : k ≡ i). apart (sym y))) ∙ s.columns k within)
-    (cases_eq i k);
+      (cases_eq i k);
 }
 
 move_square : (n : ℕ) (move : Move) (p : ℕ) (g : Grid) → IsSquare n g → IsSquare n (channels_after move p g)
@@ -34,14 +34,15 @@ move_square n Keeps p g s = s
 move_square n (Puts target value) p g s = put_square n g p target (cell g p target ++ value ∷ []) s
 move_square n (Takes source message) p g s = put_square n g source p (drop 1 (cell g source p)) s
 
-square_start : (P : Program) → IsSquare (length P) (start_of P).channels
+pub square_start : (P : Program) → IsSquare (length P) (start_of P).channels
 square_start P = record {
   rows = length-replicate (length P) (replicate (length P) []);
   columns = λ i within. ap (λ (r : List (List ℤ)). length r) (get_or-replicate (length P) i (replicate (length P) []) [] within)
-    ∙ length-replicate (length P) [];
+      ∙ length-replicate (length P) [];
 }
 
-pub square_fire : (P : Program) (n : ℕ) (c d : Configuration) (p k : ℕ) → fire P c p k ≡ Ok d → IsSquare n c.channels → IsSquare n d.channels
+pub square_fire : (P : Program) (n : ℕ) (c d : Configuration) (p k : ℕ) → fire P c p k ≡ Ok d → IsSquare n c.channels
+    → IsSquare n d.channels
 square_fire P n c d p k fire_is s =
     let f = fires (command_of P p k) c p d fire_is in
     subst (λ (x : Configuration). IsSquare n x.channels) (sym f.leads) (move_square n f.move p c.channels s)

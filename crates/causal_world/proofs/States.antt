@@ -1,13 +1,13 @@
 -- The local states on the way are the same in each order.
-use Rattle.std.proofs.Common.{◌≡◌, ◌≢◌, ℕ, List, [], ◌∷◌, ◌++◌, get_or, set, Result, Ok, refl, sym, ap, ◌∙◌, subst}
-use Rattle.std.proofs.lemmas.List.{set_comm, get_or-set_other}
+use Rattle.std.proofs.Common.{◌≡◌, ◌≢◌, ℕ, List, [], ◌∷◌, ◌++◌, Result, Ok, refl, sym, ap, ◌∙◌, subst}
 use Rattle.dbg_base.specs.declared.refusal.Refusal.{Refusal}
 use Rattle.dbg_base.specs.Trees.{Program, command_of}
 use Rattle.dbg_base.specs.LocalStates.{LocalState}
 use Rattle.dbg_base.specs.Configurations.{Configuration, start_of, state_in}
 use Rattle.dbg_base.specs.Firing.{fire}
 use Rattle.dbg_base.specs.Histories.{History, IsPossible, progress_of}
-use Rattle.dbg_base.specs.Orders.{Event, order_from, order, IsLegalFrom, states_then, states_from, states_of, with_state_of, IsSwap, GoesOver, Stays, Swaps}
+use Rattle.dbg_base.specs.Orders.{Event, order_from, order, IsLegalFrom, states_then, states_from, states_of, with_state_of, IsSwap}
+use Rattle.dbg_base.specs.Orders.{GoesOver, Stays, Swaps}
 use Rattle.causal_world.proofs.Moves.{fires}
 use Rattle.causal_world.proofs.Diamonds.{other_state, diamond}
 use Rattle.causal_world.proofs.Bubbling.{IsOrderOf, first_step}
@@ -44,10 +44,10 @@ two_swap P c states e f E d b g h apart first second other later =
     ∙ states_step P d g (with_state_of states e.process d) f E second
     ∙ ap (λ (x : Configuration). states_from P x (with_state_of (with_state_of states e.process d) f.process x) E) meet
     ∙ ap (λ (l : List (List LocalState)). states_from P h l E)
-      (ap (λ (s : LocalState). push (push states e.process (state_in d e.process)) f.process s) two
-      ∙ pushes_swap states e.process f.process (state_in d e.process) (state_in b f.process) apart
-      ∙ ap (λ (s : LocalState). push (push states f.process (state_in b f.process)) e.process s)
-        (sym one ∙ ap (λ (x : Configuration). state_in x e.process) meet))
+    (ap (λ (s : LocalState). push (push states e.process (state_in d e.process)) f.process s) two
+    ∙ pushes_swap states e.process f.process (state_in d e.process) (state_in b f.process) apart
+    ∙ ap (λ (s : LocalState). push (push states f.process (state_in b f.process)) e.process s)
+    (sym one ∙ ap (λ (x : Configuration). state_in x e.process) meet))
     ∙ sym (states_step P b h (with_state_of states f.process b) e E later)
     ∙ sym (states_step P c b states f (e ∷ E) other)
 
@@ -67,7 +67,7 @@ swap_states P c d b states (x ∷ front) e f E apart legal other =
     let second_is = second.1 in
     let same : second.0 ≡ first.0 = cc in
     let there : order_from P first.0 (front ++ f ∷ e ∷ E) ≡ Ok b =
-      subst (λ (y : Configuration). order_from P y (front ++ f ∷ e ∷ E) ≡ Ok b) same second.2 in
+    subst (λ (y : Configuration). order_from P y (front ++ f ∷ e ∷ E) ≡ Ok b) same second.2 in
     states_step P c first.0 states x (front ++ e ∷ f ∷ E) first.1
     ∙ swap_states P first.0 d b (with_state_of states x.process first.0) front e f E apart first.2 there
     ∙ sym (states_step P c first.0 states x (front ++ f ∷ e ∷ E) first.1)
@@ -81,8 +81,8 @@ one_swap : (P : Program) (c : Configuration) (states : List (List LocalState)) (
 one_swap P c states E F swap legal other =
     ap (λ (X : List Event). states_from P c states X) swap.before
     ∙ swap_states P c legal.0 other.0 states swap.front swap.one swap.other swap.behind swap.apart
-      (subst (λ (X : List Event). order_from P c X ≡ Ok legal.0) swap.before legal.1)
-      (subst (λ (X : List Event). order_from P c X ≡ Ok other.0) swap.after other.1)
+    (subst (λ (X : List Event). order_from P c X ≡ Ok legal.0) swap.before legal.1)
+    (subst (λ (X : List Event). order_from P c X ≡ Ok other.0) swap.after other.1)
     ∙ ap (λ (X : List Event). states_from P c states X) (sym swap.after)
 
 pub goes_states : (P : Program) (c : Configuration) (states : List (List LocalState)) (E F : List Event) → GoesOver P c E F

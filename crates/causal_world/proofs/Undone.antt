@@ -1,10 +1,9 @@
 -- The last choice of a process can be taken back where its message is still on its way, and only there.
-use Rattle.std.proofs.Common.{◌≡◌, ℕ, suc, ◌<◌, List, [], ◌∷◌, ◌++◌, length, Some, Ok, sym, ap, ◌∙◌, subst, arith}
+use Rattle.std.proofs.Common.{◌≡◌, ℕ, ◌<◌, ◌++◌, length, Some, sym, ◌∙◌, subst, arith}
 use Rattle.dbg_base.specs.Trees.{Program, command_of}
 use Rattle.dbg_base.specs.Configurations.{Configuration, start_of, channel_of}
-use Rattle.dbg_base.specs.Firing.{fire}
 use Rattle.dbg_base.specs.Histories.{History, IsPossible, play}
-use Rattle.dbg_base.specs.Orders.{order_from, with_last, target_in}
+use Rattle.dbg_base.specs.Orders.{with_last, target_in}
 use Rattle.causal_world.proofs.Grids.{Grid, row, cell}
 use Rattle.causal_world.proofs.Moves.{Move, Keeps, Puts, Takes, channels_after, move_target, fires}
 use Rattle.causal_world.proofs.Playing.{possible}
@@ -44,7 +43,7 @@ message_left P B p k t within shorter longer to there =
     let row_there : p < length (play P B).channels = omega (arith, here, s.rows) in
     let cell_there : t < length (row (play P B).channels p) = omega (arith, there, s.columns p here) in
     subst (λ (x : Configuration). 0 < length (channel_of x p t)) (sym f.leads)
-      (puts_one f.move p t (play P B).channels (sym f.sends ∙ to) row_there cell_there)
+    (puts_one f.move p t (play P B).channels (sym f.sends ∙ to) row_there cell_there)
 
 pub waits : (P : Program) (B : History) (p k : ℕ) → p < length B → IsPossible P B → IsPossible P (with_last B p k)
     → IsWaiting P (play P (with_last B p k)) p k

@@ -1,25 +1,24 @@
 -- Taking back the last choice gives the play of the history without it.
-use Rattle.std.proofs.Common.{◌≡◌, ℕ, ℤ, pos, zero, suc, ◌+◌, ◌-◌, ◌<◌, ◌≤◌, List, [], ◌∷◌, ◌++◌, length, take, get_or, set, drop, Option, Some, None, Ok}
-use Rattle.std.proofs.Common.{refl, sym, ap, ◌∙◌, subst, ⊎_elim, arith, append-nil}
+use Rattle.std.proofs.Common.{◌≡◌, ℕ, ℤ, pos, ◌+◌, ◌-◌, ◌<◌, ◌≤◌, List, [], ◌∷◌, ◌++◌, length, get_or, set, drop, Option, Some, None}
+use Rattle.std.proofs.Common.{Ok, refl, sym, ap, ◌∙◌, subst, ⊎_elim, arith}
 use Rattle.std.specs.Prelude.{slice_index, slice_index_or}
 use Rattle.std.proofs.lemmas.List.{set-set, set-get_or, length-append, length-set, take_at, take_more, take_all, get_or_push, get_or_past}
 use Rattle.dbg_base.specs.Trees.{Action, Local, Sends, Receives, Command, Program, command_of}
 use Rattle.dbg_base.specs.LocalStates.{LocalState, no_state}
 use Rattle.dbg_base.specs.Configurations.{Configuration, start_of, state_in, channel_of, with_channel, with_state}
-use Rattle.dbg_base.specs.Firing.{fire}
 use Rattle.dbg_base.specs.Histories.{History, IsPossible, play, local_state}
-use Rattle.dbg_base.specs.Orders.{order_from, with_last, target_of, target_in, source_of, source_in}
+use Rattle.dbg_base.specs.Orders.{Event, order_from, with_last, target_of, target_in, source_of, source_in}
 use Rattle.dbg_base.specs.Reversal.{without_back, without_last, last_choice, MayUndo, before_last, taken_in, unmoved, unmoved_if, unfire}
 use Rattle.dbg_base.specs.Reversal.{IsPermitted, after_undos, unfire_all}
-use Rattle.causal_world.proofs.Grids.{Grid, row, cell, put, change, row_within, cell_within, cell-put_same, put-put, put_kept}
-use Rattle.causal_world.proofs.Moves.{Move, Keeps, Puts, Takes, channels_after, IsReady, move_target, move_source, after_move, Fires, fires}
+use Rattle.causal_world.proofs.Grids.{Grid, cell, put, change, row_within, cell_within, cell-put_same, put-put, put_kept}
+use Rattle.causal_world.proofs.Moves.{Move, Keeps, Puts, Takes, IsReady, move_target, move_source, after_move, fires}
 use Rattle.causal_world.proofs.Playing.{possible}
 use Rattle.causal_world.proofs.Histories.{is_there}
 use Rattle.causal_world.proofs.Pushes.{push_same, set_push, push_set}
 use Rattle.causal_world.proofs.Growing.{order_both, last_state, local_kept}
 use Rattle.causal_world.proofs.Fronts.{last_fires}
 use Rattle.causal_world.proofs.Sizes.{put_cases}
-use Rattle.causal_world.proofs.Ends.{to_end, front_stays}
+use Rattle.causal_world.proofs.Ends.{AreOthers, to_end, front_stays}
 use Rattle.causal_world.proofs.Lasts.{around_last}
 use Rattle.causal_world.proofs.Undone.{waits}
 
@@ -101,17 +100,17 @@ unmoved_takes P H c p s (Some command) from = by command.action from
 -- the message is off the back again
 put_back : (g : Grid) (i j : ℕ) (v : ℤ)
     → put (change g i j (λ messages. messages ++ v ∷ [])) i j
-        (without_back (cell (change g i j (λ messages. messages ++ v ∷ [])) i j)) ≡ g
+    (without_back (cell (change g i j (λ messages. messages ++ v ∷ [])) i j)) ≡ g
 put_back g i j v =
     let after = change g i j (λ messages. messages ++ v ∷ []) in
     put-put g i j (cell g i j ++ v ∷ []) (without_back (cell after i j))
     ∙ ⊎_elim
-      (λ (same : cell (put g i j (cell g i j ++ v ∷ [])) i j ≡ cell g i j ++ v ∷ []).
-        ap (λ (l : List ℤ). put g i j (without_back l)) same
-        ∙ ap (λ (l : List ℤ). put g i j l) (back_off (cell g i j) v)
-        ∙ put_kept g i j)
-      (λ (same : (y : List ℤ) → put g i j y ≡ g). same (without_back (cell after i j)))
-      (put_cases g i j (cell g i j ++ v ∷ []))
+    (λ (same : cell (put g i j (cell g i j ++ v ∷ [])) i j ≡ cell g i j ++ v ∷ []).
+    ap (λ (l : List ℤ). put g i j (without_back l)) same
+    ∙ ap (λ (l : List ℤ). put g i j l) (back_off (cell g i j) v)
+    ∙ put_kept g i j)
+    (λ (same : (y : List ℤ) → put g i j y ≡ g). same (without_back (cell after i j)))
+    (put_cases g i j (cell g i j ++ v ∷ []))
 
 -- the message is at the front again
 take_back : (g : Grid) (i j : ℕ) (m : ℤ) (rest : List ℤ) → cell g i j ≡ m ∷ rest
@@ -119,7 +118,7 @@ take_back : (g : Grid) (i j : ℕ) (m : ℤ) (rest : List ℤ) → cell g i j �
 take_back g i j m rest front =
     put-put g i j (drop 1 (cell g i j)) (m ∷ cell (change g i j (drop 1)) i j)
     ∙ ap (λ (l : List ℤ). put g i j (m ∷ l))
-      (cell-put_same g i j (drop 1 (cell g i j)) (row_within g i j m rest front) (cell_within g i j m rest front) ∙ ap (drop 1) front)
+    (cell-put_same g i j (drop 1 (cell g i j)) (row_within g i j m rest front) (cell_within g i j m rest front) ∙ ap (drop 1) front)
     ∙ ap (λ (l : List ℤ). put g i j l) (sym front)
     ∙ put_kept g i j
 
@@ -136,14 +135,14 @@ restored P H b p o Keeps state to from front =
 restored P H b p o (Puts t v) state to from front =
     ap (λ (c : Configuration). with_state c p (state_in b p)) (unmoved_puts P H (after_move (Puts t v) p state b) p t o to)
     ∙ (let states = state_back b p state in
-      let channels = put_back b.channels p t v in
-      λ i. record { states = states i; channels = channels i })
+    let channels = put_back b.channels p t v in
+    λ i. record { states = states i; channels = channels i })
 restored P H b p o (Takes s m) state to from front =
     let there = front s from in
     ap (λ (c : Configuration). with_state c p (state_in b p)) (unmoved_takes P H (after_move (Takes s m) p state b) p s o from)
     ∙ (let states = state_back b p state in
-      let channels = take_back b.channels s p (taken_in P H p s) there.0 there.1 in
-      λ i. record { states = states i; channels = channels i })
+    let channels = take_back b.channels s p (taken_in P H p s) there.0 there.1 in
+    λ i. record { states = states i; channels = channels i })
 
 ready_front : (move : Move) (p s : ℕ) (g : Grid) → move_source move ≡ Some s → IsReady move p g
     → (m : ℤ) × (rest : List ℤ) × (cell g s p ≡ m ∷ rest)
@@ -152,23 +151,34 @@ ready_front (Puts target value) p s g from ready = cc
 ready_front (Takes source message) p s g from ready =
     let same : source ≡ s = cc in (message, ready.0, subst (λ (x : ℕ). cell g x p ≡ message ∷ ready.0) same ready.1)
 
+-- a message that was at the front when p made its last choice is at the front behind the events of the other processes
+taken_behind : (P : Program) (H : History) (p s : ℕ) (before between : Configuration) (E : List Event)
+    → (m : ℤ) × (rest : List ℤ) × (channel_of before s p ≡ m ∷ rest) → before_last P H p ≡ before → order_from P before E ≡ Ok between
+    → AreOthers p E → (rest : List ℤ) × (channel_of between s p ≡ taken_in P H p s ∷ rest)
+taken_behind P H p s before between E front made legal others =
+    let taken : taken_in P H p s ≡ front.0 = taken_at (before_last P H p) made in
+    let later = front_stays P before between s p front.0 front.1 E legal others front.2 in
+    (later.0, later.1 ∙ ap (λ (m : ℤ). m ∷ later.0) (sym taken))
+  where
+    taken_at : (c : Configuration) → c ≡ before → slice_index_or (channel_of c s p) 0 (pos 0) ≡ front.0
+    taken_at c same =
+        ap (λ (x : Configuration). slice_index_or (channel_of x s p) 0 (pos 0)) same
+        ∙ ap (λ (l : List ℤ). slice_index_or l 0 (pos 0)) front.2
+
 -- what the last choice took in the play is at the front of its channel in the play of the history without it
 pub taken_front : (P : Program) (B : History) (p k s : ℕ) → p < length B → IsPossible P B → IsPossible P (with_last B p k)
     → source_in (command_of P p k) ≡ Some s → (rest : List ℤ) × (channel_of (play P B) s p ≡ taken_in P (with_last B p k) p s ∷ rest)
 taken_front P B p k s within shorter longer from =
     let a = around_last P B p k within longer in
     let e = to_end P a.before a.after (play P (with_last B p k)) p k a.behind a.fires a.goes_on a.others
-      (waits P B p k within shorter longer) in
+    (waits P B p k within shorter longer) in
     let ends : play P B ≡ e.between =
-      (possible P B (a.front ++ a.behind) e.between (order_both P (start_of P) a.before e.between a.front a.behind a.leads e.first) a.takes).1 in
+    (possible P B (a.front ++ a.behind) e.between
+    (order_both P (start_of P) a.before e.between a.front a.behind a.leads e.first) a.takes).1 in
     let f = fires (command_of P p k) a.before p a.after a.fires in
-    let front = ready_front f.move p s a.before.channels (sym f.receives ∙ from) f.ready in
-    let taken : taken_in P (with_last B p k) p s ≡ front.0 =
-      ap (λ (x : Configuration). slice_index_or (channel_of x s p) 0 (pos 0)) a.made
-      ∙ ap (λ (l : List ℤ). slice_index_or l 0 (pos 0)) front.2 in
-    let later = front_stays P a.before e.between s p front.0 front.1 a.behind e.first a.others front.2 in
-    (later.0,
-      ap (λ (x : Configuration). channel_of x s p) ends ∙ later.1 ∙ ap (λ (m : ℤ). m ∷ later.0) (sym taken))
+    subst (λ (x : Configuration). (rest : List ℤ) × (channel_of x s p ≡ taken_in P (with_last B p k) p s ∷ rest)) (sym ends)
+    (taken_behind P (with_last B p k) p s a.before e.between a.behind
+    (ready_front f.move p s a.before.channels (sym f.receives ∙ from) f.ready) a.made e.first a.others)
 
 -- Taking back the last choice of a history from its play on leads to the play of the history without it.
 pub unfired : (P : Program) (B : History) (p k : ℕ) → p < length B → IsPossible P B → IsPossible P (with_last B p k)
@@ -180,15 +190,15 @@ unfired P B p k within shorter longer =
     let here : p < length P = is_there P (play P B) (play P H) p k last in
     let few : length (get_or B p []) ≤ length (get_or B p []) = omega arith in
     let state : local_state P H p (length (get_or H p []) - 1) ≡ state_in (play P B) p =
-      ap (λ (n : ℕ). local_state P H p n) (size_with B p k within)
-      ∙ local_kept P B p k p (length (get_or B p [])) (play P H) shorter within last here few
-      ∙ last_state P B p shorter here in
+    ap (λ (n : ℕ). local_state P H p n) (size_with B p k within)
+    ∙ local_kept P B p k p (length (get_or B p [])) (play P H) shorter within last here few
+    ∙ last_state P B p shorter here in
     ap (λ (l : ℕ). with_state (unmoved_if P H (play P H) p (command_of P p l)) p (local_state P H p (length (get_or H p []) - 1)))
-      (last_with B p k within)
+    (last_with B p k within)
     ∙ ap (λ (s : LocalState). with_state (unmoved_if P H (play P H) p (command_of P p k)) p s) state
     ∙ ap (λ (c : Configuration). with_state (unmoved_if P H c p (command_of P p k)) p (state_in (play P B) p)) f.leads
     ∙ restored P H (play P B) p (command_of P p k) f.move f.state f.sends f.receives
-      (λ s from. taken_front P B p k s within shorter longer from)
+    (λ s from. taken_front P B p k s within shorter longer from)
 
 -- the same of a permitted undo
 pub unfired_once : (P : Program) (H : History) (p : ℕ) → IsPossible P H → MayUndo P H p
@@ -196,14 +206,15 @@ pub unfired_once : (P : Program) (H : History) (p : ℕ) → IsPossible P H → 
 unfired_once P H p all may =
     let same = with_without H p may.some in
     subst (λ (X : History). unfire P X (play P X) p ≡ play P (without_last H p)) same
-      (unfired P (without_last H p) p (last_choice H p) (within_without H p may.some) may.rest
-        (subst (λ (X : History). IsPossible P X) (sym same) all))
+    (unfired P (without_last H p) p (last_choice H p) (within_without H p may.some) may.rest
+    (subst (λ (X : History). IsPossible P X) (sym same) all))
 
 -- and of a list of them
 pub unfired_all : (P : Program) (H : History) (undos : List ℕ) → IsPossible P H → IsPermitted P H undos
     → IsPossible P (after_undos H undos) × (unfire_all P H undos (play P H) ≡ play P (after_undos H undos))
 unfired_all P H [] all permitted = (all, refl)
 unfired_all P H (p ∷ undos) all permitted =
-    let rest = unfired_all P (without_last H p) undos permitted.0.rest permitted.1 in
-    (rest.0,
-      ap (λ (c : Configuration). unfire_all P (without_last H p) undos c) (unfired_once P H p all permitted.0) ∙ rest.1)
+    let rest = unfired_all P (without_last H p) undos permitted.0.rest permitted.1 in (
+      rest.0,
+      ap (λ (c : Configuration). unfire_all P (without_last H p) undos c) (unfired_once P H p all permitted.0) ∙ rest.1,
+    )

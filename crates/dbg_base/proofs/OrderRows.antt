@@ -1,13 +1,13 @@
--- Worked rows of lists of events, computed from the definitions: a process that sends, and one that receives.
+-- Worked rows of lists of events, cuts and undos, computed from the definitions: a process that sends, and one that receives.
 use Rattle.std.proofs.Common.{◌≡◌, pos, List, [], ◌∷◌, Some, None, true, Ok, Err, refl}
 use Rattle.std.specs.Prelude.{codes}
 use Rattle.dbg_base.specs.declared.refusal.Refusal.TheVariants.{GuardFalse, ChannelEmpty}
 use Rattle.dbg_base.specs.Trees.{Number, Truth, Local, Sends, Receives, Command, Process, Program, command_of}
-use Rattle.dbg_base.specs.Configurations.{start_of}
+use Rattle.dbg_base.specs.Configurations.{start_of, channel_of}
 use Rattle.dbg_base.specs.Histories.{History, play, progress_of}
 use Rattle.dbg_base.specs.Counts.{sent as sent_among, got as got_among}
 use Rattle.dbg_base.specs.Cuts.{history_at}
-use Rattle.dbg_base.specs.Reversal.{before_last, taken_in, unfire, after_undos, unfire_all}
+use Rattle.dbg_base.specs.Reversal.{without_last, before_last, taken_in, unfire, after_undos, unfire_all}
 use Rattle.dbg_base.specs.Orders.{Event, order, choices_of, states_of, IsSwap, GoesOver, Stays, Swaps, target_in, source_in}
 
 abbrev send : Command
@@ -124,3 +124,29 @@ undoes_all = refl
 
 nothing_is_left : after_undos two_and_one (0 ∷ 1 ∷ 0 ∷ []) ≡ [] ∷ [] ∷ []
 nothing_is_left = refl
+
+-- a send whose message was received is not taken back: without it the receive is not played
+abbrev one_and_one : History
+one_and_one = (0 ∷ []) ∷ (0 ∷ []) ∷ []
+
+receive_stays_unplayed : (progress_of system (without_last one_and_one 0)).unplayed ≡ [] ∷ (0 ∷ []) ∷ []
+receive_stays_unplayed = refl
+
+-- nor is the cut without it consistent: one message is received, and none is sent
+one_received : got_among system one_and_one 1 0 1 ≡ 1
+one_received = refl
+
+none_sent : sent_among system one_and_one 0 1 0 ≡ 0
+none_sent = refl
+
+-- a message that was taken goes back before one that was sent later
+abbrev seven_and_eight : Program
+seven_and_eight =
+    record sender { commands = send ∷ record send { action = Sends 1 (Number (pos 8)) } ∷ [] } ∷ receiver ∷ []
+
+took_the_first : channel_of (play seven_and_eight ((0 ∷ 1 ∷ []) ∷ (0 ∷ []) ∷ [])) 0 1 ≡ pos 8 ∷ []
+took_the_first = refl
+
+goes_to_the_front : channel_of (unfire seven_and_eight ((0 ∷ 1 ∷ []) ∷ (0 ∷ []) ∷ [])
+    (play seven_and_eight ((0 ∷ 1 ∷ []) ∷ (0 ∷ []) ∷ [])) 1) 0 1 ≡ pos 7 ∷ pos 8 ∷ []
+goes_to_the_front = refl

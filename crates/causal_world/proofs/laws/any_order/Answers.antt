@@ -1,7 +1,7 @@
-use Rattle.std.proofs.Common.{◌≡◌, List, length, subst, sym}
+use Rattle.std.proofs.Common.{length, subst, sym}
 use Rattle.dbg_base.specs.Configurations.{start_of}
 use Rattle.dbg_base.specs.Histories.{History}
-use Rattle.dbg_base.specs.Orders.{Event, choices_of}
+use Rattle.dbg_base.specs.Orders.{choices_of}
 use Rattle.causal_world.proofs.Bubbling.{IsOrderOf}
 use Rattle.causal_world.proofs.Joining.{joined}
 use Rattle.causal_world.proofs.Playing.{possible}
@@ -20,4 +20,4 @@ returns-clause-states c P E legal =
 pub returns-clause-swapped : goal.returns-clause-swapped
 returns-clause-swapped c P E F legal other same =
     joined P (start_of P) legal.0 other.0 (choices_of (length P) E) E F legal.1 other.1 (takes P (start_of P) legal.0 E legal.1)
-      (subst (λ (H : History). IsOrderOf H F) (sym same) (takes P (start_of P) other.0 F other.1))
+    (subst (λ (H : History). IsOrderOf H F) (sym same) (takes P (start_of P) other.0 F other.1))
