@@ -39,7 +39,15 @@ below_at [] i h = absurd (omega arith)
 below_at (x ∷ xs) zero h = omega arith
 below_at (x ∷ xs) (suc i) h = let t : i < length xs = below_at xs i h in omega arith
 
+-- in one of several lists
 pub row_below_at : (rows : List (List ℕ)) (i j : ℕ) → 0 < get_or (get_or rows i []) j 0 → i < length rows
 row_below_at [] i j h = absurd (omega arith)
 row_below_at (r ∷ rows) zero j h = omega arith
 row_below_at (r ∷ rows) (suc i) j h = let t : i < length rows = row_below_at rows i j h in omega arith
+
+-- the same, where f sees more than 0
+pub seen_below : {A : Type 0} (f : A → ℕ) (xs : List A) (i : ℕ) → 0 < get_or (map f xs) i 0 → i < length xs
+seen_below f xs i h = let t : i < length (map f xs) = below_at (map f xs) i h in omega (arith, length-map xs f)
+
+pub row_seen_below : {A : Type 0} (f : A → List ℕ) (xs : List A) (i j : ℕ) → 0 < get_or (get_or (map f xs) i []) j 0 → i < length xs
+row_seen_below f xs i j h = let t : i < length (map f xs) = row_below_at (map f xs) i j h in omega (arith, length-map xs f)

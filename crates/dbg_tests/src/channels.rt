@@ -18,8 +18,8 @@ fn messages_go_in_turn(rt: HostRuntime) -> Result<(), Fail> {
     }
     assert_eq!(rt; (grid.len(a, b), grid.len(b, a), grid.len(a, a)), (2, 1, 0));
     assert_eq!(rt; grid.front(a, b), Some(5));
-    assert_eq!(rt; grid.items(rt.alloc(), a, b)?.items(), &[5, 7]);
-    assert_eq!(rt; grid.items(rt.alloc(), Pid(2), b)?.items(), &[]);
+    assert_eq!(rt; grid.items(rt.alloc(), a, b)?.items(), [5, 7].as_slice());
+    assert_eq!(rt; grid.items(rt.alloc(), Pid(2), b)?.items(), [].as_slice());
     assert_eq!(rt; grid.unpush_back(a, b), Some(7));
     assert_eq!(rt; grid.pop_front(a, b), Some(5));
     assert_eq!(rt; (grid.pop_front(a, b), grid.unpush_back(a, b)), (None, None));
