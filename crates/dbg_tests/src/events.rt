@@ -27,7 +27,13 @@ fn an_event_goes_forth_and_back(rt: HostRuntime) -> Result<(), Fail> {
         value: 9,
         count: 1,
     };
-    let event = Event::of(rt.alloc(), Choice(2), &env, &[(1, 8), (0, 7), (1, 9)], exchange)?;
+    let event = Event::of(
+        rt.alloc(),
+        Choice(2),
+        &env,
+        &[(1, 8), (0, 7), (1, 9)],
+        exchange,
+    )?;
     assert_eq!(rt; (event.choice(), event.exchange()), (Choice(2), exchange));
     assert_eq!(rt; event.settings().len(), 3);
     event.redo(&mut env);
@@ -62,16 +68,25 @@ fn rows_tell_the_past(rt: HostRuntime) -> Result<(), Fail> {
     }
     assert!(rt; rows.has(b) && !rows.has(Pid(2)));
     assert_eq!(rt; (rows.len(a), rows.len(b), rows.len(Pid(2))), (2, 0, 0));
-    assert_eq!(rt; rows.event(a, 0).map(|event| event.choice()), Some(Choice(0)));
+    assert_eq!(rt;
+        rows.event(a, 0).map(|event| event.choice()),
+        Some(Choice(0))
+    );
     assert_eq!(rt; rows.last(a).map(|event| event.choice()), Some(Choice(1)));
     assert!(rt; rows.event(a, 2).is_none() && rows.last(b).is_none());
     let mut env = rows.past(a, 1)?;
     assert_eq!(rt; env.values(), [5, 4].as_slice());
     rows.advance(a, 1, &mut env);
-    assert_eq!(rt; (env.values(), env.counts(Direction::Got)), ([6, 4].as_slice(), [0, 1].as_slice()));
+    assert_eq!(rt;
+        (env.values(), env.counts(Direction::Got)),
+        ([6, 4].as_slice(), [0, 1].as_slice())
+    );
     rows.retreat(a, 1, &mut env);
     rows.retreat(a, 2, &mut env);
-    assert_eq!(rt; (env.values(), env.counts(Direction::Got)), ([5, 4].as_slice(), [0, 0].as_slice()));
+    assert_eq!(rt;
+        (env.values(), env.counts(Direction::Got)),
+        ([5, 4].as_slice(), [0, 0].as_slice())
+    );
     let truths = rows.truths(rt.alloc(), a, &above(rt.alloc(), 0, 4)?)?;
     assert_eq!(rt; truths.items(), [false, true, true].as_slice());
     let faults = rows.truths(rt.alloc(), b, &above(rt.alloc(), 0, 4)?)?;

@@ -36,7 +36,8 @@ module _ (choice : ℕ) (state : LocalState) (sets : List (ℕ × ℤ)) where
       ∙ ap (λ (n : ℕ). record (with_set state sets) { sent = set state.sent target.0 n }) next
 
   pub took_made : (source : Pid) (message : ℤ) (count variable : ℕ) → count ≡ get_or state.got source.0 0 + 1
-      → after_event (event_of choice state sets (Took source message count)) state ≡ counted (Receives source.0 variable) (with_set state sets)
+      → after_event (event_of choice state sets (Took source message count)) state
+      ≡ counted (Receives source.0 variable) (with_set state sets)
   took_made source message count variable next =
       made_by (Took source message count)
       ∙ ap (λ (n : ℕ). record (with_set state sets) { got = set state.got source.0 n }) next

@@ -20,10 +20,13 @@ returns-clause-grows c =
 
 pub returns-clause-last : goal.returns-clause-last
 returns-clause-last c =
-    rw (← c.self.view_is, seen_at (λ (line : LineState). line.events) c.self.inside.lines.items c.args.pid.0
-    c.index_mut-line.result.now (sym c.index_mut-line.ensures.value)
-    (omega (arith, c.self.inside.lines.ok.0)) [],
-    seen_after (λ (line : LineState). line.events) c.self.inside.lines.items c.args.pid.0
-    c.index_mut-line.result.now (sym c.index_mut-line.ensures.value)
-    (omega (arith, c.self.inside.lines.ok.0))
-    c.pop.new.self []) c.pop.ensures.last
+    rw (
+      ← c.self.view_is,
+      seen_at (λ (line : LineState). line.events) c.self.inside.lines.items c.args.pid.0
+          c.index_mut-line.result.now (sym c.index_mut-line.ensures.value)
+          (omega (arith, c.self.inside.lines.ok.0)) [],
+      seen_after (λ (line : LineState). line.events) c.self.inside.lines.items c.args.pid.0
+          c.index_mut-line.result.now (sym c.index_mut-line.ensures.value)
+          (omega (arith, c.self.inside.lines.ok.0))
+          c.pop.new.self [],
+    ) c.pop.ensures.last

@@ -22,10 +22,13 @@ returns-clause-grows c =
 
 pub returns-clause-back : goal.returns-clause-back
 returns-clause-back c =
-    rw (← c.self.view_is, seen_at (λ (row : RowState). row.messages) c.self.inside.rows.items c.args.from.0
-    c.index_mut-row.result.now (sym c.index_mut-row.ensures.value)
-    (omega (arith, c.self.inside.rows.ok.0)) [],
-    seen_after (λ (row : RowState). row.messages) c.self.inside.rows.items c.args.from.0
-    c.index_mut-row.result.now (sym c.index_mut-row.ensures.value)
-    (omega (arith, c.self.inside.rows.ok.0))
-    c.unpush_back.new.self []) c.unpush_back.ensures.back
+    rw (
+      ← c.self.view_is,
+      seen_at (λ (row : RowState). row.messages) c.self.inside.rows.items c.args.from.0
+          c.index_mut-row.result.now (sym c.index_mut-row.ensures.value)
+          (omega (arith, c.self.inside.rows.ok.0)) [],
+      seen_after (λ (row : RowState). row.messages) c.self.inside.rows.items c.args.from.0
+          c.index_mut-row.result.now (sym c.index_mut-row.ensures.value)
+          (omega (arith, c.self.inside.rows.ok.0))
+          c.unpush_back.new.self [],
+    ) c.unpush_back.ensures.back

@@ -20,10 +20,13 @@ returns-clause-grows c =
 
 pub returns-clause-back : goal.returns-clause-back
 returns-clause-back c =
-    rw (← c.self.view_is, seen_at (λ (queue : QueueState). queue.messages) c.self.inside.queues.items c.args.at
-    c.index_mut-queue.result.now (sym c.index_mut-queue.ensures.value)
-    (omega (arith, c.self.inside.queues.ok.0)) [],
-    seen_after (λ (queue : QueueState). queue.messages) c.self.inside.queues.items c.args.at
-    c.index_mut-queue.result.now (sym c.index_mut-queue.ensures.value)
-    (omega (arith, c.self.inside.queues.ok.0))
-    c.unpush_back.new.self []) c.unpush_back.ensures.back
+    rw (
+      ← c.self.view_is,
+      seen_at (λ (queue : QueueState). queue.messages) c.self.inside.queues.items c.args.at
+          c.index_mut-queue.result.now (sym c.index_mut-queue.ensures.value)
+          (omega (arith, c.self.inside.queues.ok.0)) [],
+      seen_after (λ (queue : QueueState). queue.messages) c.self.inside.queues.items c.args.at
+          c.index_mut-queue.result.now (sym c.index_mut-queue.ensures.value)
+          (omega (arith, c.self.inside.queues.ok.0))
+          c.unpush_back.new.self [],
+    ) c.unpush_back.ensures.back
