@@ -18,11 +18,14 @@ fn messages_go_in_turn(rt: HostRuntime) -> Result<(), Fail> {
     }
     assert_eq!(rt; (grid.len(a, b), grid.len(b, a), grid.len(a, a)), (2, 1, 0));
     assert_eq!(rt; grid.front(a, b), Some(5));
-    assert_eq!(rt; grid.items(rt.alloc(), a, b)?.items(), &[5, 7]);
-    assert_eq!(rt; grid.items(rt.alloc(), Pid(2), b)?.items(), &[]);
+    assert_eq!(rt; grid.items(rt.alloc(), a, b)?.items(), [5, 7].as_slice());
+    assert_eq!(rt; grid.items(rt.alloc(), Pid(2), b)?.items(), [].as_slice());
     assert_eq!(rt; grid.unpush_back(a, b), Some(7));
     assert_eq!(rt; grid.pop_front(a, b), Some(5));
-    assert_eq!(rt; (grid.pop_front(a, b), grid.unpush_back(a, b)), (None, None));
+    assert_eq!(rt;
+        (grid.pop_front(a, b), grid.unpush_back(a, b)),
+        (None, None)
+    );
     assert_eq!(rt; (grid.front(b, a), grid.front(a, b)), (Some(6), None));
     assert_eq!(rt; grid.reserve(a, Pid(2), 1), Ok(()));
     Ok(())
@@ -46,7 +49,16 @@ fn a_long_queue_wraps_round(rt: HostRuntime) -> Result<(), Fail> {
         grid.unpop_front(a, a, -1);
     }
     let messages = grid.items(rt.alloc(), a, a)?;
-    assert_eq!(rt; (messages.items().first().copied(), messages.items().get(1).copied()), (Some(-1), Some(33)));
-    assert_eq!(rt; (messages.items().last().copied(), grid.len(a, a)), (Some(99), 68));
+    assert_eq!(rt;
+        (
+            messages.items().first().copied(),
+            messages.items().get(1).copied()
+        ),
+        (Some(-1), Some(33))
+    );
+    assert_eq!(rt;
+        (messages.items().last().copied(), grid.len(a, a)),
+        (Some(99), 68)
+    );
     Ok(())
 }

@@ -27,15 +27,21 @@ fn an_event_goes_forth_and_back(rt: HostRuntime) -> Result<(), Fail> {
         value: 9,
         count: 1,
     };
-    let event = Event::of(rt.alloc(), Choice(2), &env, &[(1, 8), (0, 7), (1, 9)], exchange)?;
+    let event = Event::of(
+        rt.alloc(),
+        Choice(2),
+        &env,
+        &[(1, 8), (0, 7), (1, 9)],
+        exchange,
+    )?;
     assert_eq!(rt; (event.choice(), event.exchange()), (Choice(2), exchange));
     assert_eq!(rt; event.settings().len(), 3);
     event.redo(&mut env);
-    assert_eq!(rt; env.values(), &[7, 9]);
-    assert_eq!(rt; env.counts(Direction::Sent), &[0, 1]);
+    assert_eq!(rt; env.values(), [7, 9].as_slice());
+    assert_eq!(rt; env.counts(Direction::Sent), [0, 1].as_slice());
     event.undo(&mut env);
-    assert_eq!(rt; env.values(), &[3, 4]);
-    assert_eq!(rt; env.counts(Direction::Sent), &[0, 0]);
+    assert_eq!(rt; env.values(), [3, 4].as_slice());
+    assert_eq!(rt; env.counts(Direction::Sent), [0, 0].as_slice());
     Ok(())
 }
 
@@ -62,20 +68,29 @@ fn rows_tell_the_past(rt: HostRuntime) -> Result<(), Fail> {
     }
     assert!(rt; rows.has(b) && !rows.has(Pid(2)));
     assert_eq!(rt; (rows.len(a), rows.len(b), rows.len(Pid(2))), (2, 0, 0));
-    assert_eq!(rt; rows.event(a, 0).map(|event| event.choice()), Some(Choice(0)));
+    assert_eq!(rt;
+        rows.event(a, 0).map(|event| event.choice()),
+        Some(Choice(0))
+    );
     assert_eq!(rt; rows.last(a).map(|event| event.choice()), Some(Choice(1)));
     assert!(rt; rows.event(a, 2).is_none() && rows.last(b).is_none());
     let mut env = rows.past(a, 1)?;
-    assert_eq!(rt; env.values(), &[5, 4]);
+    assert_eq!(rt; env.values(), [5, 4].as_slice());
     rows.advance(a, 1, &mut env);
-    assert_eq!(rt; (env.values(), env.counts(Direction::Got)), (&[6, 4][..], &[0, 1][..]));
+    assert_eq!(rt;
+        (env.values(), env.counts(Direction::Got)),
+        ([6, 4].as_slice(), [0, 1].as_slice())
+    );
     rows.retreat(a, 1, &mut env);
     rows.retreat(a, 2, &mut env);
-    assert_eq!(rt; (env.values(), env.counts(Direction::Got)), (&[5, 4][..], &[0, 0][..]));
+    assert_eq!(rt;
+        (env.values(), env.counts(Direction::Got)),
+        ([5, 4].as_slice(), [0, 0].as_slice())
+    );
     let truths = rows.truths(rt.alloc(), a, &above(rt.alloc(), 0, 4)?)?;
-    assert_eq!(rt; truths.items(), &[false, true, true]);
+    assert_eq!(rt; truths.items(), [false, true, true].as_slice());
     let faults = rows.truths(rt.alloc(), b, &above(rt.alloc(), 0, 4)?)?;
-    assert_eq!(rt; faults.items(), &[false]);
+    assert_eq!(rt; faults.items(), [false].as_slice());
     assert_eq!(rt; rows.pop(a).map(|event| event.choice()), Some(Choice(1)));
     assert!(rt; rows.pop(b).is_none());
     assert_eq!(rt; rows.len(a), 1);
