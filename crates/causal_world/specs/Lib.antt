@@ -1,0 +1,4 @@
+pub mod Scenes
+pub mod Deciding
+pub mod Room
+pub mod Worlds

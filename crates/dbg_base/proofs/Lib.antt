@@ -3,3 +3,4 @@ pub mod WellFormedTrees
 pub mod FirstFaults
 pub mod Places
 mod Rows
+mod OrderRows

@@ -15,6 +15,7 @@ use Rattle.dbg_base.specs.Configurations.{Configuration}
 use Rattle.dbg_base.specs.Firing.{fire, fire_command}
 use Rattle.dbg_base.specs.Histories.{IsPossible}
 use Rattle.dbg_base.specs.Orders.{target_in}
+use Rattle.dbg_base.specs.Reversal.{without_last, MayUndo}
 use Rattle.dbg_base.specs.Calls.{Plan, Step, Next, Undo, Redo}
 use Rattle.dbg_base.specs.ModelStates.{ModelState, line_of, place_at, history_of, configuration_of, last_choice, after_choice, after_undo}
 use Rattle.dbg_base.specs.ModelStates.{after_redo, halted_of}
@@ -65,20 +66,15 @@ choice_again P c p (Some k) = if_fires k (fire P c p k)
 abbrev pub redo_choice : Program → ModelState → ℕ → Result ℕ Refusal
 redo_choice P M p = choice_again P (configuration_of P M) p (slice_get (line_of M p) (place_at M p))
 
--- Process p's last event may be undone: it has one, and the events without it are possible, so that no other event needs it.
-pub record MayUndo (P : Program) (M : ModelState) (p : ℕ) : Type 0 where
-  pub some : 0 < place_at M p
-  pub possible : IsPossible P (history_of (after_undo M p))
-
 -- the process to which the last event of process p sends
 abbrev pub last_target : Program → ModelState → ℕ → Option ℕ → Option ℕ
 last_target P M p None = None
 last_target P M p (Some k) = target_in (command_of P p k)
 
--- It may not: another event needs it, that of the process which received its message.
+-- Process p's last event may not be undone: the events without it are not possible, since process q has received its message.
 pub record IsNeeded (P : Program) (M : ModelState) (p q : ℕ) : Type 0 where
   pub some : 0 < place_at M p
-  pub impossible : ¬ IsPossible P (history_of (after_undo M p))
+  pub impossible : ¬ IsPossible P (without_last (history_of M) p)
   pub receiver : last_target P M p (last_choice M p) ≡ Some q
 
 -- why it may not be undone
@@ -94,7 +90,7 @@ Plays P p (Err refusal) after M said M' = Refuses refusal M said M'
 
 -- the last event of process p is taken back
 pub record TakesBack (P : Program) (p : ℕ) (M : ModelState) (said : Said) (M' : ModelState) : Type 0 where
-  pub may : MayUndo P M p
+  pub may : MayUndo P (history_of M) p
   pub choice : ℕ
   pub was : last_choice M p ≡ Some choice
   pub told : Accepts P (Undone (record { 0 = p }) (record { 0 = choice })) said M'

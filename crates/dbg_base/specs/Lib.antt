@@ -12,6 +12,9 @@ pub mod Firing
 pub mod Histories
 pub mod Orders
 pub mod ModelStates
+pub mod Counts
+pub mod Cuts
+pub mod Reversal
 pub mod Calls
 pub mod Acts
 pub mod Views

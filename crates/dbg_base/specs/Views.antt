@@ -10,8 +10,9 @@ use Rattle.dbg_base.specs.declared.refusal.Refusal.TheVariants.{UnknownProcess}
 use Rattle.dbg_base.specs.Trees.{Program}
 use Rattle.dbg_base.specs.Configurations.{values_of, channel_of}
 use Rattle.dbg_base.specs.Calls.{Query, Vars, Chan, Place, Can}
-use Rattle.dbg_base.specs.ModelStates.{ModelState, line_of, place_at, configuration_of}
-use Rattle.dbg_base.specs.Acts.{MayUndo, CannotUndo}
+use Rattle.dbg_base.specs.Reversal.{MayUndo}
+use Rattle.dbg_base.specs.ModelStates.{ModelState, line_of, place_at, history_of, configuration_of}
+use Rattle.dbg_base.specs.Acts.{CannotUndo}
 
 -- the answer to a question about a process, where there is one
 abbrev pub about : Program → ℕ → Answer → Said
@@ -25,7 +26,7 @@ pub record TellsWhy (P : Program) (M : ModelState) (p : ℕ) (said : Said) : Typ
 
 -- it is told that the last event of process p may be undone, or why not
 abbrev pub TellsUndo : Program → ModelState → ℕ → Said → Type 0
-TellsUndo P M p said = (MayUndo P M p × (said ≡ Answered (CanUndo (Ok tt)))) ⊎ TellsWhy P M p said
+TellsUndo P M p said = (MayUndo P (history_of M) p × (said ≡ Answered (CanUndo (Ok tt)))) ⊎ TellsWhy P M p said
 
 -- the query was answered so
 abbrev pub Answers : Program → ModelState → Query → Said → Type 0

@@ -2,9 +2,13 @@
 #![tactic(auto)]
 
 #[cfg(test)]
+mod channels;
+#[cfg(test)]
 mod copies;
 #[cfg(test)]
 mod evaluation;
+#[cfg(test)]
+mod events;
 #[cfg(test)]
 mod language;
 #[cfg(test)]

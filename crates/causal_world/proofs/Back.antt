@@ -1,0 +1,239 @@
+-- A world goes back by its process's last event, where what that sent is still on its way.
+use Rattle.std.proofs.Common.{◌≡◌, ◌≢◌, ℕ, zero, suc, ◌+◌, ◌-◌, ◌<◌, ◌≤◌, ℤ, List, [], ◌∷◌, ◌++◌, length, get_or, set, take, drop, replicate}
+use Rattle.std.proofs.Common.{Option, Some, None, Ok, refl, sym, ap, ◌∙◌, subst, arith}
+use Rattle.std.specs.Prelude.{slice_get}
+use Rattle.std.specs.Option.{option_map}
+use Rattle.std.proofs.lemmas.List.{set-set, set-get_or, get_or-set_same, length-set, length-replicate, length-map, length-take-le, take-take, length_push}
+use Rattle.std.proofs.lemmas.List.{get_or_push}
+use Rattle.dbg_base.specs.Trees.{Action, Local, Sends, Receives, Command, Program, command_of}
+use Rattle.dbg_base.specs.LocalStates.{LocalState, no_state, start_among}
+use Rattle.dbg_base.specs.Configurations.{Configuration, start_of, state_in, channel_of}
+use Rattle.dbg_base.specs.Firing.{fire, Effect, effect_of}
+use Rattle.dbg_base.specs.Histories.{History, IsPossible, play}
+use Rattle.dbg_base.specs.Orders.{Event, order_from, order, with_last, choices_of}
+use Rattle.dbg_base.specs.Reversal.{without_back, without_last, MayUndo}
+use Rattle.dbg_base.specs.ModelStates.{ModelState, line_of, place_at, history_of, last_choice, after_undo, IsStateOf}
+use Rattle.fifo_grid.specs.Grids.{messages_at}
+use Rattle.fifo_grid.proofs.Restored.{unpushed_back, unpopped_front}
+use Rattle.event_rows.specs.declared.exchange.Exchange.{Exchange}
+use Rattle.event_rows.specs.declared.exchange.Exchange.TheVariants.{Nothing, Sent, Took}
+use Rattle.event_rows.specs.EventValues.{EventValue}
+use Rattle.event_rows.specs.Exchanges.{IsNextCount}
+use Rattle.event_rows.specs.Events.{after_event, before_event, Fits}
+use Rattle.event_rows.proofs.Undone.{has_old_values}
+use Rattle.event_rows.proofs.Undone as events
+use Rattle.causal_world.specs.Scenes.{Scene, message_for, exchange_for, event_by, event_if, event_at, with_event, events_from, events_of}
+use Rattle.causal_world.specs.Scenes.{IsWorldOf, channels_after, channels_before, with_done, with_undone, without_event, unmade}
+use Rattle.causal_world.proofs.Moves.{fires}
+use Rattle.causal_world.proofs.Bubbling.{IsEmpty, IsOrderOf, first_step}
+use Rattle.causal_world.proofs.Joining.{joined}
+use Rattle.causal_world.proofs.Playing.{listed}
+use Rattle.causal_world.proofs.Pushes.{push, push_same, set_push}
+use Rattle.causal_world.proofs.Histories.{takes}
+use Rattle.causal_world.proofs.Growing.{order_both, one_event, order_more}
+use Rattle.causal_world.proofs.Fronts.{last_fires}
+use Rattle.causal_world.proofs.Ends.{IsWaiting}
+use Rattle.causal_world.proofs.Undone.{undone}
+use Rattle.causal_world.proofs.Unfiring.{back_off}
+use Rattle.causal_world.proofs.LineStates.{state_undo, history_undo, events_at, same_line, history_changed, length_cut}
+use Rattle.causal_world.proofs.Happenings.{done_by, makes}
+use Rattle.causal_world.proofs.Records.{events_step, goes_events}
+use Rattle.causal_world.proofs.Forth.{events_more}
+
+-- An event that was made fits where it was made, and is taken back to there.
+
+exchange_fits : (state : LocalState) (action : Action) (sent taken : Option ℤ) → IsNextCount (exchange_for state action sent taken) state
+exchange_fits state Local sent taken = tt
+exchange_fits state (Sends target value) None taken = tt
+exchange_fits state (Sends target value) (Some z) taken = refl
+exchange_fits state (Receives source variable) sent None = tt
+exchange_fits state (Receives source variable) sent (Some m) = refl
+
+-- the message that an exchange took is at the front
+abbrev IsFront : Configuration → ℕ → Exchange → Type 0
+IsFront c p (Took source message count) = slice_get (messages_at c.channels source.0 p) 0 ≡ Some message
+IsFront c p exchange = Unit {0}
+
+front_by : (c : Configuration) (p source variable : ℕ) (state : LocalState) (sent taken : Option ℤ)
+    → slice_get (messages_at c.channels source p) 0 ≡ taken → IsFront c p (exchange_for state (Receives source variable) sent taken)
+front_by c p source variable state sent None e = tt
+front_by c p source variable state sent (Some m) e = e
+
+exchange_front : (c : Configuration) (p : ℕ) (state : LocalState) (action : Action) (sent : Option ℤ)
+    → IsFront c p (exchange_for state action sent (message_for c p action))
+exchange_front c p state Local sent = tt
+exchange_front c p state (Sends target value) None = tt
+exchange_front c p state (Sends target value) (Some z) = tt
+exchange_front c p state (Receives source variable) sent =
+    front_by c p source variable state sent (message_for c p (Receives source variable)) refl
+
+record Fitting (c : Configuration) (p : ℕ) (event : EventValue) : Type 0 where
+  fits : Fits event (state_in c p)
+  front : IsFront c p event.exchange
+
+fitting : (c : Configuration) (p k : ℕ) (o : Option Command) (event : EventValue) → event_if c p k o ≡ Some event → Fitting c p event
+fitting c p k None event is = cc
+fitting c p k (Some command) event is =
+    let state = state_in c p in
+    let taken = message_for c p command.action in
+    let known = done_by (effect_of command state taken) k command.action state taken event is in
+    subst (Fitting c p) (sym known.2) (record {
+      fits = record {
+        old_values = has_old_values state.values known.0.sets;
+        next_count = exchange_fits state command.action known.0.message taken;
+      };
+      front = exchange_front c p state command.action known.0.message;
+    })
+
+channels_back : (c : Configuration) (p : ℕ) (exchange : Exchange) → IsFront c p exchange
+    → channels_before (channels_after c.channels p exchange) p exchange ≡ c.channels
+channels_back c p Nothing front = refl
+channels_back c p (Sent target value count) front = unpushed_back c.channels _ _ p target.0 value refl refl
+channels_back c p (Took source message count) front = unpopped_front c.channels _ _ source.0 p message front refl refl
+
+pub taken_back : (c : Configuration) (p k : ℕ) (o : Option Command) (event : EventValue) → p < length c.states
+    → event_if c p k o ≡ Some event → with_undone (with_done c p event) p event ≡ c
+taken_back c p k o event there is =
+    let f = fitting c p k o event is in
+    let state = state_in c p in
+    let states : set (set c.states p (after_event event state)) p (before_event event (state_in (with_done c p event) p)) ≡ c.states =
+    set-set c.states p (after_event event state) (before_event event (state_in (with_done c p event) p))
+    ∙ ap (λ (s : LocalState). set c.states p (before_event event s)) (get_or-set_same c.states p (after_event event state) no_state there)
+    ∙ ap (set c.states p) (events.undone event state f.fits)
+    ∙ set-get_or c.states p no_state in
+    let channels = channels_back c p event.exchange f.front in
+    λ i. record { states = states i; channels = channels i }
+
+-- Sizes.
+
+pub sized : (P : Program) (c d : Configuration) (E : List Event) → order_from P c E ≡ Ok d → length d.states ≡ length c.states
+sized P c d [] legal = let same : c ≡ d = cc in ap (λ (x : Configuration). length x.states) (sym same)
+sized P c d (e ∷ E) legal =
+    let step = first_step (fire P c e.process e.choice) (λ x. order_from P x E) d legal in
+    let f = fires (command_of P e.process e.choice) c e.process step.0 step.1 in
+    sized P step.0 d E step.2 ∙ ap (λ (x : Configuration). length x.states) f.leads ∙ length-set c.states e.process f.state
+
+pub length_with : (events : List (List EventValue)) (p : ℕ) (o : Option EventValue) → length (with_event events p o) ≡ length events
+length_with events p None = refl
+length_with events p (Some event) = length-set events p (get_or events p [] ++ event ∷ [])
+
+pub length_events : (P : Program) (c d : Configuration) (events : List (List EventValue)) (E : List Event) → order_from P c E ≡ Ok d
+    → length (events_from P c events E) ≡ length events
+length_events P c d events [] legal = refl
+length_events P c d events (e ∷ E) legal =
+    let step = first_step (fire P c e.process e.choice) (λ x. order_from P x E) d legal in
+    let now = event_at P c e.process e.choice in
+    ap (λ (l : List (List EventValue)). length l) (events_step P c step.0 events e E step.1)
+    ∙ length_events P step.0 d (with_event events e.process now) E step.2 ∙ length_with events e.process now
+
+-- The order in which a history is taken apart has that history.
+
+empty_is : (H : History) → IsEmpty H → replicate (length H) [] ≡ H
+empty_is [] empty = refl
+empty_is (choices ∷ H) empty = λ i. (sym empty.0 i) ∷ (empty_is H empty.1 i)
+
+pub order_is : (n : ℕ) (H : History) (E : List Event) → length H ≡ n → IsOrderOf H E → choices_of n E ≡ H
+order_is n H [] size empty = ap (λ (m : ℕ). replicate m []) (sym size) ∙ empty_is H empty
+order_is n H (e ∷ E) size order =
+    let p = e.process in
+    let there : p < length H = within H p e.choice order.0 order.1 in
+    ap (λ (X : History). set X p (e.choice ∷ get_or X p [])) (order_is n (set H p order.0) E (length-set H p order.0 ∙ size) order.2)
+    ∙ set-set H p order.0 (e.choice ∷ get_or (set H p order.0) p [])
+    ∙ ap (λ (l : List ℕ). set H p (e.choice ∷ l)) (get_or-set_same H p order.0 [] there)
+    ∙ ap (set H p) (sym order.1) ∙ set-get_or H p []
+  where
+    within : (H : History) (p k : ℕ) (rest : List ℕ) → get_or H p [] ≡ k ∷ rest → p < length H
+    within [] p k rest e = cc
+    within (choices ∷ H) zero k rest e = omega arith
+    within (choices ∷ H) (suc p) k rest e = let t : p < length H = within H p k rest e in omega arith
+
+-- The history without the last event of a process is that of the state behind an undo.
+pub history_without : (P : Program) (M : ModelState) (p : ℕ) → IsStateOf P M → p < length P
+    → history_of (after_undo M p) ≡ without_last (history_of M) p
+history_without P M p is here =
+    let n = place_at M p in
+    let line = line_of M p in
+    let size : length (take n line) ≡ n = length-take-le n line (is.within p) in
+    let fewer : n - 1 ≤ n = omega arith in
+    ap history_of (same_line P M is p here (n - 1)) ∙ history_changed P M is p here line (n - 1)
+    ∙ ap (set (history_of M) p) (sym (ap (λ (m : ℕ). take (m - 1) (take n line)) size ∙ take-take (n - 1) n line fewer))
+    ∙ ap (λ (l : List ℕ). set (history_of M) p (without_back l)) (sym (events_at P M is p here))
+
+-- what the world had before
+pub record WentBack (P : Program) (w : Scene) (p : ℕ) : Type 0 where
+  pub event : EventValue
+  pub was : slice_get (get_or w.events p []) (length (get_or w.events p []) - 1) ≡ Some event
+  pub may : MayUndo P (history_of w.state) p
+  pub of : IsWorldOf P (unmade w p event)
+
+pub get_last : {A : Type 0} (l : List A) (x : A) → slice_get (l ++ x ∷ []) (length (l ++ x ∷ []) - 1) ≡ Some x
+get_last {A} l x =
+    let size : length (l ++ x ∷ []) - 1 ≡ length l = omega (arith, length_push l x) in
+    ap (slice_get (l ++ x ∷ [])) size ∙ at_end l x
+  where
+    at_end : (l : List A) (x : A) → slice_get (l ++ x ∷ []) (length l) ≡ Some x
+    at_end [] x = refl
+    at_end (y ∷ l) x = at_end l x
+
+pub goes_back : (P : Program) (w : Scene) (p k : ℕ) → IsWorldOf P w → p < length P → last_choice w.state p ≡ Some k
+    → IsWaiting P w.standing p k → WentBack P w p
+goes_back P w p k of here last waiting =
+    let M = w.state in
+    let B : History = history_of (after_undo M p) in
+    let whole : history_of M ≡ with_last B p k = history_undo P M of.state p here k last in
+    let lines : length B ≡ length P = length_cut (after_undo M p).lines (after_undo M p).places ∙ of.state.lines in
+    let within : p < length B = omega arith in
+    let all : IsPossible P (with_last B p k) = subst (IsPossible P) whole of.possible in
+    let ends : w.standing ≡ play P (with_last B p k) = of.standing ∙ ap (play P) whole in
+    let shorter : IsPossible P B = undone P B p k within all (subst (λ (c : Configuration). IsWaiting P c p k) ends waiting) in
+    let c = play P B in
+    let fires = last_fires P B p k within shorter all in
+    let l = listed P B shorter in
+    let e : Event = record { process = p; choice = k } in
+    let m = makes (command_of P p k) c p k (play P (with_last B p k)) fires in
+    let legal = order_both P (start_of P) c (play P (with_last B p k)) l.events (e ∷ []) l.legal
+    (one_event P c (play P (with_last B p k)) p k fires) in
+    let goes =
+    joined P (start_of P) w.standing (play P (with_last B p k)) (with_last B p k) of.fired (l.events ++ e ∷ []) of.leads legal
+    (subst (λ (H : History). IsOrderOf H of.fired) (of.history ∙ whole) (takes P (start_of P) w.standing of.fired of.leads))
+    (order_more B p k l.events within l.takes) in
+    let none : List (List EventValue) = replicate (length P) [] in
+    let before : List (List EventValue) = events_of P l.events in
+    let now : w.events ≡ push before p m.event =
+    of.events ∙ goes_events P (start_of P) none of.fired (l.events ++ e ∷ []) goes
+    ∙ events_more P (start_of P) c (play P (with_last B p k)) none l.events e l.legal fires
+    ∙ ap (with_event before p) m.is in
+    let rows : p < length before = omega (arith, length_events P (start_of P) c none l.events l.legal, length-replicate {A = List EventValue} (length P) []) in
+    let own : get_or w.events p [] ≡ get_or before p [] ++ m.event ∷ [] =
+    ap (λ (x : List (List EventValue)). get_or x p []) now ∙ push_same before p m.event rows in
+    let there : p < length c.states =
+    omega (arith, sized P (start_of P) c l.events l.legal, length-map P (start_among (length P))) in
+    let standing : with_undone w.standing p m.event ≡ c =
+    ap (λ (x : Configuration). with_undone x p m.event) (ends ∙ m.leads) ∙ taken_back c p k (command_of P p k) m.event there m.is in
+    let events_before : without_event w.events p ≡ before =
+    ap (λ (x : List (List EventValue)). set x p (without_back (get_or w.events p []))) now
+    ∙ set_push before p m.event (without_back (get_or w.events p []))
+    ∙ ap (λ (x : List EventValue). set before p (without_back x)) own
+    ∙ ap (set before p) (back_off (get_or before p []) m.event)
+    ∙ set-get_or before p [] in
+    let size : length (get_or (history_of M) p []) ≡ suc (length (get_or B p [])) =
+    ap (λ (H : History). length (get_or H p [])) whole ∙ ap (λ (x : List ℕ). length x) (push_same B p k within)
+    ∙ omega (arith, length_push (get_or B p []) k) in
+    record {
+      event = m.event;
+      was = ap (λ (x : List EventValue). slice_get x (length x - 1)) own ∙ get_last (get_or before p []) m.event;
+      may = record {
+        some = omega (arith, size);
+        rest = subst (IsPossible P) (history_without P M p of.state here) shorter;
+      };
+      of = record {
+        state = state_undo P M of.state p here;
+        possible = shorter;
+        standing = standing;
+        starts = of.starts;
+        fired = l.events;
+        history = order_is (length P) B l.events lines l.takes;
+        leads = l.legal ∙ ap (λ (x : Configuration). Ok x) (sym standing);
+        events = events_before;
+      };
+    }

@@ -1,0 +1,7 @@
+use Rattle.dbg_base.specs.Configurations.{Configuration}
+use Rattle.proc_lang.specs.Programs.{program_of}
+use Rattle.causal_world.proofs.Lowest.{NoneBefore}
+use Rattle.causal_world.proofs.deciding.lowest.Given as goal
+
+abbrev pub invariant-loop-k : goal.invariant-loop-k
+invariant-loop-k l = NoneBefore (program_of l.program) (record { states = l.envs; channels = l.grid.channels }) l.pid.0 l.k

@@ -1,0 +1,45 @@
+-- What is found out before a process makes a choice.
+use Rattle.std.specs.Prelude.{◌≡◌, ℕ, ◌<◌, ℤ, List, length, [], ◌∷◌, Option, Some, None, Result, Ok, Err, slice_get}
+use Rattle.dbg_base.specs.declared.refusal.Refusal.{Refusal}
+use Rattle.dbg_base.specs.declared.refusal.Refusal.TheVariants.{Fault, ChannelEmpty}
+use Rattle.dbg_base.specs.declared.ids.Choice.{Choice}
+use Rattle.dbg_base.specs.Trees.{Action, Sends, Receives, Command, Program, process_of}
+use Rattle.dbg_base.specs.LocalStates.{LocalState}
+use Rattle.dbg_base.specs.Configurations.{Configuration, channel_of}
+use Rattle.dbg_base.specs.Firing.{effect_of, fire}
+use Rattle.dbg_base.specs.Acts.{lowest_enabled}
+use Rattle.event_rows.specs.EventValues.{EventValue}
+use Rattle.causal_world.specs.Scenes.{event_of, event_at, with_done}
+
+-- the message of an action that takes one, and none of another
+abbrev pub TakesFront : Result (Option ℤ) Refusal → Option ℤ → Type 0
+TakesFront taken None = taken ≡ Err ChannelEmpty
+TakesFront taken (Some message) = taken ≡ Ok (Some message)
+
+-- what the action takes, or that there is nothing to take
+abbrev pub Takes : Result (Option ℤ) Refusal → Action → Configuration → ℕ → Type 0
+Takes taken (Receives source variable) c p = TakesFront taken (slice_get (channel_of c source p) 0)
+Takes taken action c p = taken ≡ Ok None
+
+-- what the command does in this local state, where it takes this message, or that an evaluation faults
+abbrev pub MakesEvent : Result EventValue Refusal → ℕ → Command → LocalState → Option ℤ → Type 0
+MakesEvent (Ok event) k command state taken = event_of k command state taken ≡ Some event
+MakesEvent (Err refusal) k command state taken = (refusal ≡ Fault) × (effect_of command state taken ≡ None)
+
+-- the event that the command makes, which leads where it leads, or why it does not fire
+abbrev pub DecidesBy : Result EventValue Refusal → Option EventValue → Result Configuration Refusal → Configuration → ℕ → Type 0
+DecidesBy (Ok event) event_is fires c p = (event_is ≡ Some event) × (fires ≡ Ok (with_done c p event))
+DecidesBy (Err refusal) event_is fires c p = fires ≡ Err refusal
+
+-- the same, unless memory ran out
+abbrev pub Decides : {E : Type 0} → Result (Result EventValue Refusal) E → Option EventValue → Result Configuration Refusal
+    → Configuration → ℕ → Type 0
+Decides (Ok found) event_is fires c p = DecidesBy found event_is fires c p
+Decides (Err e) event_is fires c p = Unit {0}
+
+-- the first choice that fires with its event, or that none fires
+abbrev pub Finds : Program → Option (Choice × EventValue) → Configuration → ℕ → Type 0
+Finds P None c p = lowest_enabled P c p ≡ None
+Finds P (Some found) c p =
+    (lowest_enabled P c p ≡ Some found.0.0) × (found.0.0 < length (process_of P p).commands) × (event_at P c p found.0.0 ≡ Some found.1)
+    × (fire P c p found.0.0 ≡ Ok (with_done c p found.1))

@@ -1,0 +1,96 @@
+//! What an event does to the messages on their way, and what takes it back.
+
+ghost use Rattle.std.specs.Prelude.{◌≡◌, OnOk};
+ghost use Rattle.causal_world.specs.Scenes.{channels_after, channels_before};
+ghost use Rattle.causal_world.specs.Room.{HasRoomAfter, HasRoomBefore};
+ghost use Rattle.causal_world.specs.Worlds.{ReceivedBy};
+
+use dbg_base::Pid;
+use event_rows::Exchange;
+use fifo_grid::Grid;
+use std::alloc::AllocError;
+
+/// Makes room for what the exchange sends. Where memory runs out no message changes.
+pub(crate) fn make_room_after(
+    grid: &mut Grid,
+    pid: Pid,
+    exchange: Exchange,
+) -> Result<(), AllocError>
+    ensures kept { grid.new.channels ≡ grid.old.channels }
+    ensures room { OnOk result (HasRoomAfter grid.new pid.0 exchange) }
+{
+    match exchange {
+        Exchange::Sent { target, .. } => grid.reserve(pid, target, 1),
+        _ => Ok(()),
+    }
+}
+
+/// A sent message goes to the back of its channel, and a taken one leaves its front.
+pub(crate) fn go_after(grid: &mut Grid, pid: Pid, exchange: Exchange)
+    requires { HasRoomAfter grid.old pid.0 exchange }
+    ensures { grid.new.channels ≡ channels_after grid.old.channels pid.0 exchange }
+{
+    match exchange {
+        Exchange::Nothing => {}
+        Exchange::Sent { target, value, .. } => {
+            if grid.has(pid, target) {
+                grid.push_back(pid, target, value);
+            }
+        }
+        Exchange::Took { source, .. } => {
+            let _front = grid.pop_front(source, pid);
+        }
+    }
+}
+
+/// Makes room for what the exchange took. Where memory runs out no message changes.
+pub(crate) fn make_room_before(
+    grid: &mut Grid,
+    pid: Pid,
+    exchange: Exchange,
+) -> Result<(), AllocError>
+    ensures kept { grid.new.channels ≡ grid.old.channels }
+    ensures room { OnOk result (HasRoomBefore grid.new pid.0 exchange) }
+{
+    match exchange {
+        Exchange::Took { source, .. } => grid.reserve(source, pid, 1),
+        _ => Ok(()),
+    }
+}
+
+/// A sent message is taken off the back of its channel, and a taken one goes back to its front.
+pub(crate) fn go_before(grid: &mut Grid, pid: Pid, exchange: Exchange)
+    requires { HasRoomBefore grid.old pid.0 exchange }
+    ensures { grid.new.channels ≡ channels_before grid.old.channels pid.0 exchange }
+{
+    match exchange {
+        Exchange::Nothing => {}
+        Exchange::Sent { target, .. } => {
+            let _back = grid.unpush_back(pid, target);
+        }
+        Exchange::Took {
+            source, message, ..
+        } => {
+            if grid.has(source, pid) {
+                grid.unpop_front(source, pid, message);
+            }
+        }
+    }
+}
+
+/// The process that has received what the exchange sent, if it sent something: no message is left for it then, since what was sent
+/// last is received last.
+pub(crate) fn received(grid: &Grid, pid: Pid, exchange: Exchange) -> Option<Pid>
+    ensures { ReceivedBy grid.now.channels pid.0 exchange result }
+{
+    match exchange {
+        Exchange::Sent { target, .. } => {
+            if grid.has(pid, target) && grid.len(pid, target) == 0 {
+                Some(target)
+            } else {
+                None
+            }
+        }
+        _ => None,
+    }
+}

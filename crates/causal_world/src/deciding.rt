@@ -1,0 +1,169 @@
+//! What a command would do, found out before anything changes.
+
+ghost use Rattle.std.specs.Prelude.{◌≡◌, ◌+◌, ◌<◌, length, IfOk, Some, slice_index_or};
+ghost use Rattle.dbg_base.specs.Trees.{process_of};
+ghost use Rattle.dbg_base.specs.Configurations.{Configuration, state_in, channel_of};
+ghost use Rattle.dbg_base.specs.Firing.{fire, fire_command, proceed};
+ghost use Rattle.proc_lang.specs.Programs.{program_of};
+ghost use Rattle.proc_lang.specs.ProcessTrees.{action_tree, command_tree};
+ghost use Rattle.causal_world.specs.Scenes.{exchange_for, event_if, event_at};
+ghost use Rattle.causal_world.specs.Deciding.{Takes, MakesEvent, Decides, Finds};
+
+use dbg_base::{Choice, Direction, Pid, Refusal};
+use event_rows::{Event, Exchange};
+use fifo_grid::Grid;
+use local_eval::{Env, EvalError, effect, guard};
+use proc_lang::{Action, Guarded, Program};
+use std::alloc::{AllocError, Global};
+
+// The message that the action takes, if it receives one.
+fn taken(action: &Action, envs: &[Env], grid: &Grid, pid: Pid) -> Result<Option<i64>, Refusal>
+    ensures { Takes result (action_tree action.now) (record { states = envs.now; channels = grid.now.channels }) pid.0 }
+{
+    match action {
+        Action::Receive { source, .. } => match grid.front(*source, pid) {
+            Some(message) => Ok(Some(message)),
+            None => Err(Refusal::ChannelEmpty),
+        },
+        _ => Ok(None),
+    }
+}
+
+// One more than a count. A count without room for one more, which the limit on events rules out, is told as want of memory.
+fn one_more(counts: &[u32], other: Pid) -> Result<u32, AllocError>
+    ensures { IfOk result (λ count. count ≡ slice_index_or counts.now other.0 0 + 1) }
+{
+    counts
+        .get(other.0 as usize)
+        .copied()
+        .unwrap_or(0)
+        .checked_add(1)
+        .ok_or(AllocError)
+}
+
+// What the action sends or takes, with how many messages that makes.
+fn exchange(
+    env: &Env,
+    action: &Action,
+    sent: Option<i64>,
+    taken: Option<i64>,
+) -> Result<Exchange, AllocError>
+    ensures { IfOk result (λ exchange. exchange ≡ exchange_for env.now (action_tree action.now) sent taken) }
+{
+    match (action, sent, taken) {
+        (Action::Send { target, .. }, Some(value), _) => Ok(Exchange::Sent {
+            target: *target,
+            value,
+            count: one_more(env.counts(Direction::Sent), *target)?,
+        }),
+        (Action::Receive { source, .. }, _, Some(message)) => Ok(Exchange::Took {
+            source: *source,
+            message,
+            count: one_more(env.counts(Direction::Got), *source)?,
+        }),
+        _ => Ok(Exchange::Nothing),
+    }
+}
+
+// What the command does in this local state, where it takes this message, or that an evaluation faults.
+fn event(
+    alloc: Global,
+    command: &Guarded,
+    choice: Choice,
+    env: &Env,
+    taken: Option<i64>,
+) -> Result<Result<Event, Refusal>, AllocError>
+    ensures { IfOk result (λ found. MakesEvent found choice.0 (command_tree command.now) env.now taken) }
+{
+    let change = match effect(alloc, command, env, taken) {
+        Ok(change) => change,
+        Err(EvalError::Fault) => return Ok(Err(Refusal::Fault)),
+        Err(EvalError::Memory) => return Err(AllocError),
+    };
+    let exchange = exchange(env, &command.action, change.message, taken)?;
+    Ok(Ok(Event::of(alloc, choice, env, change.sets.items(), exchange)?))
+}
+
+// What the command does where its guard is true, or why it does not fire.
+fn proceed(
+    alloc: Global,
+    command: &Guarded,
+    choice: Choice,
+    envs: &[Env],
+    grid: &Grid,
+    pid: Pid,
+) -> Result<Result<Event, Refusal>, AllocError>
+    requires { pid.0 < length envs.now }
+    ensures { let c : Configuration = record { states = envs.now; channels = grid.now.channels } in
+        Decides result (event_if c pid.0 choice.0 (Some (command_tree command.now)))
+        (proceed (command_tree command.now) (action_tree command.now.action) c pid.0) c pid.0 }
+{
+    let taken = match taken(&command.action, envs, grid, pid) {
+        Ok(taken) => taken,
+        Err(refusal) => return Ok(Err(refusal)),
+    };
+    event(alloc, command, choice, &envs[pid.0 as usize], taken)
+}
+
+// What the process does by this command, which is its choice, or why the command does not fire: its guard is evaluated first; then a
+// receive needs a message; then the value to send and the assigned values are evaluated.
+fn decide(
+    alloc: Global,
+    command: &Guarded,
+    choice: Choice,
+    envs: &[Env],
+    grid: &Grid,
+    pid: Pid,
+) -> Result<Result<Event, Refusal>, AllocError>
+    requires { pid.0 < length envs.now }
+    ensures { let c : Configuration = record { states = envs.now; channels = grid.now.channels } in
+        Decides result (event_if c pid.0 choice.0 (Some (command_tree command.now))) (fire_command (command_tree command.now) c pid.0)
+        c pid.0 }
+{
+    match guard(&command.guard, &envs[pid.0 as usize]) {
+        Ok(true) => proceed(alloc, command, choice, envs, grid, pid),
+        Ok(false) => Ok(Err(Refusal::GuardFalse)),
+        Err(_) => Ok(Err(Refusal::Fault)),
+    }
+}
+
+/// What the process does by this choice, or why its command does not fire. A command that the process has not counts as one whose
+/// guard is false.
+pub(crate) fn try_choice(
+    alloc: Global,
+    program: &Program,
+    choice: Choice,
+    envs: &[Env],
+    grid: &Grid,
+    pid: Pid,
+) -> Result<Result<Event, Refusal>, AllocError>
+    requires { pid.0 < length envs.now }
+    ensures { let c : Configuration = record { states = envs.now; channels = grid.now.channels } in
+        Decides result (event_at (program_of program.now) c pid.0 choice.0) (fire (program_of program.now) c pid.0 choice.0) c pid.0 }
+{
+    match program.command(pid, choice) {
+        Some(command) => decide(alloc, command, choice, envs, grid, pid),
+        None => Ok(Err(Refusal::GuardFalse)),
+    }
+}
+
+/// The first command of the process that fires, with what the process does by it, or None where none fires.
+pub(crate) fn lowest(
+    alloc: Global,
+    program: &Program,
+    envs: &[Env],
+    grid: &Grid,
+    pid: Pid,
+) -> Result<Option<(Choice, Event)>, AllocError>
+    requires { pid.0 < length envs.now }
+    ensures { let c : Configuration = record { states = envs.now; channels = grid.now.channels } in
+        IfOk result (λ found. Finds (program_of program.now) found c pid.0) }
+{
+    for k in 0..program.commands(pid) {
+        match try_choice(alloc, program, Choice(k), envs, grid, pid)? {
+            Ok(event) => return Ok(Some((Choice(k), event))),
+            Err(_refusal) => {}
+        }
+    }
+    Ok(None)
+}

@@ -1,0 +1,399 @@
+//! A world: a system of processes, changed in place by its events.
+
+ghost use Rattle.std.specs.Prelude.{◌≡◌, ◌<◌, ◌⊎◌, length, map, IfOk, IfErr, MatchResult, OnOk, OnErr, Some, Ok, Err, slice_get, slice_set, slice_index_or};
+ghost use Rattle.std.specs.Option.{option_map};
+ghost use Rattle.dbg_base.specs.declared.limits.TheConstants.{EVENTS};
+ghost use Rattle.dbg_base.specs.declared.refusal.Refusal.TheVariants.{Memory};
+ghost use Rattle.dbg_base.specs.Trees as tree;
+ghost use Rattle.dbg_base.specs.LocalStates.{no_state};
+ghost use Rattle.dbg_base.specs.Configurations.{start_of, values_of, channel_of};
+ghost use Rattle.dbg_base.specs.ModelStates.{opening_state, line_of, place_at, redo_line, history_of, last_choice};
+ghost use Rattle.dbg_base.specs.ModelStates.{after_choice, after_redo, after_undo};
+ghost use Rattle.dbg_base.specs.Acts.{step_choice, next_choice, redo_choice, CannotUndo};
+ghost use Rattle.dbg_base.specs.Reversal.{MayUndo};
+ghost use Rattle.proc_lang.specs.Programs.{program_of};
+ghost use Rattle.event_rows.specs.Events.{after_event, before_event};
+ghost use Rattle.causal_world.specs.Scenes.{IsWorldOf, channels_after, channels_before, with_event, without_event, made, unmade};
+ghost use Rattle.causal_world.specs.Room.{HasRoomAfter, HasRoomBefore};
+ghost use Rattle.causal_world.specs.Worlds.{CanMake, Undoable};
+
+use crate::channels::{go_after, go_before, make_room_after, make_room_before, received};
+use crate::deciding::{lowest, try_choice};
+use crate::lines::Lines;
+use dbg_base::limits::EVENTS;
+use dbg_base::{Choice, Pid, Refusal, Sequence};
+use event_rows::{Event, Exchange, Rows};
+use fifo_grid::Grid;
+use local_eval::Env;
+use proc_lang::Program;
+use std::alloc::{AllocError, Global};
+use std::marker::Model;
+
+/// For each process its line of choices and its place in it, its local state and its events; and for each ordered pair of processes
+/// the messages on their way. There is no program in it: an event keeps what takes it back. Contracts see it as these.
+#[derive(Debug, Drop)]
+pub struct World {
+    lines: Lines,
+    envs: Vec<Env>,
+    grid: Grid,
+    rows: Rows,
+}
+
+impl Model for World {
+    ghost use Rattle.causal_world.specs.Scenes.{Scene, scene};
+    ghost use Rattle.causal_world.specs.Worlds.{IsSomeWorld};
+
+    ghost Value = { Scene };
+
+    ghost view = { λ w. scene w.lines w.envs.items w.grid.channels w.rows.starts w.rows.events };
+
+    ghost invariant = { λ w. IsSomeWorld (scene w.lines w.envs.items w.grid.channels w.rows.starts w.rows.events) };
+}
+
+/// The choices that a step cut off.
+#[derive(Debug, Drop)]
+pub struct Cutoff {
+    choices: Vec<u32>,
+}
+
+impl Model for Cutoff {
+    ghost use Rattle.std.specs.Prelude.{ℕ, List};
+
+    ghost Value = { List ℕ };
+
+    ghost view = { λ cutoff. cutoff.choices.items };
+}
+
+/// An event that was taken back.
+#[derive(Debug, Drop)]
+pub struct Rolled {
+    pid: Pid,
+    event: Event,
+}
+
+fn start_states(alloc: Global, program: &Program) -> Result<Vec<Env>, AllocError>
+    ensures { IfOk result (λ states. states.items ≡ (start_of (program_of program.now)).states) }
+{
+    let mut states = Vec::new(alloc);
+    for p in 0..program.processes() {
+        states.push(Env::start(alloc, program, Pid(p))?)?;
+    }
+    Ok(states)
+}
+
+// Makes room for an event of the process. Where memory runs out nothing changes that is seen.
+fn make_room(
+    grid: &mut Grid,
+    rows: &mut Rows,
+    pid: Pid,
+    exchange: Exchange,
+) -> Result<(), AllocError>
+    ensures channels { grid.new.channels ≡ grid.old.channels }
+    ensures starts { rows.new.starts ≡ rows.old.starts }
+    ensures events { rows.new.events ≡ rows.old.events }
+    ensures messages { OnOk result (HasRoomAfter grid.new pid.0 exchange) }
+    ensures room { OnOk result (pid.0 < length rows.old.events → 0 < slice_index_or rows.new.room pid.0 0) }
+{
+    make_room_after(grid, pid, exchange)?;
+    rows.reserve(pid, 1)
+}
+
+// The event of the process happens.
+fn happen(envs: &mut Vec<Env>, grid: &mut Grid, rows: &mut Rows, pid: Pid, event: Event)
+    requires here { pid.0 < length envs.old.items }
+    requires messages { HasRoomAfter grid.old pid.0 event.exchange }
+    requires room { 0 < slice_index_or rows.old.room pid.0 0 }
+    ensures states { envs.new.items
+        ≡ slice_set envs.old.items pid.0 (after_event event (slice_index_or envs.old.items pid.0 no_state)) }
+    ensures channels { grid.new.channels ≡ channels_after grid.old.channels pid.0 event.exchange }
+    ensures starts { rows.new.starts ≡ rows.old.starts }
+    ensures events { rows.new.events ≡ with_event rows.old.events pid.0 (Some event) }
+{
+    event.redo(&mut envs[pid.0 as usize]);
+    go_after(grid, pid, event.exchange());
+    rows.push(pid, event);
+}
+
+// The event of the process, which was its last, is taken back.
+fn revert(envs: &mut Vec<Env>, grid: &mut Grid, pid: Pid, event: &Event)
+    requires here { pid.0 < length envs.old.items }
+    requires messages { HasRoomBefore grid.old pid.0 event.now.exchange }
+    ensures states { envs.new.items
+        ≡ slice_set envs.old.items pid.0 (before_event event.now (slice_index_or envs.old.items pid.0 no_state)) }
+    ensures channels { grid.new.channels ≡ channels_before grid.old.channels pid.0 event.now.exchange }
+{
+    event.undo(&mut envs[pid.0 as usize]);
+    go_before(grid, pid, event.exchange());
+}
+
+impl World {
+    /// The world of a program at its start: empty lines, initial values, no message. It is refused only as `Memory`, where that runs
+    /// out.
+    pub fn new(alloc: Global, program: &Program) -> Result<World, Refusal>
+        ensures of { IfOk result (λ world. IsWorldOf (program_of program.now) world) }
+        ensures opens { IfOk result (λ world. world.state ≡ opening_state (program_of program.now)) }
+        ensures refuses { IfErr result (λ refusal. refusal ≡ Memory) }
+    {
+        let processes = program.processes();
+        let lines = Lines::new(alloc, processes)?;
+        let envs = start_states(alloc, program)?;
+        let grid = Grid::new(alloc, processes)?;
+        let rows = Rows::new(alloc, program)?;
+        Ok(World {
+            lines,
+            envs,
+            grid,
+            rows,
+        })
+    }
+
+    // The process makes this event: its line is cut at its place, and the choice is appended. Where memory runs out nothing changes.
+    fn append(
+        &mut self,
+        alloc: Global,
+        pid: Pid,
+        choice: Choice,
+        event: Event,
+    ) -> Result<Cutoff, Refusal>
+        requires can { CanMake self.old pid.0 choice.0 event }
+        requires few { place_at self.old.state pid.0 < EVENTS }
+        ensures made { OnOk result (self.new ≡ made self.old pid.0 event (after_choice self.old.state pid.0 choice.0)) }
+        ensures cut { IfOk result (λ cutoff. cutoff ≡ redo_line self.old.state pid.0) }
+        ensures refuses { IfErr result (λ refusal. refusal ≡ Memory) }
+        ensures kept { OnErr result (self.new ≡ self.old) }
+    {
+        let choices = self.lines.redo_line(alloc, pid)?;
+        make_room(&mut self.grid, &mut self.rows, pid, event.exchange())?;
+        self.lines.append(pid, choice)?;
+        happen(
+            &mut self.envs,
+            &mut self.grid,
+            &mut self.rows,
+            pid,
+            event,
+        );
+        Ok(Cutoff { choices })
+    }
+
+    // The process makes this event, which is the choice at its place, again. Where memory runs out nothing changes.
+    fn repeat(&mut self, pid: Pid, choice: Choice, event: Event) -> Result<(), Refusal>
+        requires can { CanMake self.old pid.0 choice.0 event }
+        requires next { slice_get (line_of self.old.state pid.0) (place_at self.old.state pid.0) ≡ Some choice.0 }
+        ensures made { OnOk result (self.new ≡ made self.old pid.0 event (after_redo self.old.state pid.0)) }
+        ensures refuses { IfErr result (λ refusal. refusal ≡ Memory) }
+        ensures kept { OnErr result (self.new ≡ self.old) }
+    {
+        make_room(&mut self.grid, &mut self.rows, pid, event.exchange())?;
+        self.lines.advance(pid);
+        happen(
+            &mut self.envs,
+            &mut self.grid,
+            &mut self.rows,
+            pid,
+            event,
+        );
+        Ok(())
+    }
+
+    /// The process makes this command of the program that the world is of: its line is cut at its place, the choice is appended, and
+    /// the place moves on. The choices that were cut off are handed out. It is refused, and changes nothing, as `UnknownChoice` where
+    /// the process has no such command, `ProcessFull` where it has made as many events as may be, and `GuardFalse`, `Fault` or
+    /// `ChannelEmpty` where the command does not fire; or as `Memory`, where that runs out.
+    pub fn step(
+        &mut self,
+        alloc: Global,
+        program: &Program,
+        pid: Pid,
+        choice: Choice,
+    ) -> Result<Cutoff, Refusal>
+        requires process { pid.0 < length (program_of program.now) }
+        requires of { IsWorldOf (program_of program.now) self.old }
+        ensures of { IsWorldOf (program_of program.now) self.new }
+        ensures moves { OnOk result ((step_choice (program_of program.now) self.old.state pid.0 choice.0 ≡ Ok choice.0)
+            × (self.new.state ≡ after_choice self.old.state pid.0 choice.0)) }
+        ensures cut { IfOk result (λ cutoff. cutoff ≡ redo_line self.old.state pid.0) }
+        ensures refuses { IfErr result (λ refusal. (step_choice (program_of program.now) self.old.state pid.0 choice.0 ≡ Err refusal)
+            ⊎ (refusal ≡ Memory)) }
+        ensures kept { OnErr result (self.new ≡ self.old) }
+    {
+        if choice.0 >= program.commands(pid) {
+            return Err(Refusal::UnknownChoice);
+        }
+        if self.lines.place(pid) >= EVENTS {
+            return Err(Refusal::ProcessFull);
+        }
+        let event = try_choice(
+            alloc,
+            program,
+            choice,
+            self.envs.as_slice(),
+            &self.grid,
+            pid,
+        )??;
+        self.append(alloc, pid, choice, event)
+    }
+
+    /// The process makes its first command that fires, as `step` does, and which it was is told. It is refused, and changes nothing,
+    /// as `ProcessFull` or `NoneEnabled`; or as `Memory`, where that runs out.
+    pub fn next(
+        &mut self,
+        alloc: Global,
+        program: &Program,
+        pid: Pid,
+    ) -> Result<(Choice, Cutoff), Refusal>
+        requires process { pid.0 < length (program_of program.now) }
+        requires of { IsWorldOf (program_of program.now) self.old }
+        ensures of { IsWorldOf (program_of program.now) self.new }
+        ensures moves { IfOk result (λ made. (next_choice (program_of program.now) self.old.state pid.0 ≡ Ok made.0.0)
+            × (self.new.state ≡ after_choice self.old.state pid.0 made.0.0)) }
+        ensures cut { IfOk result (λ made. made.1 ≡ redo_line self.old.state pid.0) }
+        ensures refuses { IfErr result (λ refusal. (next_choice (program_of program.now) self.old.state pid.0 ≡ Err refusal)
+            ⊎ (refusal ≡ Memory)) }
+        ensures kept { OnErr result (self.new ≡ self.old) }
+    {
+        if self.lines.place(pid) >= EVENTS {
+            return Err(Refusal::ProcessFull);
+        }
+        let found = lowest(alloc, program, self.envs.as_slice(), &self.grid, pid)?;
+        let (choice, event) = found.ok_or(Refusal::NoneEnabled)?;
+        let cutoff = self.append(alloc, pid, choice, event)?;
+        Ok((choice, cutoff))
+    }
+
+    /// The process makes the choice at its place again, by what holds now: the place moves on, and the line stays. Which choice it was
+    /// is told. It is refused, and changes nothing, as `NothingToRedo` where the place is at the line's end, and as `GuardFalse`,
+    /// `Fault` or `ChannelEmpty` where the command does not fire; or as `Memory`, where that runs out.
+    pub fn redo(
+        &mut self,
+        alloc: Global,
+        program: &Program,
+        pid: Pid,
+    ) -> Result<Choice, Refusal>
+        requires process { pid.0 < length (program_of program.now) }
+        requires of { IsWorldOf (program_of program.now) self.old }
+        ensures of { IsWorldOf (program_of program.now) self.new }
+        ensures moves { IfOk result (λ choice. (redo_choice (program_of program.now) self.old.state pid.0 ≡ Ok choice.0)
+            × (self.new.state ≡ after_redo self.old.state pid.0)) }
+        ensures refuses { IfErr result (λ refusal. (redo_choice (program_of program.now) self.old.state pid.0 ≡ Err refusal)
+            ⊎ (refusal ≡ Memory)) }
+        ensures kept { OnErr result (self.new ≡ self.old) }
+    {
+        let choice = Choice(self.lines.next(pid).ok_or(Refusal::NothingToRedo)?);
+        let event = try_choice(
+            alloc,
+            program,
+            choice,
+            self.envs.as_slice(),
+            &self.grid,
+            pid,
+        )??;
+        self.repeat(pid, choice, event)?;
+        Ok(choice)
+    }
+
+    // What the last event of the process exchanged, where the event may be undone, or why it may not.
+    fn undoable(&self, pid: Pid) -> Result<Exchange, Refusal>
+        ensures { Undoable self.now pid.0 result }
+    {
+        let Some(event) = self.rows.last(pid) else {
+            return Err(Refusal::NothingToUndo);
+        };
+        match received(&self.grid, pid, event.exchange()) {
+            Some(target) => Err(Refusal::Consequence(target)),
+            None => Ok(event.exchange()),
+        }
+    }
+
+    /// Whether the last event of the process may be undone, or why not: `NothingToUndo` where it has none, and `Consequence` where the
+    /// process that is told has received the message that the event sent.
+    pub fn can_undo(&self, pid: Pid) -> Result<(), Refusal>
+        ensures may { OnOk result ((P : tree.Program) → IsWorldOf P self.now → MayUndo P (history_of self.now.state) pid.0) }
+        ensures why { IfErr result (λ refusal. (P : tree.Program) → IsWorldOf P self.now → CannotUndo P self.now.state pid.0 refusal) }
+    {
+        let _exchange = self.undoable(pid)?;
+        Ok(())
+    }
+
+    /// The last event of the process is taken back: its variables have their old values, a message that it sent leaves the back of its
+    /// channel, and one that it took is at the front again. The place moves back, and the line stays. It is refused, and changes
+    /// nothing, as `can_undo` tells, or as `Memory`, where that runs out.
+    pub fn undo(&mut self, pid: Pid) -> Result<Rolled, Refusal>
+        ensures of { (P : tree.Program) → IsWorldOf P self.old → IsWorldOf P self.new }
+        ensures may { OnOk result ((P : tree.Program) → IsWorldOf P self.old → MayUndo P (history_of self.old.state) pid.0) }
+        ensures moves { OnOk result (self.new.state ≡ after_undo self.old.state pid.0) }
+        ensures refuses { IfErr result (λ refusal.
+            ((P : tree.Program) → IsWorldOf P self.old → CannotUndo P self.old.state pid.0 refusal) ⊎ (refusal ≡ Memory)) }
+        ensures kept { OnErr result (self.new ≡ self.old) }
+    {
+        let exchange = self.undoable(pid)?;
+        make_room_before(&mut self.grid, pid, exchange)?;
+        let Some(event) = self.rows.pop(pid) else {
+            return Err(Refusal::NothingToUndo);
+        };
+        self.lines.retreat(pid);
+        revert(&mut self.envs, &mut self.grid, pid, &event);
+        Ok(Rolled { pid, event })
+    }
+
+    /// The values of the process's variables, none where it is not there. It is refused only as `Memory`, where that runs out.
+    pub fn vars(&self, alloc: Global, pid: Pid) -> Result<Sequence<i64>, Refusal>
+        ensures { MatchResult result (λ values. values ≡ values_of self.now.standing pid.0) (λ refusal. refusal ≡ Memory) }
+    {
+        match self.envs.get(pid.0 as usize) {
+            Some(env) => Ok(Sequence::new(Vec::from_slice(alloc, env.values())?)),
+            None => Ok(Sequence::new(Vec::new(alloc))),
+        }
+    }
+
+    /// The messages on their way from the first process to the second, the front first. It is refused only as `Memory`, where that
+    /// runs out.
+    pub fn channel(
+        &self,
+        alloc: Global,
+        source: Pid,
+        target: Pid,
+    ) -> Result<Sequence<i64>, Refusal>
+        ensures { MatchResult result (λ messages. messages ≡ channel_of self.now.standing source.0 target.0)
+            (λ refusal. refusal ≡ Memory) }
+    {
+        Ok(self.grid.items(alloc, source, target)?)
+    }
+
+    /// The place of a process in its line: how many events it has. It is 0 where there is no such process. It takes no memory, as all
+    /// readers but `vars` and `channel` do.
+    pub fn place(&self, pid: Pid) -> u32
+        ensures { result ≡ place_at self.now.state pid.0 }
+    {
+        self.lines.place(pid)
+    }
+
+    /// The length of the process's line.
+    pub fn line_len(&self, pid: Pid) -> u32
+        ensures { result ≡ length (line_of self.now.state pid.0) }
+    {
+        self.lines.line_len(pid) as u32
+    }
+
+    /// The choice of the process's last event, or None where it has no event.
+    pub fn last(&self, pid: Pid) -> Option<Choice>
+        ensures { option_map (λ choice. choice.0) result ≡ last_choice self.now.state pid.0 }
+    {
+        self.lines.last(pid).map(Choice)
+    }
+
+    /// The local state of a process that is there.
+    pub fn env(&self, pid: Pid) -> &Env
+        requires { pid.0 < length self.now.standing.states }
+        ensures { slice_get self.now.standing.states pid.0 ≡ Some result.now }
+    {
+        &self.envs[pid.0 as usize]
+    }
+
+    /// The starts of the processes and their events.
+    pub fn rows(&self) -> &Rows
+        ensures starts { result.now.starts ≡ self.now.starts }
+        ensures events { result.now.events ≡ self.now.events }
+    {
+        &self.rows
+    }
+}

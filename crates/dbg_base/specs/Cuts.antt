@@ -1,0 +1,17 @@
+-- Cuts of a history: for each process how many of its choices are kept.
+use Rattle.std.specs.Prelude.{◌≡◌, ◌≢◌, ℕ, ◌≤◌, List, [], length, slice_index, slice_index_or}
+use Rattle.dbg_base.specs.Trees.{Program}
+use Rattle.dbg_base.specs.Histories.{History}
+use Rattle.dbg_base.specs.ModelStates.{cut_lines}
+use Rattle.dbg_base.specs.Counts.{sent, got}
+
+-- A cut has one count for each process, at most as large as its number of choices. It is consistent where no process has received
+-- more messages from another one than that one has sent to it.
+pub record IsConsistent (P : Program) (H : History) (cut : List ℕ) : Type 0 where
+  pub sizes : length cut ≡ length H
+  pub within : (p : ℕ) → slice_index cut p ≤ length (slice_index_or H p [])
+  pub causes : (i j : ℕ) → i ≢ j → got P H j i (slice_index cut j) ≤ sent P H i j (slice_index cut i)
+
+-- the history up to the cut
+abbrev pub history_at : History → List ℕ → History
+history_at H cut = cut_lines H cut

@@ -1,0 +1,3 @@
+pub mod Undone
+pub mod Pasts
+pub mod Made

@@ -1,0 +1,91 @@
+//! The events of one process.
+
+ghost use Rattle.std.specs.Prelude.{◌≡◌, ◌+◌, ◌-◌, ◌<◌, ◌≤◌, ◌++◌, ◌∷◌, [], length, take, slice_get, OnOk, IsSome, ◌↔◌};
+ghost use Rattle.std.specs.Option.{option_map, option_to_list};
+
+use crate::event::Event;
+use std::alloc::{AllocError, Global};
+use std::marker::Model;
+
+/// The events of one process, in order.
+#[derive(Debug, Drop)]
+pub(crate) struct Line {
+    events: Vec<Event>,
+}
+
+impl Model for Line {
+    ghost use Rattle.std.specs.Prelude.{◌-◌};
+    ghost use Rattle.std.specs.Vec.{vec_len, vec_capacity};
+    ghost use Rattle.event_rows.specs.EventValues.{LineState};
+
+    ghost Value = { LineState };
+
+    ghost view = { λ line. record { events = line.events.items; room = vec_capacity line.events - vec_len line.events } };
+}
+
+impl Line {
+    /// No event. It takes no memory.
+    pub(crate) fn new(alloc: Global) -> Line
+        ensures { result.events ≡ [] }
+    {
+        Line {
+            events: Vec::new(alloc),
+        }
+    }
+
+    /// How many events there are.
+    pub(crate) fn len(&self) -> usize
+        ensures { result ≡ length self.now.events }
+    {
+        self.events.len()
+    }
+
+    /// The events, in order.
+    pub(crate) fn events(&self) -> &[Event]
+        ensures { result.now ≡ self.now.events }
+    {
+        self.events.as_slice()
+    }
+
+    /// The n-th event, from 0, if there is one.
+    pub(crate) fn event(&self, n: usize) -> Option<&Event>
+        ensures { option_map (λ event. event.now) result ≡ slice_get self.now.events n }
+    {
+        self.events.get(n)
+    }
+
+    /// The last event, if there is one.
+    pub(crate) fn last(&self) -> Option<&Event>
+        ensures { option_map (λ event. event.now) result ≡ slice_get self.now.events (length self.now.events - 1) }
+    {
+        self.events.last()
+    }
+
+    /// Makes room for so many more events.
+    pub(crate) fn reserve(&mut self, more: usize) -> Result<(), AllocError>
+        ensures same { self.new.events ≡ self.old.events }
+        ensures grows { self.old.room ≤ self.new.room }
+        ensures ok { OnOk result (more ≤ self.new.room) }
+    {
+        self.events.reserve(more)
+    }
+
+    /// The event goes to the end. It takes no memory.
+    pub(crate) fn push(&mut self, event: Event)
+        requires { 0 < self.old.room }
+        ensures events { self.new.events ≡ self.old.events ++ event ∷ [] }
+        ensures room { self.new.room ≡ self.old.room - 1 }
+    {
+        self.events.push_reserved(event);
+    }
+
+    /// The last event is taken out, if there is one. It takes no memory.
+    pub(crate) fn pop(&mut self) -> Option<Event>
+        ensures last { self.old.events ≡ self.new.events ++ option_to_list result }
+        ensures events { self.new.events ≡ take (length self.old.events - 1) self.old.events }
+        ensures some { IsSome result ↔ (0 < length self.old.events) }
+        ensures grows { self.old.room ≤ self.new.room }
+    {
+        self.events.pop()
+    }
+}

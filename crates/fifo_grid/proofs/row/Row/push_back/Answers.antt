@@ -1,0 +1,20 @@
+use Rattle.std.proofs.Common.{ℕ, ◌-◌, ℤ, List, [], ◌∷◌, ◌++◌, sym, rules}
+use Rattle.dbg_base.proofs.Places.{changed_at, seen_below}
+use Rattle.fifo_grid.specs.Queues.{QueueState}
+use Rattle.fifo_grid.proofs.row.Row.push_back.Goals as goal
+
+pub returns-clause-messages : goal.returns-clause-messages
+returns-clause-messages c =
+    rw (← c.self.view_is) (changed_at (λ (queue : QueueState). queue.messages) c.self.inside.queues.items c.args.at
+    c.index_mut-queue.result.now (sym c.index_mut-queue.ensures.value)
+    (seen_below (λ (queue : QueueState). queue.room) c.self.inside.queues.items c.args.at (rw (← c.self.view_is) at c.requires))
+    c.push_back.new.self [] (λ (q : List ℤ). q ++ c.args.message ∷ [])
+    (let k = c.push_back.ensures.messages in search rules))
+
+pub returns-clause-room : goal.returns-clause-room
+returns-clause-room c =
+    rw (← c.self.view_is) (changed_at (λ (queue : QueueState). queue.room) c.self.inside.queues.items c.args.at
+    c.index_mut-queue.result.now (sym c.index_mut-queue.ensures.value)
+    (seen_below (λ (queue : QueueState). queue.room) c.self.inside.queues.items c.args.at (rw (← c.self.view_is) at c.requires))
+    c.push_back.new.self 0 (λ (n : ℕ). n - 1)
+    c.push_back.ensures.room)
