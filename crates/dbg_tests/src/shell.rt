@@ -7,6 +7,7 @@ mod lines;
 mod programs;
 mod replies;
 mod sessions;
+mod undo;
 
 use dbg_shell::{check, serve, status};
 use proc_lang::{Program, parse_program};

@@ -66,3 +66,69 @@ fn a_window_of_three_frames(rt: HostRuntime) {
     assert_eq!(rt; replies.as_slice(), REPLIES.as_bytes());
     assert_eq!(rt; code, 0);
 }
+
+// The text of examples/unrelated_undo.rdbg: a client and a server that seat 1 steps, and a clock of its own that seat 2 steps.
+const UNRELATED_UNDO: &str = "process client {
+  var asked = 0;
+  when (asked < 3) : send server (asked + 1), asked := (asked + 1);
+}
+process server {
+  var request = 0;
+  var served = 0;
+  when true : recv client request, served := (served + 1);
+}
+process clock {
+  var ticks = 0;
+  when true : ticks := (ticks + 1);
+}
+%%
+1 next client
+2 next clock
+1 next server
+2 next clock
+1 undo client
+1 can server
+2 undo clock
+1 undo server
+1 chan client server
+1 undo client
+2 vars clock
+1 vars server
+1 place client
+2 redo clock
+1 redo server
+1 redo client
+1 redo server
+1 vars server
+2 vars clock
+";
+
+// The client's request cannot be taken back while the server has it. Once the server's receive is undone, the request is on its way
+// again, and the client can undo it; the clock's work stays. A receive is not made again before the request is.
+const AFTER_UNDO: &str = "ok client 0
+ok clock 0
+ok server 0
+ok clock 0
+no 7 server
+can server yes
+ok clock 0
+ok server 0
+chan client server 1
+ok client 0
+vars clock ticks=1
+vars server request=0 served=0
+place client 0 of 1
+ok clock 0
+no 5
+ok client 0
+ok server 0
+vars server request=1 served=1
+vars clock ticks=2
+";
+
+#[test]
+fn two_seats_undo_unrelated_work(rt: HostRuntime) {
+    let (replies, code) = served(rt.alloc(), UNRELATED_UNDO.as_bytes());
+    assert_eq!(rt; replies.as_slice(), AFTER_UNDO.as_bytes());
+    assert_eq!(rt; code, 0);
+}

@@ -4,26 +4,50 @@ use dbg_shell::{Line, parse_line};
 use std::alloc::{AllocError, Global};
 use std::test::Fail;
 
-// What a line gives, as plain numbers: the seat, whether it is `next`, and the process.
-fn told(parsed: Result<Option<Line>, Refusal>) -> Result<Option<(u32, bool, u32)>, Refusal> {
-    match parsed? {
-        None => Ok(None),
-        Some(line) => match line.call {
-            Call::Give(Plan::Next(pid)) => Ok(Some((line.seat, true, pid.0))),
-            Call::Ask(Query::Vars(pid)) => Ok(Some((line.seat, false, pid.0))),
-            _ => Ok(Some((0, false, 0))),
-        },
+// What a line asks for, with processes as plain numbers.
+#[derive(Clone, Copy, Debug, PartialEq, Eq)]
+enum Told {
+    Step(u32, u32),
+    Next(u32),
+    Undo(u32),
+    Redo(u32),
+    Vars(u32),
+    Chan(u32, u32),
+    Place(u32),
+    Can(u32),
+    Other,
+}
+
+fn told_of(call: &Call) -> Told {
+    match call {
+        Call::Give(Plan::Step(pid, choice)) => Told::Step(pid.0, choice.0),
+        Call::Give(Plan::Next(pid)) => Told::Next(pid.0),
+        Call::Give(Plan::Undo(pid)) => Told::Undo(pid.0),
+        Call::Give(Plan::Redo(pid)) => Told::Redo(pid.0),
+        Call::Ask(Query::Vars(pid)) => Told::Vars(pid.0),
+        Call::Ask(Query::Chan(source, target)) => Told::Chan(source.0, target.0),
+        Call::Ask(Query::Place(pid)) => Told::Place(pid.0),
+        Call::Ask(Query::Can(pid)) => Told::Can(pid.0),
+        _ => Told::Other,
     }
 }
 
-const LINES: [(&str, Result<Option<(u32, bool, u32)>, Refusal>); 32] = [
-    ("1 next a", Ok(Some((1, true, 0)))),
-    ("1 next b", Ok(Some((1, true, 1)))),
-    ("16 vars b", Ok(Some((16, false, 1)))),
-    ("01 next a", Ok(Some((1, true, 0)))),
-    ("000000001 next a", Ok(Some((1, true, 0)))),
-    (" \t1\t next  a \t", Ok(Some((1, true, 0)))),
-    ("1 next a\r", Ok(Some((1, true, 0)))),
+// The seat, and what it asks for.
+fn told(parsed: Result<Option<Line>, Refusal>) -> Result<Option<(u32, Told)>, Refusal> {
+    match parsed? {
+        None => Ok(None),
+        Some(line) => Ok(Some((line.seat, told_of(&line.call)))),
+    }
+}
+
+const LINES: [(&str, Result<Option<(u32, Told)>, Refusal>); 55] = [
+    ("1 next a", Ok(Some((1, Told::Next(0))))),
+    ("1 next b", Ok(Some((1, Told::Next(1))))),
+    ("16 vars b", Ok(Some((16, Told::Vars(1))))),
+    ("01 next a", Ok(Some((1, Told::Next(0))))),
+    ("000000001 next a", Ok(Some((1, Told::Next(0))))),
+    (" \t1\t next  a \t", Ok(Some((1, Told::Next(0))))),
+    ("1 next a\r", Ok(Some((1, Told::Next(0))))),
     ("", Ok(None)),
     ("\r", Ok(None)),
     (" \t ", Ok(None)),
@@ -44,11 +68,34 @@ const LINES: [(&str, Result<Option<(u32, bool, u32)>, Refusal>); 32] = [
     ("1 next 1a", Err(Refusal::BadLine)),
     ("1 Next a", Err(Refusal::BadLine)),
     ("1 jump a", Err(Refusal::BadLine)),
-    ("1 step a 0", Err(Refusal::BadLine)),
     ("17 next d", Err(Refusal::BadLine)),
     ("1 jump d", Err(Refusal::BadLine)),
     ("1 next d a", Err(Refusal::BadLine)),
     ("1 next d", Err(Refusal::UnknownProcess)),
+    ("1 step a 0", Ok(Some((1, Told::Step(0, 0))))),
+    ("3 step b 999999999", Ok(Some((3, Told::Step(1, 999_999_999))))),
+    ("1 step b 007", Ok(Some((1, Told::Step(1, 7))))),
+    ("1 undo b", Ok(Some((1, Told::Undo(1))))),
+    ("2 redo a", Ok(Some((2, Told::Redo(0))))),
+    ("1 chan a b", Ok(Some((1, Told::Chan(0, 1))))),
+    ("1 chan b b", Ok(Some((1, Told::Chan(1, 1))))),
+    ("1 place a", Ok(Some((1, Told::Place(0))))),
+    ("1 can b", Ok(Some((1, Told::Can(1))))),
+    ("1 step a", Err(Refusal::BadLine)),
+    ("1 step a b", Err(Refusal::BadLine)),
+    ("1 step a 1000000000", Err(Refusal::BadLine)),
+    ("1 step a 0 0", Err(Refusal::BadLine)),
+    ("1 step d x", Err(Refusal::BadLine)),
+    ("1 chan a", Err(Refusal::BadLine)),
+    ("1 chan d A", Err(Refusal::BadLine)),
+    ("1 next a 0", Err(Refusal::BadLine)),
+    ("1 can a b", Err(Refusal::BadLine)),
+    ("1 back", Err(Refusal::BadLine)),
+    ("1 clock a", Err(Refusal::BadLine)),
+    ("1 step d 0", Err(Refusal::UnknownProcess)),
+    ("1 chan a d", Err(Refusal::UnknownProcess)),
+    ("1 chan d a", Err(Refusal::UnknownProcess)),
+    ("1 undo d", Err(Refusal::UnknownProcess)),
 ];
 
 #[test]
@@ -86,7 +133,7 @@ fn a_line_has_at_most_1024_bytes(rt: HostRuntime) -> Result<(), Fail> {
     let most = padded(alloc, 1_016, "1 next a")?;
     assert_eq!(rt;
         told(parse_line(&program, most.as_slice())),
-        Ok(Some((1, true, 0)))
+        Ok(Some((1, Told::Next(0))))
     );
     let more = padded(alloc, 1_017, "1 next a")?;
     assert_eq!(rt;

@@ -3,18 +3,18 @@ use super::{TWO, joined, served};
 use std::alloc::{AllocError, Global};
 use std::test::Fail;
 
-const NUMBER: &str = "process a { var x = 1; when true : x := (x + 9223372036854775807); }\n";
+pub(super) const NUMBER: &str = "process a { var x = 1; when true : x := (x + 9223372036854775807); }\n";
 
-const SWAP: &str = "process p { var u = 1; var v = 2; when true : send q (u + v), u := v, v := u; }
+pub(super) const SWAP: &str = "process p { var u = 1; var v = 2; when true : send q (u + v), u := v, v := u; }
 process q { var y = 0; var z = 0; when (z = 0) : recv p y, z := (y + z); }
 ";
 
-const PAIR: &str =
+pub(super) const PAIR: &str =
     "process s { var u = 0; when true : send r 5, u := 1; when true : send r 7, u := 2; }
 process r { var v = 0; when true : recv s v; }
 ";
 
-const LEAST: &str = "process a {
+pub(super) const LEAST: &str = "process a {
   var x = -9223372036854775807;
   when true : x := (x - 1);
   when true : x := (x / (- 1));
@@ -23,7 +23,7 @@ const LEAST: &str = "process a {
 }
 ";
 
-const COUNTS: &str = "process a {
+pub(super) const COUNTS: &str = "process a {
   var x = 0;
   when (sent(b) < 2) : send b (sent(b) + 10);
 }
@@ -111,7 +111,7 @@ const SESSIONS: [(&str, &str, &str, &str); 22] = [
     (
         "words that are not there",
         TWO,
-        "%%\n1 jump a\n1 step a\n1 undo a\n",
+        "%%\n1 jump a\n1 step a\n1 back\n",
         "no 22\nno 22\nno 22\n",
     ),
     (

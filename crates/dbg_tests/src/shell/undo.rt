@@ -1,0 +1,139 @@
+use super::sessions::{COUNTS, LEAST, NUMBER, PAIR, SWAP};
+use super::{TWO, joined, served};
+use std::test::Fail;
+
+// The two processes of `TWO`, and one that has nothing to do with them.
+const THREE: &str = "process a {
+  var x = 0;
+  when (x < 3) : send b (x + 1), x := (x + 1);
+}
+process b {
+  var y = 0;
+  var n = 0;
+  when true : recv a y, n := (n + 1);
+  when (n > 0) : n := (n - 1);
+}
+process c {
+  var z = 0;
+  when true : z := (z + 1);
+}
+";
+
+const COUNTER: &str = "process c { var z = 0; when true : z := (z + 1); }\n";
+
+// A name, a program, the lines behind it and what is written for them.
+const ROWS: [(&str, &str, &str, &str); 14] = [
+    (
+        "a refusal for each cause",
+        TWO,
+        "%%\n1 next b\n1 step b 0\n1 step b 1\n1 step b 2\n1 next d\n1 undo a\n1 redo a\n",
+        "no 24\nno 5\nno 3\nno 2\nno 1\nno 6\nno 8\n",
+    ),
+    (
+        "a send is undone after its receive",
+        TWO,
+        "%%\n1 step a 0\n1 step b 0\n1 undo a\n1 can a\n1 can b\n1 undo b\n1 chan a b\n1 undo a\n1 chan a b\n1 vars a\n1 vars b\n1 place a\n1 can a\n",
+        "ok a 0\nok b 0\nno 7 b\ncan a no 7 b\ncan b yes\nok b 0\nchan a b 1\nok a 0\nchan a b\nvars a x=0\nvars b y=0 n=0\nplace a 0 of 1\ncan a no 6\n",
+    ),
+    (
+        "an undone receive gives its message to the front",
+        TWO,
+        "%%\n1 next a\n1 next a\n1 next b\n1 undo b\n1 chan a b\n1 redo b\n1 undo a\n1 vars b\n1 undo a\n1 undo b\n1 redo a\n1 chan a b\n",
+        "ok a 0\nok a 0\nok b 0\nok b 0\nchan a b 1 2\nok b 0\nok a 0\nvars b y=1 n=1\nno 7 b\nok b 0\nok a 0\nchan a b 1 2\n",
+    ),
+    (
+        "a step cuts the redo line",
+        TWO,
+        "%%\n1 next a\n1 next a\n1 undo a\n1 undo a\n1 place a\n1 step a 0\n1 place a\n1 redo a\n",
+        "ok a 0\nok a 0\nok a 0\nok a 0\nplace a 0 of 2\nok a 0\nplace a 1 of 1\nno 8\n",
+    ),
+    (
+        "a fault changes nothing",
+        NUMBER,
+        "%%\n1 step a 0\n1 next a\n1 vars a\n",
+        "no 4\nno 24\nvars a x=1\n",
+    ),
+    (
+        "faults at the least number",
+        LEAST,
+        "%%\n1 step a 0\n1 step a 0\n1 step a 1\n1 step a 2\n1 step a 3\n1 vars a\n",
+        "ok a 0\nno 4\nno 4\nno 4\nok a 3\nvars a x=-4611686018427387904\n",
+    ),
+    (
+        "old values are sent",
+        SWAP,
+        "%%\n1 next p\n1 vars p\n1 chan p q\n1 next q\n1 vars q\n1 next p\n1 step q 0\n1 chan p p\n",
+        "ok p 0\nvars p u=2 v=1\nchan p q 3\nok q 0\nvars q y=3 z=3\nok p 0\nno 3\nchan p p\n",
+    ),
+    (
+        "a redo takes the message that is there",
+        PAIR,
+        "%%\n1 step s 0\n1 step r 0\n1 vars r\n1 undo r\n1 undo s\n1 step s 1\n1 redo r\n1 vars r\n",
+        "ok s 0\nok r 0\nvars r v=5\nok r 0\nok s 0\nok s 1\nok r 0\nvars r v=7\n",
+    ),
+    (
+        "a redo without its message",
+        TWO,
+        "%%\n1 next a\n1 next b\n1 undo b\n1 undo a\n1 redo b\n1 place b\n1 redo a\n1 redo b\n1 redo b\n",
+        "ok a 0\nok b 0\nok b 0\nok a 0\nno 5\nplace b 0 of 1\nok a 0\nok b 0\nno 8\n",
+    ),
+    (
+        "undo goes back in the counts",
+        COUNTS,
+        "%%\n1 next a\n1 next a\n1 next a\n1 step a 0\n1 chan a b\n1 next b\n1 next b\n1 vars b\n1 undo b\n1 undo b\n1 undo a\n1 next a\n1 chan a b\n1 next b\n",
+        "ok a 0\nok a 0\nno 24\nno 3\nchan a b 10 11\nok b 0\nok b 1\nvars b y=11 z=12\nok b 1\nok b 0\nok a 0\nok a 0\nchan a b 10 11\nok b 0\n",
+    ),
+    (
+        "concurrent work, in one order",
+        THREE,
+        "%%\n1 next a\n1 next c\n1 next b\n1 vars a\n1 vars b\n1 vars c\n1 chan a b\n1 chan b a\n1 chan c a\n1 place a\n1 place b\n1 place c\n1 can a\n1 can b\n1 can c\n",
+        "ok a 0\nok c 0\nok b 0\nvars a x=1\nvars b y=1 n=1\nvars c z=1\nchan a b\nchan b a\nchan c a\nplace a 1 of 1\nplace b 1 of 1\nplace c 1 of 1\ncan a no 7 b\ncan b yes\ncan c yes\n",
+    ),
+    (
+        "concurrent work, in another order",
+        THREE,
+        "%%\n1 next c\n1 next a\n1 next b\n1 vars a\n1 vars b\n1 vars c\n1 chan a b\n1 chan b a\n1 chan c a\n1 place a\n1 place b\n1 place c\n1 can a\n1 can b\n1 can c\n",
+        "ok c 0\nok a 0\nok b 0\nvars a x=1\nvars b y=1 n=1\nvars c z=1\nchan a b\nchan b a\nchan c a\nplace a 1 of 1\nplace b 1 of 1\nplace c 1 of 1\ncan a no 7 b\ncan b yes\ncan c yes\n",
+    ),
+    (
+        "unrelated work stays",
+        THREE,
+        "%%\n1 next a\n1 next c\n1 next b\n1 next c\n1 undo b\n1 undo a\n1 vars c\n1 undo c\n1 redo a\n1 vars c\n1 vars a\n",
+        "ok a 0\nok c 0\nok b 0\nok c 0\nok b 0\nok a 0\nvars c z=2\nok c 0\nok a 0\nvars c z=1\nvars a x=1\n",
+    ),
+    (
+        "questions about no process",
+        TWO,
+        "%%\n1 chan a d\n1 chan d a\n1 place d\n1 can d\n1 undo d\n1 redo d\n1 step d 0\n",
+        "no 1\nno 1\nno 1\nno 1\nno 1\nno 1\nno 1\n",
+    ),
+];
+
+#[test]
+fn work_is_undone_along_causality(rt: HostRuntime) -> Result<(), Fail> {
+    let alloc = rt.alloc();
+    for (name, program, lines, want) in &ROWS {
+        let input = joined(alloc, program, lines)?;
+        let (replies, code) = served(alloc, input.as_slice());
+        assert_eq!(rt; replies.as_slice(), want.as_bytes(), "{name}");
+        assert_eq!(rt; code, 0, "{name}");
+    }
+    Ok(())
+}
+
+#[test]
+fn a_process_has_at_most_20000_events(rt: HostRuntime) -> Result<(), Fail> {
+    let alloc = rt.alloc();
+    let mut input = joined(alloc, COUNTER, "%%\n")?;
+    let mut want = Vec::new(alloc);
+    for _ in 0..20_000 {
+        input.extend_from_slice(b"1 next c\n")?;
+        want.extend_from_slice(b"ok c 0\n")?;
+    }
+    input.extend_from_slice(b"1 next c\n1 step c 0\n1 undo c\n1 redo c\n1 next c\n1 vars c\n")?;
+    want.extend_from_slice(b"no 18\nno 18\nok c 0\nok c 0\nno 18\nvars c z=20000\n")?;
+    let (replies, code) = served(alloc, input.as_slice());
+    assert!(rt; replies.as_slice() == want.as_slice());
+    assert_eq!(rt; code, 0);
+    Ok(())
+}
