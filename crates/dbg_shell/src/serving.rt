@@ -2,6 +2,7 @@
 
 ghost use Rattle.std.specs.Prelude.{◌≡◌, IfOk, IfErr, IfSome};
 ghost use Rattle.std.specs.Io.KnownBytes.{Keeps};
+ghost use Rattle.dbg_base.specs.ModelStates.{opening_state};
 ghost use Rattle.proc_lang.specs.Programs.{program_of};
 ghost use Rattle.causal_world.specs.Scenes.{IsWorldOf};
 ghost use Rattle.dbg_shell.specs.declared.outcome.ServeFault.TheVariants.{Memory, Read, Write};
@@ -21,6 +22,15 @@ use causal_world::World;
 use proc_lang::{ProgError, Program, parse_program};
 use std::alloc::Global;
 use std::io::{Read, Write};
+
+// The world of the program at its start.
+fn open(alloc: Global, program: &Program) -> Result<World, ServeFault>
+    ensures of { IfOk result (λ world. IsWorldOf (program_of program.now) world) }
+    ensures opens { IfOk result (λ world. world.state ≡ opening_state (program_of program.now)) }
+    ensures memory { IfErr result (λ fault. fault ≡ Memory) }
+{
+    World::new(alloc, program).map_err(|_| ServeFault::Memory)
+}
 
 // Answers one command line: what is written is handed on before the next line is asked for.
 fn serve_line<W: Write>(
@@ -68,7 +78,7 @@ fn serve_lines<R: Read, W: Write>(
         input.old.at (W.contents writer.old) (W.contents writer.new)) }
     ensures memory { IfErr result (λ fault. fault ≡ Memory → Keeps (W.contents writer.old) (W.contents writer.new)) }
 {
-    let mut world = World::new(alloc, program).map_err(|_| ServeFault::Memory)?;
+    let mut world = open(alloc, program)?;
     loop {
         match input.next_line(reader)? {
             Next::Line(span) => serve_line(alloc, program, &mut world, input.line(span), writer)?,
