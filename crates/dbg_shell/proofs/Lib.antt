@@ -1,6 +1,5 @@
 pub mod Writing
 pub mod Pairs
-pub mod Histories
 pub mod Words
 pub mod Reading
 pub mod LineEnds
@@ -11,7 +10,4 @@ pub mod LineReplies
 pub mod Known
 pub mod InputTexts
 pub mod CheckTexts
-pub mod Cuts
-pub mod Firings
-pub mod Channels
 pub mod Digits

@@ -1,6 +1,6 @@
 -- The words of a line, from its front.
 use Rattle.std.proofs.Common.{◌≡◌, ◌≢◌, ℕ, zero, suc, ◌-◌, ◌<◌, Bool, true, false, not, eqb, List, [], ◌∷◌, length, get_or, take, drop}
-use Rattle.std.proofs.Common.{Some, refl, sym, ap, ◌∙◌, arith, one-add}
+use Rattle.std.proofs.Common.{refl, sym, ap, ◌∙◌, arith, one-add}
 use Rattle.std.specs.List.{prefix_len}
 use Rattle.std.proofs.lemmas.Bool.{eqb-true, not-true}
 use Rattle.std.proofs.lemmas.Grind.{common_steps}
@@ -58,7 +58,6 @@ pub return_missing : (line : List ℕ) → ((n : ℕ) → length line ≡ suc n 
 return_missing [] h = refl
 return_missing (b ∷ []) h = kept_by b (eqb b 13) refl (h 0 refl)
 return_missing (b ∷ c ∷ line) h = ap (λ rest. b ∷ rest) (return_missing (c ∷ line) (λ n e. h (suc n) (ap suc e)))
-
 
 -- all that is left
 pub drop_whole : (n : ℕ) (bytes : List ℕ) → drop n bytes ≡ take (length bytes - n) (drop n bytes)

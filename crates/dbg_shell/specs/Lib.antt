@@ -4,7 +4,5 @@ pub mod Pieces
 pub mod Spans
 pub mod Lines
 pub mod Checking
-pub mod Standings
-pub mod Plays
 pub mod Sessions
 pub mod Serving

@@ -1,5 +1,5 @@
 -- Command lines of the code, as the model says them.
-use Rattle.std.specs.Prelude.{ℕ, Bool, true, not, List, [], ◌∷◌, Option, Some, None, Result}
+use Rattle.std.specs.Prelude.{ℕ, Bool, true, not, List, [], ◌∷◌, Option, Some, Result}
 use Rattle.dbg_base.specs.declared.call.Call as call
 use Rattle.dbg_base.specs.declared.refusal.Refusal.{Refusal}
 use Rattle.dbg_base.specs.Calls.{Call, call_of}
@@ -10,7 +10,6 @@ use Rattle.dbg_shell.specs.declared.command_line.Line.{Line}
 abbrev pub begins_word : List ℕ → Bool
 begins_word [] = true
 begins_word (b ∷ bytes) = not (is_blank b)
-
 
 -- the call of the code, where there is one
 abbrev pub called : Result call.Call Refusal → Result (Option Call) Refusal

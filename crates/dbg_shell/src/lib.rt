@@ -1,19 +1,16 @@
 //! The shell: bytes of input become lines, lines become calls of a session, and what the session says becomes bytes of output.
 //!
 //! `serve` answers a program text and the command lines behind it, `check` looks at a program text alone, and `job` reads the words
-//! of the program's own command line. Its session is the plain one: it keeps each process's choices, and plays them anew at each call.
+//! of the program's own command line. Its session is a world, which the calls of the seats change in place.
 #![tactic(auto)]
 
 mod checking;
 mod command_line;
-mod configuration;
-mod firing;
 mod framing;
 mod jobs;
 mod notices;
 mod outcome;
 mod parts;
-mod playing;
 mod program_text;
 mod reply;
 mod serving;

@@ -2,11 +2,12 @@
 
 ghost use Rattle.std.specs.Prelude.{◌≡◌, IfOk, IfErr, IfSome};
 ghost use Rattle.std.specs.Io.KnownBytes.{Keeps};
+ghost use Rattle.dbg_base.specs.ModelStates.{opening_state};
 ghost use Rattle.proc_lang.specs.Programs.{program_of};
+ghost use Rattle.causal_world.specs.Scenes.{IsWorldOf};
 ghost use Rattle.dbg_shell.specs.declared.outcome.ServeFault.TheVariants.{Memory, Read, Write};
 ghost use Rattle.dbg_shell.specs.declared.outcome.Served.{Served};
 ghost use Rattle.dbg_shell.specs.Spans.{EndsWith, ReadsOn};
-ghost use Rattle.dbg_shell.specs.Sessions.{state_of, IsSized};
 ghost use Rattle.dbg_shell.specs.Serving.{ServesInput, BreaksInput, ReadsFew, WritesAnswer, WritesSome, WritesFront};
 ghost use Rattle.dbg_shell.specs.Serving.{ServesLines, StopsLines, BreaksLines};
 
@@ -16,27 +17,37 @@ use crate::notices::{hand_on, tell_fault, tell_no_end_line, tell_too_long};
 use crate::outcome::{ServeFault, Served};
 use crate::program_text::{TextEnd, read_program_text};
 use crate::reply::{print_refusal, print_reply};
-use crate::session::Session;
+use crate::session::answer;
+use causal_world::World;
 use proc_lang::{ProgError, Program, parse_program};
 use std::alloc::Global;
 use std::io::{Read, Write};
+
+// The world of the program at its start.
+fn open(alloc: Global, program: &Program) -> Result<World, ServeFault>
+    ensures of { IfOk result (λ world. IsWorldOf (program_of program.now) world) }
+    ensures opens { IfOk result (λ world. world.state ≡ opening_state (program_of program.now)) }
+    ensures memory { IfErr result (λ fault. fault ≡ Memory) }
+{
+    World::new(alloc, program).map_err(|_| ServeFault::Memory)
+}
 
 // Answers one command line: what is written is handed on before the next line is asked for.
 fn serve_line<W: Write>(
     alloc: Global,
     program: &Program,
-    session: &mut Session,
+    world: &mut World,
     line: &[u8],
     writer: &mut W,
 ) -> Result<(), ServeFault>
-    requires { IsSized (program_of program.now) (state_of session.old) }
-    ensures sized { IsSized (program_of program.now) (state_of session.new) }
-    ensures answers { WritesAnswer (program_of program.now) line.now (state_of session.old) (W.contents writer.old) result
-        (W.contents writer.new) (state_of session.new) }
+    requires { IsWorldOf (program_of program.now) world.old }
+    ensures of { IsWorldOf (program_of program.now) world.new }
+    ensures answers { WritesAnswer (program_of program.now) line.now world.old.state (W.contents writer.old) result
+        (W.contents writer.new) world.new.state }
 {
     match parse_line(program, line) {
         Ok(Some(line)) => {
-            let said = session.answer(alloc, program, &line);
+            let said = answer(world, alloc, program, &line);
             let written = print_reply(program, &line.call, &said, writer);
             hand_on(written, writer)
         }
@@ -67,10 +78,10 @@ fn serve_lines<R: Read, W: Write>(
         input.old.at (W.contents writer.old) (W.contents writer.new)) }
     ensures memory { IfErr result (λ fault. fault ≡ Memory → Keeps (W.contents writer.old) (W.contents writer.new)) }
 {
-    let mut session = Session::new(alloc, program)?;
+    let mut world = open(alloc, program)?;
     loop {
         match input.next_line(reader)? {
-            Next::Line(span) => serve_line(alloc, program, &mut session, input.line(span), writer)?,
+            Next::Line(span) => serve_line(alloc, program, &mut world, input.line(span), writer)?,
             Next::End => return Ok(Served::Done),
             Next::TooLong => return tell_too_long(writer),
         }

@@ -1,21 +1,21 @@
 use Rattle.std.proofs.Common.{◌-◌, ◌≤◌}
 use Rattle.dbg_base.specs.declared.limits.TheConstants.{INPUT_BYTES}
 use Rattle.proc_lang.specs.Programs.{program_of}
+use Rattle.causal_world.specs.Scenes.{IsWorldOf}
 use Rattle.dbg_shell.specs.Spans.{ReadsOn}
-use Rattle.dbg_shell.specs.Sessions.{state_of, IsSized}
 use Rattle.dbg_shell.proofs.LineReplies.{AnsweredAny}
 use Rattle.dbg_shell.proofs.serving.serve_lines.Given as goal
 
-abbrev pub invariant-loop-session : goal.invariant-loop-session
-invariant-loop-session g l = record {
+abbrev pub invariant-loop-world : goal.invariant-loop-world
+invariant-loop-world g l = record {
   reads : ReadsOn l.fn.input.bytes.items l.fn.input.ended (g.R.Read.remaining l.fn.reader) l.input.bytes.items l.input.ended
       (g.R.Read.remaining l.reader);
   begun : l.fn.input.at ≤ l.input.at;
-  sized : IsSized (program_of l.program) (state_of l.session);
-  answered : AnsweredAny (program_of l.program) l.input.bytes.items l.input.ended l.fn.input.at l.input.at (state_of l.session)
+  of : IsWorldOf (program_of l.program) l.world;
+  answered : AnsweredAny (program_of l.program) l.input.bytes.items l.input.ended l.fn.input.at l.input.at l.world.state
       (g.W.Write.contents l.fn.writer) (g.W.Write.contents l.writer);
 }
 
 -- the bytes that no line was made of yet
-abbrev pub decreases-loop-session : goal.decreases-loop-session
-decreases-loop-session g l = INPUT_BYTES - l.input.at
+abbrev pub decreases-loop-world : goal.decreases-loop-world
+decreases-loop-world g l = INPUT_BYTES - l.input.at
