@@ -6,7 +6,7 @@ use std::test::Fail;
 
 // What a line asks for, with processes as plain numbers.
 #[derive(Clone, Copy, Debug, PartialEq, Eq)]
-enum Told {
+enum Asked {
     Step(u32, u32),
     Next(u32),
     Undo(u32),
@@ -18,36 +18,36 @@ enum Told {
     Other,
 }
 
-fn told_of(call: &Call) -> Told {
+fn asked_of(call: &Call) -> Asked {
     match call {
-        Call::Give(Plan::Step(pid, choice)) => Told::Step(pid.0, choice.0),
-        Call::Give(Plan::Next(pid)) => Told::Next(pid.0),
-        Call::Give(Plan::Undo(pid)) => Told::Undo(pid.0),
-        Call::Give(Plan::Redo(pid)) => Told::Redo(pid.0),
-        Call::Ask(Query::Vars(pid)) => Told::Vars(pid.0),
-        Call::Ask(Query::Chan(source, target)) => Told::Chan(source.0, target.0),
-        Call::Ask(Query::Place(pid)) => Told::Place(pid.0),
-        Call::Ask(Query::Can(pid)) => Told::Can(pid.0),
-        _ => Told::Other,
+        Call::Give(Plan::Step(pid, choice)) => Asked::Step(pid.0, choice.0),
+        Call::Give(Plan::Next(pid)) => Asked::Next(pid.0),
+        Call::Give(Plan::Undo(pid)) => Asked::Undo(pid.0),
+        Call::Give(Plan::Redo(pid)) => Asked::Redo(pid.0),
+        Call::Ask(Query::Vars(pid)) => Asked::Vars(pid.0),
+        Call::Ask(Query::Chan(source, target)) => Asked::Chan(source.0, target.0),
+        Call::Ask(Query::Place(pid)) => Asked::Place(pid.0),
+        Call::Ask(Query::Can(pid)) => Asked::Can(pid.0),
+        _ => Asked::Other,
     }
 }
 
 // The seat, and what it asks for.
-fn told(parsed: Result<Option<Line>, Refusal>) -> Result<Option<(u32, Told)>, Refusal> {
+fn told(parsed: Result<Option<Line>, Refusal>) -> Result<Option<(u32, Asked)>, Refusal> {
     match parsed? {
         None => Ok(None),
-        Some(line) => Ok(Some((line.seat, told_of(&line.call)))),
+        Some(line) => Ok(Some((line.seat, asked_of(&line.call)))),
     }
 }
 
-const LINES: [(&str, Result<Option<(u32, Told)>, Refusal>); 55] = [
-    ("1 next a", Ok(Some((1, Told::Next(0))))),
-    ("1 next b", Ok(Some((1, Told::Next(1))))),
-    ("16 vars b", Ok(Some((16, Told::Vars(1))))),
-    ("01 next a", Ok(Some((1, Told::Next(0))))),
-    ("000000001 next a", Ok(Some((1, Told::Next(0))))),
-    (" \t1\t next  a \t", Ok(Some((1, Told::Next(0))))),
-    ("1 next a\r", Ok(Some((1, Told::Next(0))))),
+const LINES: [(&str, Result<Option<(u32, Asked)>, Refusal>); 55] = [
+    ("1 next a", Ok(Some((1, Asked::Next(0))))),
+    ("1 next b", Ok(Some((1, Asked::Next(1))))),
+    ("16 vars b", Ok(Some((16, Asked::Vars(1))))),
+    ("01 next a", Ok(Some((1, Asked::Next(0))))),
+    ("000000001 next a", Ok(Some((1, Asked::Next(0))))),
+    (" \t1\t next  a \t", Ok(Some((1, Asked::Next(0))))),
+    ("1 next a\r", Ok(Some((1, Asked::Next(0))))),
     ("", Ok(None)),
     ("\r", Ok(None)),
     (" \t ", Ok(None)),
@@ -72,15 +72,15 @@ const LINES: [(&str, Result<Option<(u32, Told)>, Refusal>); 55] = [
     ("1 jump d", Err(Refusal::BadLine)),
     ("1 next d a", Err(Refusal::BadLine)),
     ("1 next d", Err(Refusal::UnknownProcess)),
-    ("1 step a 0", Ok(Some((1, Told::Step(0, 0))))),
-    ("3 step b 999999999", Ok(Some((3, Told::Step(1, 999_999_999))))),
-    ("1 step b 007", Ok(Some((1, Told::Step(1, 7))))),
-    ("1 undo b", Ok(Some((1, Told::Undo(1))))),
-    ("2 redo a", Ok(Some((2, Told::Redo(0))))),
-    ("1 chan a b", Ok(Some((1, Told::Chan(0, 1))))),
-    ("1 chan b b", Ok(Some((1, Told::Chan(1, 1))))),
-    ("1 place a", Ok(Some((1, Told::Place(0))))),
-    ("1 can b", Ok(Some((1, Told::Can(1))))),
+    ("1 step a 0", Ok(Some((1, Asked::Step(0, 0))))),
+    ("3 step b 999999999", Ok(Some((3, Asked::Step(1, 999_999_999))))),
+    ("1 step b 007", Ok(Some((1, Asked::Step(1, 7))))),
+    ("1 undo b", Ok(Some((1, Asked::Undo(1))))),
+    ("2 redo a", Ok(Some((2, Asked::Redo(0))))),
+    ("1 chan a b", Ok(Some((1, Asked::Chan(0, 1))))),
+    ("1 chan b b", Ok(Some((1, Asked::Chan(1, 1))))),
+    ("1 place a", Ok(Some((1, Asked::Place(0))))),
+    ("1 can b", Ok(Some((1, Asked::Can(1))))),
     ("1 step a", Err(Refusal::BadLine)),
     ("1 step a b", Err(Refusal::BadLine)),
     ("1 step a 1000000000", Err(Refusal::BadLine)),
@@ -133,7 +133,7 @@ fn a_line_has_at_most_1024_bytes(rt: HostRuntime) -> Result<(), Fail> {
     let most = padded(alloc, 1_016, "1 next a")?;
     assert_eq!(rt;
         told(parse_line(&program, most.as_slice())),
-        Ok(Some((1, Told::Next(0))))
+        Ok(Some((1, Asked::Next(0))))
     );
     let more = padded(alloc, 1_017, "1 next a")?;
     assert_eq!(rt;
