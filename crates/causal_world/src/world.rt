@@ -71,16 +71,6 @@ pub struct Rolled {
     event: Event,
 }
 
-fn start_states(alloc: Global, program: &Program) -> Result<Vec<Env>, AllocError>
-    ensures { IfOk result (λ states. states.items ≡ (start_of (program_of program.now)).states) }
-{
-    let mut states = Vec::new(alloc);
-    for p in 0..program.processes() {
-        states.push(Env::start(alloc, program, Pid(p))?)?;
-    }
-    Ok(states)
-}
-
 // Makes room for an event of the process. Where memory runs out nothing changes that is seen.
 fn make_room(
     grid: &mut Grid,
@@ -136,7 +126,7 @@ impl World {
     {
         let processes = program.processes();
         let lines = Lines::new(alloc, processes)?;
-        let envs = start_states(alloc, program)?;
+        let envs = Env::starts(alloc, program)?;
         let grid = Grid::new(alloc, processes)?;
         let rows = Rows::new(alloc, program)?;
         Ok(World {
