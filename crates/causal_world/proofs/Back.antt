@@ -1,14 +1,12 @@
 -- A world goes back by its process's last event, where what that sent is still on its way.
-use Rattle.std.proofs.Common.{◌≡◌, ◌≢◌, ℕ, zero, suc, ◌+◌, ◌-◌, ◌<◌, ◌≤◌, ℤ, List, [], ◌∷◌, ◌++◌, length, get_or, set, take, drop, replicate}
+use Rattle.std.proofs.Common.{◌≡◌, ℕ, zero, suc, ◌-◌, ◌<◌, ◌≤◌, ℤ, List, [], ◌∷◌, ◌++◌, length, get_or, set, take, replicate}
 use Rattle.std.proofs.Common.{Option, Some, None, Ok, refl, sym, ap, ◌∙◌, subst, arith}
 use Rattle.std.specs.Prelude.{slice_get}
-use Rattle.std.specs.Option.{option_map}
 use Rattle.std.proofs.lemmas.List.{set-set, set-get_or, get_or-set_same, length-set, length-replicate, length-map, length-take-le, take-take, length_push}
-use Rattle.std.proofs.lemmas.List.{get_or_push}
 use Rattle.dbg_base.specs.Trees.{Action, Local, Sends, Receives, Command, Program, command_of}
 use Rattle.dbg_base.specs.LocalStates.{LocalState, no_state, start_among}
-use Rattle.dbg_base.specs.Configurations.{Configuration, start_of, state_in, channel_of}
-use Rattle.dbg_base.specs.Firing.{fire, Effect, effect_of}
+use Rattle.dbg_base.specs.Configurations.{Configuration, start_of, state_in}
+use Rattle.dbg_base.specs.Firing.{fire, effect_of}
 use Rattle.dbg_base.specs.Histories.{History, IsPossible, play}
 use Rattle.dbg_base.specs.Orders.{Event, order_from, order, with_last, choices_of}
 use Rattle.dbg_base.specs.Reversal.{without_back, without_last, MayUndo}
@@ -22,7 +20,7 @@ use Rattle.event_rows.specs.Exchanges.{IsNextCount}
 use Rattle.event_rows.specs.Events.{after_event, before_event, Fits}
 use Rattle.event_rows.proofs.Undone.{has_old_values}
 use Rattle.event_rows.proofs.Undone as events
-use Rattle.causal_world.specs.Scenes.{Scene, message_for, exchange_for, event_by, event_if, event_at, with_event, events_from, events_of}
+use Rattle.causal_world.specs.Scenes.{Scene, message_for, exchange_for, event_if, event_at, with_event, events_from, events_of}
 use Rattle.causal_world.specs.Scenes.{IsWorldOf, channels_after, channels_before, with_done, with_undone, without_event, unmade}
 use Rattle.causal_world.proofs.Moves.{fires}
 use Rattle.causal_world.proofs.Bubbling.{IsEmpty, IsOrderOf, first_step}

@@ -83,6 +83,11 @@ other_state move state c d p q apart leads =
     ap (λ (x : Configuration). state_in x q) leads
     ∙ get_or-set_other c.states p q state no_state (λ (same : q ≡ p). apart (sym same))
 
+pub kept_state : (P : Program) (c d : Configuration) (p k q : ℕ) → p ≢ q → fire P c p k ≡ Ok d → state_in d q ≡ state_in c q
+kept_state P c d p k q apart fire_is =
+    let f = fires (command_of P p k) c p d fire_is in
+    other_state f.move f.state c d p q apart f.leads
+
 moves_meet : (a b : Move) (s t : LocalState) (p q : ℕ) (c : Configuration) → p ≢ q → IsReady a p c.channels → IsReady b q c.channels
     → after_move b q t (after_move a p s c) ≡ after_move a p s (after_move b q t c)
 moves_meet a b s t p q c apart first second =

@@ -2,7 +2,7 @@ use Rattle.std.proofs.Common.{◌≡◌, ℕ, ◌+◌, ◌<◌, List, [], ◌∷
 use Rattle.std.specs.Prelude.{slice_set}
 use Rattle.std.specs.declared.alloc.Global.{Global}
 use Rattle.std.proofs.lemmas.List.{get_or_read, length-map}
-use Rattle.dbg_base.specs.ModelStates.{ModelState, line_of}
+use Rattle.dbg_base.specs.ModelStates.{ModelState}
 use Rattle.dbg_base.proofs.Places.{changed_at, kept_at}
 use Rattle.causal_world.proofs.Results.{on_err}
 use Rattle.causal_world.proofs.lines.Lines.append.Goals as goal

@@ -1,6 +1,5 @@
-use Rattle.std.proofs.Common.{◌≡◌, ◌<◌, ℕ, ℤ, List, length, Some, sym, ap, ◌∙◌, subst}
+use Rattle.std.proofs.Common.{◌≡◌, ℤ, List, Some, sym, ap, ◌∙◌, subst}
 use Rattle.event_rows.specs.EventValues.{EventValue}
-use Rattle.event_rows.specs.declared.exchange.Exchange.{Exchange}
 use Rattle.causal_world.specs.Scenes.{Scene, IsWorldOf, channels_before, unmade, scene}
 use Rattle.causal_world.specs.Room.{HasRoomBefore}
 use Rattle.causal_world.specs.Worlds.{last_event}
