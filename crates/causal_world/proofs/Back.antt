@@ -2,7 +2,8 @@
 use Rattle.std.proofs.Common.{◌≡◌, ℕ, zero, suc, ◌-◌, ◌<◌, ◌≤◌, ℤ, List, [], ◌∷◌, ◌++◌, length, get_or, set, take, replicate}
 use Rattle.std.proofs.Common.{Option, Some, None, Ok, refl, sym, ap, ◌∙◌, subst, arith}
 use Rattle.std.specs.Prelude.{slice_get}
-use Rattle.std.proofs.lemmas.List.{set-set, set-get_or, get_or-set_same, length-set, length-replicate, length-map, length-take-le, take-take, length_push}
+use Rattle.std.proofs.lemmas.List.{set-set, set-get_or, get_or-set_same, length-set, length-replicate, length-map, length-take-le, take-take}
+use Rattle.std.proofs.lemmas.List.{length_push}
 use Rattle.dbg_base.specs.Trees.{Action, Local, Sends, Receives, Command, Program, command_of}
 use Rattle.dbg_base.specs.LocalStates.{LocalState, no_state, start_among}
 use Rattle.dbg_base.specs.Configurations.{Configuration, start_of, state_in}
@@ -201,7 +202,8 @@ goes_back P w p k of here last waiting =
     of.events ∙ goes_events P (start_of P) none of.fired (l.events ++ e ∷ []) goes
     ∙ events_more P (start_of P) c (play P (with_last B p k)) none l.events e l.legal fires
     ∙ ap (with_event before p) m.is in
-    let rows : p < length before = omega (arith, length_events P (start_of P) c none l.events l.legal, length-replicate {A = List EventValue} (length P) []) in
+    let rows : p < length before =
+    omega (arith, length_events P (start_of P) c none l.events l.legal, length-replicate {A = List EventValue} (length P) []) in
     let own : get_or w.events p [] ≡ get_or before p [] ++ m.event ∷ [] =
     ap (λ (x : List (List EventValue)). get_or x p []) now ∙ push_same before p m.event rows in
     let there : p < length c.states =

@@ -46,9 +46,9 @@ first_last_apart H p q j k apart =
 first_last : (H : History) (p q j k : ℕ) → with_first (with_last H p k) q j ≡ with_last (with_first H q j) p k
 first_last H p q j k =
     ⊎_elim
-      (λ (same : q ≡ p). subst (λ (x : ℕ). with_first (with_last H p k) x j ≡ with_last (with_first H x j) p k) (sym same)
-        (⊎_elim (first_last_within H p j k) (first_last_past H p j k) (within_or_past (length H) p)))
-      (first_last_apart H p q j k) (cases_eq q p)
+    (λ (same : q ≡ p). subst (λ (x : ℕ). with_first (with_last H p k) x j ≡ with_last (with_first H x j) p k) (sym same)
+    (⊎_elim (first_last_within H p j k) (first_last_past H p j k) (within_or_past (length H) p)))
+    (first_last_apart H p q j k) (cases_eq q p)
 
 pub choices_more : (n : ℕ) (E : List Event) (e : Event) → choices_of n (E ++ e ∷ []) ≡ with_last (choices_of n E) e.process e.choice
 choices_more n [] e =
@@ -118,7 +118,8 @@ opens_state P = record {
   few = λ p. let none : length (line_of (opening_state P) p) ≡ 0 = ap (λ (l : List ℕ). length l) (none_in_replicate (length P) p) in
       omega (arith, none);
   commands = λ p n k at.
-      let none : slice_get (line_of (opening_state P) p) n ≡ slice_get [] n = ap (λ (l : List ℕ). slice_get l n) (none_in_replicate (length P) p) in cc;
+      let none : slice_get (line_of (opening_state P) p) n ≡ slice_get [] n =
+      ap (λ (l : List ℕ). slice_get l n) (none_in_replicate (length P) p) in cc;
 }
 
 pub opened : (P : Program) (w : Scene) → w.state ≡ opening_state P → w.standing ≡ start_of P → w.starts ≡ (start_of P).states

@@ -24,14 +24,15 @@ use Rattle.causal_world.proofs.Moves.{guard_true, completed, effect_sent}
 abbrev state_after : LocalState → Action → List (ℕ × ℤ) → LocalState
 state_after state action sets = counted action (with_set state sets)
 
-local_done : (c : Configuration) (p k : ℕ) (effect : Effect) → after_effect c p Local effect ≡ with_done c p (event_by k Local (state_in c p) None effect)
+local_done : (c : Configuration) (p k : ℕ) (effect : Effect)
+    → after_effect c p Local effect ≡ with_done c p (event_by k Local (state_in c p) None effect)
 local_done c p k effect =
     ap (λ (sets : List (ℕ × ℤ)). record { states = set c.states p (state_after (state_in c p) Local sets); channels = c.channels })
     (sym (new_values_of (state_in c p).values effect.sets))
 
 sent_done : (c : Configuration) (p k target : ℕ) (value : Tree) (sets : List (ℕ × ℤ)) (z : ℤ)
     → after_effect c p (Sends target value) (record { sets = sets; message = Some z })
-      ≡ with_done c p (event_by k (Sends target value) (state_in c p) None (record { sets = sets; message = Some z }))
+    ≡ with_done c p (event_by k (Sends target value) (state_in c p) None (record { sets = sets; message = Some z }))
 sent_done c p k target value sets z =
     ap (λ (known : List (ℕ × ℤ)). record {
       states = set c.states p (state_after (state_in c p) (Sends target value) known);
@@ -42,7 +43,7 @@ sent_done c p k target value sets z =
 -- with the front of its channel taken
 taken_done : (c : Configuration) (p k source variable : ℕ) (m : ℤ) (rest : List ℤ) (effect : Effect) → channel_of c source p ≡ m ∷ rest
     → after_effect (with_channel c source p rest) p (Receives source variable) effect
-      ≡ with_done c p (event_by k (Receives source variable) (state_in c p) (message_for c p (Receives source variable)) effect)
+    ≡ with_done c p (event_by k (Receives source variable) (state_in c p) (message_for c p (Receives source variable)) effect)
 taken_done c p k source variable m rest effect front =
     let state = state_in c p in
     let action : Action = Receives source variable in
@@ -74,7 +75,8 @@ pub effect_done : (command : Command) (action : Action) (c : Configuration) (p k
     → effect_by action command.assignments (state_in c p) (message_for c p action) ≡ Some effect
     → event_if c p k (Some command) ≡ Some (event_by k action (state_in c p) (message_for c p action) effect)
 effect_done command action c p k effect same e =
-    ap (λ (a : Action). option_map (event_by k a (state_in c p) (message_for c p a)) (effect_by a command.assignments (state_in c p) (message_for c p a))) same
+    ap (λ (a : Action). option_map (event_by k a (state_in c p) (message_for c p a))
+    (effect_by a command.assignments (state_in c p) (message_for c p a))) same
     ∙ ap (option_map (event_by k action (state_in c p) (message_for c p action))) e
 
 received : (command : Command) (source variable : ℕ) (c : Configuration) (p k : ℕ) (d : Configuration) (messages : List ℤ)
@@ -143,7 +145,7 @@ received_by : (command : Command) (source variable : ℕ) (c : Configuration) (p
     → effect_by (Receives source variable) command.assignments (state_in c p) (slice_get messages 0) ≡ Some effect
     → TakesFront (Ok (slice_get messages 0)) (slice_get messages 0)
     → receive command c p source messages
-      ≡ Ok (with_done c p (event_by k (Receives source variable) (state_in c p) (slice_get messages 0) effect))
+    ≡ Ok (with_done c p (event_by k (Receives source variable) (state_in c p) (slice_get messages 0) effect))
 received_by command source variable c p k effect [] same front e takes = cc
 received_by command source variable c p k effect (m ∷ rest) same front e takes =
     let action : Action = Receives source variable in
@@ -160,15 +162,15 @@ leads_by : (command : Command) (action : Action) (c : Configuration) (p k : ℕ)
 leads_by command Local c p k effect same e takes = (
   effect_done command Local c p k effect same e,
   ap (complete c p Local) (ap (λ (a : Action). effect_by a command.assignments (state_in c p) None) same ∙ e)
-  ∙ ap (λ (d : Configuration). Ok d) (local_done c p k effect),
+      ∙ ap (λ (d : Configuration). Ok d) (local_done c p k effect),
 )
 leads_by command (Sends target value) c p k effect same e takes =
     let action : Action = Sends target value in
     let sent = effect_sent (number_of (evaluate value (state_in c p))) (assigned command.assignments (state_in c p)) effect e in (
       effect_done command action c p k effect same e,
       ap (complete c p action) (ap (λ (a : Action). effect_by a command.assignments (state_in c p) None) same ∙ e)
-      ∙ ap (λ (d : Configuration). Ok d) (ap (after_effect c p action) sent.2 ∙ sent_done c p k target value sent.0 sent.1
-      ∙ ap (λ (known : Effect). with_done c p (event_by k action (state_in c p) None known)) (sym sent.2)),
+          ∙ ap (λ (d : Configuration). Ok d) (ap (after_effect c p action) sent.2 ∙ sent_done c p k target value sent.0 sent.1
+          ∙ ap (λ (known : Effect). with_done c p (event_by k action (state_in c p) None known)) (sym sent.2)),
     )
 leads_by command (Receives source variable) c p k effect same e takes = (
   effect_done command (Receives source variable) c p k effect same e,

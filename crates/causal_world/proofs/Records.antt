@@ -47,7 +47,8 @@ step P c d events e E fires =
     (with_known events e.process (event_at P c e.process e.choice) m.event m.is)
 
 -- the message that a ready move takes
-message_ready : (c : Configuration) (q : ℕ) (action : Action) (move : Move) → source_of action ≡ move_source move → IsReady move q c.channels
+message_ready : (c : Configuration) (q : ℕ) (action : Action) (move : Move) → source_of action ≡ move_source move
+    → IsReady move q c.channels
     → (m : Option ℤ) × (message_for c q action ≡ m) × ((b : Configuration) → IsReady move q b.channels → message_for b q action ≡ m)
 message_ready c q Local move same ready = (None, refl, λ b r. refl)
 message_ready c q (Sends target value) move same ready = (None, refl, λ b r. refl)

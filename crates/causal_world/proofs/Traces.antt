@@ -13,10 +13,9 @@ use Rattle.causal_world.proofs.Pushes.{push, pushes_swap}
 module _ {A : Type 0} (P : Program) (mark : Configuration → Event → A)
     (from : Configuration → List (List A) → List Event → List (List A))
     (step : (c d : Configuration) (lists : List (List A)) (e : Event) (E : List Event) → fire P c e.process e.choice ≡ Ok d
-      → from c lists (e ∷ E) ≡ from d (push lists e.process (mark c e)) E)
+    → from c lists (e ∷ E) ≡ from d (push lists e.process (mark c e)) E)
     (steady : (c d b : Configuration) (e f : Event) → e.process ≢ f.process → fire P c e.process e.choice ≡ Ok d
-      → fire P c f.process f.choice ≡ Ok b → mark d f ≡ mark c f) where
-
+    → fire P c f.process f.choice ≡ Ok b → mark d f ≡ mark c f) where
   marks_swap : (c : Configuration) (lists : List (List A)) (e f : Event) (E : List Event) (d b g h : Configuration)
       → e.process ≢ f.process → fire P c e.process e.choice ≡ Ok d → fire P d f.process f.choice ≡ Ok g
       → fire P c f.process f.choice ≡ Ok b → fire P b e.process e.choice ≡ Ok h → from c lists (e ∷ f ∷ E) ≡ from c lists (f ∷ e ∷ E)

@@ -32,5 +32,8 @@ returns-clause-appended c =
     (λ (l : List ℕ). take place l ++ k ∷ []) c.in_ok-append_choice.ensures.appended in
     rw (← c.self.view_is)
     (ap (λ (lines : List (List ℕ)). record { lines = lines; places = set s.places.items p (place + 1) }) cut
-    ∙ ap (λ (n : ℕ). record { lines = slice_set (Rattle.std.proofs.Common.map (λ (line : Vec ℕ Global). line.items) s.lines.items) p (take n line ++ k ∷ []); places = slice_set s.places.items p (n + 1) })
+    ∙ ap (λ (n : ℕ). record {
+      lines = slice_set (Rattle.std.proofs.Common.map (λ (line : Vec ℕ Global). line.items) s.lines.items) p (take n line ++ k ∷ []);
+      places = slice_set s.places.items p (n + 1);
+    })
     read)
