@@ -2,8 +2,8 @@
 use Rattle.std.proofs.Common.{◌≡◌, ℕ, zero, suc, ◌-◌, ◌<◌, ◌≤◌, ℤ, List, [], ◌∷◌, ◌++◌, length, get_or, set, take, replicate}
 use Rattle.std.proofs.Common.{Option, Some, None, Ok, refl, sym, ap, ◌∙◌, subst, arith}
 use Rattle.std.specs.Prelude.{slice_get}
-use Rattle.std.proofs.lemmas.List.{set-set, set-get_or, get_or-set_same, length-set, length-replicate, length-map, length-take-le, take-take}
-use Rattle.std.proofs.lemmas.List.{length_push}
+use Rattle.std.proofs.lemmas.List.{set-set, set-get_or, get_or-set_same, length-set, length-replicate, length-map, length-take-le}
+use Rattle.std.proofs.lemmas.List.{take-take, length_push}
 use Rattle.dbg_base.specs.Trees.{Action, Local, Sends, Receives, Command, Program, command_of}
 use Rattle.dbg_base.specs.LocalStates.{LocalState, no_state, start_among}
 use Rattle.dbg_base.specs.Configurations.{Configuration, start_of, state_in}
