@@ -1,5 +1,5 @@
 -- A world goes back by its process's last event, where what that sent is still on its way.
-use Rattle.std.proofs.Common.{◌≡◌, ℕ, zero, suc, ◌-◌, ◌<◌, ◌≤◌, ℤ, List, [], ◌∷◌, ◌++◌, length, get_or, set, take, replicate}
+use Rattle.std.proofs.Common.{◌≡◌, ℕ, suc, ◌-◌, ◌<◌, ◌≤◌, ℤ, List, [], ◌∷◌, ◌++◌, length, get_or, set, take, replicate}
 use Rattle.std.proofs.Common.{Option, Some, None, Ok, refl, sym, ap, ◌∙◌, subst, arith}
 use Rattle.std.specs.Prelude.{slice_get}
 use Rattle.std.proofs.lemmas.List.{set-set, set-get_or, get_or-set_same, length-set, length-replicate, length-map, length-take-le}
@@ -29,7 +29,7 @@ use Rattle.causal_world.proofs.Joining.{joined}
 use Rattle.causal_world.proofs.Playing.{listed}
 use Rattle.causal_world.proofs.Pushes.{push, push_same, set_push}
 use Rattle.causal_world.proofs.Histories.{takes}
-use Rattle.causal_world.proofs.Growing.{order_both, one_event, order_more}
+use Rattle.causal_world.proofs.Growing.{order_both, one_event, order_more, front_within}
 use Rattle.causal_world.proofs.Fronts.{last_fires}
 use Rattle.causal_world.proofs.Ends.{IsWaiting}
 use Rattle.causal_world.proofs.Undone.{undone}
@@ -135,16 +135,11 @@ pub order_is : (n : ℕ) (H : History) (E : List Event) → length H ≡ n → I
 order_is n H [] size empty = ap (λ (m : ℕ). replicate m []) (sym size) ∙ empty_is H empty
 order_is n H (e ∷ E) size order =
     let p = e.process in
-    let there : p < length H = within H p e.choice order.0 order.1 in
+    let there : p < length H = front_within H p e.choice order.0 order.1 in
     ap (λ (X : History). set X p (e.choice ∷ get_or X p [])) (order_is n (set H p order.0) E (length-set H p order.0 ∙ size) order.2)
     ∙ set-set H p order.0 (e.choice ∷ get_or (set H p order.0) p [])
     ∙ ap (λ (l : List ℕ). set H p (e.choice ∷ l)) (get_or-set_same H p order.0 [] there)
     ∙ ap (set H p) (sym order.1) ∙ set-get_or H p []
-  where
-    within : (H : History) (p k : ℕ) (rest : List ℕ) → get_or H p [] ≡ k ∷ rest → p < length H
-    within [] p k rest e = cc
-    within (choices ∷ H) zero k rest e = omega arith
-    within (choices ∷ H) (suc p) k rest e = let t : p < length H = within H p k rest e in omega arith
 
 -- The history without the last event of a process is that of the state behind an undo.
 pub history_without : (P : Program) (M : ModelState) (p : ℕ) → IsStateOf P M → p < length P

@@ -11,7 +11,7 @@ use Rattle.dbg_base.specs.LocalStates.{start_among}
 use Rattle.dbg_base.specs.Configurations.{Configuration, start_of, state_in, channel_of}
 use Rattle.dbg_base.specs.Firing.{fire, Effect, effect_of, effect_by, assigned}
 use Rattle.dbg_base.specs.Histories.{History, IsPossible, play}
-use Rattle.dbg_base.specs.Orders.{Event, order_from, with_first, with_last, choices_of, target_in}
+use Rattle.dbg_base.specs.Orders.{Event, order_from, with_first, with_last, choices_of, target_of, target_in}
 use Rattle.dbg_base.specs.Reversal.{MayUndo}
 use Rattle.dbg_base.specs.ModelStates.{line_of, place_at, history_of, choice_before, last_choice, after_undo}
 use Rattle.dbg_base.specs.Acts.{IsNeeded, last_target}
@@ -150,13 +150,13 @@ target_sent (Took source message count) = None
 target_by : (k : ℕ) (command : Command) (action : Action) (c : Configuration) (p : ℕ) (effect : Effect) → command.action ≡ action
     → effect_by action command.assignments (state_in c p) (message_for c p action) ≡ Some effect
     → target_sent (exchange_for (state_in c p) action effect.message (message_for c p action)) ≡ target_in (Some command)
-target_by k command Local c p effect same is = ap (λ (a : Action). Rattle.dbg_base.specs.Orders.target_of a) (sym same)
+target_by k command Local c p effect same is = ap (λ (a : Action). target_of a) (sym same)
 target_by k command (Sends target value) c p effect same is =
     let sent = effect_sent (number_of (evaluate value (state_in c p))) (assigned command.assignments (state_in c p)) effect is in
     ap (λ (e : Effect). target_sent (exchange_for (state_in c p) (Sends target value) e.message None)) sent.2
-    ∙ ap (λ (a : Action). Rattle.dbg_base.specs.Orders.target_of a) (sym same)
+    ∙ ap (λ (a : Action). target_of a) (sym same)
 target_by k command (Receives source variable) c p effect same is =
-    taken_target (message_for c p (Receives source variable)) ∙ ap (λ (a : Action). Rattle.dbg_base.specs.Orders.target_of a) (sym same)
+    taken_target (message_for c p (Receives source variable)) ∙ ap (λ (a : Action). target_of a) (sym same)
   where
     taken_target : (taken : Option ℤ)
         → target_sent (exchange_for (state_in c p) (Receives source variable) effect.message taken) ≡ None

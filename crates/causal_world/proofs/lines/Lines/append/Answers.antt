@@ -1,4 +1,4 @@
-use Rattle.std.proofs.Common.{◌≡◌, ℕ, ◌+◌, ◌<◌, List, [], ◌∷◌, ◌++◌, length, take, get_or, set, Vec, sym, ap, ◌∙◌}
+use Rattle.std.proofs.Common.{◌≡◌, ℕ, ◌+◌, ◌<◌, List, [], ◌∷◌, ◌++◌, length, take, get_or, set, map, Vec, sym, ap, ◌∙◌}
 use Rattle.std.specs.Prelude.{slice_set}
 use Rattle.std.specs.declared.alloc.Global.{Global}
 use Rattle.std.proofs.lemmas.List.{get_or_read, length-map}
@@ -25,7 +25,7 @@ returns-clause-appended c =
     let lt : p < length s.lines.items = simp length-map at (rw (← c.self.view_is) at c.requires.line) in
     let within : p < length s.places.items = rw (← c.self.view_is) at c.requires.place in
     let read : place ≡ get_or s.places.items p 0 = get_or_read s.places.items p place within c.index-place.ensures 0 in
-    let line : List ℕ = get_or (Rattle.std.proofs.Common.map (λ (line : Vec ℕ Global). line.items) s.lines.items) p [] in
+    let line : List ℕ = get_or (map (λ (line : Vec ℕ Global). line.items) s.lines.items) p [] in
     let cut =
     changed_at (λ (line : Vec ℕ Global). line.items) s.lines.items p c.index_mut.result.now
     (sym c.index_mut.ensures.value) lt c.append_choice.new.line []
@@ -33,7 +33,7 @@ returns-clause-appended c =
     rw (← c.self.view_is)
     (ap (λ (lines : List (List ℕ)). record { lines = lines; places = set s.places.items p (place + 1) }) cut
     ∙ ap (λ (n : ℕ). record {
-      lines = slice_set (Rattle.std.proofs.Common.map (λ (line : Vec ℕ Global). line.items) s.lines.items) p (take n line ++ k ∷ []);
+      lines = slice_set (map (λ (line : Vec ℕ Global). line.items) s.lines.items) p (take n line ++ k ∷ []);
       places = slice_set s.places.items p (n + 1);
     })
     read)
