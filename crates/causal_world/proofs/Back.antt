@@ -1,14 +1,13 @@
 -- A world goes back by its process's last event, where what that sent is still on its way.
-use Rattle.std.proofs.Common.{◌≡◌, ◌≢◌, ℕ, zero, suc, ◌+◌, ◌-◌, ◌<◌, ◌≤◌, ℤ, List, [], ◌∷◌, ◌++◌, length, get_or, set, take, drop, replicate}
+use Rattle.std.proofs.Common.{◌≡◌, ℕ, suc, ◌-◌, ◌<◌, ◌≤◌, ℤ, List, [], ◌∷◌, ◌++◌, length, get_or, set, take, replicate}
 use Rattle.std.proofs.Common.{Option, Some, None, Ok, refl, sym, ap, ◌∙◌, subst, arith}
 use Rattle.std.specs.Prelude.{slice_get}
-use Rattle.std.specs.Option.{option_map}
-use Rattle.std.proofs.lemmas.List.{set-set, set-get_or, get_or-set_same, length-set, length-replicate, length-map, length-take-le, take-take, length_push}
-use Rattle.std.proofs.lemmas.List.{get_or_push}
+use Rattle.std.proofs.lemmas.List.{set-set, set-get_or, get_or-set_same, length-set, length-replicate, length-map, length-take-le}
+use Rattle.std.proofs.lemmas.List.{take-take, length_push}
 use Rattle.dbg_base.specs.Trees.{Action, Local, Sends, Receives, Command, Program, command_of}
 use Rattle.dbg_base.specs.LocalStates.{LocalState, no_state, start_among}
-use Rattle.dbg_base.specs.Configurations.{Configuration, start_of, state_in, channel_of}
-use Rattle.dbg_base.specs.Firing.{fire, Effect, effect_of}
+use Rattle.dbg_base.specs.Configurations.{Configuration, start_of, state_in}
+use Rattle.dbg_base.specs.Firing.{fire, effect_of}
 use Rattle.dbg_base.specs.Histories.{History, IsPossible, play}
 use Rattle.dbg_base.specs.Orders.{Event, order_from, order, with_last, choices_of}
 use Rattle.dbg_base.specs.Reversal.{without_back, without_last, MayUndo}
@@ -22,7 +21,7 @@ use Rattle.event_rows.specs.Exchanges.{IsNextCount}
 use Rattle.event_rows.specs.Events.{after_event, before_event, Fits}
 use Rattle.event_rows.proofs.Undone.{has_old_values}
 use Rattle.event_rows.proofs.Undone as events
-use Rattle.causal_world.specs.Scenes.{Scene, message_for, exchange_for, event_by, event_if, event_at, with_event, events_from, events_of}
+use Rattle.causal_world.specs.Scenes.{Scene, message_for, exchange_for, event_if, event_at, with_event, events_from, events_of}
 use Rattle.causal_world.specs.Scenes.{IsWorldOf, channels_after, channels_before, with_done, with_undone, without_event, unmade}
 use Rattle.causal_world.proofs.Moves.{fires}
 use Rattle.causal_world.proofs.Bubbling.{IsEmpty, IsOrderOf, first_step}
@@ -30,7 +29,7 @@ use Rattle.causal_world.proofs.Joining.{joined}
 use Rattle.causal_world.proofs.Playing.{listed}
 use Rattle.causal_world.proofs.Pushes.{push, push_same, set_push}
 use Rattle.causal_world.proofs.Histories.{takes}
-use Rattle.causal_world.proofs.Growing.{order_both, one_event, order_more}
+use Rattle.causal_world.proofs.Growing.{order_both, one_event, order_more, front_within}
 use Rattle.causal_world.proofs.Fronts.{last_fires}
 use Rattle.causal_world.proofs.Ends.{IsWaiting}
 use Rattle.causal_world.proofs.Undone.{undone}
@@ -136,16 +135,11 @@ pub order_is : (n : ℕ) (H : History) (E : List Event) → length H ≡ n → I
 order_is n H [] size empty = ap (λ (m : ℕ). replicate m []) (sym size) ∙ empty_is H empty
 order_is n H (e ∷ E) size order =
     let p = e.process in
-    let there : p < length H = within H p e.choice order.0 order.1 in
+    let there : p < length H = front_within H p e.choice order.0 order.1 in
     ap (λ (X : History). set X p (e.choice ∷ get_or X p [])) (order_is n (set H p order.0) E (length-set H p order.0 ∙ size) order.2)
     ∙ set-set H p order.0 (e.choice ∷ get_or (set H p order.0) p [])
     ∙ ap (λ (l : List ℕ). set H p (e.choice ∷ l)) (get_or-set_same H p order.0 [] there)
     ∙ ap (set H p) (sym order.1) ∙ set-get_or H p []
-  where
-    within : (H : History) (p k : ℕ) (rest : List ℕ) → get_or H p [] ≡ k ∷ rest → p < length H
-    within [] p k rest e = cc
-    within (choices ∷ H) zero k rest e = omega arith
-    within (choices ∷ H) (suc p) k rest e = let t : p < length H = within H p k rest e in omega arith
 
 -- The history without the last event of a process is that of the state behind an undo.
 pub history_without : (P : Program) (M : ModelState) (p : ℕ) → IsStateOf P M → p < length P
@@ -203,7 +197,8 @@ goes_back P w p k of here last waiting =
     of.events ∙ goes_events P (start_of P) none of.fired (l.events ++ e ∷ []) goes
     ∙ events_more P (start_of P) c (play P (with_last B p k)) none l.events e l.legal fires
     ∙ ap (with_event before p) m.is in
-    let rows : p < length before = omega (arith, length_events P (start_of P) c none l.events l.legal, length-replicate {A = List EventValue} (length P) []) in
+    let rows : p < length before =
+    omega (arith, length_events P (start_of P) c none l.events l.legal, length-replicate {A = List EventValue} (length P) []) in
     let own : get_or w.events p [] ≡ get_or before p [] ++ m.event ∷ [] =
     ap (λ (x : List (List EventValue)). get_or x p []) now ∙ push_same before p m.event rows in
     let there : p < length c.states =

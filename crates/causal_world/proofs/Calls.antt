@@ -1,16 +1,15 @@
 -- What the calls of a world need, and what they leave.
-use Rattle.std.proofs.Common.{◌≡◌, ℕ, ◌-◌, ◌<◌, ℤ, List, [], ◌∷◌, ◌++◌, length, set, Option, Some, None, Result, Ok, Err}
+use Rattle.std.proofs.Common.{◌≡◌, ℕ, ◌-◌, ◌<◌, ℤ, List, [], ◌∷◌, ◌++◌, length, Option, Some, Result, Ok, Err}
 use Rattle.std.proofs.Common.{refl, sym, ap, ◌∙◌, subst, arith}
 use Rattle.std.specs.Prelude.{slice_get, OnOk, OnErr}
 use Rattle.std.specs.Option.{option_to_list}
-use Rattle.std.specs.Result.{result_ok}
 use Rattle.dbg_base.specs.declared.limits.TheConstants.{EVENTS}
 use Rattle.dbg_base.specs.Trees.{Program}
 use Rattle.dbg_base.specs.LocalStates.{LocalState}
-use Rattle.dbg_base.specs.ModelStates.{ModelState, line_of, place_at, after_choice, after_redo, after_undo}
+use Rattle.dbg_base.specs.ModelStates.{ModelState, line_of, place_at, after_choice, after_redo}
 use Rattle.event_rows.specs.declared.exchange.Exchange.{Exchange}
 use Rattle.event_rows.specs.EventValues.{EventValue}
-use Rattle.causal_world.specs.Scenes.{Scene, scene, IsWorldOf, made, unmade, with_done, with_undone, with_event, without_event}
+use Rattle.causal_world.specs.Scenes.{Scene, scene, IsWorldOf, made, unmade, with_done}
 use Rattle.causal_world.specs.Worlds.{IsSomeWorld, Makes, CanMake, UndoableBy, last_event}
 use Rattle.causal_world.proofs.LineStates.{history_choice, history_redo, state_choice, state_redo}
 use Rattle.causal_world.proofs.Forth.{goes_on}

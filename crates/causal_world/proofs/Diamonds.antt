@@ -6,8 +6,8 @@ use Rattle.dbg_base.specs.Trees.{Program, command_of}
 use Rattle.dbg_base.specs.LocalStates.{LocalState, no_state}
 use Rattle.dbg_base.specs.Configurations.{Configuration, state_in}
 use Rattle.dbg_base.specs.Firing.{fire}
-use Rattle.causal_world.proofs.Grids.{Grid, cell, change, row_within, cell_within, cell-put_other, cell-put_same, put-put, changes_swap}
-use Rattle.causal_world.proofs.Grids.{change_twice}
+use Rattle.causal_world.proofs.Grids.{Grid, cell, change, row_within, cell_within, cell-put_other, cell-put_same, changes_swap}
+use Rattle.causal_world.proofs.Grids.{change_twice, put}
 use Rattle.causal_world.proofs.Moves.{Move, Keeps, Puts, Takes, channels_after, IsReady, after_move, fires}
 
 -- a message that is put behind leaves the front as it is
@@ -43,7 +43,7 @@ put_take : (g : Grid) (s q : ℕ) (v m : ℤ) (rest : List ℤ) → cell g s q �
     ≡ change (change g s q (drop 1)) s q (λ messages. messages ++ v ∷ [])
 put_take g s q v m rest e =
     change_twice g s q m rest (λ messages. messages ++ v ∷ []) (drop 1) e
-    ∙ ap (λ (messages : List ℤ). Rattle.causal_world.proofs.Grids.put g s q messages) (front_and_back (cell g s q) m rest v e)
+    ∙ ap (λ (messages : List ℤ). put g s q messages) (front_and_back (cell g s q) m rest v e)
     ∙ sym (change_twice g s q m rest (drop 1) (λ messages. messages ++ v ∷ []) e)
   where
     front_and_back : (messages : List ℤ) (m : ℤ) (rest : List ℤ) (v : ℤ) → messages ≡ m ∷ rest
@@ -82,6 +82,11 @@ pub other_state : (move : Move) (state : LocalState) (c d : Configuration) (p q 
 other_state move state c d p q apart leads =
     ap (λ (x : Configuration). state_in x q) leads
     ∙ get_or-set_other c.states p q state no_state (λ (same : q ≡ p). apart (sym same))
+
+pub kept_state : (P : Program) (c d : Configuration) (p k q : ℕ) → p ≢ q → fire P c p k ≡ Ok d → state_in d q ≡ state_in c q
+kept_state P c d p k q apart fire_is =
+    let f = fires (command_of P p k) c p d fire_is in
+    other_state f.move f.state c d p q apart f.leads
 
 moves_meet : (a b : Move) (s t : LocalState) (p q : ℕ) (c : Configuration) → p ≢ q → IsReady a p c.channels → IsReady b q c.channels
     → after_move b q t (after_move a p s c) ≡ after_move a p s (after_move b q t c)

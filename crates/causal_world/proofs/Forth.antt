@@ -1,18 +1,19 @@
 -- A world opens, and goes on by one event.
-use Rattle.std.proofs.Common.{◌≡◌, ◌≢◌, ℕ, zero, suc, ◌+◌, ◌<◌, ◌≤◌, ◌⊎◌, List, [], ◌∷◌, ◌++◌, length, get_or, set, map, replicate, Some, Ok}
+use Rattle.std.proofs.Common.{◌≡◌, ◌≢◌, ℕ, zero, suc, ◌<◌, ◌≤◌, List, [], ◌∷◌, ◌++◌, length, get_or, set, replicate, Some, Ok}
 use Rattle.std.proofs.Common.{refl, sym, ap, ◌∙◌, subst, ⊎_elim, arith}
 use Rattle.std.specs.Prelude.{slice_get}
 use Rattle.std.proofs.lemmas.Bool.{cases_eq}
-use Rattle.std.proofs.lemmas.List.{set_comm, set-set, set_past, get_or-set_same, get_or-set_other, length-set, length-replicate, get_or_past}
-use Rattle.std.proofs.lemmas.List.{get_or-replicate}
-use Rattle.dbg_base.specs.Trees.{Program, process_of}
+use Rattle.std.proofs.lemmas.List.{set_comm, set-set, set_past, get_or-set_same, get_or-set_other, length-replicate}
+use Rattle.dbg_base.specs.Trees.{Program}
 use Rattle.dbg_base.specs.Configurations.{Configuration, start_of}
 use Rattle.dbg_base.specs.Firing.{fire}
 use Rattle.dbg_base.specs.Histories.{History}
 use Rattle.dbg_base.specs.Orders.{Event, order_from, order, with_first, with_last, choices_of}
-use Rattle.dbg_base.specs.ModelStates.{ModelState, opening_state, line_of, place_at, cut_lines, history_of, IsStateOf}
+use Rattle.dbg_base.specs.ModelStates.{ModelState, opening_state, line_of, cut_lines, history_of, IsStateOf}
 use Rattle.event_rows.specs.EventValues.{EventValue}
 use Rattle.causal_world.specs.Scenes.{Scene, event_at, with_event, events_from, events_of, IsWorldOf, with_done, made}
+use Rattle.causal_world.proofs.Grids.{within_or_past}
+use Rattle.causal_world.proofs.Pushes.{none_in_replicate}
 use Rattle.causal_world.proofs.Bubbling.{IsOrderOf, first_step}
 use Rattle.causal_world.proofs.Playing.{possible}
 use Rattle.causal_world.proofs.Histories.{takes}
@@ -20,11 +21,6 @@ use Rattle.causal_world.proofs.Growing.{order_both, one_event}
 use Rattle.causal_world.proofs.Records.{events_step}
 
 -- One event more at the end of a list.
-
-pub no_choices : (n p : ℕ) → ◌≡◌ {A = List ℕ} (get_or (replicate n []) p []) []
-no_choices zero p = refl
-no_choices (suc n) zero = refl
-no_choices (suc n) (suc p) = no_choices n p
 
 first_last_within : (H : History) (p j k : ℕ) → p < length H → with_first (with_last H p k) p j ≡ with_last (with_first H p j) p k
 first_last_within H p j k within =
@@ -47,20 +43,17 @@ first_last_apart H p q j k apart =
     ∙ set_comm H p q (get_or H p [] ++ k ∷ []) (j ∷ get_or H q []) back
     ∙ ap (λ (x : List ℕ). set (with_first H q j) p (x ++ k ∷ [])) (sym (get_or-set_other H q p (j ∷ get_or H q []) [] back))
 
-within_or_past : (n p : ℕ) → (p < n) ⊎ (n ≤ p)
-within_or_past n p = grind arith
-
 first_last : (H : History) (p q j k : ℕ) → with_first (with_last H p k) q j ≡ with_last (with_first H q j) p k
 first_last H p q j k =
     ⊎_elim
-      (λ (same : q ≡ p). subst (λ (x : ℕ). with_first (with_last H p k) x j ≡ with_last (with_first H x j) p k) (sym same)
-        (⊎_elim (first_last_within H p j k) (first_last_past H p j k) (within_or_past (length H) p)))
-      (first_last_apart H p q j k) (cases_eq q p)
+    (λ (same : q ≡ p). subst (λ (x : ℕ). with_first (with_last H p k) x j ≡ with_last (with_first H x j) p k) (sym same)
+    (⊎_elim (first_last_within H p j k) (first_last_past H p j k) (within_or_past (length H) p)))
+    (first_last_apart H p q j k) (cases_eq q p)
 
 pub choices_more : (n : ℕ) (E : List Event) (e : Event) → choices_of n (E ++ e ∷ []) ≡ with_last (choices_of n E) e.process e.choice
 choices_more n [] e =
-    ap (λ (l : List ℕ). set (replicate n []) e.process (e.choice ∷ l)) (no_choices n e.process)
-    ∙ ap (λ (l : List ℕ). set (replicate n []) e.process (l ++ e.choice ∷ [])) (sym (no_choices n e.process))
+    ap (λ (l : List ℕ). set (replicate n []) e.process (e.choice ∷ l)) (none_in_replicate n e.process)
+    ∙ ap (λ (l : List ℕ). set (replicate n []) e.process (l ++ e.choice ∷ [])) (sym (none_in_replicate n e.process))
 choices_more n (f ∷ E) e =
     ap (λ (H : History). with_first H f.process f.choice) (choices_more n E e)
     ∙ first_last (choices_of n E) e.process f.process f.choice e.choice
@@ -122,10 +115,11 @@ opens_state P = record {
   lines = length-replicate (length P) [];
   places = length-replicate (length P) 0;
   within = λ p. let none = no_places (length P) p in omega (arith, none);
-  few = λ p. let none : length (line_of (opening_state P) p) ≡ 0 = ap (λ (l : List ℕ). length l) (no_choices (length P) p) in
+  few = λ p. let none : length (line_of (opening_state P) p) ≡ 0 = ap (λ (l : List ℕ). length l) (none_in_replicate (length P) p) in
       omega (arith, none);
   commands = λ p n k at.
-      let none : slice_get (line_of (opening_state P) p) n ≡ slice_get [] n = ap (λ (l : List ℕ). slice_get l n) (no_choices (length P) p) in cc;
+      let none : slice_get (line_of (opening_state P) p) n ≡ slice_get [] n =
+      ap (λ (l : List ℕ). slice_get l n) (none_in_replicate (length P) p) in cc;
 }
 
 pub opened : (P : Program) (w : Scene) → w.state ≡ opening_state P → w.standing ≡ start_of P → w.starts ≡ (start_of P).states

@@ -1,5 +1,5 @@
 -- A legal list of the front of a history can be continued to its end.
-use Rattle.std.proofs.Common.{◌≡◌, ◌≢◌, ℕ, zero, suc, ◌<◌, List, [], ◌∷◌, ◌++◌, length, get_or, set, replicate, Ok, refl, sym, ap, ◌∙◌}
+use Rattle.std.proofs.Common.{◌≡◌, ◌≢◌, ℕ, ◌<◌, List, [], ◌∷◌, ◌++◌, length, get_or, set, replicate, Ok, sym, ap, ◌∙◌}
 use Rattle.std.proofs.Common.{subst, ⊎_elim, append-nil}
 use Rattle.std.proofs.lemmas.Bool.{cases_eq}
 use Rattle.std.proofs.lemmas.List.{get_or-set_same, get_or-set_other, length-set, length-replicate, ext_get_or}
@@ -10,7 +10,7 @@ use Rattle.dbg_base.specs.Histories.{History, IsPossible, play}
 use Rattle.dbg_base.specs.Orders.{Event, order_from, with_last}
 use Rattle.causal_world.proofs.Bubbling.{IsOrderOf, none_left, first_step, bubble}
 use Rattle.causal_world.proofs.Playing.{listed}
-use Rattle.causal_world.proofs.Pushes.{push_same, push_other, length-push}
+use Rattle.causal_world.proofs.Pushes.{push_same, push_other, length-push, none_in_replicate}
 use Rattle.causal_world.proofs.Growing.{front_within}
 
 -- the events take H apart, front by front, and R is left
@@ -76,11 +76,6 @@ leaves H front rest (f ∷ F) takes s =
 -- one choice alone
 abbrev no_choices : ℕ → History
 no_choices n = replicate n []
-
-none_in_replicate : (n q : ℕ) → get_or (no_choices n) q [] ≡ []
-none_in_replicate zero q = refl
-none_in_replicate (suc n) zero = refl
-none_in_replicate (suc n) (suc q) = none_in_replicate n q
 
 abbrev alone : ℕ → ℕ → ℕ → History
 alone n p k = set (no_choices n) p (k ∷ [])

@@ -13,7 +13,8 @@ use Rattle.dbg_base.specs.Orders.{Event, order_from, order, with_last, states_fr
 use Rattle.causal_world.proofs.Bubbling.{IsEmpty, IsOrderOf, none_left, first_step, legal_behind}
 use Rattle.causal_world.proofs.Playing.{possible, listed}
 use Rattle.causal_world.proofs.Pushes.{push, push_same, push_other, set_push, push_set, push_set_other, length-push}
-use Rattle.causal_world.proofs.States.{states_step, kept_state, same_states}
+use Rattle.causal_world.proofs.Diamonds.{kept_state}
+use Rattle.causal_world.proofs.States.{states_step, same_states}
 use Rattle.causal_world.proofs.Histories.{is_there}
 
 -- one list behind another

@@ -1,40 +1,38 @@
 -- A command that fires makes an event, and leads to where that event leads.
-use Rattle.std.proofs.Common.{◌≡◌, ℕ, ℤ, List, [], ◌∷◌, ◌++◌, map, set, drop, Bool, true, false, Option, Some, None, Result, Ok, Err}
+use Rattle.std.proofs.Common.{◌≡◌, ℕ, ℤ, List, [], ◌∷◌, ◌++◌, set, drop, Option, Some, None, Result, Ok, Err}
 use Rattle.std.proofs.Common.{refl, sym, ap, ◌∙◌, subst}
 use Rattle.std.specs.Prelude.{IfOk}
 use Rattle.std.specs.Prelude.{slice_get}
 use Rattle.std.specs.Option.{option_map}
 use Rattle.dbg_base.specs.declared.refusal.Refusal.{Refusal}
 use Rattle.dbg_base.specs.declared.refusal.Refusal.TheVariants.{Fault, ChannelEmpty}
-use Rattle.dbg_base.specs.Trees.{Tree, Action, Local, Sends, Receives, Command, Program, command_of}
+use Rattle.dbg_base.specs.Trees.{Tree, Action, Local, Sends, Receives, Command}
 use Rattle.dbg_base.specs.Evaluation.{evaluate, number_of}
 use Rattle.dbg_base.specs.LocalStates.{LocalState}
-use Rattle.dbg_base.specs.Configurations.{Configuration, state_in, channel_of, with_channel, with_state}
-use Rattle.dbg_base.specs.Firing.{truth_of, Effect, effect_with, sending, assigned, with_set, effect_by, effect_of, after_effect, complete}
-use Rattle.dbg_base.specs.Firing.{receive, proceed, where_true, fire_command, fire_if, counted}
+use Rattle.dbg_base.specs.Configurations.{Configuration, state_in, channel_of, with_channel}
+use Rattle.dbg_base.specs.Firing.{truth_of, Effect, assigned, with_set, effect_by, effect_of, after_effect, complete}
+use Rattle.dbg_base.specs.Firing.{receive, proceed, fire_if, counted}
 use Rattle.event_rows.specs.EventValues.{EventValue}
-use Rattle.event_rows.specs.Events.{after_event}
 use Rattle.event_rows.specs.Settings.{new_values, settings_of}
 use Rattle.event_rows.proofs.Undone.{new_values_of}
 use Rattle.causal_world.specs.Deciding.{TakesFront, Takes, MakesEvent, DecidesBy, Decides}
-use Rattle.causal_world.specs.Scenes.{message_for, exchange_for, event_by, event_of, event_if, channels_after, with_done}
-
-abbrev Reached : Type 0
-Reached = Result Configuration Refusal
+use Rattle.causal_world.specs.Scenes.{message_for, exchange_for, event_by, event_of, event_if, with_done}
+use Rattle.causal_world.proofs.Moves.{guard_true, completed, effect_sent}
 
 -- What an effect leads to is what its event leads to.
 
 abbrev state_after : LocalState → Action → List (ℕ × ℤ) → LocalState
 state_after state action sets = counted action (with_set state sets)
 
-local_done : (c : Configuration) (p k : ℕ) (effect : Effect) → after_effect c p Local effect ≡ with_done c p (event_by k Local (state_in c p) None effect)
+local_done : (c : Configuration) (p k : ℕ) (effect : Effect)
+    → after_effect c p Local effect ≡ with_done c p (event_by k Local (state_in c p) None effect)
 local_done c p k effect =
     ap (λ (sets : List (ℕ × ℤ)). record { states = set c.states p (state_after (state_in c p) Local sets); channels = c.channels })
     (sym (new_values_of (state_in c p).values effect.sets))
 
 sent_done : (c : Configuration) (p k target : ℕ) (value : Tree) (sets : List (ℕ × ℤ)) (z : ℤ)
     → after_effect c p (Sends target value) (record { sets = sets; message = Some z })
-      ≡ with_done c p (event_by k (Sends target value) (state_in c p) None (record { sets = sets; message = Some z }))
+    ≡ with_done c p (event_by k (Sends target value) (state_in c p) None (record { sets = sets; message = Some z }))
 sent_done c p k target value sets z =
     ap (λ (known : List (ℕ × ℤ)). record {
       states = set c.states p (state_after (state_in c p) (Sends target value) known);
@@ -45,7 +43,7 @@ sent_done c p k target value sets z =
 -- with the front of its channel taken
 taken_done : (c : Configuration) (p k source variable : ℕ) (m : ℤ) (rest : List ℤ) (effect : Effect) → channel_of c source p ≡ m ∷ rest
     → after_effect (with_channel c source p rest) p (Receives source variable) effect
-      ≡ with_done c p (event_by k (Receives source variable) (state_in c p) (message_for c p (Receives source variable)) effect)
+    ≡ with_done c p (event_by k (Receives source variable) (state_in c p) (message_for c p (Receives source variable)) effect)
 taken_done c p k source variable m rest effect front =
     let state = state_in c p in
     let action : Action = Receives source variable in
@@ -66,42 +64,19 @@ taken_done c p k source variable m rest effect front =
     }) (sym front)
     ∙ ap taking (sym front)
 
--- What a command needs in order to fire, part by part.
-
-pub guard_true : (t : Option Bool) (r : Reached) (d : Configuration) → where_true t r ≡ Ok d → (t ≡ Some true) × (r ≡ Ok d)
-guard_true None r d e = cc
-guard_true (Some false) r d e = cc
-guard_true (Some true) r d e = (refl, e)
-
-pub completed : (c : Configuration) (p : ℕ) (action : Action) (o : Option Effect) (d : Configuration) → complete c p action o ≡ Ok d
-    → (effect : Effect) × (o ≡ Some effect) × (d ≡ after_effect c p action effect)
-completed c p action None d e = cc
-completed c p action (Some effect) d e = (effect, refl, cc)
-
 -- Process p makes this event at c, and comes to d.
 pub record Makes (o : Option Command) (c : Configuration) (p k : ℕ) (d : Configuration) : Type 0 where
   pub event : EventValue
   pub is : event_if c p k o ≡ Some event
   pub leads : d ≡ with_done c p event
 
--- the value that an effect of a send sends
-with_message : (z : ℤ) (sets : Option (List (ℕ × ℤ))) (effect : Effect) → effect_with [] (Some z) sets ≡ Some effect
-    → (known : List (ℕ × ℤ)) × (effect ≡ record { sets = known; message = Some z })
-with_message z None effect e = cc
-with_message z (Some sets) effect e = (sets, cc)
-
-pub sent_effect : (o : Option ℤ) (sets : Option (List (ℕ × ℤ))) (effect : Effect)
-    → sending o (λ z. effect_with [] (Some z) sets) ≡ Some effect
-    → (known : List (ℕ × ℤ)) × (z : ℤ) × (effect ≡ record { sets = known; message = Some z })
-sent_effect None sets effect e = cc
-sent_effect (Some z) sets effect e = let w = with_message z sets effect e in (w.0, z, w.1)
-
--- the same behind the guard, where the effect is known
+-- what it does where the effect is known
 pub effect_done : (command : Command) (action : Action) (c : Configuration) (p k : ℕ) (effect : Effect) → command.action ≡ action
     → effect_by action command.assignments (state_in c p) (message_for c p action) ≡ Some effect
     → event_if c p k (Some command) ≡ Some (event_by k action (state_in c p) (message_for c p action) effect)
 effect_done command action c p k effect same e =
-    ap (λ (a : Action). option_map (event_by k a (state_in c p) (message_for c p a)) (effect_by a command.assignments (state_in c p) (message_for c p a))) same
+    ap (λ (a : Action). option_map (event_by k a (state_in c p) (message_for c p a))
+    (effect_by a command.assignments (state_in c p) (message_for c p a))) same
     ∙ ap (option_map (event_by k action (state_in c p) (message_for c p action))) e
 
 received : (command : Command) (source variable : ℕ) (c : Configuration) (p k : ℕ) (d : Configuration) (messages : List ℤ)
@@ -137,7 +112,7 @@ proceeds command (Sends target value) c p k d same e =
     let done = completed c p action (effect_of command (state_in c p) None) d e in
     let known : effect_by action command.assignments (state_in c p) None ≡ Some done.0 =
     ap (λ (a : Action). effect_by a command.assignments (state_in c p) None) (sym same) ∙ done.1 in
-    let sent = sent_effect (number_of (evaluate value (state_in c p))) (assigned command.assignments (state_in c p)) done.0 known in
+    let sent = effect_sent (number_of (evaluate value (state_in c p))) (assigned command.assignments (state_in c p)) done.0 known in
     record {
       event = event_by k action (state_in c p) None done.0;
       is = effect_done command action c p k done.0 same known;
@@ -170,7 +145,7 @@ received_by : (command : Command) (source variable : ℕ) (c : Configuration) (p
     → effect_by (Receives source variable) command.assignments (state_in c p) (slice_get messages 0) ≡ Some effect
     → TakesFront (Ok (slice_get messages 0)) (slice_get messages 0)
     → receive command c p source messages
-      ≡ Ok (with_done c p (event_by k (Receives source variable) (state_in c p) (slice_get messages 0) effect))
+    ≡ Ok (with_done c p (event_by k (Receives source variable) (state_in c p) (slice_get messages 0) effect))
 received_by command source variable c p k effect [] same front e takes = cc
 received_by command source variable c p k effect (m ∷ rest) same front e takes =
     let action : Action = Receives source variable in
@@ -187,15 +162,15 @@ leads_by : (command : Command) (action : Action) (c : Configuration) (p k : ℕ)
 leads_by command Local c p k effect same e takes = (
   effect_done command Local c p k effect same e,
   ap (complete c p Local) (ap (λ (a : Action). effect_by a command.assignments (state_in c p) None) same ∙ e)
-  ∙ ap (λ (d : Configuration). Ok d) (local_done c p k effect),
+      ∙ ap (λ (d : Configuration). Ok d) (local_done c p k effect),
 )
 leads_by command (Sends target value) c p k effect same e takes =
     let action : Action = Sends target value in
-    let sent = sent_effect (number_of (evaluate value (state_in c p))) (assigned command.assignments (state_in c p)) effect e in (
+    let sent = effect_sent (number_of (evaluate value (state_in c p))) (assigned command.assignments (state_in c p)) effect e in (
       effect_done command action c p k effect same e,
       ap (complete c p action) (ap (λ (a : Action). effect_by a command.assignments (state_in c p) None) same ∙ e)
-      ∙ ap (λ (d : Configuration). Ok d) (ap (after_effect c p action) sent.2 ∙ sent_done c p k target value sent.0 sent.1
-      ∙ ap (λ (known : Effect). with_done c p (event_by k action (state_in c p) None known)) (sym sent.2)),
+          ∙ ap (λ (d : Configuration). Ok d) (ap (after_effect c p action) sent.2 ∙ sent_done c p k target value sent.0 sent.1
+          ∙ ap (λ (known : Effect). with_done c p (event_by k action (state_in c p) None known)) (sym sent.2)),
     )
 leads_by command (Receives source variable) c p k effect same e takes = (
   effect_done command (Receives source variable) c p k effect same e,

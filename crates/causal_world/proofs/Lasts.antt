@@ -45,7 +45,7 @@ last_later n P from to p k l next some =
     ∙ ap (λ (m : List ℕ). where_none m from.configuration (last_from n P to p)) some
     ∙ not_last l k from.configuration (last_from n P to p)
 
-some_left : (l : List ℕ) (k : ℕ) → l ++ k ∷ [] ≡ [] → ⊥
+pub some_left : (l : List ℕ) (k : ℕ) → l ++ k ∷ [] ≡ [] → ⊥
 some_left [] k none = cc
 some_left (x ∷ l) k none = cc
 

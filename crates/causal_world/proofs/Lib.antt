@@ -5,6 +5,7 @@ pub mod Bubbling
 pub mod Joining
 pub mod Playing
 pub mod Pushes
+pub mod Traces
 pub mod States
 pub mod Histories
 pub mod Growing
@@ -22,7 +23,6 @@ pub mod Results
 pub mod LineStates
 pub mod Happenings
 pub mod Lowest
-pub mod Traces
 pub mod Records
 pub mod Forth
 pub mod Back

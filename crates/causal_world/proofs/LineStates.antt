@@ -1,10 +1,10 @@
 -- What a change of one line and its place makes of a state, and of its history.
-use Rattle.std.proofs.Common.{◌≡◌, ◌≢◌, ℕ, zero, suc, ◌+◌, ◌-◌, ◌<◌, ◌≤◌, List, [], ◌∷◌, ◌++◌, length, get_or, set, take, Option, Some, None}
+use Rattle.std.proofs.Common.{◌≡◌, ◌≢◌, ℕ, zero, suc, ◌+◌, ◌-◌, ◌<◌, ◌≤◌, List, [], ◌∷◌, ◌++◌, length, get_or, set, take, Some}
 use Rattle.std.proofs.Common.{refl, sym, ap, ◌∙◌, subst, ⊎_elim, arith}
 use Rattle.std.specs.Prelude.{slice_get}
 use Rattle.std.proofs.lemmas.Bool.{cases_eq}
-use Rattle.std.proofs.lemmas.Grind.{common_steps}
-use Rattle.std.proofs.lemmas.List.{get_or-set_same, get_or-set_other, length-set, set-get_or, set-set, take_more, take_at, take_all, length-take-le, length_push}
+use Rattle.std.proofs.lemmas.List.{get_or-set_same, get_or-set_other, length-set, set-get_or, set-set, take_more, take_all, length-take-le}
+use Rattle.std.proofs.lemmas.List.{length_push}
 use Rattle.std.proofs.lemmas.Option.{get_or_from_slice_get, slice_get_within}
 use Rattle.dbg_base.specs.declared.limits.TheConstants.{EVENTS}
 use Rattle.dbg_base.specs.Trees.{Program, process_of}
@@ -24,7 +24,8 @@ none_taken : (n : ℕ) → ◌≡◌ {A = List ℕ} [] (take n [])
 none_taken zero = refl
 none_taken (suc n) = refl
 
-pub cut_at : (lines : List (List ℕ)) (places : List ℕ) (p : ℕ) → get_or (cut_lines lines places) p [] ≡ take (get_or places p 0) (get_or lines p [])
+pub cut_at : (lines : List (List ℕ)) (places : List ℕ) (p : ℕ)
+    → get_or (cut_lines lines places) p [] ≡ take (get_or places p 0) (get_or lines p [])
 cut_at [] [] p = refl
 cut_at [] (n ∷ places) p = none_taken (get_or (n ∷ places) p 0)
 cut_at (line ∷ lines) [] zero = refl
@@ -55,7 +56,8 @@ module _ (P : Program) (M : ModelState) (is : IsStateOf P M) (p : ℕ) (here : p
   pub has_place : p < length M.places
   has_place = omega (arith, is.places)
 
-  pub state_changed : (line : List ℕ) (n : ℕ) → n ≤ length line → length line ≤ EVENTS → AreCommands P p line → IsStateOf P (changed M p line n)
+  pub state_changed : (line : List ℕ) (n : ℕ) → n ≤ length line → length line ≤ EVENTS → AreCommands P p line
+      → IsStateOf P (changed M p line n)
   state_changed line n within few commands =
       let M' = changed M p line n in
       let there : (q : ℕ) → q ≡ p → (line_of M' q ≡ line) × (place_at M' q ≡ n) =
@@ -69,14 +71,14 @@ module _ (P : Program) (M : ModelState) (is : IsStateOf P M) (p : ℕ) (here : p
         lines = length-set M.lines p line ∙ is.lines;
         places = length-set M.places p n ∙ is.places;
         within = λ q. ⊎_elim
-          (λ (same : q ≡ p). let e = there q same in rw (e.0, e.1) within)
-          (λ (apart : q ≢ p). let e = other q apart in rw (e.0, e.1) (is.within q)) (cases_eq q p);
+            (λ (same : q ≡ p). let e = there q same in rw (e.0, e.1) within)
+            (λ (apart : q ≢ p). let e = other q apart in rw (e.0, e.1) (is.within q)) (cases_eq q p);
         few = λ q. ⊎_elim
-          (λ (same : q ≡ p). let e = there q same in rw e.0 few)
-          (λ (apart : q ≢ p). let e = other q apart in rw e.0 (is.few q)) (cases_eq q p);
+            (λ (same : q ≡ p). let e = there q same in rw e.0 few)
+            (λ (apart : q ≢ p). let e = other q apart in rw e.0 (is.few q)) (cases_eq q p);
         commands = λ q m k at. ⊎_elim
-          (λ (same : q ≡ p). rw same (commands m k (ap (λ (l : List ℕ). slice_get l m) (sym (there q same).0) ∙ at)))
-          (λ (apart : q ≢ p). is.commands q m k (ap (λ (l : List ℕ). slice_get l m) (sym (other q apart).0) ∙ at)) (cases_eq q p);
+            (λ (same : q ≡ p). rw same (commands m k (ap (λ (l : List ℕ). slice_get l m) (sym (there q same).0) ∙ at)))
+            (λ (apart : q ≢ p). is.commands q m k (ap (λ (l : List ℕ). slice_get l m) (sym (other q apart).0) ∙ at)) (cases_eq q p);
       }
 
   pub history_changed : (line : List ℕ) (n : ℕ) → history_of (changed M p line n) ≡ set (history_of M) p (take n line)
@@ -104,7 +106,8 @@ module _ (P : Program) (M : ModelState) (is : IsStateOf P M) (p : ℕ) (here : p
   state_choice k command room =
       let line = line_of M p in
       let n = place_at M p in
-      let long : length (take n line ++ k ∷ []) ≡ n + 1 = length_push (take n line) k ∙ ap (λ (m : ℕ). m + 1) (length-take-le n line (is.within p)) in
+      let long : length (take n line ++ k ∷ []) ≡ n + 1 =
+      length_push (take n line) k ∙ ap (λ (m : ℕ). m + 1) (length-take-le n line (is.within p)) in
       state_changed (take n line ++ k ∷ []) (n + 1) (omega (arith, long)) (omega (arith, long))
       (λ m l at. still (take n line) m l k command (λ o. is.commands p m l (take_get line n m l o)) at)
     where

@@ -80,10 +80,10 @@ record Proceeds (command : Command) (action : Action) (c : Configuration) (p : �
   again : (b : Configuration) → state_in b p ≡ state_in c p → IsReady move p b.channels
       → proceed command action b p ≡ Ok (after_move move p state b)
 
-abbrev Reached : Type 0
+abbrev pub Reached : Type 0
 Reached = Result Configuration Refusal
 
-guard_true : (t : Option Bool) (r : Reached) (d : Configuration) → where_true t r ≡ Ok d → (t ≡ Some true) × (r ≡ Ok d)
+pub guard_true : (t : Option Bool) (r : Reached) (d : Configuration) → where_true t r ≡ Ok d → (t ≡ Some true) × (r ≡ Ok d)
 guard_true None r d e = cc
 guard_true (Some false) r d e = cc
 guard_true (Some true) r d e = (refl, e)
@@ -91,7 +91,7 @@ guard_true (Some true) r d e = (refl, e)
 passes : (t : Option Bool) (r : Reached) (d : Configuration) → t ≡ Some true → r ≡ Ok d → where_true t r ≡ Ok d
 passes t r d holds e = ap (λ (o : Option Bool). where_true o r) holds ∙ e
 
-completed : (c : Configuration) (p : ℕ) (action : Action) (o : Option Effect) (d : Configuration) → complete c p action o ≡ Ok d
+pub completed : (c : Configuration) (p : ℕ) (action : Action) (o : Option Effect) (d : Configuration) → complete c p action o ≡ Ok d
     → (effect : Effect) × (o ≡ Some effect) × (d ≡ after_effect c p action effect)
 completed c p action None d e = cc
 completed c p action (Some effect) d e = (effect, refl, cc)
@@ -102,21 +102,24 @@ local_effect : (b : Configuration) (p : ℕ) (effect : Effect) (state : LocalSta
 local_effect b p effect state e = ap (λ (s : LocalState). after_move Keeps p s b) e
 
 -- a command that sends
-message_with : (z : ℤ) (sets : Option (List (ℕ × ℤ))) (effect : Effect) → effect_with [] (Some z) sets ≡ Some effect
-    → effect.message ≡ Some z
-message_with z None effect e = cc
-message_with z (Some sets) effect e = cc
+with_message : (z : ℤ) (sets : Option (List (ℕ × ℤ))) (effect : Effect) → effect_with [] (Some z) sets ≡ Some effect
+    → (known : List (ℕ × ℤ)) × (effect ≡ record { sets = known; message = Some z })
+with_message z None effect e = cc
+with_message z (Some sets) effect e = (sets, cc)
 
-message_sent : (o : Option ℤ) (sets : Option (List (ℕ × ℤ))) (effect : Effect)
-    → sending o (λ z. effect_with [] (Some z) sets) ≡ Some effect → (z : ℤ) × (effect.message ≡ Some z)
-message_sent None sets effect e = cc
-message_sent (Some z) sets effect e = (z, message_with z sets effect e)
+-- what its effect sends
+pub effect_sent : (o : Option ℤ) (sets : Option (List (ℕ × ℤ))) (effect : Effect)
+    → sending o (λ z. effect_with [] (Some z) sets) ≡ Some effect
+    → (known : List (ℕ × ℤ)) × (z : ℤ) × (effect ≡ record { sets = known; message = Some z })
+effect_sent None sets effect e = cc
+effect_sent (Some z) sets effect e = let w = with_message z sets effect e in (w.0, z, w.1)
 
 sent_by : (command : Command) (target : ℕ) (value : Tree) (state : LocalState) (effect : Effect) → command.action ≡ Sends target value
     → effect_of command state None ≡ Some effect → (z : ℤ) × (effect.message ≡ Some z)
 sent_by command target value state effect same e =
-    message_sent (number_of (evaluate value state)) (assigned command.assignments state) effect
-    (ap (λ (action : Action). effect_by action command.assignments state None) (sym same) ∙ e)
+    let known = effect_sent (number_of (evaluate value state)) (assigned command.assignments state) effect
+    (ap (λ (action : Action). effect_by action command.assignments state None) (sym same) ∙ e) in
+    (known.1, ap (λ (x : Effect). x.message) known.2)
 
 sent_effect : (b : Configuration) (p target : ℕ) (value : Tree) (effect : Effect) (z : ℤ) (state : LocalState) → effect.message ≡ Some z
     → counted (Sends target value) (with_set (state_in b p) effect.sets) ≡ state

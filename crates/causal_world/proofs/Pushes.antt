@@ -1,9 +1,15 @@
 -- Lists of lists, one of which gets one thing more at its end.
-use Rattle.std.proofs.Common.{◌≡◌, ◌≢◌, ℕ, ◌<◌, List, [], ◌∷◌, ◌++◌, length, get_or, set, sym, ap, ◌∙◌}
+use Rattle.std.proofs.Common.{◌≡◌, ◌≢◌, ℕ, zero, suc, ◌<◌, List, [], ◌∷◌, ◌++◌, length, get_or, set, replicate, refl, sym, ap, ◌∙◌}
 use Rattle.std.proofs.lemmas.List.{set_comm, set-set, get_or-set_same, get_or-set_other, length-set}
 
 abbrev pub push : {A : Type 0} → List (List A) → ℕ → A → List (List A)
 push lists p x = set lists p (get_or lists p [] ++ x ∷ [])
+
+-- where each list is empty
+pub none_in_replicate : {A : Type 0} (n p : ℕ) → ◌≡◌ {A = List A} (get_or (replicate n []) p []) []
+none_in_replicate zero p = refl
+none_in_replicate (suc n) zero = refl
+none_in_replicate (suc n) (suc p) = none_in_replicate n p
 
 pub length-push : {A : Type 0} (lists : List (List A)) (p : ℕ) (x : A) → length (push lists p x) ≡ length lists
 length-push lists p x = length-set lists p (get_or lists p [] ++ x ∷ [])

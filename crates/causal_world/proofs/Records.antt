@@ -1,22 +1,19 @@
 -- What each process has done is the same in each order.
-use Rattle.std.proofs.Common.{◌≡◌, ◌≢◌, ℕ, ℤ, List, [], ◌∷◌, ◌++◌, set, Option, Some, None, Result, Ok, Err, refl, sym, ap, ◌∙◌, subst}
+use Rattle.std.proofs.Common.{◌≡◌, ◌≢◌, ℕ, ℤ, List, [], ◌∷◌, Option, Some, None, Result, Ok, refl, sym, ap, ◌∙◌, subst}
 use Rattle.std.specs.Prelude.{slice_get}
-use Rattle.std.specs.Option.{option_map}
 use Rattle.dbg_base.specs.declared.refusal.Refusal.{Refusal}
 use Rattle.dbg_base.specs.Trees.{Action, Local, Sends, Receives, Command, Program, command_of}
 use Rattle.dbg_base.specs.Configurations.{Configuration, state_in, channel_of}
-use Rattle.dbg_base.specs.Firing.{fire, fire_if, Effect, effect_of}
+use Rattle.dbg_base.specs.Firing.{fire}
 use Rattle.dbg_base.specs.LocalStates.{LocalState}
-use Rattle.dbg_base.specs.Orders.{Event, order_from, GoesOver, source_of, source_in}
+use Rattle.dbg_base.specs.Orders.{Event, GoesOver, source_of, source_in}
 use Rattle.event_rows.specs.declared.exchange.Exchange.TheVariants.{Nothing}
 use Rattle.event_rows.specs.EventValues.{EventValue}
-use Rattle.causal_world.specs.Scenes.{message_for, event_by, event_of, event_if, event_at, with_event, events_then, events_from}
-use Rattle.causal_world.proofs.Moves.{Move, Keeps, Puts, Takes, channels_after, IsReady, move_source, fires}
-use Rattle.causal_world.proofs.Diamonds.{stays_ready, other_state}
+use Rattle.causal_world.specs.Scenes.{message_for, event_of, event_if, event_at, with_event, events_then, events_from}
+use Rattle.causal_world.proofs.Moves.{Move, Keeps, Puts, Takes, IsReady, move_source, fires}
+use Rattle.causal_world.proofs.Diamonds.{stays_ready, kept_state}
 use Rattle.causal_world.proofs.Happenings.{makes}
-use Rattle.causal_world.proofs.Bubbling.{first_step}
 use Rattle.causal_world.proofs.Pushes.{push}
-use Rattle.causal_world.proofs.States.{kept_state}
 use Rattle.causal_world.proofs.Traces.{goes_marked}
 
 no_event : EventValue
@@ -50,7 +47,8 @@ step P c d events e E fires =
     (with_known events e.process (event_at P c e.process e.choice) m.event m.is)
 
 -- the message that a ready move takes
-message_ready : (c : Configuration) (q : ℕ) (action : Action) (move : Move) → source_of action ≡ move_source move → IsReady move q c.channels
+message_ready : (c : Configuration) (q : ℕ) (action : Action) (move : Move) → source_of action ≡ move_source move
+    → IsReady move q c.channels
     → (m : Option ℤ) × (message_for c q action ≡ m) × ((b : Configuration) → IsReady move q b.channels → message_for b q action ≡ m)
 message_ready c q Local move same ready = (None, refl, λ b r. refl)
 message_ready c q (Sends target value) move same ready = (None, refl, λ b r. refl)

@@ -1,35 +1,37 @@
 -- What a world of a program has: the sizes of its lists, and what the events of each process end with.
-use Rattle.std.proofs.Common.{◌≡◌, ◌≢◌, ℕ, zero, suc, ◌+◌, ◌-◌, ◌<◌, ◌≤◌, ◌⊎◌, ℤ, List, [], ◌∷◌, ◌++◌, length, get_or, set, take, replicate}
+use Rattle.std.proofs.Common.{◌≡◌, ◌≢◌, ℕ, zero, suc, ◌-◌, ◌<◌, ◌≤◌, ◌⊎◌, ℤ, List, [], ◌∷◌, ◌++◌, length, get_or, take, replicate}
 use Rattle.std.proofs.Common.{Option, Some, None, Ok, refl, sym, ap, ◌∙◌, subst, ⊎_elim, inl, inr, arith}
 use Rattle.std.specs.Prelude.{slice_get}
-use Rattle.std.specs.Option.{option_map}
 use Rattle.std.proofs.lemmas.Bool.{cases_eq}
-use Rattle.std.proofs.lemmas.List.{length-replicate, length-map, length-take-le, length_push, get_or_past, get_or-set_same, get_or-set_other}
-use Rattle.dbg_base.specs.Trees.{Tree, Action, Local, Sends, Receives, Command, Program, command_of}
+use Rattle.std.proofs.lemmas.List.{length-replicate, length-map, length-take-le, length_push, get_or_past, get_or-set_same}
+use Rattle.std.proofs.lemmas.List.{get_or-set_other}
+use Rattle.dbg_base.specs.Trees.{Action, Local, Sends, Receives, Command, Program, command_of}
 use Rattle.dbg_base.specs.Evaluation.{evaluate, number_of}
 use Rattle.dbg_base.specs.LocalStates.{start_among}
 use Rattle.dbg_base.specs.Configurations.{Configuration, start_of, state_in, channel_of}
 use Rattle.dbg_base.specs.Firing.{fire, Effect, effect_of, effect_by, assigned}
 use Rattle.dbg_base.specs.Histories.{History, IsPossible, play}
-use Rattle.dbg_base.specs.Orders.{Event, order_from, with_first, with_last, choices_of, target_in}
-use Rattle.dbg_base.specs.Reversal.{without_last, MayUndo}
-use Rattle.dbg_base.specs.ModelStates.{ModelState, line_of, place_at, history_of, choice_before, last_choice, after_undo}
+use Rattle.dbg_base.specs.Orders.{Event, order_from, with_first, with_last, choices_of, target_of, target_in}
+use Rattle.dbg_base.specs.Reversal.{MayUndo}
+use Rattle.dbg_base.specs.ModelStates.{line_of, place_at, history_of, choice_before, last_choice, after_undo}
 use Rattle.dbg_base.specs.Acts.{IsNeeded, last_target}
 use Rattle.event_rows.specs.declared.exchange.Exchange.{Exchange}
 use Rattle.event_rows.specs.declared.exchange.Exchange.TheVariants.{Nothing, Sent, Took}
 use Rattle.event_rows.specs.EventValues.{EventValue}
-use Rattle.causal_world.specs.Scenes.{Scene, message_for, exchange_for, event_by, event_if, event_at, with_event, events_from, events_of}
+use Rattle.causal_world.specs.Scenes.{Scene, message_for, exchange_for, event_if, event_at, with_event, events_from, events_of}
 use Rattle.causal_world.specs.Scenes.{IsWorldOf, unmade}
 use Rattle.causal_world.specs.Worlds.{last_event, NotReceived, Received}
 use Rattle.causal_world.proofs.Bubbling.{first_step}
-use Rattle.causal_world.proofs.Pushes.{push_same, push_other}
+use Rattle.causal_world.proofs.Grids.{within_or_past}
+use Rattle.causal_world.proofs.Pushes.{push_same, push_other, none_in_replicate}
 use Rattle.causal_world.proofs.Histories.{length-choices_of}
 use Rattle.causal_world.proofs.Squares.{square_play}
 use Rattle.causal_world.proofs.Undone.{message_left}
 use Rattle.causal_world.proofs.LineStates.{events_at, history_undo, length_cut}
-use Rattle.causal_world.proofs.Happenings.{done_by, makes, sent_effect}
+use Rattle.causal_world.proofs.Moves.{effect_sent}
+use Rattle.causal_world.proofs.Happenings.{done_by, makes}
 use Rattle.causal_world.proofs.Records.{events_step}
-use Rattle.causal_world.proofs.Forth.{no_choices}
+use Rattle.causal_world.proofs.Lasts.{some_left}
 use Rattle.causal_world.proofs.Back.{sized, length_events, length_with, history_without, get_last, goes_back}
 
 -- Sizes.
@@ -65,31 +67,31 @@ ends_same : (P : Program) (p k : ℕ) (c : Configuration) (event : EventValue) (
     → event_at P c p k ≡ Some event → MayEnd P p choices (old ++ event ∷ []) new → MayEnd P p (k ∷ choices) old new
 ends_same P p k c event choices old new is m =
     ⊎_elim
-      (λ (none : (choices ≡ []) × (new ≡ old ++ event ∷ [])). inr (record {
-        earlier = [];
-        choice = k;
-        choices_are = ap (λ (l : List ℕ). k ∷ l) none.0;
-        others = old;
-        event = event;
-        events_are = none.1;
-        at_that = c;
-        is = is;
-      }))
-      (λ (some : Ended P p choices new). inr (record {
-        earlier = k ∷ some.earlier;
-        choice = some.choice;
-        choices_are = ap (λ (l : List ℕ). k ∷ l) some.choices_are;
-        others = some.others;
-        event = some.event;
-        events_are = some.events_are;
-        at_that = some.at_that;
-        is = some.is;
-      })) m
+    (λ (none : (choices ≡ []) × (new ≡ old ++ event ∷ [])). inr (record {
+      earlier = [];
+      choice = k;
+      choices_are = ap (λ (l : List ℕ). k ∷ l) none.0;
+      others = old;
+      event = event;
+      events_are = none.1;
+      at_that = c;
+      is = is;
+    }))
+    (λ (some : Ended P p choices new). inr (record {
+      earlier = k ∷ some.earlier;
+      choice = some.choice;
+      choices_are = ap (λ (l : List ℕ). k ∷ l) some.choices_are;
+      others = some.others;
+      event = some.event;
+      events_are = some.events_are;
+      at_that = some.at_that;
+      is = some.is;
+    })) m
 
 pub may_end : (P : Program) (c d : Configuration) (n p : ℕ) (events : List (List EventValue)) (E : List Event) → order_from P c E ≡ Ok d
     → p < n → length events ≡ n
     → MayEnd P p (get_or (choices_of n E) p []) (get_or events p []) (get_or (events_from P c events E) p [])
-may_end P c d n p events [] legal here size = inl (no_choices n p, refl)
+may_end P c d n p events [] legal here size = inl (none_in_replicate n p, refl)
 may_end P c d n p events (e ∷ E) legal here size =
     let step = first_step (fire P c e.process e.choice) (λ x. order_from P x E) d legal in
     let m = makes (command_of P e.process e.choice) c e.process e.choice step.0 step.1 in
@@ -103,34 +105,29 @@ may_end P c d n p events (e ∷ E) legal here size =
     subst (λ (l : List (List EventValue)). MayEnd P p (get_or (with_first H e.process e.choice) p []) (get_or events p []) (get_or l p []))
     (sym (events_step P c step.0 events e E step.1))
     (⊎_elim
-      (λ (same : e.process ≡ p).
-        let own : get_or now p [] ≡ get_or events p [] ++ m.event ∷ [] =
-        ap (λ (l : List (List EventValue)). get_or l p []) (pushed ∙ ap (λ (q : ℕ). with_event events q (Some m.event)) same)
-        ∙ push_same events p m.event inside in
-        let choices : get_or (with_first H e.process e.choice) p [] ≡ e.choice ∷ get_or H p [] =
-        ap (λ (q : ℕ). get_or (with_first H q e.choice) p []) same ∙ get_or-set_same H p (e.choice ∷ get_or H p []) [] within in
-        rw choices (ends_same P p e.choice c m.event (get_or H p []) (get_or events p []) (get_or (events_from P step.0 now E) p [])
-        (ap (λ (q : ℕ). event_at P c q e.choice) (sym same) ∙ m.is)
-        (subst (λ (l : List EventValue). MayEnd P p (get_or H p []) l (get_or (events_from P step.0 now E) p [])) own rest)))
-      (λ (apart : e.process ≢ p).
-        let back : p ≢ e.process = λ x. apart (sym x) in
-        let own : get_or now p [] ≡ get_or events p [] =
-        ap (λ (l : List (List EventValue)). get_or l p []) pushed ∙ push_other events e.process p m.event back in
-        let choices : get_or (with_first H e.process e.choice) p [] ≡ get_or H p [] =
-        get_or-set_other H e.process p (e.choice ∷ get_or H e.process []) [] back in
-        rw choices
-        (subst (λ (l : List EventValue). MayEnd P p (get_or H p []) l (get_or (events_from P step.0 now E) p [])) own rest))
-      (cases_eq e.process p))
-
-no_event : (n p : ℕ) → ◌≡◌ {A = List EventValue} (get_or (replicate n []) p []) []
-no_event zero p = refl
-no_event (suc n) zero = refl
-no_event (suc n) (suc p) = no_event n p
+    (λ (same : e.process ≡ p).
+    let own : get_or now p [] ≡ get_or events p [] ++ m.event ∷ [] =
+    ap (λ (l : List (List EventValue)). get_or l p []) (pushed ∙ ap (λ (q : ℕ). with_event events q (Some m.event)) same)
+    ∙ push_same events p m.event inside in
+    let choices : get_or (with_first H e.process e.choice) p [] ≡ e.choice ∷ get_or H p [] =
+    ap (λ (q : ℕ). get_or (with_first H q e.choice) p []) same ∙ get_or-set_same H p (e.choice ∷ get_or H p []) [] within in
+    rw choices (ends_same P p e.choice c m.event (get_or H p []) (get_or events p []) (get_or (events_from P step.0 now E) p [])
+    (ap (λ (q : ℕ). event_at P c q e.choice) (sym same) ∙ m.is)
+    (subst (λ (l : List EventValue). MayEnd P p (get_or H p []) l (get_or (events_from P step.0 now E) p [])) own rest)))
+    (λ (apart : e.process ≢ p).
+    let back : p ≢ e.process = λ x. apart (sym x) in
+    let own : get_or now p [] ≡ get_or events p [] =
+    ap (λ (l : List (List EventValue)). get_or l p []) pushed ∙ push_other events e.process p m.event back in
+    let choices : get_or (with_first H e.process e.choice) p [] ≡ get_or H p [] =
+    get_or-set_other H e.process p (e.choice ∷ get_or H e.process []) [] back in
+    rw choices
+    (subst (λ (l : List EventValue). MayEnd P p (get_or H p []) l (get_or (events_from P step.0 now E) p [])) own rest))
+    (cases_eq e.process p))
 
 -- the events of a process of a world
 pub ends : (P : Program) (w : Scene) (p : ℕ) → IsWorldOf P w → p < length P
     → ((take (place_at w.state p) (line_of w.state p) ≡ []) × (get_or w.events p [] ≡ []))
-      ⊎ Ended P p (take (place_at w.state p) (line_of w.state p)) (get_or w.events p [])
+    ⊎ Ended P p (take (place_at w.state p) (line_of w.state p)) (get_or w.events p [])
 ends P w p of here =
     let none : List (List EventValue) = replicate (length P) [] in
     let choices : get_or (choices_of (length P) of.fired) p [] ≡ take (place_at w.state p) (line_of w.state p) =
@@ -140,7 +137,7 @@ ends P w p of here =
     subst (λ (l : List EventValue). MayEnd P p (take (place_at w.state p) (line_of w.state p)) [] l) own
     (subst (λ (l : List ℕ). MayEnd P p l [] (get_or (events_of P of.fired) p [])) choices
     (subst (λ (l : List EventValue). MayEnd P p (get_or (choices_of (length P) of.fired) p []) l (get_or (events_of P of.fired) p []))
-    (no_event (length P) p)
+    (none_in_replicate (length P) p)
     (may_end P (start_of P) w.standing (length P) p none of.fired of.leads here (length-replicate {A = List EventValue} (length P) []))))
 
 -- The target of an event is that of its command.
@@ -153,13 +150,13 @@ target_sent (Took source message count) = None
 target_by : (k : ℕ) (command : Command) (action : Action) (c : Configuration) (p : ℕ) (effect : Effect) → command.action ≡ action
     → effect_by action command.assignments (state_in c p) (message_for c p action) ≡ Some effect
     → target_sent (exchange_for (state_in c p) action effect.message (message_for c p action)) ≡ target_in (Some command)
-target_by k command Local c p effect same is = ap (λ (a : Action). Rattle.dbg_base.specs.Orders.target_of a) (sym same)
+target_by k command Local c p effect same is = ap (λ (a : Action). target_of a) (sym same)
 target_by k command (Sends target value) c p effect same is =
-    let sent = sent_effect (number_of (evaluate value (state_in c p))) (assigned command.assignments (state_in c p)) effect is in
+    let sent = effect_sent (number_of (evaluate value (state_in c p))) (assigned command.assignments (state_in c p)) effect is in
     ap (λ (e : Effect). target_sent (exchange_for (state_in c p) (Sends target value) e.message None)) sent.2
-    ∙ ap (λ (a : Action). Rattle.dbg_base.specs.Orders.target_of a) (sym same)
+    ∙ ap (λ (a : Action). target_of a) (sym same)
 target_by k command (Receives source variable) c p effect same is =
-    taken_target (message_for c p (Receives source variable)) ∙ ap (λ (a : Action). Rattle.dbg_base.specs.Orders.target_of a) (sym same)
+    taken_target (message_for c p (Receives source variable)) ∙ ap (λ (a : Action). target_of a) (sym same)
   where
     taken_target : (taken : Option ℤ)
         → target_sent (exchange_for (state_in c p) (Receives source variable) effect.message taken) ≡ None
@@ -190,21 +187,18 @@ last_none (x ∷ y ∷ own) e =
 pub nothing_to_undo : (P : Program) (w : Scene) (p : ℕ) → IsWorldOf P w → last_event w p ≡ None → place_at w.state p ≡ 0
 nothing_to_undo P w p of none =
     ⊎_elim
-      (λ (here : p < length P). ⊎_elim
-        (λ (empty : (take (place_at w.state p) (line_of w.state p) ≡ []) × (get_or w.events p [] ≡ [])).
-          let size : length (take (place_at w.state p) (line_of w.state p)) ≡ 0 = ap (λ (l : List ℕ). length l) empty.0 in
-          omega (arith, length-take-le (place_at w.state p) (line_of w.state p) (of.state.within p)))
-        (λ (ended : Ended P p (take (place_at w.state p) (line_of w.state p)) (get_or w.events p [])).
-          let size : length (get_or w.events p []) ≡ 0 = ap (λ (l : List EventValue). length l) (last_none (get_or w.events p []) none) in
-          let long : length (get_or w.events p []) ≡ length (ended.others ++ ended.event ∷ []) =
-          ap (λ (l : List EventValue). length l) ended.events_are in
-          absurd (omega (arith, length_push ended.others ended.event)))
-        (ends P w p of here))
-      (λ (past : length P ≤ p). get_or_past w.state.places p 0 (omega (arith, of.state.places)))
-      (within_or_past (length P) p)
-  where
-    within_or_past : (n p : ℕ) → (p < n) ⊎ (n ≤ p)
-    within_or_past n p = grind arith
+    (λ (here : p < length P). ⊎_elim
+    (λ (empty : (take (place_at w.state p) (line_of w.state p) ≡ []) × (get_or w.events p [] ≡ [])).
+    let size : length (take (place_at w.state p) (line_of w.state p)) ≡ 0 = ap (λ (l : List ℕ). length l) empty.0 in
+    omega (arith, length-take-le (place_at w.state p) (line_of w.state p) (of.state.within p)))
+    (λ (ended : Ended P p (take (place_at w.state p) (line_of w.state p)) (get_or w.events p [])).
+    let size : length (get_or w.events p []) ≡ 0 = ap (λ (l : List EventValue). length l) (last_none (get_or w.events p []) none) in
+    let long : length (get_or w.events p []) ≡ length (ended.others ++ ended.event ∷ []) =
+    ap (λ (l : List EventValue). length l) ended.events_are in
+    absurd (omega (arith, length_push ended.others ended.event)))
+    (ends P w p of here))
+    (λ (past : length P ≤ p). get_or_past w.state.places p 0 (omega (arith, of.state.places)))
+    (within_or_past (length P) p)
 
 -- the last event, and the choice that made it
 pub record LastMade (P : Program) (w : Scene) (p : ℕ) (event : EventValue) : Type 0 where
@@ -216,17 +210,9 @@ pub record LastMade (P : Program) (w : Scene) (p : ℕ) (event : EventValue) : T
 
 choice_is : (n : ℕ) (line : List ℕ) (l : List ℕ) (k : ℕ) → n ≤ length line → take n line ≡ l ++ k ∷ [] → choice_before n line ≡ Some k
 choice_is zero line l k within e = absurd (some_left l k (sym e))
-  where
-    some_left : (l : List ℕ) (k : ℕ) → l ++ k ∷ [] ≡ [] → ⊥
-    some_left [] k none = cc
-    some_left (x ∷ l) k none = cc
 choice_is (suc n) [] l k within e = absurd (omega arith)
 choice_is (suc zero) (x ∷ line) [] k within e = let same : x ≡ k = cc in ap (λ (j : ℕ). Some j) same
 choice_is (suc zero) (x ∷ line) (y ∷ l) k within e = absurd (some_left l k (let rest : [] ≡ l ++ k ∷ [] = cc in sym rest))
-  where
-    some_left : (l : List ℕ) (k : ℕ) → l ++ k ∷ [] ≡ [] → ⊥
-    some_left [] k none = cc
-    some_left (x ∷ l) k none = cc
 choice_is (suc (suc n)) (x ∷ line) [] k within e =
     absurd (let rest : take (suc n) line ≡ [] = cc in let size : length (take (suc n) line) ≡ 0 = ap (λ (l : List ℕ). length l) rest in
     omega (arith, length-take-le (suc n) line (omega arith)))
@@ -239,20 +225,20 @@ last_made P w p event of was =
     let there : p < length w.events = within w.events p event was in
     let here : p < length P = omega (arith, events_there P w of) in
     ⊎_elim
-      (λ (empty : (take (place_at w.state p) (line_of w.state p) ≡ []) × (get_or w.events p [] ≡ [])).
-        absurd (let none : last_event w p ≡ None = ap (λ (l : List EventValue). slice_get l (length l - 1)) empty.1 in cc))
-      (λ (ended : Ended P p (take (place_at w.state p) (line_of w.state p)) (get_or w.events p [])).
-        let last : last_event w p ≡ Some ended.event =
-        ap (λ (l : List EventValue). slice_get l (length l - 1)) ended.events_are ∙ get_last ended.others ended.event in
-        let same : ended.event ≡ event = cc in
-        record {
-          here = here;
-          choice = ended.choice;
-          was = choice_is (place_at w.state p) (line_of w.state p) ended.earlier ended.choice (of.state.within p) ended.choices_are;
-          at_that = ended.at_that;
-          is = ended.is ∙ ap (λ (e : EventValue). Some e) same;
-        })
-      (ends P w p of here)
+    (λ (empty : (take (place_at w.state p) (line_of w.state p) ≡ []) × (get_or w.events p [] ≡ [])).
+    absurd (let none : last_event w p ≡ None = ap (λ (l : List EventValue). slice_get l (length l - 1)) empty.1 in cc))
+    (λ (ended : Ended P p (take (place_at w.state p) (line_of w.state p)) (get_or w.events p [])).
+    let last : last_event w p ≡ Some ended.event =
+    ap (λ (l : List EventValue). slice_get l (length l - 1)) ended.events_are ∙ get_last ended.others ended.event in
+    let same : ended.event ≡ event = cc in
+    record {
+      here = here;
+      choice = ended.choice;
+      was = choice_is (place_at w.state p) (line_of w.state p) ended.earlier ended.choice (of.state.within p) ended.choices_are;
+      at_that = ended.at_that;
+      is = ended.is ∙ ap (λ (e : EventValue). Some e) same;
+    })
+    (ends P w p of here)
   where
     within : (events : List (List EventValue)) (p : ℕ) (event : EventValue)
         → slice_get (get_or events p []) (length (get_or events p []) - 1) ≡ Some event → p < length events
@@ -310,9 +296,9 @@ can_go_back P w p event of was waiting =
     let k = made.choice in
     let square = square_play P (history_of w.state) of.possible in
     let back = goes_back P w p k of made.here made.was (λ t to apart there.
-      still event.exchange t (same_target made.at_that p k (command_of P p k) event made.is ∙ to) waiting
-        (omega (arith, made.here, ap (λ (c : Configuration). length c.channels) of.standing, square.rows))
-        (omega (arith, there, ap (λ (c : Configuration). length (get_or c.channels p [])) of.standing, square.columns p made.here))) in
+    still event.exchange t (same_target made.at_that p k (command_of P p k) event made.is ∙ to) waiting
+    (omega (arith, made.here, ap (λ (c : Configuration). length c.channels) of.standing, square.rows))
+    (omega (arith, there, ap (λ (c : Configuration). length (get_or c.channels p [])) of.standing, square.columns p made.here))) in
     let back_was = back.was in
     let same : back.event ≡ event = cc in
     (back.may, subst (λ (e : EventValue). IsWorldOf P (unmade w p e)) same back.of)

@@ -1,7 +1,6 @@
 -- What is written down of each process as events fire is the same in each order, where what is written of an event does not change
 -- by the events of other processes.
-use Rattle.std.proofs.Common.{◌≡◌, ◌≢◌, ℕ, List, [], ◌∷◌, ◌++◌, get_or, set, Result, Ok, refl, sym, ap, ◌∙◌, subst}
-use Rattle.std.proofs.lemmas.List.{set_comm, get_or-set_other}
+use Rattle.std.proofs.Common.{◌≡◌, ◌≢◌, List, [], ◌∷◌, ◌++◌, Ok, refl, sym, ap, ◌∙◌, subst}
 use Rattle.dbg_base.specs.Trees.{Program}
 use Rattle.dbg_base.specs.Configurations.{Configuration}
 use Rattle.dbg_base.specs.Firing.{fire}
@@ -14,10 +13,9 @@ use Rattle.causal_world.proofs.Pushes.{push, pushes_swap}
 module _ {A : Type 0} (P : Program) (mark : Configuration → Event → A)
     (from : Configuration → List (List A) → List Event → List (List A))
     (step : (c d : Configuration) (lists : List (List A)) (e : Event) (E : List Event) → fire P c e.process e.choice ≡ Ok d
-      → from c lists (e ∷ E) ≡ from d (push lists e.process (mark c e)) E)
+    → from c lists (e ∷ E) ≡ from d (push lists e.process (mark c e)) E)
     (steady : (c d b : Configuration) (e f : Event) → e.process ≢ f.process → fire P c e.process e.choice ≡ Ok d
-      → fire P c f.process f.choice ≡ Ok b → mark d f ≡ mark c f) where
-
+    → fire P c f.process f.choice ≡ Ok b → mark d f ≡ mark c f) where
   marks_swap : (c : Configuration) (lists : List (List A)) (e f : Event) (E : List Event) (d b g h : Configuration)
       → e.process ≢ f.process → fire P c e.process e.choice ≡ Ok d → fire P d f.process f.choice ≡ Ok g
       → fire P c f.process f.choice ≡ Ok b → fire P b e.process e.choice ≡ Ok h → from c lists (e ∷ f ∷ E) ≡ from c lists (f ∷ e ∷ E)

@@ -1,9 +1,9 @@
 -- What is found out before a process makes a choice.
-use Rattle.std.specs.Prelude.{◌≡◌, ℕ, ◌<◌, ℤ, List, length, [], ◌∷◌, Option, Some, None, Result, Ok, Err, slice_get}
+use Rattle.std.specs.Prelude.{◌≡◌, ℕ, ◌<◌, ℤ, length, Option, Some, None, Result, Ok, Err, slice_get}
 use Rattle.dbg_base.specs.declared.refusal.Refusal.{Refusal}
 use Rattle.dbg_base.specs.declared.refusal.Refusal.TheVariants.{Fault, ChannelEmpty}
 use Rattle.dbg_base.specs.declared.ids.Choice.{Choice}
-use Rattle.dbg_base.specs.Trees.{Action, Sends, Receives, Command, Program, process_of}
+use Rattle.dbg_base.specs.Trees.{Action, Receives, Command, Program, process_of}
 use Rattle.dbg_base.specs.LocalStates.{LocalState}
 use Rattle.dbg_base.specs.Configurations.{Configuration, channel_of}
 use Rattle.dbg_base.specs.Firing.{effect_of, fire}

@@ -2,7 +2,7 @@
 use Rattle.std.specs.Prelude.{ℕ, ◌<◌, length, slice_index_or, []}
 use Rattle.fifo_grid.specs.Grids.{GridState, room_at}
 use Rattle.event_rows.specs.declared.exchange.Exchange.{Exchange}
-use Rattle.event_rows.specs.declared.exchange.Exchange.TheVariants.{Nothing, Sent, Took}
+use Rattle.event_rows.specs.declared.exchange.Exchange.TheVariants.{Sent, Took}
 
 -- where both processes are there, there is room for a message from the first to the second
 abbrev pub HasRoom : GridState → ℕ → ℕ → Type 0

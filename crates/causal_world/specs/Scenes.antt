@@ -1,16 +1,16 @@
 -- Where a world stands, and what it knows of its events.
-use Rattle.std.specs.Prelude.{◌≡◌, ℕ, ◌+◌, ℤ, List, [], ◌∷◌, ◌++◌, drop, length, take, ◌-◌, map, Option, Some, None, Result, Ok, Err}
+use Rattle.std.specs.Prelude.{◌≡◌, ℕ, ◌+◌, ℤ, List, [], ◌∷◌, ◌++◌, drop, length, Option, Some, None, Result, Ok, Err}
 use Rattle.std.specs.Prelude.{replicate, slice_get, slice_index_or, slice_set}
 use Rattle.std.specs.Option.{option_map}
 use Rattle.dbg_base.specs.declared.refusal.Refusal.{Refusal}
-use Rattle.dbg_base.specs.Trees.{Action, Local, Sends, Receives, Command, Program, command_of}
+use Rattle.dbg_base.specs.Trees.{Action, Sends, Receives, Command, Program, command_of}
 use Rattle.dbg_base.specs.LocalStates.{LocalState}
 use Rattle.dbg_base.specs.Configurations.{Configuration, start_of, state_in, channel_of}
 use Rattle.dbg_base.specs.Firing.{Effect, effect_of, fire}
 use Rattle.dbg_base.specs.Histories.{IsPossible}
 use Rattle.dbg_base.specs.Orders.{Event, order, choices_of}
 use Rattle.dbg_base.specs.Reversal.{without_back}
-use Rattle.dbg_base.specs.ModelStates.{ModelState, history_of, configuration_of, after_choice, after_redo, after_undo, IsStateOf}
+use Rattle.dbg_base.specs.ModelStates.{ModelState, history_of, configuration_of, after_undo, IsStateOf}
 use Rattle.fifo_grid.specs.Grids.{messages_at, with_messages}
 use Rattle.event_rows.specs.declared.exchange.Exchange.{Exchange}
 use Rattle.event_rows.specs.declared.exchange.Exchange.TheVariants.{Nothing, Sent, Took}

@@ -9,7 +9,7 @@ use Rattle.dbg_base.specs.Acts.{CannotUndo}
 use Rattle.dbg_base.specs.declared.ids.Pid.{Pid}
 use Rattle.fifo_grid.specs.Grids.{messages_at}
 use Rattle.event_rows.specs.declared.exchange.Exchange.{Exchange}
-use Rattle.event_rows.specs.declared.exchange.Exchange.TheVariants.{Nothing, Sent, Took}
+use Rattle.event_rows.specs.declared.exchange.Exchange.TheVariants.{Sent}
 use Rattle.event_rows.specs.EventValues.{EventValue}
 use Rattle.causal_world.specs.Scenes.{Scene, IsWorldOf, event_at, with_done, unmade}
 

@@ -69,7 +69,9 @@ pub(crate) fn go_before(grid: &mut Grid, pid: Pid, exchange: Exchange)
             let _back = grid.unpush_back(pid, target);
         }
         Exchange::Took {
-            source, message, ..
+            source,
+            message,
+            ..
         } => {
             if grid.has(source, pid) {
                 grid.unpop_front(source, pid, message);

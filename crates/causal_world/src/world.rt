@@ -1,6 +1,7 @@
 //! A world: a system of processes, changed in place by its events.
 
-ghost use Rattle.std.specs.Prelude.{◌≡◌, ◌<◌, ◌⊎◌, length, map, IfOk, IfErr, MatchResult, OnOk, OnErr, Some, Ok, Err, slice_get, slice_set, slice_index_or};
+ghost use Rattle.std.specs.Prelude.{◌≡◌, ◌<◌, ◌⊎◌, length, IfOk, IfErr, MatchResult, OnOk, OnErr, Some, Ok, Err, slice_get, slice_set};
+ghost use Rattle.std.specs.Prelude.{slice_index_or};
 ghost use Rattle.std.specs.Option.{option_map};
 ghost use Rattle.dbg_base.specs.declared.limits.TheConstants.{EVENTS};
 ghost use Rattle.dbg_base.specs.declared.refusal.Refusal.TheVariants.{Memory};
@@ -71,16 +72,6 @@ pub struct Rolled {
     event: Event,
 }
 
-fn start_states(alloc: Global, program: &Program) -> Result<Vec<Env>, AllocError>
-    ensures { IfOk result (λ states. states.items ≡ (start_of (program_of program.now)).states) }
-{
-    let mut states = Vec::new(alloc);
-    for p in 0..program.processes() {
-        states.push(Env::start(alloc, program, Pid(p))?)?;
-    }
-    Ok(states)
-}
-
 // Makes room for an event of the process. Where memory runs out nothing changes that is seen.
 fn make_room(
     grid: &mut Grid,
@@ -136,7 +127,7 @@ impl World {
     {
         let processes = program.processes();
         let lines = Lines::new(alloc, processes)?;
-        let envs = start_states(alloc, program)?;
+        let envs = Env::starts(alloc, program)?;
         let grid = Grid::new(alloc, processes)?;
         let rows = Rows::new(alloc, program)?;
         Ok(World {
@@ -165,13 +156,7 @@ impl World {
         let choices = self.lines.redo_line(alloc, pid)?;
         make_room(&mut self.grid, &mut self.rows, pid, event.exchange())?;
         self.lines.append(pid, choice)?;
-        happen(
-            &mut self.envs,
-            &mut self.grid,
-            &mut self.rows,
-            pid,
-            event,
-        );
+        happen(&mut self.envs, &mut self.grid, &mut self.rows, pid, event);
         Ok(Cutoff { choices })
     }
 
@@ -185,13 +170,7 @@ impl World {
     {
         make_room(&mut self.grid, &mut self.rows, pid, event.exchange())?;
         self.lines.advance(pid);
-        happen(
-            &mut self.envs,
-            &mut self.grid,
-            &mut self.rows,
-            pid,
-            event,
-        );
+        happen(&mut self.envs, &mut self.grid, &mut self.rows, pid, event);
         Ok(())
     }
 
@@ -263,12 +242,7 @@ impl World {
     /// The process makes the choice at its place again, by what holds now: the place moves on, and the line stays. Which choice it was
     /// is told. It is refused, and changes nothing, as `NothingToRedo` where the place is at the line's end, and as `GuardFalse`,
     /// `Fault` or `ChannelEmpty` where the command does not fire; or as `Memory`, where that runs out.
-    pub fn redo(
-        &mut self,
-        alloc: Global,
-        program: &Program,
-        pid: Pid,
-    ) -> Result<Choice, Refusal>
+    pub fn redo(&mut self, alloc: Global, program: &Program, pid: Pid) -> Result<Choice, Refusal>
         requires process { pid.0 < length (program_of program.now) }
         requires of { IsWorldOf (program_of program.now) self.old }
         ensures of { IsWorldOf (program_of program.now) self.new }
@@ -347,12 +321,7 @@ impl World {
 
     /// The messages on their way from the first process to the second, the front first. It is refused only as `Memory`, where that
     /// runs out.
-    pub fn channel(
-        &self,
-        alloc: Global,
-        source: Pid,
-        target: Pid,
-    ) -> Result<Sequence<i64>, Refusal>
+    pub fn channel(&self, alloc: Global, source: Pid, target: Pid) -> Result<Sequence<i64>, Refusal>
         ensures { MatchResult result (λ messages. messages ≡ channel_of self.now.standing source.0 target.0)
             (λ refusal. refusal ≡ Memory) }
     {

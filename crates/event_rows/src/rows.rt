@@ -38,17 +38,6 @@ impl Model for Rows {
     } };
 }
 
-// The start of each process.
-fn start_states(alloc: Global, program: &Program) -> Result<Vec<Env>, AllocError>
-    ensures { IfOk result (λ starts. starts.items ≡ map (start_among (length (program_of program.now))) (program_of program.now)) }
-{
-    let mut starts = Vec::new(alloc);
-    for p in 0..program.processes() {
-        starts.push(Env::start(alloc, program, Pid(p))?)?;
-    }
-    Ok(starts)
-}
-
 // No event of any of so many processes.
 fn empty_lines(alloc: Global, processes: u32) -> Result<Vec<Line>, AllocError>
     ensures { IfOk result (λ lines. map (λ line. line.events) lines.items ≡ replicate processes []) }
@@ -103,7 +92,7 @@ impl Rows {
         ensures events { IfOk result (λ rows. rows.events ≡ replicate (length (program_of program.now)) []) }
     {
         Ok(Rows {
-            starts: start_states(alloc, program)?,
+            starts: Env::starts(alloc, program)?,
             lines: empty_lines(alloc, program.processes())?,
         })
     }

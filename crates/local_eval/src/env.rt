@@ -3,6 +3,7 @@
 ghost use Rattle.std.specs.Prelude.{◌≡◌, ◌<◌, ◌↔◌, [], length, replicate, Some, IsTrue, IfOk, slice_get, slice_set};
 ghost use Rattle.dbg_base.specs.Trees.{process_of};
 ghost use Rattle.dbg_base.specs.LocalStates.{counts_of, start_values, start_state};
+ghost use Rattle.dbg_base.specs.Configurations.{start_of};
 ghost use Rattle.proc_lang.specs.Programs.{program_of};
 
 use dbg_base::{Direction, Pid};
@@ -57,6 +58,17 @@ impl Env {
         let sent = no_messages(alloc, program.processes())?;
         let got = no_messages(alloc, program.processes())?;
         Ok(Env { values, sent, got })
+    }
+
+    /// The start of each process of the program. It is refused only where memory runs out.
+    pub fn starts(alloc: Global, program: &Program) -> Result<Vec<Env>, AllocError>
+        ensures { IfOk result (λ states. states.items ≡ (start_of (program_of program.now)).states) }
+    {
+        let mut states = Vec::new(alloc);
+        for p in 0..program.processes() {
+            states.push(Env::start(alloc, program, Pid(p))?)?;
+        }
+        Ok(states)
     }
 
     /// How many variables there are. It takes no memory, as all readers do.

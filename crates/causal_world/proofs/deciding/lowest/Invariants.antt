@@ -1,4 +1,3 @@
-use Rattle.dbg_base.specs.Configurations.{Configuration}
 use Rattle.proc_lang.specs.Programs.{program_of}
 use Rattle.causal_world.proofs.Lowest.{NoneBefore}
 use Rattle.causal_world.proofs.deciding.lowest.Given as goal

@@ -1,4 +1,4 @@
-use Rattle.std.proofs.Common.{◌≡◌, get_or, arith}
+use Rattle.std.proofs.Common.{◌≡◌, get_or}
 use Rattle.std.proofs.lemmas.List.{get_or_read}
 use Rattle.proc_lang.specs.ProcessTrees.{command_tree}
 use Rattle.dbg_base.specs.LocalStates.{no_state}

@@ -1,8 +1,8 @@
-use Rattle.std.proofs.Common.{◌≡◌, ℕ, ◌+◌, ◌<◌, List, [], ◌∷◌, ◌++◌, length, take, get_or, set, Vec, sym, ap, ◌∙◌}
+use Rattle.std.proofs.Common.{◌≡◌, ℕ, ◌+◌, ◌<◌, List, [], ◌∷◌, ◌++◌, length, take, get_or, set, map, Vec, sym, ap, ◌∙◌}
 use Rattle.std.specs.Prelude.{slice_set}
 use Rattle.std.specs.declared.alloc.Global.{Global}
 use Rattle.std.proofs.lemmas.List.{get_or_read, length-map}
-use Rattle.dbg_base.specs.ModelStates.{ModelState, line_of}
+use Rattle.dbg_base.specs.ModelStates.{ModelState}
 use Rattle.dbg_base.proofs.Places.{changed_at, kept_at}
 use Rattle.causal_world.proofs.Results.{on_err}
 use Rattle.causal_world.proofs.lines.Lines.append.Goals as goal
@@ -25,12 +25,15 @@ returns-clause-appended c =
     let lt : p < length s.lines.items = simp length-map at (rw (← c.self.view_is) at c.requires.line) in
     let within : p < length s.places.items = rw (← c.self.view_is) at c.requires.place in
     let read : place ≡ get_or s.places.items p 0 = get_or_read s.places.items p place within c.index-place.ensures 0 in
-    let line : List ℕ = get_or (Rattle.std.proofs.Common.map (λ (line : Vec ℕ Global). line.items) s.lines.items) p [] in
+    let line : List ℕ = get_or (map (λ (line : Vec ℕ Global). line.items) s.lines.items) p [] in
     let cut =
     changed_at (λ (line : Vec ℕ Global). line.items) s.lines.items p c.index_mut.result.now
     (sym c.index_mut.ensures.value) lt c.append_choice.new.line []
     (λ (l : List ℕ). take place l ++ k ∷ []) c.in_ok-append_choice.ensures.appended in
     rw (← c.self.view_is)
     (ap (λ (lines : List (List ℕ)). record { lines = lines; places = set s.places.items p (place + 1) }) cut
-    ∙ ap (λ (n : ℕ). record { lines = slice_set (Rattle.std.proofs.Common.map (λ (line : Vec ℕ Global). line.items) s.lines.items) p (take n line ++ k ∷ []); places = slice_set s.places.items p (n + 1) })
+    ∙ ap (λ (n : ℕ). record {
+      lines = slice_set (map (λ (line : Vec ℕ Global). line.items) s.lines.items) p (take n line ++ k ∷ []);
+      places = slice_set s.places.items p (n + 1);
+    })
     read)

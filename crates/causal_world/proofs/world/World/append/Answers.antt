@@ -1,8 +1,7 @@
 use Rattle.std.proofs.Common.{ap, ◌∙◌, ℤ, List}
 use Rattle.event_rows.specs.EventValues.{EventValue}
-use Rattle.dbg_base.specs.ModelStates.{after_choice}
 use Rattle.std.specs.Prelude.{Some}
-use Rattle.causal_world.specs.Scenes.{channels_after, with_event, made}
+use Rattle.causal_world.specs.Scenes.{channels_after, with_event}
 use Rattle.causal_world.proofs.Calls.{can_here, can_row, same_scene, some_step}
 use Rattle.causal_world.proofs.world.World.append.Goals as goal
 

@@ -1,4 +1,4 @@
-use Rattle.std.proofs.Common.{◌≡◌, List, length, subst, sym, arith, rules, ap}
+use Rattle.std.proofs.Common.{List, length, subst, sym, arith, rules, ap}
 use Rattle.dbg_base.specs.LocalStates.{LocalState}
 use Rattle.proc_lang.specs.Programs.{program_of}
 use Rattle.causal_world.specs.Worlds.{Makes}

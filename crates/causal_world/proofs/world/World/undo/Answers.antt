@@ -1,6 +1,5 @@
-use Rattle.std.proofs.Common.{◌≡◌, ◌<◌, ℕ, ℤ, List, length, Some, sym, ap, ◌∙◌, subst}
+use Rattle.std.proofs.Common.{◌≡◌, ℤ, List, Some, sym, ap, ◌∙◌, subst}
 use Rattle.event_rows.specs.EventValues.{EventValue}
-use Rattle.event_rows.specs.declared.exchange.Exchange.{Exchange}
 use Rattle.causal_world.specs.Scenes.{Scene, IsWorldOf, channels_before, unmade, scene}
 use Rattle.causal_world.specs.Room.{HasRoomBefore}
 use Rattle.causal_world.specs.Worlds.{last_event}
@@ -43,7 +42,9 @@ returns-clause-of c =
 
 pub invariant_of-self-2 : goal.invariant_of-self-2
 invariant_of-self-2 c =
-    let P = c.self.invariant.0 in
-    (P, undoes c.args.self.now c.args.pid.0 c.in-Some.event c.in_ok-exchange.ensures _
-    (was (goal.at.invariant_of-self-2 c).In-Some) (left (goal.at.invariant_of-self-2 c).After-revert) P
-    (subst (IsWorldOf P) c.self.view_is c.self.invariant.1))
+    let P = c.self.invariant.0 in (
+      P,
+      undoes c.args.self.now c.args.pid.0 c.in-Some.event c.in_ok-exchange.ensures _
+          (was (goal.at.invariant_of-self-2 c).In-Some) (left (goal.at.invariant_of-self-2 c).After-revert) P
+          (subst (IsWorldOf P) c.self.view_is c.self.invariant.1),
+    )
