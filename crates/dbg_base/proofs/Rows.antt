@@ -3,17 +3,18 @@ use Rattle.std.proofs.Common.{◌≡◌, ℕ, ℤ, pos, negsuc, List, [], ◌∷
 use Rattle.std.specs.Prelude.{codes}
 use Rattle.dbg_base.specs.declared.expr.Direction.TheVariants.{Sent, Got}
 use Rattle.dbg_base.specs.declared.expr.Operator.TheVariants.{Add, Subtract, Divide, Remainder, Less, Greater, Or, Equal}
-use Rattle.dbg_base.specs.declared.refusal.Refusal.TheVariants.{GuardFalse, ChannelEmpty, UnknownProcess, BadLine}
+use Rattle.dbg_base.specs.declared.refusal.Refusal.TheVariants.{GuardFalse, ChannelEmpty, UnknownProcess, UnknownChoice, BadLine}
+use Rattle.dbg_base.specs.declared.refusal.Refusal.TheVariants.{NothingToRedo}
 use Rattle.dbg_base.specs.Trees.{Number, Variable, Truth, Count, Binary, Local, Sends, Receives, Command, Process, Program}
 use Rattle.dbg_base.specs.LocalStates.{LocalState}
 use Rattle.dbg_base.specs.Evaluation.{Num, Tru, evaluate}
 use Rattle.dbg_base.specs.Configurations.{start_of, values_of, channel_of}
 use Rattle.dbg_base.specs.Firing.{fire, effect_of}
 use Rattle.dbg_base.specs.Histories.{play, local_state, progress_of}
-use Rattle.dbg_base.specs.ModelStates.{opening_state, after_choice, configuration_of}
-use Rattle.dbg_base.specs.Calls.{Give, Next, Ask, Vars}
+use Rattle.dbg_base.specs.ModelStates.{ModelState, opening_state, configuration_of, line_of, redo_line, after_choice, after_undo}
+use Rattle.dbg_base.specs.Calls.{Give, Step, Next, Ask, Vars, Chan}
 use Rattle.dbg_base.specs.WellFormed.{is_well_formed}
-use Rattle.dbg_base.specs.Acts.{lowest_enabled}
+use Rattle.dbg_base.specs.Acts.{lowest_enabled, step_choice, next_choice, redo_choice}
 use Rattle.dbg_base.specs.CommandLines.{parsed_line}
 use Rattle.dbg_base.specs.Shell.{parts_of, read_lines}
 
@@ -107,6 +108,39 @@ orphan_stays_unplayed = refl
 -- after `next a` the variable of a is 1
 after_next : values_of (configuration_of system (after_choice (opening_state system) 0 0)) 0 ≡ pos 1 ∷ []
 after_next = refl
+
+-- what a process makes at the start, or why it makes nothing
+no_such_command : step_choice system (opening_state system) 1 2 ≡ Err UnknownChoice
+no_such_command = refl
+
+step_of_a_false_guard : step_choice system (opening_state system) 1 1 ≡ Err GuardFalse
+step_of_a_false_guard = refl
+
+first_choice : next_choice system (opening_state system) 0 ≡ Ok 0
+first_choice = refl
+
+nothing_to_redo : redo_choice system (opening_state system) 0 ≡ Err NothingToRedo
+nothing_to_redo = refl
+
+-- two counts and one receive, and the receive taken back: its message is the front of the channel again, and can be taken again
+abbrev received : ModelState
+received = record { lines = two_and_one; places = 2 ∷ 1 ∷ [] }
+
+undone : after_undo received 1 ≡ record { lines = two_and_one; places = 2 ∷ 0 ∷ [] }
+undone = refl
+
+both_on_their_way : channel_of (configuration_of system (after_undo received 1)) 0 1 ≡ pos 1 ∷ pos 2 ∷ []
+both_on_their_way = refl
+
+can_be_made_again : redo_line (after_undo received 1) 1 ≡ 0 ∷ []
+can_be_made_again = refl
+
+made_again : redo_choice system (after_undo received 1) 1 ≡ Ok 0
+made_again = refl
+
+-- a step cuts the redo line
+cut_line : line_of (after_choice (after_undo (after_undo received 0) 0) 0 0) 0 ≡ 0 ∷ []
+cut_line = refl
 
 -- messages that are counted: a sends twice, each time the count of those before and 10, and b receives what it has counted
 abbrev sender : Process
@@ -202,6 +236,18 @@ unknown_word = refl
 
 one_word_too_many : parsed_line system (codes "1 next d a") ≡ Err BadLine
 one_word_too_many = refl
+
+reads_step : parsed_line system (codes "2 step b 1") ≡ Ok (Some (record { seat = 2; call = Give (Step 1 1) }))
+reads_step = refl
+
+reads_chan : parsed_line system (codes "1 chan a b") ≡ Ok (Some (record { seat = 1; call = Ask (Chan 0 1) }))
+reads_chan = refl
+
+no_receiver : parsed_line system (codes "1 chan a d") ≡ Err UnknownProcess
+no_receiver = refl
+
+no_number : parsed_line system (codes "1 step d x") ≡ Err BadLine
+no_number = refl
 
 blank_line : parsed_line system (codes "   ") ≡ Ok None
 blank_line = refl
