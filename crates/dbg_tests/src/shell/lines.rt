@@ -73,7 +73,10 @@ const LINES: [(&str, Result<Option<(u32, Asked)>, Refusal>); 55] = [
     ("1 next d a", Err(Refusal::BadLine)),
     ("1 next d", Err(Refusal::UnknownProcess)),
     ("1 step a 0", Ok(Some((1, Asked::Step(0, 0))))),
-    ("3 step b 999999999", Ok(Some((3, Asked::Step(1, 999_999_999))))),
+    (
+        "3 step b 999999999",
+        Ok(Some((3, Asked::Step(1, 999_999_999)))),
+    ),
     ("1 step b 007", Ok(Some((1, Asked::Step(1, 7))))),
     ("1 undo b", Ok(Some((1, Asked::Undo(1))))),
     ("2 redo a", Ok(Some((2, Asked::Redo(0))))),

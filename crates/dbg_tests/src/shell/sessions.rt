@@ -3,9 +3,11 @@ use super::{TWO, joined, served};
 use std::alloc::{AllocError, Global};
 use std::test::Fail;
 
-pub(super) const NUMBER: &str = "process a { var x = 1; when true : x := (x + 9223372036854775807); }\n";
+pub(super) const NUMBER: &str =
+    "process a { var x = 1; when true : x := (x + 9223372036854775807); }\n";
 
-pub(super) const SWAP: &str = "process p { var u = 1; var v = 2; when true : send q (u + v), u := v, v := u; }
+pub(super) const SWAP: &str =
+    "process p { var u = 1; var v = 2; when true : send q (u + v), u := v, v := u; }
 process q { var y = 0; var z = 0; when (z = 0) : recv p y, z := (y + z); }
 ";
 
