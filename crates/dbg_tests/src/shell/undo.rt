@@ -32,8 +32,35 @@ const ROWS: [(&str, &str, &str, &str); 14] = [
     (
         "a send is undone after its receive",
         TWO,
-        "%%\n1 step a 0\n1 step b 0\n1 undo a\n1 can a\n1 can b\n1 undo b\n1 chan a b\n1 undo a\n1 chan a b\n1 vars a\n1 vars b\n1 place a\n1 can a\n",
-        "ok a 0\nok b 0\nno 7 b\ncan a no 7 b\ncan b yes\nok b 0\nchan a b 1\nok a 0\nchan a b\nvars a x=0\nvars b y=0 n=0\nplace a 0 of 1\ncan a no 6\n",
+        "%%
+1 step a 0
+1 step b 0
+1 undo a
+1 can a
+1 can b
+1 undo b
+1 chan a b
+1 undo a
+1 chan a b
+1 vars a
+1 vars b
+1 place a
+1 can a
+",
+        "ok a 0
+ok b 0
+no 7 b
+can a no 7 b
+can b yes
+ok b 0
+chan a b 1
+ok a 0
+chan a b
+vars a x=0
+vars b y=0 n=0
+place a 0 of 1
+can a no 6
+",
     ),
     (
         "an undone receive gives its message to the front",
@@ -80,20 +107,111 @@ const ROWS: [(&str, &str, &str, &str); 14] = [
     (
         "undo goes back in the counts",
         COUNTS,
-        "%%\n1 next a\n1 next a\n1 next a\n1 step a 0\n1 chan a b\n1 next b\n1 next b\n1 vars b\n1 undo b\n1 undo b\n1 undo a\n1 next a\n1 chan a b\n1 next b\n",
-        "ok a 0\nok a 0\nno 24\nno 3\nchan a b 10 11\nok b 0\nok b 1\nvars b y=11 z=12\nok b 1\nok b 0\nok a 0\nok a 0\nchan a b 10 11\nok b 0\n",
+        "%%
+1 next a
+1 next a
+1 next a
+1 step a 0
+1 chan a b
+1 next b
+1 next b
+1 vars b
+1 undo b
+1 undo b
+1 undo a
+1 next a
+1 chan a b
+1 next b
+",
+        "ok a 0
+ok a 0
+no 24
+no 3
+chan a b 10 11
+ok b 0
+ok b 1
+vars b y=11 z=12
+ok b 1
+ok b 0
+ok a 0
+ok a 0
+chan a b 10 11
+ok b 0
+",
     ),
     (
         "concurrent work, in one order",
         THREE,
-        "%%\n1 next a\n1 next c\n1 next b\n1 vars a\n1 vars b\n1 vars c\n1 chan a b\n1 chan b a\n1 chan c a\n1 place a\n1 place b\n1 place c\n1 can a\n1 can b\n1 can c\n",
-        "ok a 0\nok c 0\nok b 0\nvars a x=1\nvars b y=1 n=1\nvars c z=1\nchan a b\nchan b a\nchan c a\nplace a 1 of 1\nplace b 1 of 1\nplace c 1 of 1\ncan a no 7 b\ncan b yes\ncan c yes\n",
+        "%%
+1 next a
+1 next c
+1 next b
+1 vars a
+1 vars b
+1 vars c
+1 chan a b
+1 chan b a
+1 chan c a
+1 place a
+1 place b
+1 place c
+1 can a
+1 can b
+1 can c
+",
+        "ok a 0
+ok c 0
+ok b 0
+vars a x=1
+vars b y=1 n=1
+vars c z=1
+chan a b
+chan b a
+chan c a
+place a 1 of 1
+place b 1 of 1
+place c 1 of 1
+can a no 7 b
+can b yes
+can c yes
+",
     ),
     (
         "concurrent work, in another order",
         THREE,
-        "%%\n1 next c\n1 next a\n1 next b\n1 vars a\n1 vars b\n1 vars c\n1 chan a b\n1 chan b a\n1 chan c a\n1 place a\n1 place b\n1 place c\n1 can a\n1 can b\n1 can c\n",
-        "ok c 0\nok a 0\nok b 0\nvars a x=1\nvars b y=1 n=1\nvars c z=1\nchan a b\nchan b a\nchan c a\nplace a 1 of 1\nplace b 1 of 1\nplace c 1 of 1\ncan a no 7 b\ncan b yes\ncan c yes\n",
+        "%%
+1 next c
+1 next a
+1 next b
+1 vars a
+1 vars b
+1 vars c
+1 chan a b
+1 chan b a
+1 chan c a
+1 place a
+1 place b
+1 place c
+1 can a
+1 can b
+1 can c
+",
+        "ok c 0
+ok a 0
+ok b 0
+vars a x=1
+vars b y=1 n=1
+vars c z=1
+chan a b
+chan b a
+chan c a
+place a 1 of 1
+place b 1 of 1
+place c 1 of 1
+can a no 7 b
+can b yes
+can c yes
+",
     ),
     (
         "unrelated work stays",
