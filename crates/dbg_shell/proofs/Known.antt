@@ -81,13 +81,13 @@ module _ (bytes : List ℕ) (ended : Bool) (Form : List ℕ → Ending) where
   module _ (Told : Ending)
       (leads : (input : List ℕ) → MayBe bytes ended input → (served : Served) (out : List ℕ) → Told served out → Form input served out)
     where
-      pub leads_done : (known : Option (List ℕ)) (r : Result Served ServeFault) (old out : Option (List ℕ)) → IfSome known (MayBe bytes ended)
-          → Done Told r old out → DoneKnown Form known r old out
+      pub leads_done : (known : Option (List ℕ)) (r : Result Served ServeFault) (old out : Option (List ℕ))
+          → IfSome known (MayBe bytes ended) → Done Told r old out → DoneKnown Form known r old out
       leads_done known r old out may wrote =
           done_known bytes ended Form known r old out may (λ input m. done_leads Told (Form input) (leads input m) r old out wrote)
 
-      pub leads_cut : (known : Option (List ℕ)) (r : Result Served ServeFault) (old out : Option (List ℕ)) → IfSome known (MayBe bytes ended)
-          → Cut Told r old out → CutKnown Form known r old out
+      pub leads_cut : (known : Option (List ℕ)) (r : Result Served ServeFault) (old out : Option (List ℕ))
+          → IfSome known (MayBe bytes ended) → Cut Told r old out → CutKnown Form known r old out
       leads_cut known r old out may wrote =
           cut_known bytes ended Form known r old out may (λ input m. cut_leads Told (Form input) (leads input m) r old out wrote)
 
