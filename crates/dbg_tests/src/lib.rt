@@ -13,3 +13,5 @@ mod events;
 mod language;
 #[cfg(test)]
 mod shell;
+#[cfg(test)]
+mod world;
