@@ -1,2 +1,4 @@
 pub mod Pieces
 pub mod Joins
+pub mod Lines
+pub mod Appends

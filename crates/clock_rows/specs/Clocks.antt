@@ -1,5 +1,5 @@
 -- The rows of each process, and the row of its next event.
-use Rattle.std.specs.Prelude.{ℕ, zero, suc, ◌+◌, ◌-◌, List, [], ◌∷◌, length, take, drop, max, slice_index_or, slice_set}
+use Rattle.std.specs.Prelude.{◌≡◌, ℕ, zero, suc, ◌+◌, ◌-◌, ◌*◌, ◌/◌, ◌<◌, ◌≤◌, List, [], ◌∷◌, length, take, drop, max, slice_index_or, slice_set}
 
 -- for each process its rows, the first one zeros, and how many more are pushed without memory
 pub record ClocksState : Type 0 where
@@ -29,3 +29,9 @@ last_row rows = slice_index_or rows (length rows - 1) []
 abbrev pub pieces : ℕ → ℕ → List ℕ → List (List ℕ)
 pieces n zero list = []
 pieces n (suc k) list = take n list ∷ pieces n k (drop n list)
+
+-- so many counts are whole rows, at least one, of so many counts each
+pub record IsWhole (width len : ℕ) : Type 0 where
+  pub wide : 0 < width
+  pub has_first : width ≤ len
+  pub whole : len ≡ len / width * width
