@@ -1,5 +1,5 @@
 -- The next row behind a flat list, count by count.
-use Rattle.std.proofs.Common.{◌≡◌, ℕ, zero, suc, ◌+◌, ◌-◌, ◌<◌, ◌≤◌, List, [], ◌∷◌, ◌++◌, length, get_or, take, drop, max}
+use Rattle.std.proofs.Common.{◌≡◌, ℕ, zero, suc, ◌+◌, ◌<◌, List, [], ◌∷◌, ◌++◌, length, get_or, take, drop, max}
 use Rattle.std.proofs.Common.{refl, sym, ap, ◌∙◌, arith, length-drop, append_assoc, add-one, subst}
 use Rattle.std.proofs.lemmas.List.{get_or-drop, get_or_append_left}
 use Rattle.clock_rows.specs.Clocks.{join, next_row}
@@ -29,7 +29,7 @@ module _ (before now joined : List ℕ) (own start i m r : ℕ) (long : start + 
   pub count_fits : i ≡ own → get_or (join (drop start before) joined) own 0 < 4294967295 → m + 1 < 4294967296
   count_fits same less =
       let at_i : get_or (join (drop start before) joined) i 0 ≡ get_or (join (drop start before) joined) own 0 =
-          ap (λ (k : ℕ). get_or (join (drop start before) joined) k 0) same in
+      ap (λ (k : ℕ). get_or (join (drop start before) joined) k 0) same in
       let value : m ≡ get_or (join (drop start before) joined) i 0 = count_is ∙ sym (join_at (drop start before) joined i in_row lt) in
       omega arith
 
@@ -47,9 +47,9 @@ module _ (before now joined : List ℕ) (own start i m r : ℕ) (long : start + 
   own_appended after pushed added same is =
       let value : pushed ≡ max (get_or (drop start before) i 0) (get_or joined i 0) + 1 = is ∙ ap (λ (k : ℕ). k + 1) count_is in
       let grown : next_row i (drop start before) (take (suc i) joined)
-          ≡ next_row i (drop start before) (take i joined) ++ pushed ∷ [] =
-          own_more (drop start before) joined i in_row lt
-          ∙ ap (λ (k : ℕ). next_row i (drop start before) (take i joined) ++ k ∷ []) (sym value) in
+      ≡ next_row i (drop start before) (take i joined) ++ pushed ∷ [] =
+      own_more (drop start before) joined i in_row lt
+      ∙ ap (λ (k : ℕ). next_row i (drop start before) (take i joined) ++ k ∷ []) (sym value) in
       one_more after pushed added (subst (λ (o : ℕ). next_row o (drop start before) (take (suc i) joined)
       ≡ next_row o (drop start before) (take i joined) ++ pushed ∷ []) same grown)
 

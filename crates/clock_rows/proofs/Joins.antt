@@ -1,5 +1,5 @@
 -- The join of two rows, place by place.
-use Rattle.std.proofs.Common.{◌≡◌, ℕ, zero, suc, ◌+◌, ◌<◌, List, [], ◌∷◌, ◌++◌, length, get_or, set, take, max, refl, sym, ap, ◌∙◌, arith}
+use Rattle.std.proofs.Common.{◌≡◌, ℕ, zero, suc, ◌+◌, ◌<◌, List, [], ◌∷◌, ◌++◌, length, get_or, set, take, max, refl, ap, arith}
 use Rattle.clock_rows.specs.Clocks.{join, next_row}
 
 pub join_at : (row other : List ℕ) (i : ℕ) → i < length row → i < length other

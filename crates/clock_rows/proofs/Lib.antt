@@ -2,3 +2,4 @@ pub mod Pieces
 pub mod Joins
 pub mod Lines
 pub mod Appends
+pub mod Widths

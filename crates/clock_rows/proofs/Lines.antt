@@ -1,6 +1,6 @@
 -- The rows of one process in a flat list of `len` counts, `n` a row.
-use Rattle.std.proofs.Common.{◌≡◌, ℕ, ◌+◌, ◌-◌, ◌*◌, ◌/◌, ◌<◌, ◌≤◌, List, [], ◌∷◌, ◌++◌, length, get_or, set, take, drop, replicate}
-use Rattle.std.proofs.Common.{refl, sym, ap, ◌∙◌, arith, length-drop, add-one, subst}
+use Rattle.std.proofs.Common.{◌≡◌, ℕ, ◌+◌, ◌-◌, ◌*◌, ◌/◌, ◌<◌, ◌≤◌, List, [], ◌∷◌, ◌++◌, length, get_or, take, drop, replicate}
+use Rattle.std.proofs.Common.{sym, ap, ◌∙◌, arith, length-drop, add-one, subst}
 use Rattle.std.proofs.lemmas.List.{take_all, length-set, length-replicate}
 use Rattle.std.proofs.Math.Nat.{div-eq-sub-div, div-mul-le_self, mul-le-mul_left, mul-div_cancel}
 use Rattle.clock_rows.specs.Clocks.{pieces, join, next_row, last_row, IsWhole}
@@ -60,7 +60,7 @@ module _ (n len : ℕ) (rows : IsWhole n len) where
   rows_less list =
       let p : ℕ = (len - n) / n in
       let count : length (pieces n (len / n) list) - 1 ≡ (len - n) / n =
-          omega (arith, length_pieces n (len / n) list, count_less) in
+      omega (arith, length_pieces n (len / n) list, count_less) in
       ap (λ (m : ℕ). pieces n ((len - n) / n) (take m list)) (sym before_last)
       ∙ pieces_less n ((len - n) / n) list
       ∙ ap (λ (k : ℕ). take ((len - n) / n) (pieces n k list)) (sym (add-one ((len - n) / n)) ∙ count_less)
@@ -69,7 +69,7 @@ module _ (n len : ℕ) (rows : IsWhole n len) where
   pub last_is : (list : List ℕ) → length list ≡ len → last_row (pieces n (len / n) list) ≡ drop (len - n) list
   last_is list long =
       let count : length (pieces n (len / n) list) - 1 ≡ (len - n) / n =
-          omega (arith, length_pieces n (len / n) list, count_less) in
+      omega (arith, length_pieces n (len / n) list, count_less) in
       let inside : (len - n) / n < len / n = omega (arith, count_less) in
       let rest : length (drop (len - n) list) ≤ n = omega (arith, length-drop (len - n) list) in
       ap (λ (k : ℕ). get_or (pieces n (len / n) list) k []) count
@@ -118,10 +118,10 @@ module _ (n len : ℕ) (rows : IsWhole n len) where
     rows_pushed kept more is =
         let by_n : after ≡ len + n = omega arith in
         let row_long : length (drop (m - n) list) ≡ length joined =
-            omega (arith, length-drop (m - n) list, rows.has_first) in
+        omega (arith, length-drop (m - n) list, rows.has_first) in
         let next_long : length (next_row own (drop (m - n) list) joined) ≡ n =
-            length-set (join (drop (m - n) list) joined) own (get_or (join (drop (m - n) list) joined) own 0 + 1)
-            ∙ length_join (drop (m - n) list) joined row_long ∙ row_long ∙ wide in
+        length-set (join (drop (m - n) list) joined) own (get_or (join (drop (m - n) list) joined) own 0 + 1)
+        ∙ length_join (drop (m - n) list) joined row_long ∙ row_long ∙ wide in
         ap (λ (xs : List ℕ). pieces n (after / n) xs) is
         ∙ ap (λ (k : ℕ). pieces n (k / n) (list ++ next_row own (drop (m - n) list) joined)) by_n
         ∙ rows_more list (next_row own (drop (m - n) list) joined) long next_long
@@ -153,6 +153,6 @@ pub first_rows : (n len : ℕ) (list : List ℕ) → 0 < n → len ≡ n → lis
 first_rows n len list wide same is =
     let once : 1 * n ≡ n = omega arith in
     let one : len / n ≡ 1 = ap (λ (k : ℕ). k / n) (same ∙ sym once) ∙ mul-div_cancel 1 wide in
-    let long : length (replicate n 0) ≤ n = omega (arith, length-replicate n 0) in
+    let long : length (replicate n 0) ≤ n = omega (arith, length-replicate {A = ℕ} n 0) in
     ap (λ (k : ℕ). pieces n k list) one ∙ ap (λ (xs : List ℕ). pieces n 1 xs) is
     ∙ ap (λ (row : List ℕ). row ∷ []) (take_all n (replicate n 0) long)

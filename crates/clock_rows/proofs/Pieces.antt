@@ -1,5 +1,5 @@
 -- A flat list in pieces: how many there are, one more, one less, and one of them.
-use Rattle.std.proofs.Common.{◌≡◌, ℕ, zero, suc, ◌+◌, ◌-◌, ◌*◌, ◌<◌, ◌≤◌, List, [], ◌∷◌, ◌++◌, length, get_or, take, drop}
+use Rattle.std.proofs.Common.{◌≡◌, ℕ, zero, suc, ◌+◌, ◌*◌, ◌<◌, ◌≤◌, List, [], ◌∷◌, ◌++◌, length, get_or, take, drop}
 use Rattle.std.proofs.Common.{refl, sym, ap, ◌∙◌, arith, length-drop}
 use Rattle.std.proofs.lemmas.List.{take-append-le, drop-append-le, take_all, take-take, drop-take, drop-drop}
 use Rattle.clock_rows.specs.Clocks.{pieces}
@@ -28,9 +28,9 @@ pieces_within n zero list = refl
 pieces_within n (suc k) list =
     let split : suc k * n ≡ n + k * n = omega arith in
     let first : take n (take (suc k * n) list) ≡ take n list =
-        take-take n (suc k * n) list (omega arith) in
+    take-take n (suc k * n) list (omega arith) in
     let rest : drop n (take (suc k * n) list) ≡ take (k * n) (drop n list) =
-        ap (λ (m : ℕ). drop n (take m list)) split ∙ drop-take n (k * n) list in
+    ap (λ (m : ℕ). drop n (take m list)) split ∙ drop-take n (k * n) list in
     ap (λ (row : List ℕ). row ∷ pieces n k (drop n (take (suc k * n) list))) first
     ∙ ap (λ (others : List ℕ). take n list ∷ pieces n k others) rest
     ∙ ap (λ (rows : List (List ℕ)). take n list ∷ rows) (pieces_within n k (drop n list))

@@ -28,7 +28,7 @@ impl Model for Clocks {
     } };
 
     ghost invariant = { λ clocks. map (λ line. line.width) clocks.lines.items
-      ≡ replicate (length clocks.lines.items) (length clocks.lines.items) };
+        ≡ replicate (length clocks.lines.items) (length clocks.lines.items) };
 }
 
 // One row of zeros for each of so many processes.

@@ -1,4 +1,4 @@
-use Rattle.std.proofs.Common.{◌≡◌, ℕ, ◌<◌, List, length, get_or, subst, sym, ◌∙◌, arith}
+use Rattle.std.proofs.Common.{ℕ, ◌<◌, List, get_or, subst, sym}
 use Rattle.std.specs.Vec.{vec_len, vec_capacity}
 use Rattle.clock_rows.specs.Clocks.{join}
 use Rattle.clock_rows.proofs.Lines.{last_from, whole_pushed, rows_pushed, room_pushed}
