@@ -24,7 +24,8 @@ join_more : (row other : List ℕ) (i : ℕ) → i < length row → i < length o
 join_more [] other i lt there = absurd (omega arith)
 join_more (m ∷ row) [] i lt there = absurd (omega arith)
 join_more (m ∷ row) (n ∷ other) zero lt there = ap (λ (rest : List ℕ). max m n ∷ rest) (join_none row)
-join_more (m ∷ row) (n ∷ other) (suc i) lt there = ap (λ (rest : List ℕ). max m n ∷ rest) (join_more row other i (omega arith) (omega arith))
+join_more (m ∷ row) (n ∷ other) (suc i) lt there =
+    ap (λ (rest : List ℕ). max m n ∷ rest) (join_more row other i (omega arith) (omega arith))
 
 -- which is the process's own
 pub own_more : (row other : List ℕ) (i : ℕ) → i < length row → i < length other
@@ -32,7 +33,8 @@ pub own_more : (row other : List ℕ) (i : ℕ) → i < length row → i < lengt
 own_more [] other i lt there = absurd (omega arith)
 own_more (m ∷ row) [] i lt there = absurd (omega arith)
 own_more (m ∷ row) (n ∷ other) zero lt there = ap (λ (rest : List ℕ). (max m n + 1) ∷ rest) (join_none row)
-own_more (m ∷ row) (n ∷ other) (suc i) lt there = ap (λ (rest : List ℕ). max m n ∷ rest) (own_more row other i (omega arith) (omega arith))
+own_more (m ∷ row) (n ∷ other) (suc i) lt there =
+    ap (λ (rest : List ℕ). max m n ∷ rest) (own_more row other i (omega arith) (omega arith))
 
 -- or not
 pub other_more : (own : ℕ) (row other : List ℕ) (i : ℕ) → i < length row → i < length other → (i ≡ own → ⊥)

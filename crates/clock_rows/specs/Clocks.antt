@@ -1,5 +1,6 @@
 -- The rows of each process, and the row of its next event.
-use Rattle.std.specs.Prelude.{◌≡◌, ℕ, zero, suc, ◌+◌, ◌-◌, ◌*◌, ◌/◌, ◌<◌, ◌≤◌, List, [], ◌∷◌, length, take, drop, max, slice_index_or, slice_set}
+use Rattle.std.specs.Prelude.{◌≡◌, ℕ, zero, suc, ◌+◌, ◌-◌, ◌*◌, ◌/◌, ◌<◌, ◌≤◌, List, [], ◌∷◌, length, take, drop, max}
+use Rattle.std.specs.Prelude.{slice_index_or, slice_set}
 
 -- for each process its rows, the first one zeros, and how many more are pushed without memory
 pub record ClocksState : Type 0 where
