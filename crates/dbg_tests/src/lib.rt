@@ -4,6 +4,8 @@
 #[cfg(test)]
 mod channels;
 #[cfg(test)]
+mod clocks;
+#[cfg(test)]
 mod copies;
 #[cfg(test)]
 mod evaluation;

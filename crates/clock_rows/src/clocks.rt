@@ -1,0 +1,115 @@
+//! The rows of all processes.
+
+ghost use Rattle.std.specs.Prelude.{◌≡◌, ℕ, ◌-◌, ◌<◌, ◌≤◌, ◌++◌, ◌∷◌, [], length, map, take, replicate, slice_set, slice_index_or};
+ghost use Rattle.std.specs.Prelude.{IfOk, OnOk};
+ghost use Rattle.clock_rows.specs.Clocks.{join, next_row, last_row};
+
+use crate::line::Line;
+use dbg_base::Pid;
+use std::alloc::{AllocError, Global};
+use std::marker::Model;
+
+/// For each process its rows, in order, the first one zeros: a row has one count for each process. Contracts see it as these, and as
+/// the room of each process: how many rows more it takes without memory.
+#[derive(Debug, Drop)]
+pub struct Clocks {
+    lines: Vec<Line>,
+}
+
+impl Model for Clocks {
+    ghost use Rattle.std.specs.Prelude.{◌≡◌, length, map, replicate};
+    ghost use Rattle.clock_rows.specs.Clocks.{ClocksState};
+
+    ghost Value = { ClocksState };
+
+    ghost view = { λ clocks. record {
+      rows = map (λ line. line.rows) clocks.lines.items;
+      room = map (λ line. line.room) clocks.lines.items;
+    } };
+
+    ghost invariant = { λ clocks. map (λ line. line.width) clocks.lines.items
+        ≡ replicate (length clocks.lines.items) (length clocks.lines.items) };
+}
+
+// One row of zeros for each of so many processes.
+fn first_lines(alloc: Global, processes: u32) -> Result<Vec<Line>, AllocError>
+    ensures widths { IfOk result (λ lines. map (λ line. line.width) lines.items ≡ replicate processes processes) }
+    ensures rows { IfOk result (λ lines. map (λ line. line.rows) lines.items ≡ replicate processes (replicate processes 0 ∷ [])) }
+{
+    let mut lines = Vec::new(alloc);
+    for _ in 0..processes {
+        lines.push(Line::new(alloc, processes as usize)?)?;
+    }
+    Ok(lines)
+}
+
+impl Clocks {
+    /// One row of zeros for each of so many processes. It is refused only where memory runs out.
+    pub fn new(alloc: Global, processes: u32) -> Result<Clocks, AllocError>
+        ensures { IfOk result (λ clocks. clocks.rows ≡ replicate processes (replicate processes 0 ∷ [])) }
+    {
+        Ok(Clocks {
+            lines: first_lines(alloc, processes)?,
+        })
+    }
+
+    /// How many rows the process has, which is none where it is not there. It takes no memory.
+    pub fn len(&self, pid: Pid) -> usize
+        ensures { result ≡ length (slice_index_or self.now.rows pid.0 []) }
+    {
+        match self.lines.get(pid.0 as usize) {
+            Some(line) => line.len(),
+            None => 0,
+        }
+    }
+
+    /// The n-th row of the process, from 0, where both are there. It takes no memory.
+    pub fn row(&self, pid: Pid, n: u32) -> &[u32]
+        requires there { pid.0 < length self.now.rows }
+        requires row { n < length (slice_index_or self.now.rows pid.0 []) }
+        ensures row { result.now ≡ slice_index_or (slice_index_or self.now.rows pid.0 []) n [] }
+        ensures len { length result.now ≡ length self.now.rows }
+    {
+        let line = &self.lines[pid.0 as usize];
+        line.row(n as usize)
+    }
+
+    /// Makes room for so many more rows of the process, and does nothing where it is not there. No room is lost, and no row changes,
+    /// also where it is refused, which is only where memory runs out.
+    pub fn reserve(&mut self, pid: Pid, more: usize) -> Result<(), AllocError>
+        ensures rows { self.new.rows ≡ self.old.rows }
+        ensures grows { (a : ℕ) → slice_index_or self.old.room a 0 ≤ slice_index_or self.new.room a 0 }
+        ensures ok { OnOk result (pid.0 < length self.old.rows → more ≤ slice_index_or self.new.room pid.0 0) }
+    {
+        if pid.0 as usize >= self.lines.len() {
+            return Ok(());
+        }
+        let line = &mut self.lines[pid.0 as usize];
+        line.reserve(more)
+    }
+
+    /// The row of the process's next event goes to the end of its rows, where there is room: component by component the larger of its
+    /// last row and the given one, which has one count for each process, with the process's own count one more. It takes no memory.
+    pub fn push(&mut self, pid: Pid, joined: &[u32])
+        requires room { 0 < slice_index_or self.old.room pid.0 0 }
+        requires len { length joined.now ≡ length self.old.rows }
+        requires fits { slice_index_or (join (last_row (slice_index_or self.old.rows pid.0 [])) joined.now) pid.0 0 < 4294967295 }
+        ensures rows { self.new.rows ≡ slice_set self.old.rows pid.0 (slice_index_or self.old.rows pid.0 []
+            ++ next_row pid.0 (last_row (slice_index_or self.old.rows pid.0 [])) joined.now ∷ []) }
+        ensures room { self.new.room ≡ slice_set self.old.room pid.0 (slice_index_or self.old.room pid.0 0 - 1) }
+    {
+        let line = &mut self.lines[pid.0 as usize];
+        line.push(pid.0 as usize, joined);
+    }
+
+    /// The last row of the process is taken off, where it has more than its first. No room is lost, and it takes no memory.
+    pub fn pop(&mut self, pid: Pid)
+        requires { 1 < length (slice_index_or self.old.rows pid.0 []) }
+        ensures rows { self.new.rows ≡ slice_set self.old.rows pid.0
+            (take (length (slice_index_or self.old.rows pid.0 []) - 1) (slice_index_or self.old.rows pid.0 [])) }
+        ensures grows { (a : ℕ) → slice_index_or self.old.room a 0 ≤ slice_index_or self.new.room a 0 }
+    {
+        let line = &mut self.lines[pid.0 as usize];
+        line.pop();
+    }
+}

@@ -1,0 +1,114 @@
+//! The rows of one process.
+
+ghost use Rattle.std.specs.Prelude.{◌≡◌, ◌+◌, ◌-◌, ◌<◌, ◌≤◌, ◌++◌, ◌∷◌, [], length, take, drop, replicate, slice_index_or, IfOk, OnOk};
+ghost use Rattle.std.specs.Vec.{vec_len, vec_capacity};
+ghost use Rattle.clock_rows.specs.Clocks.{join, next_row, last_row};
+
+use std::alloc::{AllocError, Global};
+use std::marker::Model;
+
+/// The rows of one process, one behind the other, each of the same number of counts.
+#[derive(Debug, Drop)]
+pub(crate) struct Line {
+    width: usize,
+    counts: Vec<u32>,
+}
+
+impl Model for Line {
+    ghost use Rattle.std.specs.Prelude.{◌-◌, ◌/◌};
+    ghost use Rattle.std.specs.Vec.{vec_len, vec_capacity};
+    ghost use Rattle.clock_rows.specs.Clocks.{LineState, IsWhole, pieces};
+
+    ghost Value = { LineState };
+
+    ghost view = { λ line. record {
+      width = line.width;
+      rows = pieces line.width (vec_len line.counts / line.width) line.counts.items;
+      room = (vec_capacity line.counts - vec_len line.counts) / line.width;
+    } };
+
+    ghost invariant = { λ line. IsWhole line.width (vec_len line.counts) };
+}
+
+// Behind the counts goes the join of those from `start` on and the given ones, with the count at `own` one more.
+fn append_next(counts: &mut Vec<u32>, start: usize, own: usize, joined: &[u32])
+    requires row { start + length joined.now ≡ vec_len counts.old }
+    requires room { vec_len counts.old + length joined.now ≤ vec_capacity counts.old }
+    requires fits { slice_index_or (join (drop start counts.old.items) joined.now) own 0 < 4294967295 }
+    ensures items { counts.new.items ≡ counts.old.items ++ next_row own (drop start counts.old.items) joined.now }
+    ensures len { vec_len counts.new ≡ vec_len counts.old + length joined.now }
+    ensures capacity { vec_capacity counts.new ≡ vec_capacity counts.old }
+{
+    for (at, other) in joined.iter().enumerate() {
+        let count = counts[start + at].max(*other);
+        counts.push_reserved(if at == own { count + 1 } else { count });
+    }
+}
+
+impl Line {
+    /// One row of so many zeros.
+    pub(crate) fn new(alloc: Global, width: usize) -> Result<Line, AllocError>
+        requires { 0 < width }
+        ensures width { IfOk result (λ line. line.width ≡ width) }
+        ensures rows { IfOk result (λ line. line.rows ≡ replicate width 0 ∷ []) }
+    {
+        Ok(Line {
+            width,
+            counts: vec![in alloc; 0u32; width]?,
+        })
+    }
+
+    /// How many rows there are.
+    pub(crate) fn len(&self) -> usize
+        ensures { result ≡ length self.now.rows }
+    {
+        self.counts.len() / self.width
+    }
+
+    /// The n-th row, from 0.
+    pub(crate) fn row(&self, n: usize) -> &[u32]
+        requires { n < length self.now.rows }
+        ensures row { result.now ≡ slice_index_or self.now.rows n [] }
+        ensures len { length result.now ≡ self.now.width }
+    {
+        let start = n * self.width;
+        &self.counts[start..start + self.width]
+    }
+
+    /// Makes room for so many more rows.
+    pub(crate) fn reserve(&mut self, more: usize) -> Result<(), AllocError>
+        ensures width { self.new.width ≡ self.old.width }
+        ensures same { self.new.rows ≡ self.old.rows }
+        ensures grows { self.old.room ≤ self.new.room }
+        ensures ok { OnOk result (more ≤ self.new.room) }
+    {
+        match more.checked_mul(self.width) {
+            Some(counts) => self.counts.reserve(counts),
+            None => Err(AllocError),
+        }
+    }
+
+    /// The next row goes to the end: the join of the last and the given one, with the count at `own` one more. It takes no memory.
+    pub(crate) fn push(&mut self, own: usize, joined: &[u32])
+        requires room { 0 < self.old.room }
+        requires len { length joined.now ≡ self.old.width }
+        requires fits { slice_index_or (join (last_row self.old.rows) joined.now) own 0 < 4294967295 }
+        ensures width { self.new.width ≡ self.old.width }
+        ensures rows { self.new.rows ≡ self.old.rows ++ next_row own (last_row self.old.rows) joined.now ∷ [] }
+        ensures room { self.new.room ≡ self.old.room - 1 }
+    {
+        let start = self.counts.len() - self.width;
+        append_next(&mut self.counts, start, own, joined);
+    }
+
+    /// The last row is taken off, which is not the first. It takes no memory.
+    pub(crate) fn pop(&mut self)
+        requires { 1 < length self.old.rows }
+        ensures width { self.new.width ≡ self.old.width }
+        ensures rows { self.new.rows ≡ take (length self.old.rows - 1) self.old.rows }
+        ensures grows { self.old.room ≤ self.new.room }
+    {
+        let left = self.counts.len() - self.width;
+        self.counts.truncate(left);
+    }
+}
