@@ -14,6 +14,10 @@ pub record IsConsistentCut (kinds : List (List Kind)) (cut : List ℕ) : Type 0 
   pub within : (p : ℕ) → slice_index cut p ≤ length (slice_index_or kinds p [])
   pub causes : (i j : ℕ) → i ≢ j → got_by kinds j i (slice_index cut j) ≤ sent_by kinds i j (slice_index cut i)
 
+-- one count for each process, at most as large as its number of events
+abbrev pub IsWithin : List (List Kind) → List ℕ → Type 0
+IsWithin kinds cut = (length cut ≡ length kinds) × ((p : ℕ) → slice_index cut p ≤ length (slice_index_or kinds p []))
+
 -- the first is at most the second, for each process
 abbrev pub IsAtMost : List ℕ → List ℕ → Type 0
 IsAtMost c d = (p : ℕ) → slice_index c p ≤ slice_index d p

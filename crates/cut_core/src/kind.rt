@@ -1,7 +1,7 @@
 //! What an event did.
 
-ghost use Rattle.std.specs.Prelude.{◌≡◌};
-ghost use Rattle.cut_core.specs.Kinds.{is_like};
+ghost use Rattle.std.specs.Prelude.{◌≡◌, ℕ, ◌≤◌, true, false, MatchOption};
+ghost use Rattle.cut_core.specs.Kinds.{is_like, gets_from};
 
 use dbg_base::Pid;
 
@@ -26,6 +26,17 @@ impl Kind {
             (Kind::Got(from), Kind::Got(other)) => other.0 == from.0,
             (Kind::Local, Kind::Local) => true,
             _ => false,
+        }
+    }
+
+    // The process that it received from, where that is not among so many.
+    pub(crate) fn stranger(self, processes: u32) -> Option<Pid>
+        ensures { MatchOption result ((i : ℕ) → processes ≤ i → gets_from i self ≡ false)
+            (λ from. (processes ≤ from.0) × (gets_from from.0 self ≡ true)) }
+    {
+        match self {
+            Kind::Got(from) if from.0 >= processes => Some(from),
+            _ => None,
         }
     }
 }

@@ -1,10 +1,12 @@
 //! What the events of one process did.
 
-ghost use Rattle.std.specs.Prelude.{◌≡◌, ℕ, ◌+◌, ◌-◌, ◌^◌, ◌<◌, ◌≤◌, ◌++◌, ◌∷◌, [], length, take, OnOk};
+ghost use Rattle.std.specs.Prelude.{◌≡◌, ℕ, ◌+◌, ◌-◌, ◌^◌, ◌<◌, ◌≤◌, ◌++◌, ◌∷◌, [], true, length, take, OnOk, MatchOption};
+ghost use Rattle.std.specs.Prelude.{slice_index_or};
 ghost use Rattle.std.specs.List.{count_by};
-ghost use Rattle.cut_core.specs.Kinds.{is_like};
+ghost use Rattle.cut_core.specs.Kinds.{is_like, gets_from};
 
 use crate::kind::Kind;
+use dbg_base::Pid;
 use std::alloc::{AllocError, Global};
 use std::marker::Model;
 
@@ -41,6 +43,44 @@ fn count(kinds: &[Kind], wanted: Kind) -> u32
         }
     }
     count
+}
+
+// The number, from 1, of the k-th of these that is like the wanted one.
+fn nth(kinds: &[Kind], wanted: Kind, k: u32) -> u32
+    requires short { length kinds.now < 2 ^ 32 }
+    requires first { 1 ≤ k }
+    requires enough { k ≤ count_by (is_like wanted) kinds.now }
+    ensures first { 1 ≤ result }
+    ensures within { result ≤ length kinds.now }
+    ensures like { is_like wanted (slice_index_or kinds.now (result - 1) wanted) ≡ true }
+    ensures count { count_by (is_like wanted) (take result kinds.now) ≡ k }
+{
+    let mut count = 0;
+    let mut place = 0;
+    for kind in kinds {
+        place += 1;
+        if kind.is_like(wanted) {
+            count += 1;
+            if count == k {
+                return place;
+            }
+        }
+    }
+    place
+}
+
+/// A process that is not among so many, of which one of these received.
+pub(crate) fn stranger(kinds: &[Kind], processes: u32) -> Option<Pid>
+    ensures { MatchOption result ((i : ℕ) → processes ≤ i → count_by (gets_from i) kinds.now ≡ 0)
+        (λ from. (processes ≤ from.0) × (0 < count_by (gets_from from.0) kinds.now)) }
+{
+    for kind in kinds {
+        let found = kind.stranger(processes);
+        if found.is_some() {
+            return found;
+        }
+    }
+    None
 }
 
 impl Line {
@@ -89,8 +129,8 @@ impl Line {
         self.kinds.pop();
     }
 
-    // The first n events, or all where there are fewer.
-    fn first(&self, n: u32) -> &[Kind]
+    /// The first n events, or all where there are fewer.
+    pub(crate) fn first(&self, n: u32) -> &[Kind]
         ensures kinds { result.now ≡ take n self.now.kinds }
         ensures len { length result.now < 2 ^ 32 }
     {
@@ -102,5 +142,17 @@ impl Line {
         ensures { result ≡ count_by (is_like wanted) (take n self.now.kinds) }
     {
         count(self.first(n), wanted)
+    }
+
+    /// The number, from 1, of the k-th event that is like the wanted one.
+    pub(crate) fn nth(&self, wanted: Kind, k: u32) -> u32
+        requires first { 1 ≤ k }
+        requires enough { k ≤ count_by (is_like wanted) self.now.kinds }
+        ensures first { 1 ≤ result }
+        ensures within { result ≤ length self.now.kinds }
+        ensures like { is_like wanted (slice_index_or self.now.kinds (result - 1) wanted) ≡ true }
+        ensures count { count_by (is_like wanted) (take result self.now.kinds) ≡ k }
+    {
+        nth(self.kinds.as_slice(), wanted, k)
     }
 }

@@ -1,13 +1,14 @@
 //! What the events of all processes did.
 
 ghost use Rattle.std.specs.Prelude.{◌≡◌, ℕ, ◌+◌, ◌-◌, ◌^◌, ◌<◌, ◌≤◌, ◌++◌, ◌∷◌, [], length, map, take, replicate};
-ghost use Rattle.std.specs.Prelude.{slice_set, slice_index_or, IfOk, OnOk};
+ghost use Rattle.std.specs.Prelude.{slice_set, slice_get, slice_index_or, true, Some, IfOk, OnOk, MatchOption};
 ghost use Rattle.std.specs.List.{count_by};
-ghost use Rattle.cut_core.specs.Kinds.{is_like};
+ghost use Rattle.cut_core.specs.Kinds.{is_like, gets_from};
+ghost use Rattle.cut_core.specs.declared.kind.Kind.TheVariants.{Sent};
 ghost use Rattle.cut_core.specs.Tallies.{sent_by, got_by};
 
 use crate::kind::Kind;
-use crate::line::Line;
+use crate::line::{Line, stranger};
 use dbg_base::Pid;
 use std::alloc::{AllocError, Global};
 use std::marker::Model;
@@ -21,7 +22,8 @@ pub struct Tally {
 
 impl Model for Tally {
     ghost use Rattle.std.specs.Prelude.{◌^◌, ◌<◌, length, map};
-    ghost use Rattle.cut_core.specs.Tallies.{TallyState};
+    ghost use Rattle.cut_core.specs.declared.kind.Kind.TheVariants.{Sent};
+ghost use Rattle.cut_core.specs.Tallies.{TallyState};
 
     ghost Value = { TallyState };
 
@@ -69,6 +71,16 @@ impl Tally {
         match self.lines.get(pid.0 as usize) {
             Some(line) => line.len(),
             None => 0,
+        }
+    }
+
+    // What the first n events of the process did, or all where there are fewer.
+    fn first(&self, pid: Pid, n: u32) -> &[Kind]
+        ensures { result.now ≡ take n (slice_index_or self.now.kinds pid.0 []) }
+    {
+        match self.lines.get(pid.0 as usize) {
+            Some(line) => line.first(n),
+            None => &[],
         }
     }
 
@@ -131,5 +143,40 @@ impl Tally {
         }
         let line = &mut self.lines[pid.0 as usize];
         line.unnote();
+    }
+
+    // The number, from 1, of the process's k-th event that is like the wanted one.
+    pub(crate) fn nth(&self, pid: Pid, wanted: Kind, k: u32) -> u32
+        requires first { 1 ≤ k }
+        requires enough { k ≤ count_by (is_like wanted) (slice_index_or self.now.kinds pid.0 []) }
+        ensures first { 1 ≤ result }
+        ensures within { result ≤ length (slice_index_or self.now.kinds pid.0 []) }
+        ensures like { is_like wanted (slice_index_or (slice_index_or self.now.kinds pid.0 []) (result - 1) wanted) ≡ true }
+        ensures count { count_by (is_like wanted) (take result (slice_index_or self.now.kinds pid.0 [])) ≡ k }
+    {
+        match self.lines.get(pid.0 as usize) {
+            Some(line) => line.nth(wanted, k),
+            None => k,
+        }
+    }
+
+    /// The number, from 1, of the event of process i that is its k-th send to process j.
+    pub fn send_event(&self, i: Pid, j: Pid, k: u32) -> u32
+        requires first { 1 ≤ k }
+        requires enough { k ≤ sent_by self.now.kinds i.0 j.0 (length (slice_index_or self.now.kinds i.0 [])) }
+        ensures sends { slice_get (slice_index_or self.now.kinds i.0 []) (result - 1) ≡ Some (Sent j) }
+        ensures count { sent_by self.now.kinds i.0 j.0 result ≡ k }
+    {
+        self.nth(i, Kind::Sent(j), k)
+    }
+
+    // A process that is not there, of which one of the first n events of the process received.
+    pub(crate) fn stranger(&self, pid: Pid, n: u32) -> Option<Pid>
+        ensures { MatchOption result
+            ((i : ℕ) → length self.now.kinds ≤ i → count_by (gets_from i) (take n (slice_index_or self.now.kinds pid.0 [])) ≡ 0)
+            (λ from. (length self.now.kinds ≤ from.0)
+                × (0 < count_by (gets_from from.0) (take n (slice_index_or self.now.kinds pid.0 [])))) }
+    {
+        stranger(self.first(pid, n), self.processes())
     }
 }
