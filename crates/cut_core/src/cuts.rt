@@ -108,7 +108,7 @@ impl Tally {
     {
         while let Some((from, to)) = self.orphan(counts) {
             let got = self.got(to, from, count_of(counts, to));
-            counts[from.0 as usize] = self.send_event(from, to, got);
+            counts[from.0 as usize] = self.nth(from, Kind::Sent(to), got);
         }
     }
 }

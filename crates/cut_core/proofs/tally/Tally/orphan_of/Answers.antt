@@ -1,8 +1,6 @@
-use Rattle.std.proofs.Common.{◌≡◌, ℕ, ◌<◌, ◌≤◌, [], length, get_or, take, sym, arith, inl, inr, MatchOption}
+use Rattle.std.proofs.Common.{◌≡◌, ℕ, ◌<◌, ◌≤◌, length, get_or, arith, inl, inr}
 use Rattle.std.proofs.lemmas.Bool.{cases_lt}
-use Rattle.std.specs.List.{count_by}
 use Rattle.dbg_base.specs.declared.ids.Pid.{Pid}
-use Rattle.cut_core.specs.Kinds.{gets_from}
 use Rattle.cut_core.specs.Tallies.{got_by}
 use Rattle.cut_core.specs.ConsistentCuts.{HasOrphan}
 use Rattle.cut_core.proofs.Counted.{answer_weaker}
@@ -23,4 +21,4 @@ returns c =
       | inr le ↦ λ orphan. orphan_below kinds counts i j orphan (none i le)
     ])
     (λ from some. orphan_from kinds counts from.0 j c.requires some.0 some.1)
-    (rw (sym c.count_of.ensures) at c.stranger.ensures)
+    (rw (c.count_of.ensures) at c.stranger.ensures)

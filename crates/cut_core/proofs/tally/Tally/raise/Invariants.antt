@@ -2,12 +2,12 @@ use Rattle.std.proofs.Common.{◌≡◌, ℕ, ◌-◌, List, length, get_or, sum
 use Rattle.cut_core.specs.ConsistentCuts.{IsConsistentCut, IsAtMost, IsWithin, places}
 use Rattle.cut_core.proofs.tally.Tally.raise.Given as goal
 
-abbrev pub invariant-loop : goal.invariant-loop
-invariant-loop l = record {
+abbrev pub invariant-loop-from : goal.invariant-loop-from
+invariant-loop-from l = record {
   within : IsWithin l.self.kinds l.counts;
   above : IsAtMost l.fn.counts l.counts;
   least : (c : List ℕ) → IsConsistentCut l.self.kinds c → IsAtMost l.fn.counts c → IsAtMost l.counts c;
 }
 
-abbrev pub decreases-loop : goal.decreases-loop
-decreases-loop l = sum (places l.self.kinds) - sum l.counts
+abbrev pub decreases-loop-from : goal.decreases-loop-from
+decreases-loop-from l = sum (places l.self.kinds) - sum l.counts
