@@ -3,6 +3,7 @@ use Rattle.std.proofs.Common.{◌≡◌, inl, inr, ℕ, zero, suc, ◌+◌, ◌-
 use Rattle.std.proofs.Common.{refl, sym, ap, subst, ◌∙◌, arith}
 use Rattle.std.proofs.lemmas.Bool.{cases_lt, cases_eq}
 use Rattle.std.proofs.lemmas.List.{length-set, get_or-set_same, get_or-set_other}
+use Rattle.std.proofs.lemmas.List.Sums.{sum_by-cons}
 use Rattle.cut_core.specs.declared.kind.Kind.{Kind}
 use Rattle.cut_core.specs.Kinds.{sends_to, gets_from}
 use Rattle.cut_core.specs.Tallies.{sent_by, got_by}
@@ -24,6 +25,9 @@ sum_within [] (n ∷ counts) sizes within = absurd (omega (arith, sizes))
 sum_within (line ∷ kinds) (n ∷ counts) sizes within =
     let head : n ≤ length line = within 0 in
     let rest : sum counts ≤ sum (places kinds) = sum_within kinds counts (omega (arith, sizes)) (λ p. within (suc p)) in
+    let counted : sum (n ∷ counts) ≡ n + sum counts = sum_by-cons (λ x. x) n counts in
+    let placed : sum (places (line ∷ kinds)) ≡ length line + sum (places kinds) =
+    sum_by-cons (λ x. x) (length line) (places kinds) in
     omega arith
 
 module _ (kinds : List (List Kind)) (counts : List ℕ) (i j : ℕ) (orphan : HasOrphan kinds counts i j)
