@@ -57,6 +57,17 @@ impl Tally {
         None
     }
 
+    /// The cut of all events. It is refused only where memory runs out.
+    pub fn all_events(&self, alloc: Global) -> Result<Cut, AllocError>
+        ensures { IfOk result (λ cut. cut ≡ places self.now.kinds) }
+    {
+        let mut counts = Vec::new(alloc);
+        for p in 0..self.processes() {
+            counts.push(self.len(Pid(p)))?;
+        }
+        Ok(Cut::new(counts))
+    }
+
     // Whether there is one count for each process, and none is more than its events.
     fn is_within(&self, counts: &[u32]) -> bool
         ensures { IsTrue result ↔ IsWithin self.now.kinds counts.now }

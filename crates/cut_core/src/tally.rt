@@ -57,8 +57,8 @@ impl Tally {
         })
     }
 
-    // How many processes there are.
-    pub(crate) fn processes(&self) -> u32
+    /// How many processes there are.
+    pub fn processes(&self) -> u32
         ensures { result ≡ length self.now.kinds }
     {
         self.lines.len() as u32

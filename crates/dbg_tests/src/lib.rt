@@ -6,6 +6,8 @@ mod channels;
 #[cfg(test)]
 mod copies;
 #[cfg(test)]
+mod cuts;
+#[cfg(test)]
 mod evaluation;
 #[cfg(test)]
 mod events;

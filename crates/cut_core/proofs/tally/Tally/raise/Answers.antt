@@ -1,4 +1,4 @@
-use Rattle.std.proofs.Common.{◌≡◌, ℕ, ◌+◌, ◌-◌, ◌<◌, ◌≤◌, get_or, [], length, take, take_all, sym, ap, ◌∙◌, arith, refl}
+use Rattle.std.proofs.Common.{◌≡◌, ℕ, ◌≤◌, get_or, [], length, take_all, ap, ◌∙◌, arith}
 use Rattle.std.specs.List.{count_by}
 use Rattle.cut_core.specs.declared.kind.Kind.TheVariants.{Sent}
 use Rattle.cut_core.specs.Kinds.{sends_to}

@@ -1,4 +1,4 @@
-use Rattle.std.proofs.Common.{◌≡◌, ℕ, ◌-◌, List, length, get_or, sum}
+use Rattle.std.proofs.Common.{ℕ, ◌-◌, List, sum}
 use Rattle.cut_core.specs.ConsistentCuts.{IsConsistentCut, IsAtMost, IsWithin, places}
 use Rattle.cut_core.proofs.tally.Tally.raise.Given as goal
 
