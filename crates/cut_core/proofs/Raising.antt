@@ -1,5 +1,5 @@
 -- One step up of a cut.
-use Rattle.std.proofs.Common.{◌≡◌, inl, inr, ℕ, zero, suc, ◌+◌, ◌-◌, ◌<◌, ◌≤◌, Bool, true, List, [], ◌∷◌, length, get_or, set, sum, map}
+use Rattle.std.proofs.Common.{◌≡◌, inl, inr, ℕ, zero, suc, ◌+◌, ◌-◌, ◌<◌, ◌≤◌, true, List, [], ◌∷◌, length, get_or, set, sum}
 use Rattle.std.proofs.Common.{refl, sym, ap, subst, ◌∙◌, arith}
 use Rattle.std.proofs.lemmas.Bool.{cases_lt, cases_eq}
 use Rattle.std.proofs.lemmas.List.{length-set, get_or-set_same, get_or-set_other}
@@ -71,16 +71,19 @@ module _ (kinds : List (List Kind)) (counts : List ℕ) (i j : ℕ) (orphan : Ha
     raised_above = more_at counts i n there (omega (arith, more))
 
     pub raised_within : IsWithin kinds (set counts i n)
-    raised_within = (length-set counts i n ∙ within.0, λ p. elim (cases_eq p i) [
-      | inl e ↦
-          let new : get_or (set counts i n) i 0 ≡ n = get_or-set_same counts i n 0 there in
-          let le : get_or (set counts i n) i 0 ≤ length (get_or kinds i []) = omega arith in
-          subst (λ q. get_or (set counts i n) q 0 ≤ length (get_or kinds q [])) (sym e) le
-      | inr ne ↦
-          let same : get_or (set counts i n) p 0 ≡ get_or counts p 0 = get_or-set_other counts i p n 0 ne in
-          let old : get_or counts p 0 ≤ length (get_or kinds p []) = within.1 p in
-          omega arith
-    ])
+    raised_within = (
+      length-set counts i n ∙ within.0,
+      λ p. elim (cases_eq p i) [
+        | inl e ↦
+            let new : get_or (set counts i n) i 0 ≡ n = get_or-set_same counts i n 0 there in
+            let le : get_or (set counts i n) i 0 ≤ length (get_or kinds i []) = omega arith in
+            subst (λ q. get_or (set counts i n) q 0 ≤ length (get_or kinds q [])) (sym e) le
+        | inr ne ↦
+            let same : get_or (set counts i n) p 0 ≡ get_or counts p 0 = get_or-set_other counts i p n 0 ne in
+            let old : get_or counts p 0 ≤ length (get_or kinds p []) = within.1 p in
+            omega arith
+      ],
+    )
 
     pub raised_sum : sum (places kinds) - sum (set counts i n) < sum (places kinds) - sum counts
     raised_sum =

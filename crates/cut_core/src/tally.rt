@@ -23,7 +23,7 @@ pub struct Tally {
 impl Model for Tally {
     ghost use Rattle.std.specs.Prelude.{◌^◌, ◌<◌, length, map};
     ghost use Rattle.cut_core.specs.declared.kind.Kind.TheVariants.{Sent};
-ghost use Rattle.cut_core.specs.Tallies.{TallyState};
+    ghost use Rattle.cut_core.specs.Tallies.{TallyState};
 
     ghost Value = { TallyState };
 
@@ -175,7 +175,7 @@ impl Tally {
         ensures { MatchOption result
             ((i : ℕ) → length self.now.kinds ≤ i → count_by (gets_from i) (take n (slice_index_or self.now.kinds pid.0 [])) ≡ 0)
             (λ from. (length self.now.kinds ≤ from.0)
-                × (0 < count_by (gets_from from.0) (take n (slice_index_or self.now.kinds pid.0 [])))) }
+            × (0 < count_by (gets_from from.0) (take n (slice_index_or self.now.kinds pid.0 [])))) }
     {
         stranger(self.first(pid, n), self.processes())
     }

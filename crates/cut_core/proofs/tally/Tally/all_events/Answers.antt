@@ -1,4 +1,4 @@
-use Rattle.std.proofs.Common.{◌≡◌, ℕ, ◌<◌, length, sym, ◌∙◌, arith}
+use Rattle.std.proofs.Common.{◌≡◌, length, sym, ◌∙◌, arith}
 use Rattle.std.proofs.lemmas.List.{ext_get_or, length-map}
 use Rattle.cut_core.specs.ConsistentCuts.{places}
 use Rattle.cut_core.proofs.Raising.{place_at}
