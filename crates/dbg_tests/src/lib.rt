@@ -8,6 +8,8 @@ mod clocks;
 #[cfg(test)]
 mod copies;
 #[cfg(test)]
+mod cuts;
+#[cfg(test)]
 mod evaluation;
 #[cfg(test)]
 mod events;

@@ -1,0 +1,4 @@
+pub mod Counted
+pub mod Cutting
+pub mod Lowering
+pub mod Raising

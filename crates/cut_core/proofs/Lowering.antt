@@ -1,0 +1,38 @@
+-- One step down of a cut.
+use Rattle.std.proofs.Common.{◌≡◌, ℕ, ◌+◌, ◌-◌, ◌<◌, ◌≤◌, true, List, [], length, get_or, set, sum, ◌∙◌, arith}
+use Rattle.std.proofs.lemmas.List.{length-set}
+use Rattle.cut_core.specs.declared.kind.Kind.{Kind}
+use Rattle.cut_core.specs.Kinds.{gets_from}
+use Rattle.cut_core.specs.Tallies.{sent_by, got_by}
+use Rattle.cut_core.specs.ConsistentCuts.{HasOrphan, IsConsistentCut, IsAtMost, IsWithin}
+use Rattle.cut_core.proofs.Counted.{count_before}
+use Rattle.cut_core.proofs.Cutting.{receiver_there, lowered_keeps, lowered_less, sum_changes, less_at}
+
+-- event n of process j is the first one that receives too many from process i
+module _ (kinds : List (List Kind)) (counts : List ℕ) (i j n : ℕ) (d : Kind) (orphan : HasOrphan kinds counts i j)
+    (within : IsWithin kinds counts) (first : 1 ≤ n) (inside : n ≤ length (get_or kinds j []))
+    (like : gets_from i (get_or (get_or kinds j []) (n - 1) d) ≡ true)
+    (count : got_by kinds j i n ≡ sent_by kinds i j (get_or counts i 0) + 1) where
+  there : j < length counts
+  there = let lt : j < length kinds = receiver_there kinds counts i j orphan in omega (arith, within.0)
+
+  less : n - 1 < get_or counts j 0
+  less = lowered_less kinds counts i j n orphan there count (count_before (gets_from i) (get_or kinds j []) n d first inside like)
+
+  pub lowered_sum : sum (set counts j (n - 1)) < sum counts
+  lowered_sum =
+      let change : sum (set counts j (n - 1)) + get_or counts j 0 ≡ sum counts + (n - 1) = sum_changes counts j (n - 1) there in
+      let lt : n - 1 < get_or counts j 0 = less in
+      omega arith
+
+  pub lowered_below : IsAtMost (set counts j (n - 1)) counts
+  lowered_below = less_at counts j (n - 1) there (omega (arith, less))
+
+  pub lowered_within : IsWithin kinds (set counts j (n - 1))
+  lowered_within =
+      (length-set counts j (n - 1) ∙ within.0, λ p. let a = lowered_below p in let b = within.1 p in omega arith)
+
+  pub lowered_greatest : (top : List ℕ) → ((c : List ℕ) → IsConsistentCut kinds c → IsAtMost c top → IsAtMost c counts)
+      → (c : List ℕ) → IsConsistentCut kinds c → IsAtMost c top → IsAtMost c (set counts j (n - 1))
+  lowered_greatest top old c consistent below =
+      lowered_keeps kinds counts i j n orphan there count c consistent (old c consistent below)

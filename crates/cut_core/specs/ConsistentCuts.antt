@@ -1,0 +1,31 @@
+-- Cuts: for each process how many of its events are kept.
+use Rattle.std.specs.Prelude.{◌≡◌, ◌≢◌, ℕ, ◌<◌, ◌≤◌, List, [], length, map, slice_index, slice_index_or}
+use Rattle.cut_core.specs.declared.kind.Kind.{Kind}
+use Rattle.cut_core.specs.Tallies.{sent_by, got_by}
+
+-- no process has received more messages from another one than that one has sent to it
+abbrev pub HasCauses : List (List Kind) → List ℕ → Type 0
+HasCauses kinds cut = (i j : ℕ) → i ≢ j → got_by kinds j i (slice_index cut j) ≤ sent_by kinds i j (slice_index cut i)
+
+-- A cut has one count for each process, at most as large as its number of events. It is consistent where no process has received more
+-- messages from another one than that one has sent to it.
+pub record IsConsistentCut (kinds : List (List Kind)) (cut : List ℕ) : Type 0 where
+  pub sizes : length cut ≡ length kinds
+  pub within : (p : ℕ) → slice_index cut p ≤ length (slice_index_or kinds p [])
+  pub causes : (i j : ℕ) → i ≢ j → got_by kinds j i (slice_index cut j) ≤ sent_by kinds i j (slice_index cut i)
+
+-- one count for each process, at most as large as its number of events
+abbrev pub IsWithin : List (List Kind) → List ℕ → Type 0
+IsWithin kinds cut = (length cut ≡ length kinds) × ((p : ℕ) → slice_index cut p ≤ length (slice_index_or kinds p []))
+
+-- the first is at most the second, for each process
+abbrev pub IsAtMost : List ℕ → List ℕ → Type 0
+IsAtMost c d = (p : ℕ) → slice_index c p ≤ slice_index d p
+
+-- process j has received more from process i than that one has sent to it
+abbrev pub HasOrphan : List (List Kind) → List ℕ → ℕ → ℕ → Type 0
+HasOrphan kinds cut i j = (i ≢ j) × (sent_by kinds i j (slice_index cut i) < got_by kinds j i (slice_index cut j))
+
+-- the cut of all events
+abbrev pub places : List (List Kind) → List ℕ
+places kinds = map length kinds

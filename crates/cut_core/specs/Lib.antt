@@ -1,0 +1,3 @@
+pub mod Kinds
+pub mod Tallies
+pub mod ConsistentCuts

@@ -1,0 +1,164 @@
+//! Cuts that keep the cause of each message that was received.
+
+ghost use Rattle.std.specs.Prelude.{◌≡◌, ◌≢◌, ℕ, ◌+◌, ◌-◌, ◌<◌, ◌≤◌, List, [], length, min, sum, slice_index, slice_index_or};
+ghost use Rattle.std.specs.Prelude.{IfOk, IsTrue, IsSome, IfSome, ◌↔◌, MatchOption};
+ghost use Rattle.cut_core.specs.Tallies.{sent_by, got_by};
+ghost use Rattle.cut_core.specs.ConsistentCuts.{IsConsistentCut, IsAtMost, IsWithin, HasOrphan, places};
+
+use crate::kind::Kind;
+use crate::tally::Tally;
+use dbg_base::{Cut, Pid};
+use std::alloc::{AllocError, Global};
+
+// The count of this process, which is 0 where it is not there.
+fn count_of(counts: &[u32], pid: Pid) -> u32
+    ensures { result ≡ slice_index counts.now pid.0 }
+{
+    match counts.get(pid.0 as usize) {
+        Some(count) => *count,
+        None => 0,
+    }
+}
+
+impl Tally {
+    // Whether the second process has received more from the first than that one has sent to it, up to these counts.
+    fn is_orphan(&self, counts: &[u32], from: Pid, to: Pid) -> bool
+        ensures { IsTrue result ↔ HasOrphan self.now.kinds counts.now from.0 to.0 }
+    {
+        let sent = self.sent(from, to, count_of(counts, from));
+        let got = self.got(to, from, count_of(counts, to));
+        from.0 != to.0 && sent < got
+    }
+
+    // A process of which this one has received more than that one has sent to it, up to these counts.
+    fn orphan_of(&self, counts: &[u32], to: Pid) -> Option<Pid>
+        requires { to.0 < length self.now.kinds }
+        ensures { MatchOption result ((i : ℕ) → ¬ HasOrphan self.now.kinds counts.now i to.0)
+            (λ from. HasOrphan self.now.kinds counts.now from.0 to.0) }
+    {
+        for i in 0..self.processes() {
+            if self.is_orphan(counts, Pid(i), to) {
+                return Some(Pid(i));
+            }
+        }
+        self.stranger(to, count_of(counts, to))
+    }
+
+    // Two processes of which the second has received more from the first than that one has sent to it, up to these counts.
+    fn orphan(&self, counts: &[u32]) -> Option<(Pid, Pid)>
+        ensures { MatchOption result ((i j : ℕ) → ¬ HasOrphan self.now.kinds counts.now i j)
+            (λ pair. HasOrphan self.now.kinds counts.now pair.0.0 pair.1.0) }
+    {
+        for j in 0..self.processes() {
+            if let Some(from) = self.orphan_of(counts, Pid(j)) {
+                return Some((from, Pid(j)));
+            }
+        }
+        None
+    }
+
+    /// The cut of all events. It is refused only where memory runs out.
+    pub fn all_events(&self, alloc: Global) -> Result<Cut, AllocError>
+        ensures { IfOk result (λ cut. cut ≡ places self.now.kinds) }
+    {
+        let mut counts = Vec::new(alloc);
+        for p in 0..self.processes() {
+            counts.push(self.len(Pid(p)))?;
+        }
+        Ok(Cut::new(counts))
+    }
+
+    // Whether there is one count for each process, and none is more than its events.
+    fn is_within(&self, counts: &[u32]) -> bool
+        ensures { IsTrue result ↔ IsWithin self.now.kinds counts.now }
+    {
+        if counts.len() != self.processes() as usize {
+            return false;
+        }
+        for p in 0..self.processes() {
+            if count_of(counts, Pid(p)) > self.len(Pid(p)) {
+                return false;
+            }
+        }
+        true
+    }
+
+    // The counts, where they are more than the events of a process that number instead.
+    fn clipped(&self, alloc: Global, counts: &[u32]) -> Result<Vec<u32>, AllocError>
+        ensures len { IfOk result (λ made. length made.items ≡ length self.now.kinds) }
+        ensures counts { IfOk result (λ made. (p : ℕ) → slice_index made.items p
+            ≡ min (slice_index counts.now p) (length (slice_index_or self.now.kinds p []))) }
+    {
+        let mut made = Vec::new(alloc);
+        for p in 0..self.processes() {
+            made.push(count_of(counts, Pid(p)).min(self.len(Pid(p))))?;
+        }
+        Ok(made)
+    }
+
+    // The counts go down to the greatest consistent cut below: each process that received a message too many goes back to before it.
+    fn lower(&self, counts: &mut [u32])
+        requires { IsWithin self.now.kinds counts.old }
+        ensures consistent { IsConsistentCut self.now.kinds counts.new }
+        ensures below { IsAtMost counts.new counts.old }
+        ensures greatest { (c : List ℕ) → IsConsistentCut self.now.kinds c → IsAtMost c counts.old → IsAtMost c counts.new }
+    {
+        while let Some((from, to)) = self.orphan(counts) {
+            let sent = self.sent(from, to, count_of(counts, from));
+            counts[to.0 as usize] = self.nth(to, Kind::Got(from), sent + 1) - 1;
+        }
+    }
+
+    // The counts go up to the least consistent cut above: each process of which another one received more goes on to where it sent it.
+    fn raise(&self, counts: &mut [u32])
+        requires within { IsWithin self.now.kinds counts.old }
+        requires all { IsConsistentCut self.now.kinds (places self.now.kinds) }
+        ensures consistent { IsConsistentCut self.now.kinds counts.new }
+        ensures above { IsAtMost counts.old counts.new }
+        ensures least { (c : List ℕ) → IsConsistentCut self.now.kinds c → IsAtMost counts.old c → IsAtMost counts.new c }
+    {
+        while let Some((from, to)) = self.orphan(counts) {
+            let got = self.got(to, from, count_of(counts, to));
+            counts[from.0 as usize] = self.nth(from, Kind::Sent(to), got);
+        }
+    }
+}
+
+/// Whether the cut has one count for each process, none more than its events, and no process has received more messages from another
+/// one than that one has sent to it. It takes no memory.
+pub fn is_consistent(tally: &Tally, cut: &Cut) -> bool
+    ensures { IsTrue result ↔ IsConsistentCut tally.now.kinds cut.now }
+{
+    tally.is_within(cut.counts()) && tally.orphan(cut.counts()).is_none()
+}
+
+/// The greatest consistent cut that is at most this one. It is refused only where memory runs out.
+pub fn greatest_below(alloc: Global, tally: &Tally, cut: &Cut) -> Result<Cut, AllocError>
+    requires { length cut.now ≡ length tally.now.kinds }
+    ensures consistent { IfOk result (λ made. IsConsistentCut tally.now.kinds made) }
+    ensures below { IfOk result (λ made. IsAtMost made cut.now) }
+    ensures greatest { IfOk result (λ made. (c : List ℕ) → IsConsistentCut tally.now.kinds c → IsAtMost c cut.now → IsAtMost c made) }
+{
+    let mut counts = tally.clipped(alloc, cut.counts())?;
+    tally.lower(counts.as_mut_slice());
+    Ok(Cut::new(counts))
+}
+
+/// The least consistent cut that is at least this one, or None where this one has more events of a process than there are. It is refused
+/// only where memory runs out.
+pub fn least_above(alloc: Global, tally: &Tally, cut: &Cut) -> Result<Option<Cut>, AllocError>
+    requires sizes { length cut.now ≡ length tally.now.kinds }
+    requires all { IsConsistentCut tally.now.kinds (places tally.now.kinds) }
+    ensures some { IfOk result (λ made. IsSome made ↔ IsAtMost cut.now (places tally.now.kinds)) }
+    ensures consistent { IfOk result (λ made. IfSome made (λ least. IsConsistentCut tally.now.kinds least)) }
+    ensures above { IfOk result (λ made. IfSome made (λ least. IsAtMost cut.now least)) }
+    ensures least { IfOk result (λ made. IfSome made (λ least.
+        (c : List ℕ) → IsConsistentCut tally.now.kinds c → IsAtMost cut.now c → IsAtMost least c)) }
+{
+    if !tally.is_within(cut.counts()) {
+        return Ok(None);
+    }
+    let mut counts = Vec::from_slice(alloc, cut.counts())?;
+    tally.raise(counts.as_mut_slice());
+    Ok(Some(Cut::new(counts)))
+}

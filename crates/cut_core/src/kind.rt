@@ -1,0 +1,42 @@
+//! What an event did.
+
+ghost use Rattle.std.specs.Prelude.{◌≡◌, ℕ, ◌≤◌, true, false, MatchOption};
+ghost use Rattle.cut_core.specs.Kinds.{is_like, gets_from};
+
+use dbg_base::Pid;
+
+/// What an event did.
+#[derive(Clone, Copy, Debug, PartialEq, Eq)]
+pub enum Kind {
+    /// It sent a message to this process.
+    Sent(Pid),
+    /// It took a message from this process.
+    Got(Pid),
+    /// It sent and took none.
+    Local,
+}
+
+impl Kind {
+    // Whether both did the same, with the same process.
+    pub(crate) fn is_like(self, wanted: Kind) -> bool
+        ensures { result ≡ is_like wanted self }
+    {
+        match (wanted, self) {
+            (Kind::Sent(to), Kind::Sent(other)) => other.0 == to.0,
+            (Kind::Got(from), Kind::Got(other)) => other.0 == from.0,
+            (Kind::Local, Kind::Local) => true,
+            _ => false,
+        }
+    }
+
+    // The process that it received from, where that is not among so many.
+    pub(crate) fn stranger(self, processes: u32) -> Option<Pid>
+        ensures { MatchOption result ((i : ℕ) → processes ≤ i → gets_from i self ≡ false)
+            (λ from. (processes ≤ from.0) × (gets_from from.0 self ≡ true)) }
+    {
+        match self {
+            Kind::Got(from) if from.0 >= processes => Some(from),
+            _ => None,
+        }
+    }
+}

@@ -1,0 +1,11 @@
+//! What each event of each process sent or received, and the cuts that this makes consistent.
+#![tactic(auto)]
+
+mod cuts;
+mod kind;
+mod line;
+mod tally;
+
+pub use cuts::{greatest_below, is_consistent, least_above};
+pub use kind::Kind;
+pub use tally::Tally;

@@ -1,0 +1,182 @@
+//! What the events of all processes did.
+
+ghost use Rattle.std.specs.Prelude.{◌≡◌, ℕ, ◌+◌, ◌-◌, ◌^◌, ◌<◌, ◌≤◌, ◌++◌, ◌∷◌, [], length, map, take, replicate};
+ghost use Rattle.std.specs.Prelude.{slice_set, slice_get, slice_index_or, true, Some, IfOk, OnOk, MatchOption};
+ghost use Rattle.std.specs.List.{count_by};
+ghost use Rattle.cut_core.specs.Kinds.{is_like, gets_from};
+ghost use Rattle.cut_core.specs.declared.kind.Kind.TheVariants.{Sent};
+ghost use Rattle.cut_core.specs.Tallies.{sent_by, got_by};
+
+use crate::kind::Kind;
+use crate::line::{Line, stranger};
+use dbg_base::Pid;
+use std::alloc::{AllocError, Global};
+use std::marker::Model;
+
+/// For each process what its events did, in order. Contracts see it as this, and as the room of each process: how many more of its
+/// events are noted without memory.
+#[derive(Debug, Drop)]
+pub struct Tally {
+    lines: Vec<Line>,
+}
+
+impl Model for Tally {
+    ghost use Rattle.std.specs.Prelude.{◌^◌, ◌<◌, length, map};
+    ghost use Rattle.cut_core.specs.declared.kind.Kind.TheVariants.{Sent};
+    ghost use Rattle.cut_core.specs.Tallies.{TallyState};
+
+    ghost Value = { TallyState };
+
+    ghost view = { λ tally. record {
+      kinds = map (λ line. line.kinds) tally.lines.items;
+      room = map (λ line. line.room) tally.lines.items;
+    } };
+
+    ghost invariant = { λ tally. length tally.lines.items < 2 ^ 32 };
+}
+
+// No event of any of so many processes.
+fn empty_lines(alloc: Global, processes: u32) -> Result<Vec<Line>, AllocError>
+    ensures kinds { IfOk result (λ lines. map (λ line. line.kinds) lines.items ≡ replicate processes []) }
+    ensures len { IfOk result (λ lines. length lines.items ≡ processes) }
+{
+    let mut lines = Vec::new(alloc);
+    for _ in 0..processes {
+        lines.push(Line::new(alloc))?;
+    }
+    Ok(lines)
+}
+
+impl Tally {
+    /// No event of any of so many processes. It is refused only where memory runs out.
+    pub fn new(alloc: Global, processes: u32) -> Result<Tally, AllocError>
+        ensures { IfOk result (λ tally. tally.kinds ≡ replicate processes []) }
+    {
+        Ok(Tally {
+            lines: empty_lines(alloc, processes)?,
+        })
+    }
+
+    /// How many processes there are.
+    pub fn processes(&self) -> u32
+        ensures { result ≡ length self.now.kinds }
+    {
+        self.lines.len() as u32
+    }
+
+    /// How many events the process has, which is none where it is not there. It takes no memory, as all readers.
+    pub fn len(&self, pid: Pid) -> u32
+        ensures { result ≡ length (slice_index_or self.now.kinds pid.0 []) }
+    {
+        match self.lines.get(pid.0 as usize) {
+            Some(line) => line.len(),
+            None => 0,
+        }
+    }
+
+    // What the first n events of the process did, or all where there are fewer.
+    fn first(&self, pid: Pid, n: u32) -> &[Kind]
+        ensures { result.now ≡ take n (slice_index_or self.now.kinds pid.0 []) }
+    {
+        match self.lines.get(pid.0 as usize) {
+            Some(line) => line.first(n),
+            None => &[],
+        }
+    }
+
+    // How many of the first n events of the process are like the wanted one.
+    fn count(&self, pid: Pid, wanted: Kind, n: u32) -> u32
+        ensures { result ≡ count_by (is_like wanted) (take n (slice_index_or self.now.kinds pid.0 [])) }
+    {
+        match self.lines.get(pid.0 as usize) {
+            Some(line) => line.count(wanted, n),
+            None => 0,
+        }
+    }
+
+    /// How many of the first n events of process i send to process j.
+    pub fn sent(&self, i: Pid, j: Pid, n: u32) -> u32
+        ensures { result ≡ sent_by self.now.kinds i.0 j.0 n }
+    {
+        self.count(i, Kind::Sent(j), n)
+    }
+
+    /// How many of the first n events of process j receive from process i.
+    pub fn got(&self, j: Pid, i: Pid, n: u32) -> u32
+        ensures { result ≡ got_by self.now.kinds j.0 i.0 n }
+    {
+        self.count(j, Kind::Got(i), n)
+    }
+
+    /// Makes room for so many more events of the process, and does nothing where it is not there. No room is lost, and no event
+    /// changes, also where it is refused: where memory runs out, or where the process had more events than a `u32` counts.
+    pub fn reserve(&mut self, pid: Pid, more: usize) -> Result<(), AllocError>
+        ensures kinds { self.new.kinds ≡ self.old.kinds }
+        ensures grows { (a : ℕ) → slice_index_or self.old.room a 0 ≤ slice_index_or self.new.room a 0 }
+        ensures ok { OnOk result (pid.0 < length self.old.kinds → more ≤ slice_index_or self.new.room pid.0 0) }
+    {
+        if pid.0 as usize >= self.lines.len() {
+            return Ok(());
+        }
+        let line = &mut self.lines[pid.0 as usize];
+        line.reserve(more)
+    }
+
+    /// One more event of the process, where there is room. It takes no memory.
+    pub fn note(&mut self, pid: Pid, kind: Kind)
+        requires { 0 < slice_index_or self.old.room pid.0 0 }
+        ensures kinds { self.new.kinds ≡ slice_set self.old.kinds pid.0 (slice_index_or self.old.kinds pid.0 [] ++ kind ∷ []) }
+        ensures room { self.new.room ≡ slice_set self.old.room pid.0 (slice_index_or self.old.room pid.0 0 - 1) }
+    {
+        let line = &mut self.lines[pid.0 as usize];
+        line.note(kind);
+    }
+
+    /// The last event of the process is taken out. Where there is none, nothing changes. It takes no memory.
+    pub fn unnote(&mut self, pid: Pid)
+        ensures kinds { self.new.kinds ≡ slice_set self.old.kinds pid.0
+            (take (length (slice_index_or self.old.kinds pid.0 []) - 1) (slice_index_or self.old.kinds pid.0 [])) }
+        ensures grows { (a : ℕ) → slice_index_or self.old.room a 0 ≤ slice_index_or self.new.room a 0 }
+    {
+        if pid.0 as usize >= self.lines.len() {
+            return;
+        }
+        let line = &mut self.lines[pid.0 as usize];
+        line.unnote();
+    }
+
+    // The number, from 1, of the process's k-th event that is like the wanted one.
+    pub(crate) fn nth(&self, pid: Pid, wanted: Kind, k: u32) -> u32
+        requires first { 1 ≤ k }
+        requires enough { k ≤ count_by (is_like wanted) (slice_index_or self.now.kinds pid.0 []) }
+        ensures first { 1 ≤ result }
+        ensures within { result ≤ length (slice_index_or self.now.kinds pid.0 []) }
+        ensures like { is_like wanted (slice_index_or (slice_index_or self.now.kinds pid.0 []) (result - 1) wanted) ≡ true }
+        ensures count { count_by (is_like wanted) (take result (slice_index_or self.now.kinds pid.0 [])) ≡ k }
+    {
+        match self.lines.get(pid.0 as usize) {
+            Some(line) => line.nth(wanted, k),
+            None => k,
+        }
+    }
+
+    /// The number, from 1, of the event of process i that is its k-th send to process j.
+    pub fn send_event(&self, i: Pid, j: Pid, k: u32) -> u32
+        requires first { 1 ≤ k }
+        requires enough { k ≤ sent_by self.now.kinds i.0 j.0 (length (slice_index_or self.now.kinds i.0 [])) }
+        ensures sends { slice_get (slice_index_or self.now.kinds i.0 []) (result - 1) ≡ Some (Sent j) }
+        ensures count { sent_by self.now.kinds i.0 j.0 result ≡ k }
+    {
+        self.nth(i, Kind::Sent(j), k)
+    }
+
+    // A process that is not there, of which one of the first n events of the process received.
+    pub(crate) fn stranger(&self, pid: Pid, n: u32) -> Option<Pid>
+        ensures { MatchOption result
+            ((i : ℕ) → length self.now.kinds ≤ i → count_by (gets_from i) (take n (slice_index_or self.now.kinds pid.0 [])) ≡ 0)
+            (λ from. (length self.now.kinds ≤ from.0)
+            × (0 < count_by (gets_from from.0) (take n (slice_index_or self.now.kinds pid.0 [])))) }
+    {
+        stranger(self.first(pid, n), self.processes())
+    }
+}
