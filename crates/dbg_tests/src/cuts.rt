@@ -6,7 +6,9 @@ use std::alloc::{AllocError, Global};
 use std::test::Fail;
 
 const A: Pid = Pid(0);
+
 const B: Pid = Pid(1);
+
 const C: Pid = Pid(2);
 
 // One more event of a process that is there.
@@ -39,8 +41,18 @@ fn cut(alloc: Global, counts: &[u32]) -> Result<Cut, AllocError> {
 fn events_are_noted_and_counted(rt: HostRuntime) -> Result<(), Fail> {
     let mut tally = relay(rt.alloc())?;
     assert_eq!(rt; (tally.len(A), tally.len(B), tally.len(Pid(3))), (3, 2, 0));
-    assert_eq!(rt; (tally.sent(A, B, 1), tally.sent(A, B, 2), tally.sent(A, B, 9)), (0, 1, 2));
-    assert_eq!(rt; (tally.got(B, A, 0), tally.got(B, A, 1), tally.got(B, C, 2)), (0, 1, 0));
+    assert_eq!(rt;
+        (
+            tally.sent(A, B, 1),
+            tally.sent(A, B, 2),
+            tally.sent(A, B, 9)
+        ),
+        (0, 1, 2)
+    );
+    assert_eq!(rt;
+        (tally.got(B, A, 0), tally.got(B, A, 1), tally.got(B, C, 2)),
+        (0, 1, 0)
+    );
     tally.unnote(A);
     tally.unnote(Pid(3));
     assert_eq!(rt; (tally.len(A), tally.sent(A, B, 9)), (2, 1));
@@ -53,7 +65,10 @@ fn a_send_is_found_by_its_number(rt: HostRuntime) -> Result<(), Fail> {
     let tally = relay(rt.alloc())?;
     let sends = tally.sent(A, B, tally.len(A));
     assert_eq!(rt; sends, 2);
-    assert_eq!(rt; (tally.send_event(A, B, 1), tally.send_event(A, B, 2)), (2, 3));
+    assert_eq!(rt;
+        (tally.send_event(A, B, 1), tally.send_event(A, B, 2)),
+        (2, 3)
+    );
     Ok(())
 }
 
@@ -72,7 +87,10 @@ fn cuts_go_down_and_up(rt: HostRuntime) -> Result<(), Fail> {
     let tally = relay(rt.alloc())?;
     let back = cut(rt.alloc(), &[1, 2, 9])?;
     assert_eq!(rt; back.counts().len(), tally.processes() as usize);
-    assert_eq!(rt; greatest_below(rt.alloc(), &tally, &back)?.counts(), [1, 0, 0].as_slice());
+    assert_eq!(rt;
+        greatest_below(rt.alloc(), &tally, &back)?.counts(),
+        [1, 0, 0].as_slice()
+    );
     let all = tally.all_events(rt.alloc())?;
     assert_eq!(rt; all.counts(), [3, 2, 2].as_slice());
     let forth = cut(rt.alloc(), &[0, 0, 1])?;
