@@ -1,5 +1,6 @@
 -- How many of the first events are of a kind.
-use Rattle.std.proofs.Common.{◌≡◌, inl, inr, Option, Some, None, MatchOption, false, ℕ, zero, suc, ◌+◌, ◌-◌, ◌<◌, ◌≤◌, Bool, true, cond, List, [], length, get_or, take, refl, sym, ap}
+use Rattle.std.proofs.Common.{◌≡◌, inl, inr, Option, Some, None, MatchOption, false, ℕ, zero, suc, ◌+◌, ◌-◌}
+use Rattle.std.proofs.Common.{◌<◌, ◌≤◌, Bool, true, cond, List, [], length, get_or, take, refl, sym, ap}
 use Rattle.std.proofs.Common.{◌∙◌, arith}
 use Rattle.std.specs.List.{count_by}
 use Rattle.std.proofs.Common.{subst}

@@ -10,6 +10,7 @@ process b { var y = 0; var n = 0; when true : recv a y, n := (n + 1); }
 ";
 
 const A: Pid = Pid(0);
+
 const B: Pid = Pid(1);
 
 #[test]
