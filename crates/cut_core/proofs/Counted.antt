@@ -1,12 +1,10 @@
 -- How many of the first events are of a kind.
-use Rattle.std.proofs.Common.{◌≡◌, inl, inr, Option, Some, None, MatchOption, false, ℕ, zero, suc, ◌+◌, ◌-◌}
-use Rattle.std.proofs.Common.{◌<◌, ◌≤◌, Bool, true, cond, List, [], length, get_or, take, refl, sym, ap}
-use Rattle.std.proofs.Common.{◌∙◌, arith}
+use Rattle.std.proofs.Common.{◌≡◌, inl, inr, ℕ, zero, suc, ◌+◌, ◌-◌, ◌<◌, ◌≤◌, Bool, true, cond, List, [], length, get_or, take}
+use Rattle.std.proofs.Common.{Option, Some, None, MatchOption, refl, sym, ap, subst, ◌∙◌, arith}
 use Rattle.std.specs.List.{count_by}
-use Rattle.std.proofs.Common.{subst}
-use Rattle.std.proofs.lemmas.List.{take-take}
 use Rattle.std.proofs.lemmas.Bool.{cases_lt}
-use Rattle.std.proofs.lemmas.List.Sums.{count_by_more_yes, count_by_more_no, sum_by-take-le}
+use Rattle.std.proofs.lemmas.List.{take-take}
+use Rattle.std.proofs.lemmas.List.Sums.{count_by_more_yes, sum_by-take-le}
 
 module _ {X : Type 0} (p : X → Bool) where
   -- no fewer of more
@@ -26,28 +24,15 @@ module _ {X : Type 0} (p : X → Bool) where
     | inr le ↦ let grows : count_by p (take n xs) ≤ count_by p (take m xs) = count_grows xs n m le in absurd (omega arith)
   ]
 
-  -- one that passes is counted
-  pub counted : (xs : List X) (i : ℕ) (x : X) → i < length xs → x ≡ get_or xs i x → p x ≡ true → 0 < count_by p xs
-  counted xs i x lt here passes =
-      let more : count_by p (take (i + 1) xs) ≡ count_by p (take i xs) + 1 =
-      count_by_more_yes p xs i x lt (ap p (sym here) ∙ passes) in
-      let all : count_by p (take (i + 1) xs) ≤ count_by p xs = sum_by-take-le (λ y. cond (p y) 1 0) xs (i + 1) in
-      omega arith
-
-  -- it is the last of those up to it
+  -- where the last one passes, it is one more than before it
   pub count_before : (xs : List X) (n : ℕ) (d : X) → 1 ≤ n → n ≤ length xs → p (get_or xs (n - 1) d) ≡ true
       → count_by p (take n xs) ≡ count_by p (take (n - 1) xs) + 1
   count_before xs n d first within like =
       let same : n - 1 + 1 ≡ n = omega arith in
       ap (λ k. count_by p (take k xs)) (sym same) ∙ count_by_more_yes p xs (n - 1) d (omega arith) like
 
--- an answer says of another thing
+-- the answer of a search says less of another thing
 pub answer_weaker : {A : Type 0} (P P' : Type 0) (Q Q' : A → Type 0) (r : Option A) → (P → P') → ((x : A) → Q x → Q' x)
     → MatchOption r P Q → MatchOption r P' Q'
 answer_weaker P P' Q Q' None f g h = f h
 answer_weaker P P' Q Q' (Some x) f g h = g x h
-
--- one event more that does not pass
-pub none_more : {X : Type 0} (p : X → Bool) (xs : List X) (i : ℕ) (x : X) → i < length xs → x ≡ get_or xs i x → p x ≡ false
-    → count_by p (take i xs) ≡ 0 → count_by p (take (i + 1) xs) ≡ 0
-none_more p xs i x lt here fails none = count_by_more_no p xs i x lt (ap p (sym here) ∙ fails) ∙ none

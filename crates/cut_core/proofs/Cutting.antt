@@ -27,12 +27,6 @@ module _ (kinds : List (List Kind)) (counts : List ℕ) where
     | inr le ↦ le
   ]
 
-  pub no_orphan : HasCauses kinds counts → (i j : ℕ) → ¬ HasOrphan kinds counts i j
-  no_orphan causes i j orphan =
-      let le : got_by kinds j i (get_or counts j 0) ≤ sent_by kinds i j (get_or counts i 0) = causes i j orphan.0 in
-      let lt : sent_by kinds i j (get_or counts i 0) < got_by kinds j i (get_or counts j 0) = orphan.1 in
-      omega arith
-
   -- one that has is there
   pub receiver_there : (i j : ℕ) → HasOrphan kinds counts i j → j < length kinds
   receiver_there i j orphan = elim (cases_lt j (length kinds)) [
