@@ -17,5 +17,3 @@ mod events;
 mod language;
 #[cfg(test)]
 mod shell;
-#[cfg(test)]
-mod world;
