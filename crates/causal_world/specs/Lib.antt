@@ -1,3 +1,4 @@
+pub mod Pasts
 pub mod Scenes
 pub mod Deciding
 pub mod Room

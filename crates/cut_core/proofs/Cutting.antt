@@ -7,7 +7,8 @@ use Rattle.std.proofs.lemmas.List.Sums.{sum_by-set}
 use Rattle.cut_core.specs.declared.kind.Kind.{Kind}
 use Rattle.cut_core.specs.Kinds.{sends_to, gets_from}
 use Rattle.cut_core.specs.Tallies.{sent_by, got_by}
-use Rattle.cut_core.specs.ConsistentCuts.{HasCauses, HasOrphan, IsConsistentCut, IsAtMost}
+use Rattle.dbg_base.specs.Cuts.{IsAtMost}
+use Rattle.cut_core.specs.ConsistentCuts.{HasCauses, HasOrphan, IsConsistentCut}
 use Rattle.cut_core.proofs.Counted.{count_grows, count_below, count_none}
 
 -- a process that is not there sent nothing, and received nothing

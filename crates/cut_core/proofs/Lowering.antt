@@ -4,7 +4,8 @@ use Rattle.std.proofs.lemmas.List.{length-set}
 use Rattle.cut_core.specs.declared.kind.Kind.{Kind}
 use Rattle.cut_core.specs.Kinds.{gets_from}
 use Rattle.cut_core.specs.Tallies.{sent_by, got_by}
-use Rattle.cut_core.specs.ConsistentCuts.{HasOrphan, IsConsistentCut, IsAtMost, IsWithin}
+use Rattle.dbg_base.specs.Cuts.{IsAtMost}
+use Rattle.cut_core.specs.ConsistentCuts.{HasOrphan, IsConsistentCut, IsWithin}
 use Rattle.cut_core.proofs.Counted.{count_before}
 use Rattle.cut_core.proofs.Cutting.{receiver_there, lowered_keeps, lowered_less, sum_changes, less_at}
 

@@ -18,10 +18,6 @@ pub record IsConsistentCut (kinds : List (List Kind)) (cut : List ℕ) : Type 0 
 abbrev pub IsWithin : List (List Kind) → List ℕ → Type 0
 IsWithin kinds cut = (length cut ≡ length kinds) × ((p : ℕ) → slice_index cut p ≤ length (slice_index_or kinds p []))
 
--- the first is at most the second, for each process
-abbrev pub IsAtMost : List ℕ → List ℕ → Type 0
-IsAtMost c d = (p : ℕ) → slice_index c p ≤ slice_index d p
-
 -- process j has received more from process i than that one has sent to it
 abbrev pub HasOrphan : List (List Kind) → List ℕ → ℕ → ℕ → Type 0
 HasOrphan kinds cut i j = (i ≢ j) × (sent_by kinds i j (slice_index cut i) < got_by kinds j i (slice_index cut j))

@@ -3,7 +3,8 @@
 ghost use Rattle.std.specs.Prelude.{◌≡◌, ◌≢◌, ℕ, ◌+◌, ◌-◌, ◌<◌, ◌≤◌, List, [], length, min, sum, slice_index, slice_index_or};
 ghost use Rattle.std.specs.Prelude.{IfOk, IsTrue, IsSome, IfSome, ◌↔◌, MatchOption};
 ghost use Rattle.cut_core.specs.Tallies.{sent_by, got_by};
-ghost use Rattle.cut_core.specs.ConsistentCuts.{IsConsistentCut, IsAtMost, IsWithin, HasOrphan, places};
+ghost use Rattle.dbg_base.specs.Cuts.{IsAtMost};
+ghost use Rattle.cut_core.specs.ConsistentCuts.{IsConsistentCut, IsWithin, HasOrphan, places};
 
 use crate::kind::Kind;
 use crate::tally::Tally;

@@ -15,3 +15,7 @@ pub record IsConsistent (P : Program) (H : History) (cut : List ℕ) : Type 0 wh
 -- the history up to the cut
 abbrev pub history_at : History → List ℕ → History
 history_at H cut = cut_lines H cut
+
+-- the first is at most the second, for each process
+abbrev pub IsAtMost : List ℕ → List ℕ → Type 0
+IsAtMost c d = (p : ℕ) → slice_index c p ≤ slice_index d p

@@ -14,6 +14,7 @@ pub mod Orders
 pub mod ModelStates
 pub mod Counts
 pub mod Cuts
+pub mod Clocks
 pub mod Reversal
 pub mod Calls
 pub mod Acts

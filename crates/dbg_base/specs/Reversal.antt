@@ -1,8 +1,9 @@
 -- Taking back the last choice of a process, where nothing that remains depends on it.
-use Rattle.std.specs.Prelude.{ℕ, zero, suc, ◌-◌, ◌<◌, ℤ, pos, List, [], ◌∷◌, length, take, Option, Some, None}
+use Rattle.std.specs.Prelude.{ℕ, zero, suc, ◌-◌, ◌<◌, ◌≤◌, ℤ, pos, List, [], ◌∷◌, length, take, Option, Some, None}
 use Rattle.std.specs.Prelude.{slice_index, slice_index_or, slice_set}
 use Rattle.dbg_base.specs.Trees.{Action, Local, Sends, Receives, Command, Program, command_of}
 use Rattle.dbg_base.specs.Configurations.{Configuration, channel_of, with_channel, with_state}
+use Rattle.dbg_base.specs.Cuts.{IsConsistent, IsAtMost}
 use Rattle.dbg_base.specs.Histories.{History, Progress, opening_of, next_move, choice_count, IsPossible, local_state}
 
 -- a list without its last element
@@ -75,3 +76,9 @@ after_undos H (p ∷ undos) = after_undos (without_last H p) undos
 abbrev pub unfire_all : Program → History → List ℕ → Configuration → Configuration
 unfire_all P H [] c = c
 unfire_all P H (p ∷ undos) c = unfire_all P (without_last H p) undos (unfire P H c p)
+
+-- The cut to which process p is rolled back at n: the greatest consistent cut with at most n choices of p.
+pub record IsRollback (P : Program) (H : History) (p n : ℕ) (cut : List ℕ) : Type 0 where
+  pub consistent : IsConsistent P H cut
+  pub below : slice_index cut p ≤ n
+  pub greatest : (other : List ℕ) → IsConsistent P H other → slice_index other p ≤ n → IsAtMost other cut

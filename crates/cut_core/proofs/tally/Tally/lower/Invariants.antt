@@ -1,5 +1,6 @@
 use Rattle.std.proofs.Common.{ℕ, List, sum}
-use Rattle.cut_core.specs.ConsistentCuts.{IsConsistentCut, IsAtMost, IsWithin}
+use Rattle.dbg_base.specs.Cuts.{IsAtMost}
+use Rattle.cut_core.specs.ConsistentCuts.{IsConsistentCut, IsWithin}
 use Rattle.cut_core.proofs.tally.Tally.lower.Given as goal
 
 abbrev pub invariant-loop-from : goal.invariant-loop-from

@@ -1,5 +1,6 @@
 use Rattle.std.proofs.Common.{ℕ, ◌-◌, List, sum}
-use Rattle.cut_core.specs.ConsistentCuts.{IsConsistentCut, IsAtMost, IsWithin, places}
+use Rattle.dbg_base.specs.Cuts.{IsAtMost}
+use Rattle.cut_core.specs.ConsistentCuts.{IsConsistentCut, IsWithin, places}
 use Rattle.cut_core.proofs.tally.Tally.raise.Given as goal
 
 abbrev pub invariant-loop-from : goal.invariant-loop-from
