@@ -1,24 +1,25 @@
 -- What each event sent or received, and the clocks that this makes.
-use Rattle.std.specs.Prelude.{◌≡◌, ℕ, ◌+◌, ◌-◌, ◌<◌, ◌≤◌, List, [], ◌∷◌, ◌++◌, length, map, Option, Some, None}
-use Rattle.std.specs.Prelude.{slice_index, slice_index_or, slice_set}
+use Rattle.std.specs.Prelude.{◌≡◌, ◌≢◌, ℕ, ◌+◌, ◌-◌, ◌<◌, ◌≤◌, List, [], ◌∷◌, ◌++◌, length, map, Option, Some, None}
+use Rattle.std.specs.Prelude.{slice_get, slice_index, slice_index_or, slice_set}
 use Rattle.dbg_base.specs.Trees.{Action, Local, Sends, Receives, Command, Program, command_of}
 use Rattle.dbg_base.specs.Histories.{History}
 use Rattle.dbg_base.specs.Cuts.{IsAtMost}
 use Rattle.dbg_base.specs.Reversal.{without_back}
 use Rattle.cut_core.specs.declared.kind.Kind.{Kind}
-use Rattle.cut_core.specs.declared.kind.Kind.TheVariants as kinds
+use Rattle.cut_core.specs.declared.kind.Kind.TheVariants as does
+use Rattle.cut_core.specs.Tallies.{sent_by, got_by}
 use Rattle.cut_core.specs.ConsistentCuts.{IsConsistentCut, places}
 use Rattle.event_rows.specs.declared.exchange.Exchange.{Exchange}
 use Rattle.event_rows.specs.declared.exchange.Exchange.TheVariants.{Nothing, Sent, Took}
 
 -- what a command does to messages
 abbrev pub kind_of_action : Action → Kind
-kind_of_action Local = kinds.Local
-kind_of_action (Sends target value) = kinds.Sent (record { 0 = target })
-kind_of_action (Receives source variable) = kinds.Got (record { 0 = source })
+kind_of_action Local = does.Local
+kind_of_action (Sends target value) = does.Sent (record { 0 = target })
+kind_of_action (Receives source variable) = does.Got (record { 0 = source })
 
 abbrev pub kind_of_command : Option Command → Kind
-kind_of_command None = kinds.Local
+kind_of_command None = does.Local
 kind_of_command (Some command) = kind_of_action command.action
 
 -- what choice k of process p does to messages
@@ -35,9 +36,9 @@ kinds_of P H = kinds_from P 0 H
 
 -- what an event did to messages
 abbrev pub kind_done : Exchange → Kind
-kind_done Nothing = kinds.Local
-kind_done (Sent target value count) = kinds.Sent target
-kind_done (Took source message count) = kinds.Got source
+kind_done Nothing = does.Local
+kind_done (Sent target value count) = does.Sent target
+kind_done (Took source message count) = does.Got source
 
 -- one more event of process p
 abbrev pub with_kind : List (List Kind) → ℕ → Kind → List (List Kind)
@@ -66,3 +67,22 @@ pub record AreClocksOf (kinds : List (List Kind)) (clocks : List (List (List ℕ
   pub processes : length clocks ≡ length kinds
   pub sizes : (p : ℕ) → p < length kinds → length (slice_index_or clocks p []) ≡ length (slice_index_or kinds p []) + 1
   pub rows : (p n : ℕ) → p < length kinds → n ≤ length (slice_index_or kinds p []) → IsClockOf kinds p n (row_at clocks p n)
+
+-- Event m of process s, which is there, sent the message that process p takes next from it.
+pub record IsSender (kinds : List (List Kind)) (p s m : ℕ) : Type 0 where
+  pub here : s < length kinds
+  pub first : 1 ≤ m
+  pub within : m ≤ length (slice_index_or kinds s [])
+  pub sends : slice_get (slice_index_or kinds s []) (m - 1) ≡ Some (does.Sent (record { 0 = p }))
+  pub count : sent_by kinds s p m ≡ got_by kinds p s (length (slice_index_or kinds p [])) + 1
+
+-- it is the last event of process p
+abbrev pub IsOwnLast : List (List Kind) → ℕ → ℕ → ℕ → Type 0
+IsOwnLast kinds p q m = (q ≡ p) × (m ≡ length (slice_index_or kinds p []))
+
+-- Event m of process q is the one whose clock the next event of process p, of this kind, joins with its own: the event that sent the
+-- message that it takes from another process, and else its own last event.
+abbrev pub IsCause : List (List Kind) → ℕ → Kind → ℕ → ℕ → Type 0
+IsCause kinds p (does.Got source) q m =
+    (source.0 ≡ p → IsOwnLast kinds p q m) × (source.0 ≢ p → (q ≡ source.0) × IsSender kinds p source.0 m)
+IsCause kinds p kind q m = IsOwnLast kinds p q m
