@@ -14,10 +14,13 @@ use std::marker::Model;
 #[derive(Debug, Drop)]
 pub struct Clocks {
     lines: Vec<Line>,
+    // A row to copy to, of one count for each process.
+    copied: Vec<u32>,
 }
 
 impl Model for Clocks {
     ghost use Rattle.std.specs.Prelude.{◌≡◌, length, map, replicate};
+    ghost use Rattle.std.specs.Vec.{vec_len};
     ghost use Rattle.clock_rows.specs.Clocks.{ClocksState};
 
     ghost Value = { ClocksState };
@@ -27,8 +30,8 @@ impl Model for Clocks {
       room = map (λ line. line.room) clocks.lines.items;
     } };
 
-    ghost invariant = { λ clocks. map (λ line. line.width) clocks.lines.items
-        ≡ replicate (length clocks.lines.items) (length clocks.lines.items) };
+    ghost invariant = { λ clocks. (map (λ line. line.width) clocks.lines.items
+        ≡ replicate (length clocks.lines.items) (length clocks.lines.items)) × (vec_len clocks.copied ≡ length clocks.lines.items) };
 }
 
 // One row of zeros for each of so many processes.
@@ -50,6 +53,7 @@ impl Clocks {
     {
         Ok(Clocks {
             lines: first_lines(alloc, processes)?,
+            copied: vec![in alloc; 0u32; processes as usize]?,
         })
     }
 
@@ -100,6 +104,24 @@ impl Clocks {
     {
         let line = &mut self.lines[pid.0 as usize];
         line.push(pid.0 as usize, joined);
+    }
+
+    /// As `push` does with the n-th row of the source, which may be the process itself.
+    pub fn push_joined(&mut self, pid: Pid, source: Pid, n: u32)
+        requires room { 0 < slice_index_or self.old.room pid.0 0 }
+        requires there { source.0 < length self.old.rows }
+        requires row { n < length (slice_index_or self.old.rows source.0 []) }
+        requires fits { slice_index_or (join (last_row (slice_index_or self.old.rows pid.0 []))
+            (slice_index_or (slice_index_or self.old.rows source.0 []) n [])) pid.0 0 < 4294967295 }
+        ensures rows { self.new.rows ≡ slice_set self.old.rows pid.0 (slice_index_or self.old.rows pid.0 []
+            ++ next_row pid.0 (last_row (slice_index_or self.old.rows pid.0 []))
+            (slice_index_or (slice_index_or self.old.rows source.0 []) n []) ∷ []) }
+        ensures room { self.new.room ≡ slice_set self.old.room pid.0 (slice_index_or self.old.room pid.0 0 - 1) }
+    {
+        let given = &self.lines[source.0 as usize];
+        self.copied.copy_from_slice(given.row(n as usize));
+        let line = &mut self.lines[pid.0 as usize];
+        line.push(pid.0 as usize, self.copied.as_slice());
     }
 
     /// The last row of the process is taken off, where it has more than its first. No room is lost, and it takes no memory.

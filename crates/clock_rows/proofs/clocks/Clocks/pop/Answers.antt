@@ -1,15 +1,18 @@
-use Rattle.std.proofs.Common.{ℕ, ◌-◌, ◌≤◌, List, [], length, take, sym, arith}
+use Rattle.std.proofs.Common.{ℕ, ◌-◌, ◌≤◌, List, [], length, take, sym, ◌∙◌, arith}
+use Rattle.std.proofs.lemmas.List.{length-set}
 use Rattle.dbg_base.proofs.Places.{changed_at, related_after}
 use Rattle.clock_rows.specs.Clocks.{LineState}
 use Rattle.clock_rows.proofs.Widths.{widths_kept, seen_rows_there}
 use Rattle.clock_rows.proofs.clocks.Clocks.pop.Goals as goal
 
 pub invariant_of-self : goal.invariant_of-self
-invariant_of-self c =
-    widths_kept (λ (line : LineState). line.width) c.self.inside.lines.items c.args.pid.0
-    c.index_mut-line.result.now (sym c.index_mut-line.ensures.value)
-    (seen_rows_there (λ (line : LineState). line.rows) c.self.inside.lines.items c.args.pid.0 (rw (← c.self.view_is) at c.requires))
-    c.self.invariant c.pop.new.self c.pop.ensures.width
+invariant_of-self c = (
+  widths_kept (λ (line : LineState). line.width) c.self.inside.lines.items c.args.pid.0
+      c.index_mut-line.result.now (sym c.index_mut-line.ensures.value)
+      (seen_rows_there (λ (line : LineState). line.rows) c.self.inside.lines.items c.args.pid.0 (rw (← c.self.view_is) at c.requires))
+      c.self.invariant.0 c.pop.new.self c.pop.ensures.width,
+  c.self.invariant.1 ∙ sym (length-set c.self.inside.lines.items c.args.pid.0 c.pop.new.self),
+)
 
 pub returns-clause-rows : goal.returns-clause-rows
 returns-clause-rows c =

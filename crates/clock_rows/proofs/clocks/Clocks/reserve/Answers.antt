@@ -1,16 +1,19 @@
-use Rattle.std.proofs.Common.{ℕ, ◌<◌, ◌≤◌, length, sym, arith}
+use Rattle.std.proofs.Common.{ℕ, ◌<◌, ◌≤◌, length, sym, ◌∙◌, arith}
 use Rattle.std.proofs.lemmas.Result.{on_ok_weaker}
+use Rattle.std.proofs.lemmas.List.{length-set}
 use Rattle.dbg_base.proofs.Places.{kept_at, seen_after, related_after}
 use Rattle.clock_rows.specs.Clocks.{LineState}
 use Rattle.clock_rows.proofs.Widths.{widths_kept}
 use Rattle.clock_rows.proofs.clocks.Clocks.reserve.Goals as goal
 
 pub invariant_of-self : goal.invariant_of-self
-invariant_of-self c =
-    widths_kept (λ (line : LineState). line.width) c.self.inside.lines.items c.args.pid.0
-    c.index_mut-line.result.now (sym c.index_mut-line.ensures.value)
-    (omega (arith, c.self.inside.lines.ok.0))
-    c.self.invariant c.reserve.new.self c.reserve.ensures.width
+invariant_of-self c = (
+  widths_kept (λ (line : LineState). line.width) c.self.inside.lines.items c.args.pid.0
+      c.index_mut-line.result.now (sym c.index_mut-line.ensures.value)
+      (omega (arith, c.self.inside.lines.ok.0))
+      c.self.invariant.0 c.reserve.new.self c.reserve.ensures.width,
+  c.self.invariant.1 ∙ sym (length-set c.self.inside.lines.items c.args.pid.0 c.reserve.new.self),
+)
 
 pub returns-clause-rows : goal.returns-clause-rows
 returns-clause-rows c =

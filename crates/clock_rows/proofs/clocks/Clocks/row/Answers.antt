@@ -11,5 +11,5 @@ returns-clause-len c =
     rw (← c.self.view_is) (c.row.ensures.len
     ∙ width_at (λ (line : LineState). line.width) c.self.inside.lines.items c.args.pid.0
     c.index-line.result.now (sym c.index-line.ensures)
-    (omega (arith, there, length-map c.self.inside.lines.items (λ (line : LineState). line.rows))) c.self.invariant
+    (omega (arith, there, length-map c.self.inside.lines.items (λ (line : LineState). line.rows))) c.self.invariant.0
     ∙ sym (length-map c.self.inside.lines.items (λ (line : LineState). line.rows)))
