@@ -23,6 +23,10 @@ use Rattle.event_rows.proofs.Undone.{has_old_values}
 use Rattle.event_rows.proofs.Undone as events
 use Rattle.causal_world.specs.Scenes.{Scene, message_for, exchange_for, event_if, event_at, with_event, events_from, events_of}
 use Rattle.causal_world.specs.Scenes.{IsWorldOf, channels_after, channels_before, with_done, with_undone, without_event, unmade}
+use Rattle.cut_core.specs.declared.kind.Kind.{Kind}
+use Rattle.causal_world.specs.Pasts.{kind_at, kinds_of, without_kind, IsWhole}
+use Rattle.causal_world.proofs.Clocking.{clocks_less}
+use Rattle.causal_world.proofs.KindsOf.{length_kinds, kinds_at, kinds_less, whole_kinds}
 use Rattle.causal_world.proofs.Moves.{fires}
 use Rattle.causal_world.proofs.Bubbling.{IsEmpty, IsOrderOf, first_step}
 use Rattle.causal_world.proofs.Joining.{joined}
@@ -211,9 +215,17 @@ goes_back P w p k of here last waiting =
     ∙ ap (λ (x : List EventValue). set before p (without_back x)) own
     ∙ ap (set before p) (back_off (get_or before p []) m.event)
     ∙ set-get_or before p [] in
+    let kinds_before : kinds_of P B ≡ without_kind (kinds_of P (history_of M)) p =
+    ap (kinds_of P) (history_without P M p of.state here) ∙ kinds_less P (history_of M) p in
+    let kinds_there : length w.kinds ≡ length (history_of M) =
+    ap (λ (kinds : List (List Kind)). length kinds) of.counts ∙ length_kinds P (history_of M) in
+    let whole_size : length (history_of M) ≡ length P = length_cut M.lines M.places ∙ of.state.lines in
     let size : length (get_or (history_of M) p []) ≡ suc (length (get_or B p [])) =
     ap (λ (H : History). length (get_or H p [])) whole ∙ ap (λ (x : List ℕ). length x) (push_same B p k within)
     ∙ omega (arith, length_push (get_or B p []) k) in
+    let some_kinds : 0 < length (get_or w.kinds p []) =
+    omega (arith, size, ap (λ (kinds : List (List Kind)). length (get_or kinds p [])) of.counts
+    ∙ ap (λ (l : List Kind). length l) (kinds_at P (history_of M) p) ∙ length-map (get_or (history_of M) p []) (kind_at P p)) in
     record {
       event = m.event;
       was = ap (λ (x : List EventValue). slice_get x (length x - 1)) own ∙ get_last (get_or before p []) m.event;
@@ -230,5 +242,9 @@ goes_back P w p k of here last waiting =
         history = order_is (length P) B l.events lines l.takes;
         leads = l.legal ∙ ap (λ (x : Configuration). Ok x) (sym standing);
         events = events_before;
+        counts = ap (λ (kinds : List (List Kind)). without_kind kinds p) of.counts ∙ sym kinds_before;
+        clocks = clocks_less w.kinds w.clocks p (omega (arith, kinds_there, whole_size)) some_kinds
+            (subst IsWhole (kinds_before ∙ ap (λ (kinds : List (List Kind)). without_kind kinds p) (sym of.counts))
+            (whole_kinds P B shorter)) of.clocks;
       };
     }

@@ -1,5 +1,5 @@
 -- A world opens, and goes on by one event.
-use Rattle.std.proofs.Common.{◌≡◌, ◌≢◌, ℕ, zero, suc, ◌<◌, ◌≤◌, List, [], ◌∷◌, ◌++◌, length, get_or, set, replicate, Some, Ok}
+use Rattle.std.proofs.Common.{◌≡◌, ◌≢◌, ℕ, zero, suc, ◌+◌, ◌<◌, ◌≤◌, List, [], ◌∷◌, ◌++◌, length, get_or, set, replicate, Some, Ok}
 use Rattle.std.proofs.Common.{refl, sym, ap, ◌∙◌, subst, ⊎_elim, arith}
 use Rattle.std.specs.Prelude.{slice_get}
 use Rattle.std.proofs.lemmas.Bool.{cases_eq}
@@ -12,6 +12,9 @@ use Rattle.dbg_base.specs.Orders.{Event, order_from, order, with_first, with_las
 use Rattle.dbg_base.specs.ModelStates.{ModelState, opening_state, line_of, cut_lines, history_of, IsStateOf}
 use Rattle.event_rows.specs.EventValues.{EventValue}
 use Rattle.causal_world.specs.Scenes.{Scene, event_at, with_event, events_from, events_of, IsWorldOf, with_done, made}
+use Rattle.cut_core.specs.declared.kind.Kind.{Kind}
+use Rattle.causal_world.specs.Pasts.{kinds_from, kinds_of, kind_done, with_kind, AreClocksOf}
+use Rattle.causal_world.proofs.KindsOf.{kind_event, kinds_more}
 use Rattle.causal_world.proofs.Grids.{within_or_past}
 use Rattle.causal_world.proofs.Pushes.{none_in_replicate}
 use Rattle.causal_world.proofs.Bubbling.{IsOrderOf, first_step}
@@ -74,10 +77,11 @@ events_more P c d b events (f ∷ E) e legal fires =
     (sym (events_step P c first.0 events f E first.1))
 
 -- The world goes on where a choice fires.
-pub goes_on : (P : Program) (w : Scene) (p k : ℕ) (event : EventValue) (state : ModelState) (d : Configuration) → IsWorldOf P w
-    → fire P w.standing p k ≡ Ok d → event_at P w.standing p k ≡ Some event → d ≡ with_done w.standing p event
-    → IsStateOf P state → history_of state ≡ with_last (history_of w.state) p k → IsWorldOf P (made w p event state)
-goes_on P w p k event state d of fires is leads state_of history =
+pub goes_on : (P : Program) (w : Scene) (p k : ℕ) (event : EventValue) (state : ModelState) (clocks : List (List (List ℕ)))
+    (d : Configuration) → IsWorldOf P w → fire P w.standing p k ≡ Ok d → event_at P w.standing p k ≡ Some event
+    → d ≡ with_done w.standing p event → IsStateOf P state → history_of state ≡ with_last (history_of w.state) p k
+    → AreClocksOf (with_kind w.kinds p (kind_done event.exchange)) clocks → IsWorldOf P (made w p event state clocks)
+goes_on P w p k event state clocks d of fires is leads state_of history timed =
     let e : Event = record { process = p; choice = k } in
     let E : List Event = of.fired ++ e ∷ [] in
     let legal : order P E ≡ Ok d =
@@ -97,6 +101,10 @@ goes_on P w p k event state d of fires is leads state_of history =
       events = ap (λ (l : List (List EventValue)). with_event l p (Some event)) of.events
           ∙ ap (with_event (events_of P of.fired) p) (sym is)
           ∙ sym (events_more P (start_of P) w.standing d (replicate (length P) []) of.fired e of.leads fires);
+      counts = ap (λ (kinds : List (List Kind)). with_kind kinds p (kind_done event.exchange)) of.counts
+          ∙ ap (with_kind (kinds_of P (history_of w.state)) p) (kind_event P w.standing d p k event is fires)
+          ∙ sym (ap (kinds_of P) history ∙ kinds_more P (history_of w.state) p k);
+      clocks = timed;
     }
 
 -- The world at the start.
@@ -123,8 +131,8 @@ opens_state P = record {
 }
 
 pub opened : (P : Program) (w : Scene) → w.state ≡ opening_state P → w.standing ≡ start_of P → w.starts ≡ (start_of P).states
-    → w.events ≡ replicate (length P) [] → IsWorldOf P w
-opened P w state standing starts events =
+    → w.events ≡ replicate (length P) [] → w.kinds ≡ replicate (length P) [] → AreClocksOf w.kinds w.clocks → IsWorldOf P w
+opened P w state standing starts events kinds timed =
     let history : history_of w.state ≡ replicate (length P) [] = ap history_of state ∙ no_events (length P) in
     let played = possible P (replicate (length P) []) [] (start_of P) refl (takes P (start_of P) (start_of P) [] refl) in
     record {
@@ -136,4 +144,10 @@ opened P w state standing starts events =
       history = sym history;
       leads = ap (λ (x : Configuration). Ok x) (sym standing);
       events = events;
+      counts = kinds ∙ sym (ap (kinds_of P) history ∙ no_kinds P 0 (length P));
+      clocks = timed;
     }
+  where
+    no_kinds : (P : Program) (p n : ℕ) → kinds_from P p (replicate n []) ≡ replicate n []
+    no_kinds P p zero = refl
+    no_kinds P p (suc n) = ap (λ (l : List (List Kind)). [] ∷ l) (no_kinds P (p + 1) n)

@@ -2,6 +2,7 @@
 use Rattle.std.specs.Prelude.{◌≡◌, ◌≢◌, ℕ, ◌+◌, ◌-◌, ◌<◌, ◌≤◌, List, [], ◌∷◌, ◌++◌, length, map, Option, Some, None}
 use Rattle.std.specs.Prelude.{slice_get, slice_index, slice_index_or, slice_set}
 use Rattle.dbg_base.specs.Trees.{Action, Local, Sends, Receives, Command, Program, command_of}
+use Rattle.dbg_base.specs.LocalStates.{LocalState}
 use Rattle.dbg_base.specs.Histories.{History}
 use Rattle.dbg_base.specs.Cuts.{IsAtMost}
 use Rattle.dbg_base.specs.Reversal.{without_back}
@@ -10,6 +11,7 @@ use Rattle.cut_core.specs.declared.kind.Kind.TheVariants as does
 use Rattle.cut_core.specs.Tallies.{sent_by, got_by}
 use Rattle.cut_core.specs.ConsistentCuts.{IsConsistentCut, places}
 use Rattle.event_rows.specs.declared.exchange.Exchange.{Exchange}
+use Rattle.event_rows.specs.EventValues.{EventValue}
 use Rattle.event_rows.specs.declared.exchange.Exchange.TheVariants.{Nothing, Sent, Took}
 
 -- what a command does to messages
@@ -62,6 +64,10 @@ pub record IsClockOf (kinds : List (List Kind)) (p n : ℕ) (cut : List ℕ) : T
 abbrev pub row_at : List (List (List ℕ)) → ℕ → ℕ → List ℕ
 row_at clocks p n = slice_index_or (slice_index_or clocks p []) n []
 
+-- the last row of process p taken off
+abbrev pub without_row : List (List (List ℕ)) → ℕ → List (List (List ℕ))
+without_row clocks p = slice_set clocks p (without_back (slice_index_or clocks p []))
+
 -- Each process has a row before its first event and one behind each event, and each row is the clock there.
 pub record AreClocksOf (kinds : List (List Kind)) (clocks : List (List (List ℕ))) : Type 0 where
   pub processes : length clocks ≡ length kinds
@@ -86,3 +92,26 @@ abbrev pub IsCause : List (List Kind) → ℕ → Kind → ℕ → ℕ → Type 
 IsCause kinds p (does.Got source) q m =
     (source.0 ≡ p → IsOwnLast kinds p q m) × (source.0 ≢ p → (q ≡ source.0) × IsSender kinds p source.0 m)
 IsCause kinds p kind q m = IsOwnLast kinds p q m
+
+-- what is kept of each process: its start, its events, what they did to messages, the clock behind each; and how many more events are
+-- taken without memory
+pub record PastState : Type 0 where
+  pub starts : List LocalState
+  pub events : List (List EventValue)
+  pub kinds : List (List Kind)
+  pub clocks : List (List (List ℕ))
+  pub event_room : List ℕ
+  pub kind_room : List ℕ
+  pub clock_room : List ℕ
+
+-- What is kept of the same events agrees, and no message was received that was not sent.
+pub record IsPast (events : List (List EventValue)) (kinds : List (List Kind)) (clocks : List (List (List ℕ))) : Type 0 where
+  pub sizes : map (λ own. length own) events ≡ places kinds
+  pub whole : IsWhole kinds
+  pub rows : AreClocksOf kinds clocks
+
+-- there is room for n more events of process p
+pub record HasRoomFor (past : PastState) (p n : ℕ) : Type 0 where
+  pub event : n ≤ slice_index past.event_room p
+  pub kind : n ≤ slice_index past.kind_room p
+  pub clock : n ≤ slice_index past.clock_room p

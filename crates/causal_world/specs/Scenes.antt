@@ -17,20 +17,27 @@ use Rattle.event_rows.specs.declared.exchange.Exchange.TheVariants.{Nothing, Sen
 use Rattle.event_rows.specs.EventValues.{EventValue}
 use Rattle.event_rows.specs.Settings.{settings_of}
 use Rattle.event_rows.specs.Events.{after_event, before_event}
+use Rattle.cut_core.specs.declared.kind.Kind.{Kind}
+use Rattle.causal_world.specs.Pasts.{PastState, AreClocksOf, kinds_of, kind_done, with_kind, without_kind, without_row}
 
--- lines and places, local states and channels, and for each process its start and its events
+-- lines and places, local states and channels, and for each process its start, its events, what they did to messages, and the clocks
+-- before and behind them
 pub record Scene : Type 0 where
   pub state : ModelState
   pub standing : Configuration
   pub starts : List LocalState
   pub events : List (List EventValue)
+  pub kinds : List (List Kind)
+  pub clocks : List (List (List ℕ))
 
-abbrev pub scene : ModelState → List LocalState → List (List (List ℤ)) → List LocalState → List (List EventValue) → Scene
-scene state states channels starts events = record {
+abbrev pub scene : ModelState → List LocalState → List (List (List ℤ)) → PastState → Scene
+scene state states channels past = record {
   state = state;
   standing = record { states = states; channels = channels };
-  starts = starts;
-  events = events;
+  starts = past.starts;
+  events = past.events;
+  kinds = past.kinds;
+  clocks = past.clocks;
 }
 
 -- What an event is.
@@ -90,7 +97,7 @@ abbrev pub events_of : Program → List Event → List (List EventValue)
 events_of P E = events_from P (start_of P) (replicate (length P) []) E
 
 -- The world is of the program P: its lines and places are P's, its events are possible, local states and channels are those of their
--- play, and what is kept of the events is what they do as they fire in some order.
+-- play, what is kept of the events is what they do as they fire in some order, and counts and clocks are those of the events.
 pub record IsWorldOf (P : Program) (w : Scene) : Type 0 where
   pub state : IsStateOf P w.state
   pub possible : IsPossible P (history_of w.state)
@@ -100,6 +107,8 @@ pub record IsWorldOf (P : Program) (w : Scene) : Type 0 where
   pub history : choices_of (length P) fired ≡ history_of w.state
   pub leads : order P fired ≡ Ok w.standing
   pub events : w.events ≡ events_of P fired
+  pub counts : w.kinds ≡ kinds_of P (history_of w.state)
+  pub clocks : AreClocksOf w.kinds w.clocks
 
 -- What an event changes.
 
@@ -133,12 +142,14 @@ with_undone c p event = record {
   channels = channels_before c.channels p event.exchange;
 }
 
--- process p has made this event, which leaves this state
-abbrev pub made : Scene → ℕ → EventValue → ModelState → Scene
-made w p event state = record w {
+-- process p has made this event, which leaves this state and these clocks
+abbrev pub made : Scene → ℕ → EventValue → ModelState → List (List (List ℕ)) → Scene
+made w p event state clocks = record w {
   state = state;
   standing = with_done w.standing p event;
   events = with_event w.events p (Some event);
+  kinds = with_kind w.kinds p (kind_done event.exchange);
+  clocks = clocks;
 }
 
 -- the last event of process p is taken back
@@ -150,4 +161,6 @@ unmade w p event = record w {
   state = after_undo w.state p;
   standing = with_undone w.standing p event;
   events = without_event w.events p;
+  kinds = without_kind w.kinds p;
+  clocks = without_row w.clocks p;
 }

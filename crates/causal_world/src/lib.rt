@@ -3,8 +3,10 @@
 
 mod channels;
 mod deciding;
+mod events;
 pub mod laws;
 mod lines;
+mod past;
 mod world;
 
 pub use world::{Cutoff, Rolled, World};

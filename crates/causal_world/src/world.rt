@@ -6,28 +6,28 @@ ghost use Rattle.std.specs.Option.{option_map};
 ghost use Rattle.dbg_base.specs.declared.limits.TheConstants.{EVENTS};
 ghost use Rattle.dbg_base.specs.declared.refusal.Refusal.TheVariants.{Memory};
 ghost use Rattle.dbg_base.specs.Trees as tree;
-ghost use Rattle.dbg_base.specs.LocalStates.{no_state};
 ghost use Rattle.dbg_base.specs.Configurations.{start_of, values_of, channel_of};
 ghost use Rattle.dbg_base.specs.ModelStates.{opening_state, line_of, place_at, redo_line, history_of, last_choice};
 ghost use Rattle.dbg_base.specs.ModelStates.{after_choice, after_redo, after_undo};
 ghost use Rattle.dbg_base.specs.Acts.{step_choice, next_choice, redo_choice, CannotUndo};
 ghost use Rattle.dbg_base.specs.Reversal.{MayUndo};
 ghost use Rattle.proc_lang.specs.Programs.{program_of};
-ghost use Rattle.event_rows.specs.Events.{after_event, before_event};
-ghost use Rattle.causal_world.specs.Scenes.{IsWorldOf, channels_after, channels_before, with_event, without_event, made, unmade};
-ghost use Rattle.causal_world.specs.Room.{HasRoomAfter, HasRoomBefore};
+ghost use Rattle.causal_world.specs.Pasts.{AreClocksOf};
+ghost use Rattle.causal_world.specs.Scenes.{IsWorldOf, made, unmade};
 ghost use Rattle.causal_world.specs.Worlds.{CanMake, Undoable};
 
-use crate::channels::{go_after, go_before, make_room_after, make_room_before, received};
+use crate::channels::{make_room_before, received};
 use crate::deciding::{lowest, try_choice};
+use crate::events::{happen, make_room, revert};
 use crate::lines::Lines;
+use crate::past::Past;
 use dbg_base::limits::EVENTS;
 use dbg_base::{Choice, Pid, Refusal, Sequence};
 use event_rows::{Event, Exchange, Rows};
 use fifo_grid::Grid;
 use local_eval::Env;
 use proc_lang::Program;
-use std::alloc::{AllocError, Global};
+use std::alloc::Global;
 use std::marker::Model;
 
 /// For each process its line of choices and its place in it, its local state and its events; and for each ordered pair of processes
@@ -37,7 +37,7 @@ pub struct World {
     lines: Lines,
     envs: Vec<Env>,
     grid: Grid,
-    rows: Rows,
+    past: Past,
 }
 
 impl Model for World {
@@ -46,9 +46,9 @@ impl Model for World {
 
     ghost Value = { Scene };
 
-    ghost view = { λ w. scene w.lines w.envs.items w.grid.channels w.rows.starts w.rows.events };
+    ghost view = { λ w. scene w.lines w.envs.items w.grid.channels w.past };
 
-    ghost invariant = { λ w. IsSomeWorld (scene w.lines w.envs.items w.grid.channels w.rows.starts w.rows.events) };
+    ghost invariant = { λ w. IsSomeWorld (scene w.lines w.envs.items w.grid.channels w.past) };
 }
 
 /// The choices that a step cut off.
@@ -72,51 +72,6 @@ pub struct Rolled {
     event: Event,
 }
 
-// Makes room for an event of the process. Where memory runs out nothing changes that is seen.
-fn make_room(
-    grid: &mut Grid,
-    rows: &mut Rows,
-    pid: Pid,
-    exchange: Exchange,
-) -> Result<(), AllocError>
-    ensures channels { grid.new.channels ≡ grid.old.channels }
-    ensures starts { rows.new.starts ≡ rows.old.starts }
-    ensures events { rows.new.events ≡ rows.old.events }
-    ensures messages { OnOk result (HasRoomAfter grid.new pid.0 exchange) }
-    ensures room { OnOk result (pid.0 < length rows.old.events → 0 < slice_index_or rows.new.room pid.0 0) }
-{
-    make_room_after(grid, pid, exchange)?;
-    rows.reserve(pid, 1)
-}
-
-// The event of the process happens.
-fn happen(envs: &mut Vec<Env>, grid: &mut Grid, rows: &mut Rows, pid: Pid, event: Event)
-    requires here { pid.0 < length envs.old.items }
-    requires messages { HasRoomAfter grid.old pid.0 event.exchange }
-    requires room { 0 < slice_index_or rows.old.room pid.0 0 }
-    ensures states { envs.new.items
-        ≡ slice_set envs.old.items pid.0 (after_event event (slice_index_or envs.old.items pid.0 no_state)) }
-    ensures channels { grid.new.channels ≡ channels_after grid.old.channels pid.0 event.exchange }
-    ensures starts { rows.new.starts ≡ rows.old.starts }
-    ensures events { rows.new.events ≡ with_event rows.old.events pid.0 (Some event) }
-{
-    event.redo(&mut envs[pid.0 as usize]);
-    go_after(grid, pid, event.exchange());
-    rows.push(pid, event);
-}
-
-// The event of the process, which was its last, is taken back.
-fn revert(envs: &mut Vec<Env>, grid: &mut Grid, pid: Pid, event: &Event)
-    requires here { pid.0 < length envs.old.items }
-    requires messages { HasRoomBefore grid.old pid.0 event.now.exchange }
-    ensures states { envs.new.items
-        ≡ slice_set envs.old.items pid.0 (before_event event.now (slice_index_or envs.old.items pid.0 no_state)) }
-    ensures channels { grid.new.channels ≡ channels_before grid.old.channels pid.0 event.now.exchange }
-{
-    event.undo(&mut envs[pid.0 as usize]);
-    go_before(grid, pid, event.exchange());
-}
-
 impl World {
     /// The world of a program at its start: empty lines, initial values, no message. It is refused only as `Memory`, where that runs
     /// out.
@@ -129,12 +84,12 @@ impl World {
         let lines = Lines::new(alloc, processes)?;
         let envs = Env::starts(alloc, program)?;
         let grid = Grid::new(alloc, processes)?;
-        let rows = Rows::new(alloc, program)?;
+        let past = Past::new(alloc, program)?;
         Ok(World {
             lines,
             envs,
             grid,
-            rows,
+            past,
         })
     }
 
@@ -148,15 +103,16 @@ impl World {
     ) -> Result<Cutoff, Refusal>
         requires can { CanMake self.old pid.0 choice.0 event }
         requires few { place_at self.old.state pid.0 < EVENTS }
-        ensures made { OnOk result (self.new ≡ made self.old pid.0 event (after_choice self.old.state pid.0 choice.0)) }
+        ensures made { OnOk result (self.new ≡ made self.old pid.0 event (after_choice self.old.state pid.0 choice.0) self.new.clocks) }
+        ensures clocks { OnOk result (AreClocksOf self.new.kinds self.new.clocks) }
         ensures cut { IfOk result (λ cutoff. cutoff ≡ redo_line self.old.state pid.0) }
         ensures refuses { IfErr result (λ refusal. refusal ≡ Memory) }
         ensures kept { OnErr result (self.new ≡ self.old) }
     {
         let choices = self.lines.redo_line(alloc, pid)?;
-        make_room(&mut self.grid, &mut self.rows, pid, event.exchange())?;
+        make_room(&mut self.grid, &mut self.past, pid, event.exchange())?;
         self.lines.append(pid, choice)?;
-        happen(&mut self.envs, &mut self.grid, &mut self.rows, pid, event);
+        happen(&mut self.envs, &mut self.grid, &mut self.past, pid, event);
         Ok(Cutoff { choices })
     }
 
@@ -164,13 +120,14 @@ impl World {
     fn repeat(&mut self, pid: Pid, choice: Choice, event: Event) -> Result<(), Refusal>
         requires can { CanMake self.old pid.0 choice.0 event }
         requires next { slice_get (line_of self.old.state pid.0) (place_at self.old.state pid.0) ≡ Some choice.0 }
-        ensures made { OnOk result (self.new ≡ made self.old pid.0 event (after_redo self.old.state pid.0)) }
+        ensures made { OnOk result (self.new ≡ made self.old pid.0 event (after_redo self.old.state pid.0) self.new.clocks) }
+        ensures clocks { OnOk result (AreClocksOf self.new.kinds self.new.clocks) }
         ensures refuses { IfErr result (λ refusal. refusal ≡ Memory) }
         ensures kept { OnErr result (self.new ≡ self.old) }
     {
-        make_room(&mut self.grid, &mut self.rows, pid, event.exchange())?;
+        make_room(&mut self.grid, &mut self.past, pid, event.exchange())?;
         self.lines.advance(pid);
-        happen(&mut self.envs, &mut self.grid, &mut self.rows, pid, event);
+        happen(&mut self.envs, &mut self.grid, &mut self.past, pid, event);
         Ok(())
     }
 
@@ -269,7 +226,7 @@ impl World {
     fn undoable(&self, pid: Pid) -> Result<Exchange, Refusal>
         ensures { Undoable self.now pid.0 result }
     {
-        let Some(event) = self.rows.last(pid) else {
+        let Some(event) = self.past.last(pid) else {
             return Err(Refusal::NothingToUndo);
         };
         match received(&self.grid, pid, event.exchange()) {
@@ -301,7 +258,7 @@ impl World {
     {
         let exchange = self.undoable(pid)?;
         make_room_before(&mut self.grid, pid, exchange)?;
-        let Some(event) = self.rows.pop(pid) else {
+        let Some(event) = self.past.pop(pid) else {
             return Err(Refusal::NothingToUndo);
         };
         self.lines.retreat(pid);
@@ -363,6 +320,6 @@ impl World {
         ensures starts { result.now.starts ≡ self.now.starts }
         ensures events { result.now.events ≡ self.now.events }
     {
-        &self.rows
+        self.past.rows()
     }
 }

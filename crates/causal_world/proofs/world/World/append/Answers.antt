@@ -1,25 +1,47 @@
-use Rattle.std.proofs.Common.{ap, ◌∙◌, ℤ, List}
+use Rattle.std.proofs.Common.{◌<◌, ℤ, List, [], length, ap, ◌∙◌, refl, subst, sym}
+use Rattle.cut_core.specs.declared.kind.Kind.{Kind}
+use Rattle.dbg_base.specs.declared.limits.TheConstants.{EVENTS}
 use Rattle.event_rows.specs.EventValues.{EventValue}
-use Rattle.std.specs.Prelude.{Some}
+use Rattle.std.specs.Prelude.{Some, slice_index_or}
 use Rattle.causal_world.specs.Scenes.{channels_after, with_event}
-use Rattle.causal_world.proofs.Calls.{can_here, can_row, same_scene, some_step}
+use Rattle.causal_world.specs.Pasts.{kind_done, with_kind, IsWhole}
+use Rattle.causal_world.proofs.Calls.{can_here, can_keep, can_few, can_whole, same_scene, some_step}
 use Rattle.causal_world.proofs.world.World.append.Goals as goal
 
 pub happen-requires-clause-here : goal.happen-requires-clause-here
 happen-requires-clause-here c =
     can_here _ c.args.pid.0 c.args.choice.0 c.args.event (rw (← c.self.view_is) at c.requires.can)
 
+pub happen-requires-clause-kept : goal.happen-requires-clause-kept
+happen-requires-clause-kept c =
+    subst (λ (kinds : List (List Kind)). c.args.pid.0 < length kinds) (sym c.in_ok-make_room.ensures.kinds)
+    (can_keep _ c.args.pid.0 c.args.choice.0 c.args.event (rw (← c.self.view_is) at c.requires.can))
+
 pub happen-requires-clause-room : goal.happen-requires-clause-room
 happen-requires-clause-room c =
-    c.in_ok-make_room.ensures.room (can_row _ c.args.pid.0 c.args.choice.0 c.args.event (rw (← c.self.view_is) at c.requires.can))
+    c.in_ok-make_room.ensures.room (can_keep _ c.args.pid.0 c.args.choice.0 c.args.event (rw (← c.self.view_is) at c.requires.can))
+
+pub happen-requires-clause-few : goal.happen-requires-clause-few
+happen-requires-clause-few c =
+    subst (λ (kinds : List (List Kind)). length (slice_index_or kinds c.args.pid.0 []) < EVENTS) (sym c.in_ok-make_room.ensures.kinds)
+    (can_few _ c.args.pid.0 c.args.choice.0 c.args.event (rw (← c.self.view_is) at c.requires.can) (rw (← c.self.view_is) at c.requires.few))
+
+pub happen-requires-clause-whole : goal.happen-requires-clause-whole
+happen-requires-clause-whole c =
+    subst (λ (kinds : List (List Kind)). IsWhole (with_kind kinds c.args.pid.0 (kind_done c.args.event.exchange)))
+    (sym c.in_ok-make_room.ensures.kinds)
+    (can_whole _ c.args.pid.0 c.args.choice.0 c.args.event (rw (← c.self.view_is) at c.requires.can))
 
 pub invariant_of-self-2 : goal.invariant_of-self-2
 invariant_of-self-2 c =
     let p = c.args.pid.0 in
     let event = c.args.event in
-    some_step _ _ p c.args.choice.0 event (rw (← c.self.view_is) at c.requires.can) (rw (← c.self.view_is) at c.requires.few)
-    (same_scene _ _ _ _ _ _ c.in_ok-append.ensures.appended c.happen.ensures.states
+    some_step _ _ p c.args.choice.0 event c.happen.ensures.clocks (rw (← c.self.view_is) at c.requires.can) (rw (← c.self.view_is) at c.requires.few)
+    (same_scene _ _ _ c.happen.new.past _ c.in_ok-append.ensures.appended c.happen.ensures.states
     (c.happen.ensures.channels
     ∙ ap (λ (l : List (List (List ℤ))). channels_after l p event.exchange) c.in_ok-make_room.ensures.channels)
     (c.happen.ensures.starts ∙ c.in_ok-make_room.ensures.starts)
-    (c.happen.ensures.events ∙ ap (λ (l : List (List EventValue)). with_event l p (Some event)) c.in_ok-make_room.ensures.events))
+    (c.happen.ensures.events ∙ ap (λ (l : List (List EventValue)). with_event l p (Some event)) c.in_ok-make_room.ensures.events)
+    (c.happen.ensures.kinds
+    ∙ ap (λ (l : List (List Kind)). with_kind l p (kind_done event.exchange)) c.in_ok-make_room.ensures.kinds)
+    refl)

@@ -5,7 +5,9 @@ use Rattle.std.proofs.Common.{rules}
 
 pub returns-clause-of : goal.returns-clause-of
 returns-clause-of c = opened (program_of c.args.program.now) _ (search rules) (search rules) (search rules) (search rules)
+    (search rules) (search rules)
 
 pub invariant_of-result : goal.invariant_of-result
 invariant_of-result c =
-    (program_of c.args.program.now, opened (program_of c.args.program.now) _ (search rules) (search rules) (search rules) (search rules))
+    (program_of c.args.program.now, opened (program_of c.args.program.now) _ (search rules) (search rules) (search rules) (search rules)
+    (search rules) (search rules))

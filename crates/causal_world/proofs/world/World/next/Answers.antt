@@ -1,10 +1,9 @@
-use Rattle.std.proofs.Common.{List, length, subst, sym, arith, rules, ap}
+use Rattle.std.proofs.Common.{List, length, arith, rules, ap}
 use Rattle.dbg_base.specs.LocalStates.{LocalState}
 use Rattle.proc_lang.specs.Programs.{program_of}
 use Rattle.causal_world.specs.Worlds.{Makes}
-use Rattle.causal_world.specs.Scenes.{IsWorldOf}
 use Rattle.causal_world.proofs.Standing.{states_there}
-use Rattle.causal_world.proofs.Calls.{steps}
+use Rattle.causal_world.proofs.Calls.{steps_to}
 use Rattle.causal_world.proofs.world.World.next.Goals as goal
 
 pub lowest-requires : goal.lowest-requires
@@ -22,5 +21,5 @@ pub returns-clause-of : goal.returns-clause-of
 returns-clause-of c =
     let P = program_of c.args.program.now in
     let makes : Makes P c.args.self.now c.args.pid.0 c.in_ok-choice.choice.0 c.in_ok-choice.event = search rules in
-    subst (IsWorldOf P) (sym c.in_ok-cutoff.ensures.made)
-    (steps P c.args.self.now c.args.pid.0 c.in_ok-choice.choice.0 c.in_ok-choice.event c.requires.of makes (search rules))
+    steps_to c.args.self.now c.append.new.self c.args.pid.0 c.in_ok-choice.choice.0 c.in_ok-choice.event c.in_ok-cutoff.ensures.clocks
+    P c.requires.of makes (search rules) c.in_ok-cutoff.ensures.made

@@ -15,4 +15,4 @@ pub returns-clause-of : goal.returns-clause-of
 returns-clause-of c =
     let makes : Makes (program_of c.args.program.now) c.args.self.now c.args.pid.0 c.args.choice.0 c.in_ok-event.event = search rules in
     stays c.append.result (program_of c.args.program.now) c.args.self.now c.append.new.self c.args.pid.0 c.args.choice.0
-    c.in_ok-event.event c.requires.of makes (search rules) c.append.ensures.made c.append.ensures.kept
+    c.in_ok-event.event c.requires.of makes (search rules) c.append.ensures.made c.append.ensures.clocks c.append.ensures.kept

@@ -1,14 +1,22 @@
-use Rattle.std.proofs.Common.{◌≡◌, ℤ, List, Some, sym, ap, ◌∙◌, subst}
+use Rattle.std.proofs.Common.{◌≡◌, ℤ, List, Option, Some, refl, sym, ap, ◌∙◌, subst}
+use Rattle.std.specs.Prelude.{IsSome}
 use Rattle.event_rows.specs.EventValues.{EventValue}
 use Rattle.causal_world.specs.Scenes.{Scene, IsWorldOf, channels_before, unmade, scene}
 use Rattle.causal_world.specs.Room.{HasRoomBefore}
 use Rattle.causal_world.specs.Worlds.{last_event}
-use Rattle.causal_world.proofs.Calls.{popped, undo_here, same_event, undoes, same_scene}
+use Rattle.causal_world.proofs.Calls.{popped, undo_here, last_whole, same_event, undoes, same_scene}
 use Rattle.causal_world.proofs.world.World.undo.Goals as goal
 use Rattle.causal_world.proofs.world.World.undo.Goals.{In-Some, After-revert}
 
+some_is : {A : Type 0} (o : Option A) (x : A) → o ≡ Some x → IsSome o
+some_is o x e = subst IsSome (sym e) refl
+
 was : (c : In-Some) → last_event c.args.self.now c.args.pid.0 ≡ Some c.in-Some.event
 was c = rw (← c.self.view_is) (popped _ _ c.pop.result c.in-Some.event c.pop.ensures.last c.in-Some.is)
+
+pub pop-requires : goal.pop-requires
+pop-requires c =
+    record { whole = last_whole _ c.args.pid.0 _ c.self.invariant (rw (← c.self.view_is) at c.in_ok-exchange.ensures) }
 
 pub revert-requires-clause-here : goal.revert-requires-clause-here
 revert-requires-clause-here c =
@@ -23,16 +31,15 @@ revert-requires-clause-messages c =
     subst (HasRoomBefore c.make_room_before.new.grid c.args.pid.0)
     (sym by.exchanged ∙ ap (λ (e : EventValue). e.exchange) same) c.in_ok-make_room_before.ensures.room
 
-left : (c : After-revert) → scene c.retreat.new.self c.revert.new.envs.items c.revert.new.grid.channels c.pop.new.self.starts
-    c.pop.new.self.events ≡ unmade c.args.self.now c.args.pid.0 c.in-Some.event
+left : (c : After-revert) → scene c.retreat.new.self c.revert.new.envs.items c.revert.new.grid.channels c.pop.new.self ≡ unmade c.args.self.now c.args.pid.0 c.in-Some.event
 left c =
     let inside = c.self.inside in
-    let here : Scene = scene inside.lines inside.envs.items inside.grid.channels inside.rows.starts inside.rows.events in
-    same_scene c.retreat.new.self c.revert.new.envs.items c.pop.new.self.starts c.revert.new.grid.channels c.pop.new.self.events
+    let here : Scene = scene inside.lines inside.envs.items inside.grid.channels inside.past in
+    same_scene c.retreat.new.self c.revert.new.envs.items c.revert.new.grid.channels c.pop.new.self
     (unmade here c.args.pid.0 c.in-Some.event) c.retreat.ensures c.revert.ensures.states
     (c.revert.ensures.channels
     ∙ ap (λ (l : List (List (List ℤ))). channels_before l c.args.pid.0 c.in-Some.event.exchange) c.in_ok-make_room_before.ensures.kept)
-    c.pop.ensures.starts c.pop.ensures.events
+    c.pop.ensures.starts c.pop.ensures.events c.pop.ensures.kinds (c.pop.ensures.clocks (some_is c.pop.result c.in-Some.event c.in-Some.is))
     ∙ ap (λ (w : Scene). unmade w c.args.pid.0 c.in-Some.event) c.self.view_is
 
 pub returns-clause-of : goal.returns-clause-of
