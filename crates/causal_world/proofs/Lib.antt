@@ -28,3 +28,4 @@ pub mod Forth
 pub mod Back
 pub mod Standing
 pub mod Calls
+pub mod Clocking
