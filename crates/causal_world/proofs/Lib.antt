@@ -29,3 +29,4 @@ pub mod Back
 pub mod Standing
 pub mod Calls
 pub mod Clocking
+pub mod NextClocks
