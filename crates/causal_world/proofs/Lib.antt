@@ -30,3 +30,5 @@ pub mod Standing
 pub mod Calls
 pub mod Clocking
 pub mod NextClocks
+pub mod ClockRows
+pub mod KindsOf

@@ -1,6 +1,6 @@
 -- The clock of the next event of a process.
-use Rattle.std.proofs.Common.{◌≡◌, ◌≢◌, ℕ, zero, suc, ◌+◌, ◌-◌, ◌<◌, ◌≤◌, ◌⊎◌, inl, inr, max, cond, true, false, List, [], ◌∷◌, ◌++◌}
-use Rattle.std.proofs.Common.{length, get_or, set, take, count_by, Bool, refl, sym, ap, ◌∙◌, subst, ⊎_elim, arith}
+use Rattle.std.proofs.Common.{◌≡◌, ◌≢◌, ℕ, zero, suc, ◌+◌, ◌-◌, ◌<◌, ◌≤◌, ◌⊎◌, inl, inr, max, cond, true, false, List, [], ◌∷◌}
+use Rattle.std.proofs.Common.{length, get_or, take, count_by, Bool, refl, sym, ap, ◌∙◌, subst, ⊎_elim, arith}
 use Rattle.std.proofs.lemmas.Bool.{cases_eq, cases_lt, eq-eqb, ne_eqb}
 use Rattle.std.proofs.lemmas.List.{length-set, get_or-set_same, get_or-set_other}
 use Rattle.std.proofs.lemmas.Option.{get_or_from_slice_get}
@@ -14,7 +14,7 @@ use Rattle.clock_rows.specs.Clocks.{join, next_row}
 use Rattle.cut_core.proofs.Counted.{count_before, count_below}
 use Rattle.causal_world.specs.Pasts.{with_kind, IsWhole, IsClockOf, IsSender, IsOwnLast, IsCause}
 use Rattle.causal_world.proofs.Pushes.{push_other}
-use Rattle.causal_world.proofs.Clocking.{Continues, continues_more, one_longer, got_more, sent_grows, got_grows, same_sent, same_got, cut_more}
+use Rattle.causal_world.proofs.Clocking.{Continues, continues_more, one_longer, got_more, sent_grows, got_grows, same_sent, cut_more}
 use Rattle.causal_world.proofs.Clocking.{kept_clock}
 
 -- Joins.
@@ -176,7 +176,8 @@ module _ (kinds : List (List Kind)) (p q m : ℕ) (kind : Kind) (row joined : Li
       (λ (same : r ≡ p). subst (λ (x : ℕ). get_or next x 0 ≤ length (get_or more x [])) (sym same)
       (omega (arith, next_own, one_longer kinds p kind here)))
       (λ (apart : r ≢ p).
-      let line : length (get_or more r []) ≡ length (get_or kinds r []) = ap (λ (l : List Kind). length l) (push_other kinds p r kind apart) in
+      let line : length (get_or more r []) ≡ length (get_or kinds r []) =
+      ap (λ (l : List Kind). length l) (push_other kinds p r kind apart) in
       omega (arith, next_other r apart, row_within r, joined_within r, line))
       (cases_eq r p)
 
