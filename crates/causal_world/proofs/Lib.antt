@@ -28,3 +28,8 @@ pub mod Forth
 pub mod Back
 pub mod Standing
 pub mod Calls
+pub mod Clocking
+pub mod NextClocks
+pub mod ClockRows
+pub mod KindsOf
+pub mod RollingBack
