@@ -25,7 +25,7 @@ use Rattle.causal_world.specs.Scenes.{Scene, message_for, exchange_for, event_if
 use Rattle.causal_world.specs.Scenes.{IsWorldOf, channels_after, channels_before, with_done, with_undone, without_event, unmade}
 use Rattle.cut_core.specs.declared.kind.Kind.{Kind}
 use Rattle.causal_world.specs.Pasts.{kind_at, kinds_of, without_kind, IsWhole}
-use Rattle.causal_world.proofs.Clocking.{clocks_less}
+use Rattle.causal_world.proofs.ClockRows.{clocks_less}
 use Rattle.causal_world.proofs.KindsOf.{length_kinds, kinds_at, kinds_less, whole_kinds}
 use Rattle.causal_world.proofs.Moves.{fires}
 use Rattle.causal_world.proofs.Bubbling.{IsEmpty, IsOrderOf, first_step}

@@ -71,7 +71,7 @@ can_whole w p k event can =
     let more = one_more P H p k (with_done w.standing p event) of.possible there
     (subst (λ (c : Configuration). fire P c p k ≡ Ok (with_done w.standing p event)) of.standing makes.fires) in
     subst IsWhole
-    (kinds_more P H p k ∙ ap (with_kind (kinds_of P H) p) (sym (kind_event P w.standing (with_done w.standing p event) p k event makes.is
+    (kinds_more P H p k ∙ ap (with_kind (kinds_of P H) p) (sym (kind_event P w.standing p k event makes.is
     makes.fires)) ∙ ap (λ (kinds : List (List Kind)). with_kind kinds p (kind_done event.exchange)) (sym of.counts))
     (whole_kinds P (with_last H p k) more.0)
 

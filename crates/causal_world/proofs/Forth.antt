@@ -102,7 +102,7 @@ goes_on P w p k event state clocks d of fires is leads state_of history timed =
           ∙ ap (with_event (events_of P of.fired) p) (sym is)
           ∙ sym (events_more P (start_of P) w.standing d (replicate (length P) []) of.fired e of.leads fires);
       counts = ap (λ (kinds : List (List Kind)). with_kind kinds p (kind_done event.exchange)) of.counts
-          ∙ ap (with_kind (kinds_of P (history_of w.state)) p) (kind_event P w.standing d p k event is fires)
+          ∙ ap (with_kind (kinds_of P (history_of w.state)) p) (kind_event P w.standing p k event is fires)
           ∙ sym (ap (kinds_of P) history ∙ kinds_more P (history_of w.state) p k);
       clocks = timed;
     }

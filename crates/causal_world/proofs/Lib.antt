@@ -32,4 +32,4 @@ pub mod Clocking
 pub mod NextClocks
 pub mod ClockRows
 pub mod KindsOf
-pub mod RollingBack
+pub mod Pasts

@@ -15,7 +15,8 @@ use Rattle.event_rows.specs.EventValues.{EventValue}
 use Rattle.clock_rows.specs.Clocks.{join, next_row, last_row}
 use Rattle.causal_world.specs.Scenes.{without_event}
 use Rattle.causal_world.specs.Pasts.{with_kind, without_kind, without_row, row_at, IsWhole, AreClocksOf, IsSender, IsCause, IsPast}
-use Rattle.causal_world.proofs.Clocking.{cause_within, fits_next, clocks_more, clocks_less, clocks_open, whole_open}
+use Rattle.causal_world.proofs.NextClocks.{cause_within, fits_next}
+use Rattle.causal_world.proofs.ClockRows.{clocks_more, clocks_less, clocks_open, whole_open}
 
 inside : {A : Type 0} (l : List A) (n : ℕ) (x : A) → slice_get l n ≡ Some x → n < length l
 inside [] n x e = cc
