@@ -33,3 +33,4 @@ pub mod NextClocks
 pub mod ClockRows
 pub mod KindsOf
 pub mod Pasts
+pub mod RollingBack

@@ -1,6 +1,6 @@
 //! A world: a system of processes, changed in place by its events.
 
-ghost use Rattle.std.specs.Prelude.{◌≡◌, ◌<◌, ◌⊎◌, length, IfOk, IfErr, MatchResult, OnOk, OnErr, Some, Ok, Err, slice_get, slice_set};
+ghost use Rattle.std.specs.Prelude.{◌≡◌, ◌<◌, ◌≤◌, ◌⊎◌, length, IfOk, IfErr, MatchResult, OnOk, OnErr, Some, Ok, Err, slice_get, slice_set};
 ghost use Rattle.std.specs.Prelude.{slice_index_or};
 ghost use Rattle.std.specs.Option.{option_map};
 ghost use Rattle.dbg_base.specs.declared.limits.TheConstants.{EVENTS};
@@ -8,9 +8,11 @@ ghost use Rattle.dbg_base.specs.declared.refusal.Refusal.TheVariants.{Memory};
 ghost use Rattle.dbg_base.specs.Trees as tree;
 ghost use Rattle.dbg_base.specs.Configurations.{start_of, values_of, channel_of};
 ghost use Rattle.dbg_base.specs.ModelStates.{opening_state, line_of, place_at, redo_line, history_of, last_choice};
-ghost use Rattle.dbg_base.specs.ModelStates.{after_choice, after_redo, after_undo};
+ghost use Rattle.dbg_base.specs.ModelStates.{after_choice, after_redo, after_undo, after_rollback};
+ghost use Rattle.dbg_base.specs.Clocks.{IsClock};
 ghost use Rattle.dbg_base.specs.Acts.{step_choice, next_choice, redo_choice, CannotUndo};
-ghost use Rattle.dbg_base.specs.Reversal.{MayUndo};
+ghost use Rattle.dbg_base.specs.Reversal.{MayUndo, IsRollback};
+ghost use Rattle.cut_core.specs.ConsistentCuts.{IsConsistentCut};
 ghost use Rattle.proc_lang.specs.Programs.{program_of};
 ghost use Rattle.causal_world.specs.Pasts.{AreClocksOf};
 ghost use Rattle.causal_world.specs.Scenes.{IsWorldOf, made, unmade};
@@ -22,7 +24,7 @@ use crate::events::{happen, make_room, revert};
 use crate::lines::Lines;
 use crate::past::Past;
 use dbg_base::limits::EVENTS;
-use dbg_base::{Choice, Pid, Refusal, Sequence};
+use dbg_base::{Choice, Cut, Pid, Refusal, Sequence};
 use event_rows::{Event, Exchange, Rows};
 use fifo_grid::Grid;
 use local_eval::Env;
@@ -313,6 +315,42 @@ impl World {
         ensures { slice_get self.now.standing.states pid.0 ≡ Some result.now }
     {
         &self.envs[pid.0 as usize]
+    }
+
+    /// The clock of a process that is there behind its n-th event, which it has: how many events of each process come before it, the
+    /// event counted. It is refused only as `Memory`, where that runs out.
+    pub fn clock(&self, alloc: Global, pid: Pid, n: u32) -> Result<Cut, Refusal>
+        requires process { pid.0 < length self.now.state.places }
+        requires event { n ≤ place_at self.now.state pid.0 }
+        ensures clock { IfOk result (λ cut. (P : tree.Program) → IsWorldOf P self.now → IsClock P (history_of self.now.state) pid.0 n cut) }
+        ensures refuses { IfErr result (λ refusal. refusal ≡ Memory) }
+    {
+        Err(Refusal::Memory)
+    }
+
+    /// The cut to which a process that is there is rolled back at n, which is at most its place: the greatest consistent cut with at
+    /// most n events of it. It is refused only as `Memory`, where that runs out.
+    pub fn rollback_cut(&self, alloc: Global, pid: Pid, n: u32) -> Result<Cut, Refusal>
+        requires process { pid.0 < length self.now.state.places }
+        requires event { n ≤ place_at self.now.state pid.0 }
+        ensures consistent { IfOk result (λ cut. IsConsistentCut self.now.kinds cut) }
+        ensures greatest { IfOk result (λ cut. (P : tree.Program) → IsWorldOf P self.now
+            → IsRollback P (history_of self.now.state) pid.0 n cut) }
+        ensures refuses { IfErr result (λ refusal. refusal ≡ Memory) }
+    {
+        Err(Refusal::Memory)
+    }
+
+    /// The events behind this consistent cut are taken back, one by one, each where nothing that is left depends on it: the places are
+    /// those of the cut, and the lines stay. It is refused only as `Memory`, where that runs out, and then changes nothing.
+    pub fn roll_to(&mut self, alloc: Global, cut: &Cut) -> Result<Rolled, Refusal>
+        requires { IsConsistentCut self.old.kinds cut.now }
+        ensures of { (P : tree.Program) → IsWorldOf P self.old → IsWorldOf P self.new }
+        ensures moves { OnOk result (self.new.state ≡ after_rollback self.old.state cut.now) }
+        ensures refuses { IfErr result (λ refusal. refusal ≡ Memory) }
+        ensures kept { OnErr result (self.new ≡ self.old) }
+    {
+        Err(Refusal::Memory)
     }
 
     /// The starts of the processes and their events.

@@ -63,6 +63,10 @@ after_redo M p = record M { places = slice_set M.places p (place_at M p + 1) }
 abbrev pub after_undo : ModelState → ℕ → ModelState
 after_undo M p = record M { places = slice_set M.places p (place_at M p - 1) }
 
+-- the events behind this cut were taken back: the lines stay
+abbrev pub after_rollback : ModelState → List ℕ → ModelState
+after_rollback M cut = record M { places = cut }
+
 -- M is a state of this program: a line and a place for each process, the place in the line, and the choices those of commands
 pub record IsStateOf (P : Program) (M : ModelState) : Type 0 where
   pub lines : length M.lines ≡ length P
