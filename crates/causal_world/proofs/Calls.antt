@@ -18,6 +18,9 @@ use Rattle.dbg_base.specs.Firing.{fire}
 use Rattle.dbg_base.specs.Orders.{with_last}
 use Rattle.dbg_base.specs.Reversal.{without_last}
 use Rattle.causal_world.specs.Pasts.{PastState, kind_at, kinds_of, kind_done, with_kind, without_kind, IsWhole, AreClocksOf}
+use Rattle.fifo_grid.specs.Grids.{GridState}
+use Rattle.causal_world.specs.Room.{HasRoomBefore}
+use Rattle.causal_world.specs.Rollings.{CanTakeBack}
 use Rattle.causal_world.proofs.KindsOf.{length_kinds, kinds_at, kind_event, kinds_more, kinds_less, whole_kinds}
 use Rattle.causal_world.proofs.Growing.{one_more}
 use Rattle.causal_world.proofs.Cutting.{line_at}
@@ -30,7 +33,7 @@ pub can_here : (w : Scene) (p k : ℕ) (event : EventValue) → CanMake w p k ev
 can_here w p k event can = let there = can.2.here in omega (arith, states_there can.0 w can.1)
 
 -- what is kept of events, in the world of a program
-kinds_there : (P : Program) (w : Scene) → IsWorldOf P w → length w.kinds ≡ length P
+pub kinds_there : (P : Program) (w : Scene) → IsWorldOf P w → length w.kinds ≡ length P
 kinds_there P w of =
     ap (λ (kinds : List (List Kind)). length kinds) of.counts ∙ length_kinds P (history_of w.state)
     ∙ length_cut w.state.lines w.state.places ∙ of.state.lines
@@ -147,18 +150,29 @@ pub undo_here : (P : Program) (w : Scene) (p : ℕ) (event : EventValue) → IsW
 undo_here P w p event of was = let made = last_made P w p event of was in omega (arith, made.here, states_there P w of)
 
 -- no other event waits for the last
-pub last_whole : (w : Scene) (p : ℕ) (exchange : Exchange) → IsSomeWorld w → UndoableBy w p exchange → IsWhole (without_kind w.kinds p)
-last_whole w p exchange some by =
-    let P = some.0 in
+pub can_pop : (w : Scene) (grid : GridState) (p : ℕ) → CanTakeBack w grid p → IsWhole (without_kind w.kinds p)
+can_pop w grid p can =
+    let P = can.world.0 in
+    let of = can.world.1 in
     subst IsWhole
-    (kinds_less P (history_of w.state) p ∙ ap (λ (kinds : List (List Kind)). without_kind kinds p) (sym some.1.counts))
-    (whole_kinds P (without_last (history_of w.state) p) (by.may P some.1).0.rest)
+    (kinds_less P (history_of w.state) p ∙ ap (λ (kinds : List (List Kind)). without_kind kinds p) (sym of.counts))
+    (whole_kinds P (without_last (history_of w.state) p) (can.may P of).0.rest)
+
+-- with room for the message that goes back
+pub can_take : (w : Scene) (grid : GridState) (p : ℕ) (exchange : Exchange) → IsSomeWorld w → UndoableBy w p exchange
+    → HasRoomBefore grid p exchange → CanTakeBack w grid p
+can_take w grid p exchange some by room = record {
+  world = some;
+  event = by.event;
+  was = by.was;
+  may = by.may;
+  messages = subst (HasRoomBefore grid p) (sym by.exchanged) room;
+}
 
 module _ (w : Scene) (p : ℕ) (event : EventValue) where
   pub same_event : {exchange : Exchange} (by : UndoableBy w p exchange) → last_event w p ≡ Some event → by.event ≡ event
   same_event by was = let first = by.was in cc
 
-  pub undoes : {exchange : Exchange} (by : UndoableBy w p exchange) (new : Scene) → last_event w p ≡ Some event → new ≡ unmade w p event
-      → (P : Program) → IsWorldOf P w → IsWorldOf P new
-  undoes by new was same P of =
-      subst (IsWorldOf P) (ap (unmade w p) (same_event by was) ∙ sym same) (by.may P of).1
+  pub undo_left : {exchange : Exchange} (by : UndoableBy w p exchange) → last_event w p ≡ Some event
+      → (P : Program) → IsWorldOf P w → IsWorldOf P (unmade w p event)
+  undo_left by was P of = subst (λ (e : EventValue). IsWorldOf P (unmade w p e)) (same_event by was) (by.may P of).1

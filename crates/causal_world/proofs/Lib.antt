@@ -34,3 +34,6 @@ pub mod ClockRows
 pub mod KindsOf
 pub mod Pasts
 pub mod RollingBack
+pub mod Looking
+pub mod Behind
+pub mod Reversing

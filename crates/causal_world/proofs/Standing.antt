@@ -1,10 +1,12 @@
 -- What a world of a program has: the sizes of its lists, and what the events of each process end with.
 use Rattle.std.proofs.Common.{◌≡◌, ◌≢◌, ℕ, zero, suc, ◌-◌, ◌<◌, ◌≤◌, ◌⊎◌, ℤ, List, [], ◌∷◌, ◌++◌, length, get_or, take, replicate}
-use Rattle.std.proofs.Common.{Option, Some, None, Ok, refl, sym, ap, ◌∙◌, subst, ⊎_elim, inl, inr, arith}
+use Rattle.std.proofs.Common.{Option, Some, None, Result, Ok, Err, refl, sym, ap, ◌∙◌, subst, ⊎_elim, inl, inr, arith}
 use Rattle.std.specs.Prelude.{slice_get}
 use Rattle.std.proofs.lemmas.Bool.{cases_eq}
 use Rattle.std.proofs.lemmas.List.{length-replicate, length-map, length-take-le, length_push, get_or_past, get_or-set_same}
 use Rattle.std.proofs.lemmas.List.{get_or-set_other}
+use Rattle.dbg_base.specs.declared.refusal.Refusal.{Refusal}
+use Rattle.dbg_base.specs.declared.refusal.Refusal.TheVariants.{NothingToUndo, Consequence}
 use Rattle.dbg_base.specs.Trees.{Action, Local, Sends, Receives, Command, Program, command_of}
 use Rattle.dbg_base.specs.Evaluation.{evaluate, number_of}
 use Rattle.dbg_base.specs.LocalStates.{start_among}
@@ -20,7 +22,7 @@ use Rattle.event_rows.specs.declared.exchange.Exchange.TheVariants.{Nothing, Sen
 use Rattle.event_rows.specs.EventValues.{EventValue}
 use Rattle.causal_world.specs.Scenes.{Scene, message_for, exchange_for, event_if, event_at, with_event, events_from, events_of}
 use Rattle.causal_world.specs.Scenes.{IsWorldOf, unmade}
-use Rattle.causal_world.specs.Worlds.{last_event, NotReceived, Received}
+use Rattle.causal_world.specs.Worlds.{last_event, NotReceived, Received, LastExchange, Undoable}
 use Rattle.causal_world.proofs.Bubbling.{first_step}
 use Rattle.causal_world.proofs.Grids.{within_or_past}
 use Rattle.causal_world.proofs.Pushes.{push_same, push_other, none_in_replicate}
@@ -310,3 +312,15 @@ can_go_back P w p event of was waiting =
         let same : target.0 ≡ t = cc in
         subst (λ (x : ℕ). x < length (get_or w.standing.channels p []) → 0 < length (channel_of w.standing p x)) same (n i) j
     still (Took source message count) t e n i j = cc
+
+-- by what the last event exchanged
+pub undoable_by : (w : Scene) (p : ℕ) (r : Result Exchange Refusal) → LastExchange w.events w.standing.channels p r → Undoable w p r
+undoable_by w p (Ok exchange) last = record {
+  event = last.0;
+  was = last.1;
+  exchanged = last.2;
+  may = λ P of. can_go_back P w p last.0 of last.1 (subst (NotReceived w.standing.channels p) (sym last.2) last.3);
+}
+undoable_by w p (Err NothingToUndo) last = λ P of. nothing_to_undo P w p of last
+undoable_by w p (Err (Consequence q)) last = λ P of. received_needed P w p q.0 last.0 of last.1 last.2
+undoable_by w p (Err refusal) last = absurd last

@@ -3,3 +3,4 @@ pub mod Scenes
 pub mod Deciding
 pub mod Room
 pub mod Worlds
+pub mod Rollings

@@ -1,6 +1,7 @@
 -- What the calls of a world need and do.
 use Rattle.std.specs.Prelude.{◌≡◌, ℕ, ◌-◌, ◌<◌, ℤ, List, [], length, Option, Some, None, Result, Ok, Err, slice_get, slice_index_or}
 use Rattle.dbg_base.specs.declared.refusal.Refusal.{Refusal}
+use Rattle.dbg_base.specs.declared.refusal.Refusal.TheVariants.{NothingToUndo, Consequence}
 use Rattle.dbg_base.specs.Trees.{Program, process_of}
 use Rattle.dbg_base.specs.Firing.{fire}
 use Rattle.dbg_base.specs.ModelStates.{history_of}
@@ -29,8 +30,11 @@ abbrev pub CanMake : Scene → ℕ → ℕ → EventValue → Type 0
 CanMake w p k event = (P : Program) × IsWorldOf P w × Makes P w p k event
 
 -- the last event of a process
+abbrev pub last_of : List (List EventValue) → ℕ → Option EventValue
+last_of events p = let own = slice_index_or events p [] in slice_get own (length own - 1)
+
 abbrev pub last_event : Scene → ℕ → Option EventValue
-last_event w p = let own = slice_index_or w.events p [] in slice_get own (length own - 1)
+last_event w p = last_of w.events p
 
 -- What process p sent by this exchange is still on its way, where it sent something to a process that is there.
 abbrev pub NotReceived : List (List (List ℤ)) → ℕ → Exchange → Type 0
@@ -48,6 +52,15 @@ Received channels p exchange q = ⊥
 abbrev pub ReceivedBy : List (List (List ℤ)) → ℕ → Exchange → Option Pid → Type 0
 ReceivedBy channels p exchange None = NotReceived channels p exchange
 ReceivedBy channels p exchange (Some q) = Received channels p exchange q.0
+
+-- What the last event of a process exchanged, where it was not received; or that it has none, or who has received it.
+abbrev pub LastExchange : List (List EventValue) → List (List (List ℤ)) → ℕ → Result Exchange Refusal → Type 0
+LastExchange events channels p (Ok exchange) =
+    (event : EventValue) × (last_of events p ≡ Some event) × (event.exchange ≡ exchange) × NotReceived channels p exchange
+LastExchange events channels p (Err NothingToUndo) = last_of events p ≡ None
+LastExchange events channels p (Err (Consequence q)) =
+    (event : EventValue) × (last_of events p ≡ Some event) × Received channels p event.exchange q.0
+LastExchange events channels p (Err refusal) = ⊥
 
 -- The last event of process p exchanged this, and it may be undone.
 pub record UndoableBy (w : Scene) (p : ℕ) (exchange : Exchange) : Type 0 where

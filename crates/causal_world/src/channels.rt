@@ -1,8 +1,9 @@
 //! What an event does to the messages on their way, and what takes it back.
 
-ghost use Rattle.std.specs.Prelude.{◌≡◌, OnOk};
+ghost use Rattle.std.specs.Prelude.{◌≡◌, ◌≤◌, ◌+◌, ℕ, OnOk};
+ghost use Rattle.fifo_grid.specs.Grids.{room_at};
 ghost use Rattle.causal_world.specs.Scenes.{channels_after, channels_before};
-ghost use Rattle.causal_world.specs.Room.{HasRoomAfter, HasRoomBefore};
+ghost use Rattle.causal_world.specs.Room.{HasRoomAfter, HasRoomBefore, puts_after, puts_before};
 ghost use Rattle.causal_world.specs.Worlds.{ReceivedBy};
 
 use dbg_base::Pid;
@@ -28,7 +29,8 @@ pub(crate) fn make_room_after(
 /// A sent message goes to the back of its channel, and a taken one leaves its front.
 pub(crate) fn go_after(grid: &mut Grid, pid: Pid, exchange: Exchange)
     requires { HasRoomAfter grid.old pid.0 exchange }
-    ensures { grid.new.channels ≡ channels_after grid.old.channels pid.0 exchange }
+    ensures channels { grid.new.channels ≡ channels_after grid.old.channels pid.0 exchange }
+    ensures room { (i j : ℕ) → room_at grid.old.room i j ≤ room_at grid.new.room i j + puts_after pid.0 exchange i j }
 {
     match exchange {
         Exchange::Nothing => {}
@@ -61,7 +63,8 @@ pub(crate) fn make_room_before(
 /// A sent message is taken off the back of its channel, and a taken one goes back to its front.
 pub(crate) fn go_before(grid: &mut Grid, pid: Pid, exchange: Exchange)
     requires { HasRoomBefore grid.old pid.0 exchange }
-    ensures { grid.new.channels ≡ channels_before grid.old.channels pid.0 exchange }
+    ensures channels { grid.new.channels ≡ channels_before grid.old.channels pid.0 exchange }
+    ensures room { (i j : ℕ) → room_at grid.old.room i j ≤ room_at grid.new.room i j + puts_before pid.0 exchange i j }
 {
     match exchange {
         Exchange::Nothing => {}

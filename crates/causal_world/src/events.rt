@@ -1,12 +1,13 @@
 //! What an event of a process changes, and what takes it back.
 
-ghost use Rattle.std.specs.Prelude.{◌≡◌, ◌≢◌, ℕ, ◌-◌, ◌<◌, length, [], OnOk, Some, slice_set, slice_index_or};
+ghost use Rattle.std.specs.Prelude.{◌≡◌, ◌≢◌, ℕ, ◌+◌, ◌-◌, ◌<◌, ◌≤◌, length, [], OnOk, Some, slice_set, slice_index_or};
 ghost use Rattle.dbg_base.specs.declared.limits.TheConstants.{EVENTS};
 ghost use Rattle.dbg_base.specs.LocalStates.{no_state};
 ghost use Rattle.event_rows.specs.Events.{after_event, before_event};
 ghost use Rattle.causal_world.specs.Scenes.{channels_after, channels_before, with_event};
 ghost use Rattle.causal_world.specs.Pasts.{IsWhole, AreClocksOf, HasRoomFor, kind_done, with_kind};
-ghost use Rattle.causal_world.specs.Room.{HasRoomAfter, HasRoomBefore};
+ghost use Rattle.fifo_grid.specs.Grids.{room_at};
+ghost use Rattle.causal_world.specs.Room.{HasRoomAfter, HasRoomBefore, puts_after, puts_before};
 
 use crate::channels::{go_after, go_before, make_room_after};
 use crate::past::Past;
@@ -52,6 +53,7 @@ pub(crate) fn happen(envs: &mut Vec<Env>, grid: &mut Grid, past: &mut Past, pid:
     ensures clocks { AreClocksOf past.new.kinds past.new.clocks }
     ensures own { (n : ℕ) → HasRoomFor past.old pid.0 n → HasRoomFor past.new pid.0 (n - 1) }
     ensures others { (q n : ℕ) → q ≢ pid.0 → HasRoomFor past.old q n → HasRoomFor past.new q n }
+    ensures ways { (i j : ℕ) → room_at grid.old.room i j ≤ room_at grid.new.room i j + puts_after pid.0 event.exchange i j }
 {
     event.redo(&mut envs[pid.0 as usize]);
     go_after(grid, pid, event.exchange());
@@ -65,6 +67,7 @@ pub(crate) fn revert(envs: &mut Vec<Env>, grid: &mut Grid, pid: Pid, event: &Eve
     ensures states { envs.new.items
         ≡ slice_set envs.old.items pid.0 (before_event event.now (slice_index_or envs.old.items pid.0 no_state)) }
     ensures channels { grid.new.channels ≡ channels_before grid.old.channels pid.0 event.now.exchange }
+    ensures ways { (i j : ℕ) → room_at grid.old.room i j ≤ room_at grid.new.room i j + puts_before pid.0 event.now.exchange i j }
 {
     event.undo(&mut envs[pid.0 as usize]);
     go_before(grid, pid, event.exchange());

@@ -7,6 +7,9 @@ mod events;
 pub mod laws;
 mod lines;
 mod past;
+mod rolled;
+mod rolling;
 mod world;
 
-pub use world::{Cutoff, Rolled, World};
+pub use rolled::{Cutoff, Rolled};
+pub use world::World;

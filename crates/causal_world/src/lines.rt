@@ -83,6 +83,13 @@ impl Lines {
         self.places.get(pid.0 as usize).copied().unwrap_or(0)
     }
 
+    /// The places of all processes. It is refused only where memory runs out.
+    pub(crate) fn places(&self, alloc: Global) -> Result<Vec<u32>, AllocError>
+        ensures { IfOk result (λ places. places.items ≡ self.now.places) }
+    {
+        Vec::from_slice(alloc, self.places.as_slice())
+    }
+
     /// The length of the line of a process.
     pub(crate) fn line_len(&self, pid: Pid) -> usize
         ensures { result ≡ length (line_of self.now pid.0) }

@@ -1,7 +1,7 @@
 //! A world: a system of processes, changed in place by its events.
 
-ghost use Rattle.std.specs.Prelude.{◌≡◌, ◌<◌, ◌≤◌, ◌⊎◌, length, IfOk, IfErr, MatchResult, OnOk, OnErr, Some, Ok, Err, slice_get, slice_set};
-ghost use Rattle.std.specs.Prelude.{slice_index_or};
+ghost use Rattle.std.specs.Prelude.{◌≡◌, ℕ, List, ◌<◌, ◌≤◌, ◌⊎◌, length, IfOk, IfErr, MatchResult, OnOk, OnErr, Some, Ok, Err, slice_get, slice_set};
+ghost use Rattle.std.specs.Prelude.{slice_index};
 ghost use Rattle.std.specs.Option.{option_map};
 ghost use Rattle.dbg_base.specs.declared.limits.TheConstants.{EVENTS};
 ghost use Rattle.dbg_base.specs.declared.refusal.Refusal.TheVariants.{Memory};
@@ -18,14 +18,19 @@ ghost use Rattle.causal_world.specs.Pasts.{AreClocksOf};
 ghost use Rattle.causal_world.specs.Scenes.{IsWorldOf, made, unmade};
 ghost use Rattle.causal_world.specs.Worlds.{CanMake, Undoable};
 
+mod backward;
+
 use crate::channels::{make_room_before, received};
 use crate::deciding::{lowest, try_choice};
 use crate::events::{happen, make_room, revert};
 use crate::lines::Lines;
 use crate::past::Past;
+use crate::rolled::Cutoff;
+use crate::rolling::count_of;
+use cut_core::{Tally, greatest_below};
 use dbg_base::limits::EVENTS;
 use dbg_base::{Choice, Cut, Pid, Refusal, Sequence};
-use event_rows::{Event, Exchange, Rows};
+use event_rows::{Event, Rows};
 use fifo_grid::Grid;
 use local_eval::Env;
 use proc_lang::Program;
@@ -51,27 +56,6 @@ impl Model for World {
     ghost view = { λ w. scene w.lines w.envs.items w.grid.channels w.past };
 
     ghost invariant = { λ w. IsSomeWorld (scene w.lines w.envs.items w.grid.channels w.past) };
-}
-
-/// The choices that a step cut off.
-#[derive(Debug, Drop)]
-pub struct Cutoff {
-    choices: Vec<u32>,
-}
-
-impl Model for Cutoff {
-    ghost use Rattle.std.specs.Prelude.{ℕ, List};
-
-    ghost Value = { List ℕ };
-
-    ghost view = { λ cutoff. cutoff.choices.items };
-}
-
-/// An event that was taken back.
-#[derive(Debug, Drop)]
-pub struct Rolled {
-    pid: Pid,
-    event: Event,
 }
 
 impl World {
@@ -224,50 +208,6 @@ impl World {
         Ok(choice)
     }
 
-    // What the last event of the process exchanged, where the event may be undone, or why it may not.
-    fn undoable(&self, pid: Pid) -> Result<Exchange, Refusal>
-        ensures { Undoable self.now pid.0 result }
-    {
-        let Some(event) = self.past.last(pid) else {
-            return Err(Refusal::NothingToUndo);
-        };
-        match received(&self.grid, pid, event.exchange()) {
-            Some(target) => Err(Refusal::Consequence(target)),
-            None => Ok(event.exchange()),
-        }
-    }
-
-    /// Whether the last event of the process may be undone, or why not: `NothingToUndo` where it has none, and `Consequence` where the
-    /// process that is told has received the message that the event sent.
-    pub fn can_undo(&self, pid: Pid) -> Result<(), Refusal>
-        ensures may { OnOk result ((P : tree.Program) → IsWorldOf P self.now → MayUndo P (history_of self.now.state) pid.0) }
-        ensures why { IfErr result (λ refusal. (P : tree.Program) → IsWorldOf P self.now → CannotUndo P self.now.state pid.0 refusal) }
-    {
-        let _exchange = self.undoable(pid)?;
-        Ok(())
-    }
-
-    /// The last event of the process is taken back: its variables have their old values, a message that it sent leaves the back of its
-    /// channel, and one that it took is at the front again. The place moves back, and the line stays. It is refused, and changes
-    /// nothing, as `can_undo` tells, or as `Memory`, where that runs out.
-    pub fn undo(&mut self, pid: Pid) -> Result<Rolled, Refusal>
-        ensures of { (P : tree.Program) → IsWorldOf P self.old → IsWorldOf P self.new }
-        ensures may { OnOk result ((P : tree.Program) → IsWorldOf P self.old → MayUndo P (history_of self.old.state) pid.0) }
-        ensures moves { OnOk result (self.new.state ≡ after_undo self.old.state pid.0) }
-        ensures refuses { IfErr result (λ refusal.
-            ((P : tree.Program) → IsWorldOf P self.old → CannotUndo P self.old.state pid.0 refusal) ⊎ (refusal ≡ Memory)) }
-        ensures kept { OnErr result (self.new ≡ self.old) }
-    {
-        let exchange = self.undoable(pid)?;
-        make_room_before(&mut self.grid, pid, exchange)?;
-        let Some(event) = self.past.pop(pid) else {
-            return Err(Refusal::NothingToUndo);
-        };
-        self.lines.retreat(pid);
-        revert(&mut self.envs, &mut self.grid, pid, &event);
-        Ok(Rolled { pid, event })
-    }
-
     /// The values of the process's variables, none where it is not there. It is refused only as `Memory`, where that runs out.
     pub fn vars(&self, alloc: Global, pid: Pid) -> Result<Sequence<i64>, Refusal>
         ensures { MatchResult result (λ values. values ≡ values_of self.now.standing pid.0) (λ refusal. refusal ≡ Memory) }
@@ -325,7 +265,25 @@ impl World {
         ensures clock { IfOk result (λ cut. (P : tree.Program) → IsWorldOf P self.now → IsClock P (history_of self.now.state) pid.0 n cut) }
         ensures refuses { IfErr result (λ refusal. refusal ≡ Memory) }
     {
-        Err(Refusal::Memory)
+        Ok(Cut::new(Vec::from_slice(alloc, self.past.clock(pid, n))?))
+    }
+
+    /// Component `of` of the clock of the process `pid` behind its n-th event: how many events of the first come before it. It takes no
+    /// memory.
+    pub fn clock_part(&self, pid: Pid, n: u32, of: Pid) -> u32
+        requires process { pid.0 < length self.now.state.places }
+        requires event { n ≤ place_at self.now.state pid.0 }
+        ensures { (P : tree.Program) (cut : List ℕ) → IsWorldOf P self.now → IsClock P (history_of self.now.state) pid.0 n cut
+            → result ≡ slice_index cut of.0 }
+    {
+        count_of(self.past.clock(pid, n), of)
+    }
+
+    /// What the events did to messages: sends and receives of each process, in order.
+    pub fn tally(&self) -> &Tally
+        ensures { result.now.kinds ≡ self.now.kinds }
+    {
+        self.past.tally()
     }
 
     /// The cut to which a process that is there is rolled back at n, which is at most its place: the greatest consistent cut with at
@@ -338,19 +296,9 @@ impl World {
             → IsRollback P (history_of self.now.state) pid.0 n cut) }
         ensures refuses { IfErr result (λ refusal. refusal ≡ Memory) }
     {
-        Err(Refusal::Memory)
-    }
-
-    /// The events behind this consistent cut are taken back, one by one, each where nothing that is left depends on it: the places are
-    /// those of the cut, and the lines stay. It is refused only as `Memory`, where that runs out, and then changes nothing.
-    pub fn roll_to(&mut self, alloc: Global, cut: &Cut) -> Result<Rolled, Refusal>
-        requires { IsConsistentCut self.old.kinds cut.now }
-        ensures of { (P : tree.Program) → IsWorldOf P self.old → IsWorldOf P self.new }
-        ensures moves { OnOk result (self.new.state ≡ after_rollback self.old.state cut.now) }
-        ensures refuses { IfErr result (λ refusal. refusal ≡ Memory) }
-        ensures kept { OnErr result (self.new ≡ self.old) }
-    {
-        Err(Refusal::Memory)
+        let mut places = self.lines.places(alloc)?;
+        places[pid.0 as usize] = n;
+        Ok(greatest_below(alloc, self.past.tally(), &Cut::new(places))?)
     }
 
     /// The starts of the processes and their events.

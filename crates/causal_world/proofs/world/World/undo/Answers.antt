@@ -1,57 +1,48 @@
-use Rattle.std.proofs.Common.{◌≡◌, ℤ, List, Option, Some, refl, sym, ap, ◌∙◌, subst}
-use Rattle.std.specs.Prelude.{IsSome}
-use Rattle.event_rows.specs.EventValues.{EventValue}
-use Rattle.causal_world.specs.Scenes.{Scene, IsWorldOf, channels_before, unmade, scene}
-use Rattle.causal_world.specs.Room.{HasRoomBefore}
+use Rattle.std.proofs.Common.{◌≡◌, ℤ, List, [], ◌∷◌, ◌++◌, Some, subst, sym, ap, ◌∙◌, arith, rules}
+use Rattle.dbg_base.specs.Trees.{Program}
+use Rattle.causal_world.specs.declared.rolled.Taken.{Taken}
+use Rattle.causal_world.specs.Scenes.{Scene, scene, IsWorldOf, unmade}
 use Rattle.causal_world.specs.Worlds.{last_event}
-use Rattle.causal_world.proofs.Calls.{popped, undo_here, last_whole, same_event, undoes, same_scene}
+use Rattle.causal_world.specs.Rollings.{IsRolledFrom, CanTakeBack}
+use Rattle.causal_world.proofs.Calls.{can_take, undo_left}
+use Rattle.causal_world.proofs.Reversing.{rolled_of, rolled_none, rolled_more}
 use Rattle.causal_world.proofs.world.World.undo.Goals as goal
-use Rattle.causal_world.proofs.world.World.undo.Goals.{In-Some, After-revert}
+use Rattle.causal_world.proofs.world.World.undo.Goals.{After-push_reserved}
 
-some_is : {A : Type 0} (o : Option A) (x : A) → o ≡ Some x → IsSome o
-some_is o x e = subst IsSome (sym e) refl
-
-was : (c : In-Some) → last_event c.args.self.now c.args.pid.0 ≡ Some c.in-Some.event
-was c = rw (← c.self.view_is) (popped _ _ c.pop.result c.in-Some.event c.pop.ensures.last c.in-Some.is)
-
-pub pop-requires : goal.pop-requires
-pop-requires c =
-    record { whole = last_whole _ c.args.pid.0 _ c.self.invariant (rw (← c.self.view_is) at c.in_ok-exchange.ensures) }
-
-pub revert-requires-clause-here : goal.revert-requires-clause-here
-revert-requires-clause-here c =
-    let last = rw (← c.self.view_is) at (was (goal.at.revert-requires-clause-here c).In-Some) in
-    undo_here c.self.invariant.0 _ c.args.pid.0 c.in-Some.event c.self.invariant.1 last
-
-pub revert-requires-clause-messages : goal.revert-requires-clause-messages
-revert-requires-clause-messages c =
-    let by = c.in_ok-exchange.ensures in
-    let same : by.event ≡ c.in-Some.event =
-    same_event c.args.self.now c.args.pid.0 c.in-Some.event by (was (goal.at.revert-requires-clause-messages c).In-Some) in
-    subst (HasRoomBefore c.make_room_before.new.grid c.args.pid.0)
-    (sym by.exchanged ∙ ap (λ (e : EventValue). e.exchange) same) c.in_ok-make_room_before.ensures.room
-
-left : (c : After-revert) → scene c.retreat.new.self c.revert.new.envs.items c.revert.new.grid.channels c.pop.new.self ≡ unmade c.args.self.now c.args.pid.0 c.in-Some.event
-left c =
+pub take_back-requires : goal.take_back-requires
+take_back-requires c =
     let inside = c.self.inside in
-    let here : Scene = scene inside.lines inside.envs.items inside.grid.channels inside.past in
-    same_scene c.retreat.new.self c.revert.new.envs.items c.revert.new.grid.channels c.pop.new.self
-    (unmade here c.args.pid.0 c.in-Some.event) c.retreat.ensures c.revert.ensures.states
-    (c.revert.ensures.channels
-    ∙ ap (λ (l : List (List (List ℤ))). channels_before l c.args.pid.0 c.in-Some.event.exchange) c.in_ok-make_room_before.ensures.kept)
-    c.pop.ensures.starts c.pop.ensures.events c.pop.ensures.kinds (c.pop.ensures.clocks (some_is c.pop.result c.in-Some.event c.in-Some.is))
-    ∙ ap (λ (w : Scene). unmade w c.args.pid.0 c.in-Some.event) c.self.view_is
+    subst (λ (channels : List (List (List ℤ))). CanTakeBack (scene inside.lines inside.envs.items channels inside.past)
+    c.make_room_before.new.grid c.args.pid.0) (sym c.in_ok-make_room_before.ensures.kept)
+    (can_take _ c.make_room_before.new.grid c.args.pid.0 c.in_ok-exchange.exchange c.self.invariant
+    (rw (← c.self.view_is) at c.in_ok-exchange.ensures) c.in_ok-make_room_before.ensures.room)
 
-pub returns-clause-of : goal.returns-clause-of
-returns-clause-of c =
-    undoes c.args.self.now c.args.pid.0 c.in-Some.event c.in_ok-exchange.ensures _
-    (was (goal.at.returns-clause-of c).In-Some) (left (goal.at.returns-clause-of c).After-revert)
+back : (c : After-push_reserved) → (P : Program) → IsWorldOf P c.args.self.now
+    → IsRolledFrom P c.args.self.now c.push_reserved.new.self.items
+    (scene c.take_back.new.lines c.take_back.new.envs.items c.take_back.new.grid.channels c.take_back.new.past)
+back c P of =
+    let inside = c.self.inside in
+    let p = c.args.pid.0 in
+    let event = c.in-Some.event in
+    let now : List (List (List ℤ)) → Scene = λ channels. scene inside.lines inside.envs.items channels inside.past in
+    let same : now c.make_room_before.new.grid.channels ≡ c.args.self.now = ap now c.in_ok-make_room_before.ensures.kept ∙ c.self.view_is in
+    let was : last_event c.args.self.now p ≡ Some event =
+    ap (λ (w : Scene). last_event w p) (sym same) ∙ sym c.take_back.ensures.was ∙ c.in-Some.is in
+    let left = c.in-Some.ensures.left ∙ ap (λ (w : Scene). unmade w p event) same in
+    let items = c.push_reserved.ensures.items
+    ∙ ap (λ (l : List Taken). l ++ record { pid = c.args.pid; event = event } ∷ []) (c.in_ok-reserve.ensures.items ∙ c.new-taken.ensures.items) in
+    subst (λ (w : Scene). IsRolledFrom P c.args.self.now c.push_reserved.new.self.items w) (sym left)
+    (subst (λ (l : List Taken). IsRolledFrom P c.args.self.now l (unmade c.args.self.now p event)) (sym items)
+    (rolled_more P c.args.self.now c.args.self.now [] (record { pid = c.args.pid; event = event }) (rolled_none P c.args.self.now of) was
+    (undo_left c.args.self.now p event c.in_ok-exchange.ensures was P of)))
 
 pub invariant_of-self-2 : goal.invariant_of-self-2
 invariant_of-self-2 c =
-    let P = c.self.invariant.0 in (
-      P,
-      undoes c.args.self.now c.args.pid.0 c.in-Some.event c.in_ok-exchange.ensures _
-          (was (goal.at.invariant_of-self-2 c).In-Some) (left (goal.at.invariant_of-self-2 c).After-revert) P
-          (subst (IsWorldOf P) c.self.view_is c.self.invariant.1),
-    )
+    let P = c.self.invariant.0 in
+    (P, rolled_of P _ _ _ (back (goal.at.invariant_of-self-2 c).After-push_reserved P (subst (IsWorldOf P) c.self.view_is c.self.invariant.1)))
+
+pub returns-clause-of : goal.returns-clause-of
+returns-clause-of c = λ P of. rolled_of P _ _ _ (back (goal.at.returns-clause-of c).After-push_reserved P of)
+
+pub returns-clause-back : goal.returns-clause-back
+returns-clause-back c = λ P of. back (goal.at.returns-clause-back c).After-push_reserved P of

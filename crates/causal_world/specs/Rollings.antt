@@ -1,0 +1,63 @@
+-- Events taken back one after the other.
+use Rattle.std.specs.Prelude.{◌≡◌, ℕ, ◌<◌, List, [], ◌∷◌, length, Some, slice_index, slice_index_or}
+use Rattle.dbg_base.specs.Trees.{Program}
+use Rattle.dbg_base.specs.Reversal.{MayUndo}
+use Rattle.dbg_base.specs.ModelStates.{history_of, after_choice, after_redo, redo_line}
+use Rattle.fifo_grid.specs.Grids.{GridState}
+use Rattle.event_rows.specs.declared.exchange.Exchange.{Exchange}
+use Rattle.event_rows.specs.EventValues.{EventValue}
+use Rattle.causal_world.specs.Room.{HasRoomBefore}
+use Rattle.causal_world.specs.declared.rolled.Taken.{Taken}
+use Rattle.causal_world.specs.Scenes.{Scene, IsWorldOf, unmade}
+use Rattle.causal_world.specs.Worlds.{IsSomeWorld, UndoableBy, last_event}
+
+-- the world without these events
+abbrev pub unmade_all : Scene → List Taken → Scene
+unmade_all w [] = w
+unmade_all w (taken ∷ others) = unmade_all (unmade w taken.pid.0 taken.event) others
+
+-- each was the last event of its process in its turn, and the world without it is of the program, too
+abbrev pub AreTakenBack : Program → Scene → List Taken → Type 0
+AreTakenBack P w [] = Unit {0}
+AreTakenBack P w (taken ∷ others) =
+    (last_event w taken.pid.0 ≡ Some taken.event) × IsWorldOf P (unmade w taken.pid.0 taken.event)
+    × AreTakenBack P (unmade w taken.pid.0 taken.event) others
+
+-- These events were taken back from the world before, which was of the program, and left this world.
+pub record IsRolledFrom (P : Program) (before : Scene) (taken : List Taken) (w : Scene) : Type 0 where
+  pub of : IsWorldOf P before
+  pub took : AreTakenBack P before taken
+  pub is : w ≡ unmade_all before taken
+
+-- The last event of process p may be taken back, and there is room for the message that goes back.
+pub record CanTakeBack (w : Scene) (grid : GridState) (p : ℕ) : Type 0 where
+  pub world : IsSomeWorld w
+  pub event : EventValue
+  pub was : last_event w p ≡ Some event
+  pub may : (P : Program) → IsWorldOf P w → MayUndo P (history_of w.state) p × IsWorldOf P (unmade w p event)
+  pub messages : HasRoomBefore grid p event.exchange
+
+-- process p is behind the cut, and its last event may be taken back
+abbrev pub IsNextBack : Scene → List ℕ → ℕ → Type 0
+IsNextBack w cut p = (slice_index cut p < length (slice_index_or w.kinds p [])) × ((exchange : Exchange) × UndoableBy w p exchange)
+
+-- from some world before
+pub record IsRolled (P : Program) (taken : List Taken) (w : Scene) : Type 0 where
+  pub before : Scene
+  pub from : IsRolledFrom P before taken w
+
+-- Process p made a choice in the world before, which was of the program; these choices were cut off, and this world is left.
+pub record IsStepped (P : Program) (p : ℕ) (cutoff : List ℕ) (w : Scene) : Type 0 where
+  pub before : Scene
+  pub of : IsWorldOf P before
+  pub now : IsWorldOf P w
+  pub choice : ℕ
+  pub state : w.state ≡ after_choice before.state p choice
+  pub cut : cutoff ≡ redo_line before.state p
+
+-- Process p made the choice at its place again, and this world is left.
+pub record IsRedone (P : Program) (p : ℕ) (w : Scene) : Type 0 where
+  pub before : Scene
+  pub of : IsWorldOf P before
+  pub now : IsWorldOf P w
+  pub state : w.state ≡ after_redo before.state p

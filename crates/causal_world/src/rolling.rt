@@ -1,0 +1,163 @@
+//! Events taken back in turn, each where nothing that is left depends on it.
+
+ghost use Rattle.std.specs.Prelude.{◌≡◌, ℕ, ◌+◌, ◌<◌, ◌≤◌, ◌++◌, [], length, sum, IfOk, OnOk, IfSome, MatchOption, Some};
+ghost use Rattle.std.specs.Prelude.{slice_index, slice_index_or};
+ghost use Rattle.std.specs.Vec.{vec_len, vec_capacity};
+ghost use Rattle.dbg_base.specs.Trees as tree;
+ghost use Rattle.dbg_base.specs.ModelStates.{after_rollback};
+ghost use Rattle.cut_core.specs.Tallies.{got_by};
+ghost use Rattle.cut_core.specs.ConsistentCuts.{IsConsistentCut, places};
+ghost use Rattle.fifo_grid.specs.Grids.{room_at};
+ghost use Rattle.causal_world.specs.Scenes.{scene, IsWorldOf, unmade};
+ghost use Rattle.causal_world.specs.Worlds.{IsSomeWorld, LastExchange, last_event};
+ghost use Rattle.causal_world.specs.Room.{HasRoomBack, puts_before};
+ghost use Rattle.causal_world.specs.Rollings.{CanTakeBack, IsNextBack, IsRolledFrom};
+
+use crate::channels::received;
+use crate::events::revert;
+use crate::lines::Lines;
+use crate::past::Past;
+use crate::rolled::Taken;
+use cut_core::Tally;
+use dbg_base::{Pid, Refusal};
+use event_rows::{Event, Exchange};
+use fifo_grid::Grid;
+use local_eval::Env;
+use std::alloc::AllocError;
+
+/// The count of this process in a cut, 0 where it is not there.
+pub(crate) fn count_of(cut: &[u32], pid: Pid) -> u32
+    ensures { result ≡ slice_index cut.now pid.0 }
+{
+    cut.get(pid.0 as usize).copied().unwrap_or(0)
+}
+
+/// How many events there are behind the cut. Where that is more than memory could hold, it is refused as such.
+pub(crate) fn behind(tally: &Tally, cut: &[u32]) -> Result<usize, AllocError>
+    ensures { IfOk result (λ more. sum (places tally.now.kinds) ≤ more + sum cut.now) }
+{
+    let mut more = 0usize;
+    for p in 0..tally.processes() {
+        let own = tally.len(Pid(p)).saturating_sub(count_of(cut, Pid(p)));
+        more = more.checked_add(own as usize).ok_or(AllocError)?;
+    }
+    Ok(more)
+}
+
+// Makes room for the messages that go back to this process as its events behind so many are taken back.
+fn make_room_to(grid: &mut Grid, tally: &Tally, to: Pid, count: u32) -> Result<(), AllocError>
+    ensures channels { grid.new.channels ≡ grid.old.channels }
+    ensures grows { (i j : ℕ) → room_at grid.old.room i j ≤ room_at grid.new.room i j }
+    ensures room { OnOk result ((i : ℕ) → i < length tally.now.kinds → i < length grid.old.channels
+        → to.0 < length (slice_index_or grid.old.channels i [])
+        → got_by tally.now.kinds to.0 i (length (slice_index_or tally.now.kinds to.0 []))
+        ≤ got_by tally.now.kinds to.0 i count + room_at grid.new.room i to.0) }
+{
+    for i in 0..tally.processes() {
+        let all = tally.got(to, Pid(i), tally.len(to));
+        let more = all.saturating_sub(tally.got(to, Pid(i), count));
+        grid.reserve(Pid(i), to, more as usize)?;
+    }
+    Ok(())
+}
+
+/// Makes room for the messages that go back to their channels as the events behind the cut are taken back.
+pub(crate) fn make_room_back(grid: &mut Grid, tally: &Tally, cut: &[u32]) -> Result<(), AllocError>
+    ensures channels { grid.new.channels ≡ grid.old.channels }
+    ensures room { OnOk result ((i j : ℕ) → i < length tally.now.kinds → j < length tally.now.kinds → i < length grid.old.channels
+        → j < length (slice_index_or grid.old.channels i [])
+        → got_by tally.now.kinds j i (length (slice_index_or tally.now.kinds j []))
+        ≤ got_by tally.now.kinds j i (slice_index cut.now j) + room_at grid.new.room i j) }
+{
+    for j in 0..tally.processes() {
+        make_room_to(grid, tally, Pid(j), count_of(cut, Pid(j)))?;
+    }
+    Ok(())
+}
+
+/// What the last event of the process exchanged, where no other process has received what it sent, or why it may not be undone.
+pub(crate) fn last_exchange(grid: &Grid, past: &Past, pid: Pid) -> Result<Exchange, Refusal>
+    ensures { LastExchange past.now.events grid.now.channels pid.0 result }
+{
+    let Some(event) = past.last(pid) else {
+        return Err(Refusal::NothingToUndo);
+    };
+    match received(grid, pid, event.exchange()) {
+        Some(target) => Err(Refusal::Consequence(target)),
+        None => Ok(event.exchange()),
+    }
+}
+
+/// The last event of the process, which may be undone, is taken back.
+pub(crate) fn take_back(
+    lines: &mut Lines,
+    envs: &mut Vec<Env>,
+    grid: &mut Grid,
+    past: &mut Past,
+    pid: Pid,
+) -> Option<Event>
+    requires { CanTakeBack (scene lines.old envs.old.items grid.old.channels past.old) grid.old pid.0 }
+    ensures was { result ≡ last_event (scene lines.old envs.old.items grid.old.channels past.old) pid.0 }
+    ensures left { IfSome result (λ event. scene lines.new envs.new.items grid.new.channels past.new
+        ≡ unmade (scene lines.old envs.old.items grid.old.channels past.old) pid.0 event) }
+    ensures ways { IfSome result (λ event. (i j : ℕ)
+        → room_at grid.old.room i j ≤ room_at grid.new.room i j + puts_before pid.0 event.exchange i j) }
+{
+    let Some(event) = past.pop(pid) else {
+        return None;
+    };
+    lines.retreat(pid);
+    revert(envs, grid, pid, &event);
+    Some(event)
+}
+
+// A process behind the cut whose last event may be taken back, or None where no process is behind it.
+fn next_back(
+    lines: &Lines,
+    envs: &[Env],
+    grid: &Grid,
+    past: &Past,
+    cut: &[u32],
+) -> Option<Pid>
+    requires world { IsSomeWorld (scene lines.now envs.now grid.now.channels past.now) }
+    requires cut { IsConsistentCut past.now.kinds cut.now }
+    ensures { MatchOption result ((p : ℕ) → length (slice_index_or past.now.kinds p []) ≤ slice_index cut.now p)
+        (λ pid. IsNextBack (scene lines.now envs.now grid.now.channels past.now) cut.now pid.0) }
+{
+    for p in 0..past.tally().processes() {
+        if lines.place(Pid(p)) > count_of(cut, Pid(p)) {
+            match last_exchange(grid, past, Pid(p)) {
+                Ok(_exchange) => return Some(Pid(p)),
+                Err(_refusal) => {}
+            }
+        }
+    }
+    None
+}
+
+/// All events behind the cut are taken back, and noted in that order.
+pub(crate) fn roll_back(
+    lines: &mut Lines,
+    envs: &mut Vec<Env>,
+    grid: &mut Grid,
+    past: &mut Past,
+    cut: &[u32],
+    taken: &mut Vec<Taken>,
+)
+    requires world { IsSomeWorld (scene lines.old envs.old.items grid.old.channels past.old) }
+    requires cut { IsConsistentCut past.old.kinds cut.now }
+    requires ways { HasRoomBack grid.old.room past.old.kinds cut.now }
+    requires none { taken.old.items ≡ [] }
+    requires room { sum (places past.old.kinds) ≤ vec_capacity taken.old + sum cut.now }
+    ensures back { (P : tree.Program) → IsWorldOf P (scene lines.old envs.old.items grid.old.channels past.old)
+        → IsRolledFrom P (scene lines.old envs.old.items grid.old.channels past.old) taken.new.items
+        (scene lines.new envs.new.items grid.new.channels past.new) }
+    ensures moves { lines.new ≡ after_rollback lines.old cut.now }
+{
+    while let Some(pid) = next_back(lines, envs.as_slice(), grid, past, cut) {
+        match take_back(lines, envs, grid, past, pid) {
+            Some(event) => taken.push_reserved(Taken { pid, event }),
+            None => return,
+        }
+    }
+}

@@ -1,0 +1,93 @@
+//! Going back: the last event of a process, or all events behind a cut.
+
+ghost use Rattle.std.specs.Prelude.{◌≡◌, ◌⊎◌, IfOk, IfErr, OnOk, OnErr, Ok};
+ghost use Rattle.dbg_base.specs.declared.refusal.Refusal.TheVariants.{Memory};
+ghost use Rattle.dbg_base.specs.Trees as tree;
+ghost use Rattle.dbg_base.specs.ModelStates.{history_of, after_undo, after_rollback};
+ghost use Rattle.dbg_base.specs.Acts.{CannotUndo};
+ghost use Rattle.dbg_base.specs.Reversal.{MayUndo};
+ghost use Rattle.cut_core.specs.ConsistentCuts.{IsConsistentCut};
+ghost use Rattle.causal_world.specs.Scenes.{IsWorldOf};
+ghost use Rattle.causal_world.specs.Worlds.{Undoable};
+ghost use Rattle.causal_world.specs.Rollings.{IsRolledFrom};
+
+use crate::channels::make_room_before;
+use crate::rolled::{Rolled, Taken};
+use crate::rolling::{behind, last_exchange, make_room_back, roll_back, take_back};
+use crate::world::World;
+use dbg_base::{Cut, Pid, Refusal};
+use event_rows::Exchange;
+use std::alloc::Global;
+
+impl World {
+    // What the last event of the process exchanged, where the event may be undone, or why it may not.
+    fn undoable(&self, pid: Pid) -> Result<Exchange, Refusal>
+        ensures { Undoable self.now pid.0 result }
+    {
+        last_exchange(&self.grid, &self.past, pid)
+    }
+
+    /// Whether the last event of the process may be undone, or why not: `NothingToUndo` where it has none, and `Consequence` where the
+    /// process that is told has received the message that the event sent.
+    pub fn can_undo(&self, pid: Pid) -> Result<(), Refusal>
+        ensures may { OnOk result ((P : tree.Program) → IsWorldOf P self.now → MayUndo P (history_of self.now.state) pid.0) }
+        ensures why { IfErr result (λ refusal. (P : tree.Program) → IsWorldOf P self.now → CannotUndo P self.now.state pid.0 refusal) }
+    {
+        let _exchange = self.undoable(pid)?;
+        Ok(())
+    }
+
+    /// The last event of the process is taken back: its variables have their old values, a message that it sent leaves the back of its
+    /// channel, and one that it took is at the front again. The place moves back, and the line stays. It is refused, and changes
+    /// nothing, as `can_undo` tells, or as `Memory`, where that runs out.
+    pub fn undo(&mut self, alloc: Global, pid: Pid) -> Result<Rolled, Refusal>
+        ensures of { (P : tree.Program) → IsWorldOf P self.old → IsWorldOf P self.new }
+        ensures may { OnOk result ((P : tree.Program) → IsWorldOf P self.old → MayUndo P (history_of self.old.state) pid.0) }
+        ensures moves { OnOk result (self.new.state ≡ after_undo self.old.state pid.0) }
+        ensures back { IfOk result (λ rolled. (P : tree.Program) → IsWorldOf P self.old → IsRolledFrom P self.old rolled self.new) }
+        ensures refuses { IfErr result (λ refusal.
+            ((P : tree.Program) → IsWorldOf P self.old → CannotUndo P self.old.state pid.0 refusal) ⊎ (refusal ≡ Memory)) }
+        ensures kept { OnErr result (self.new ≡ self.old) }
+    {
+        let exchange = self.undoable(pid)?;
+        let mut taken = Vec::new(alloc);
+        taken.reserve(1)?;
+        make_room_before(&mut self.grid, pid, exchange)?;
+        let Some(event) = take_back(
+            &mut self.lines,
+            &mut self.envs,
+            &mut self.grid,
+            &mut self.past,
+            pid,
+        ) else {
+            return Err(Refusal::NothingToUndo);
+        };
+        taken.push_reserved(Taken { pid, event });
+        Ok(Rolled { taken })
+    }
+
+    /// The events behind this consistent cut are taken back, one by one, each where nothing that is left depends on it: the places are
+    /// those of the cut, and the lines stay. It is refused only as `Memory`, where that runs out, and then changes nothing.
+    pub fn roll_to(&mut self, alloc: Global, cut: &Cut) -> Result<Rolled, Refusal>
+        requires { IsConsistentCut self.old.kinds cut.now }
+        ensures of { (P : tree.Program) → IsWorldOf P self.old → IsWorldOf P self.new }
+        ensures moves { OnOk result (self.new.state ≡ after_rollback self.old.state cut.now) }
+        ensures back { IfOk result (λ rolled. (P : tree.Program) → IsWorldOf P self.old → IsRolledFrom P self.old rolled self.new) }
+        ensures refuses { IfErr result (λ refusal. refusal ≡ Memory) }
+        ensures kept { OnErr result (self.new ≡ self.old) }
+    {
+        let counts = cut.counts();
+        let mut taken = Vec::new(alloc);
+        taken.reserve(behind(self.past.tally(), counts)?)?;
+        make_room_back(&mut self.grid, self.past.tally(), counts)?;
+        roll_back(
+            &mut self.lines,
+            &mut self.envs,
+            &mut self.grid,
+            &mut self.past,
+            counts,
+            &mut taken,
+        );
+        Ok(Rolled { taken })
+    }
+}
