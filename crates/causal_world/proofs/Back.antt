@@ -158,8 +158,11 @@ history_without P M p is here =
     ∙ ap (λ (l : List ℕ). set (history_of M) p (without_back l)) (sym (events_at P M is p here))
 
 -- what the world had before
-pub record WentBack (P : Program) (w : Scene) (p : ℕ) : Type 0 where
+pub record WentBack (P : Program) (w : Scene) (p k : ℕ) : Type 0 where
   pub event : EventValue
+  pub is : event_at P (unmade w p event).standing p k ≡ Some event
+  pub leads : w.standing ≡ with_done (unmade w p event).standing p event
+  pub fires : fire P (unmade w p event).standing p k ≡ Ok w.standing
   pub was : slice_get (get_or w.events p []) (length (get_or w.events p []) - 1) ≡ Some event
   pub may : MayUndo P (history_of w.state) p
   pub of : IsWorldOf P (unmade w p event)
@@ -174,7 +177,7 @@ get_last {A} l x =
     at_end (y ∷ l) x = at_end l x
 
 pub goes_back : (P : Program) (w : Scene) (p k : ℕ) → IsWorldOf P w → p < length P → last_choice w.state p ≡ Some k
-    → IsWaiting P w.standing p k → WentBack P w p
+    → IsWaiting P w.standing p k → WentBack P w p k
 goes_back P w p k of here last waiting =
     let M = w.state in
     let B : History = history_of (after_undo M p) in
@@ -228,6 +231,9 @@ goes_back P w p k of here last waiting =
     ∙ ap (λ (l : List Kind). length l) (kinds_at P (history_of M) p) ∙ length-map (get_or (history_of M) p []) (kind_at P p)) in
     record {
       event = m.event;
+      is = ap (λ (x : Configuration). event_at P x p k) standing ∙ m.is;
+      leads = ends ∙ m.leads ∙ ap (λ (x : Configuration). with_done x p m.event) (sym standing);
+      fires = ap (λ (x : Configuration). fire P x p k) standing ∙ fires ∙ ap (λ (x : Configuration). Ok x) (sym ends);
       was = ap (λ (x : List EventValue). slice_get x (length x - 1)) own ∙ get_last (get_or before p []) m.event;
       may = record {
         some = omega (arith, size);

@@ -16,7 +16,7 @@ use Rattle.cut_core.specs.declared.kind.Kind.{Kind}
 use Rattle.dbg_base.specs.Configurations.{Configuration}
 use Rattle.dbg_base.specs.Firing.{fire}
 use Rattle.dbg_base.specs.Orders.{with_last}
-use Rattle.dbg_base.specs.Reversal.{without_last}
+use Rattle.dbg_base.specs.Reversal.{MayUndo, without_last}
 use Rattle.causal_world.specs.Pasts.{PastState, kind_at, kinds_of, kind_done, with_kind, without_kind, IsWhole, AreClocksOf}
 use Rattle.fifo_grid.specs.Grids.{GridState}
 use Rattle.causal_world.specs.Room.{HasRoomBefore}
@@ -176,3 +176,7 @@ module _ (w : Scene) (p : ℕ) (event : EventValue) where
   pub undo_left : {exchange : Exchange} (by : UndoableBy w p exchange) → last_event w p ≡ Some event
       → (P : Program) → IsWorldOf P w → IsWorldOf P (unmade w p event)
   undo_left by was P of = subst (λ (e : EventValue). IsWorldOf P (unmade w p e)) (same_event by was) (by.may P of).1
+
+  pub may_take : {exchange : Exchange} (by : UndoableBy w p exchange) → last_event w p ≡ Some event
+      → (P : Program) → IsWorldOf P w → MayUndo P (history_of w.state) p × IsWorldOf P (unmade w p event)
+  may_take by was P of = ((by.may P of).0, undo_left by was P of)

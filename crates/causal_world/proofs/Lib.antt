@@ -37,3 +37,4 @@ pub mod RollingBack
 pub mod Looking
 pub mod Behind
 pub mod Reversing
+pub mod Sames

@@ -2,13 +2,15 @@
 use Rattle.std.specs.Prelude.{◌≡◌, ℕ, ◌<◌, List, [], ◌∷◌, length, Some, slice_index, slice_index_or}
 use Rattle.dbg_base.specs.Trees.{Program}
 use Rattle.dbg_base.specs.Reversal.{MayUndo}
-use Rattle.dbg_base.specs.ModelStates.{history_of, after_choice, after_redo, redo_line}
+use Rattle.dbg_base.specs.LocalStates.{LocalState}
+use Rattle.dbg_base.specs.ModelStates.{ModelState, history_of, after_choice, after_redo, redo_line}
 use Rattle.fifo_grid.specs.Grids.{GridState}
 use Rattle.event_rows.specs.declared.exchange.Exchange.{Exchange}
 use Rattle.event_rows.specs.EventValues.{EventValue}
 use Rattle.causal_world.specs.Room.{HasRoomBefore}
 use Rattle.causal_world.specs.declared.rolled.Taken.{Taken}
-use Rattle.causal_world.specs.Scenes.{Scene, IsWorldOf, unmade}
+use Rattle.causal_world.specs.Pasts.{PastState}
+use Rattle.causal_world.specs.Scenes.{Scene, scene, IsWorldOf, unmade}
 use Rattle.causal_world.specs.Worlds.{IsSomeWorld, UndoableBy, last_event}
 
 -- the world without these events
@@ -23,6 +25,12 @@ AreTakenBack P w (taken ∷ others) =
     (last_event w taken.pid.0 ≡ Some taken.event) × IsWorldOf P (unmade w taken.pid.0 taken.event)
     × AreTakenBack P (unmade w taken.pid.0 taken.event) others
 
+-- The last event of process p was this one, and taken out it leaves this world.
+pub record TakesOut (w : Scene) (p : ℕ) (event : EventValue) (new : Scene) : Type 0 where
+  pub was : last_event w p ≡ Some event
+  pub may : (P : Program) → IsWorldOf P w → MayUndo P (history_of w.state) p × IsWorldOf P (unmade w p event)
+  pub left : new ≡ unmade w p event
+
 -- These events were taken back from the world before, which was of the program, and left this world.
 pub record IsRolledFrom (P : Program) (before : Scene) (taken : List Taken) (w : Scene) : Type 0 where
   pub of : IsWorldOf P before
@@ -36,6 +44,10 @@ pub record CanTakeBack (w : Scene) (grid : GridState) (p : ℕ) : Type 0 where
   pub was : last_event w p ≡ Some event
   pub may : (P : Program) → IsWorldOf P w → MayUndo P (history_of w.state) p × IsWorldOf P (unmade w p event)
   pub messages : HasRoomBefore grid p event.exchange
+
+-- the same where the lines and places stand elsewhere
+abbrev pub CanTakeFrom : List LocalState → GridState → PastState → ℕ → Type 0
+CanTakeFrom states grid past p = (state : ModelState) × CanTakeBack (scene state states grid.channels past) grid p
 
 -- process p is behind the cut, and its last event may be taken back
 abbrev pub IsNextBack : Scene → List ℕ → ℕ → Type 0

@@ -1,5 +1,5 @@
 -- Where a world stands, and what it knows of its events.
-use Rattle.std.specs.Prelude.{◌≡◌, ℕ, ◌+◌, ℤ, List, [], ◌∷◌, ◌++◌, drop, length, Option, Some, None, Result, Ok, Err}
+use Rattle.std.specs.Prelude.{◌≡◌, ℕ, ◌+◌, ◌-◌, ℤ, List, [], ◌∷◌, ◌++◌, take, drop, length, Option, Some, None, Result, Ok, Err}
 use Rattle.std.specs.Prelude.{replicate, slice_get, slice_index_or, slice_set}
 use Rattle.std.specs.Option.{option_map}
 use Rattle.dbg_base.specs.declared.refusal.Refusal.{Refusal}
@@ -10,7 +10,7 @@ use Rattle.dbg_base.specs.Firing.{Effect, effect_of, fire}
 use Rattle.dbg_base.specs.Histories.{IsPossible}
 use Rattle.dbg_base.specs.Orders.{Event, order, choices_of}
 use Rattle.dbg_base.specs.Reversal.{without_back}
-use Rattle.dbg_base.specs.ModelStates.{ModelState, history_of, configuration_of, after_undo, IsStateOf}
+use Rattle.dbg_base.specs.ModelStates.{ModelState, line_of, place_at, history_of, configuration_of, after_undo, IsStateOf}
 use Rattle.fifo_grid.specs.Grids.{messages_at, with_messages}
 use Rattle.event_rows.specs.declared.exchange.Exchange.{Exchange}
 use Rattle.event_rows.specs.declared.exchange.Exchange.TheVariants.{Nothing, Sent, Took}
@@ -140,6 +140,13 @@ abbrev pub with_undone : Configuration → ℕ → EventValue → Configuration
 with_undone c p event = record {
   states = slice_set c.states p (before_event event (state_in c p));
   channels = channels_before c.channels p event.exchange;
+}
+
+-- the place of process p moves back, and these choices follow
+abbrev pub restored : ModelState → ℕ → List ℕ → ModelState
+restored M p choices = record {
+  lines = slice_set M.lines p (take (place_at M p - 1) (line_of M p) ++ choices);
+  places = slice_set M.places p (place_at M p - 1);
 }
 
 -- process p has made this event, which leaves this state and these clocks

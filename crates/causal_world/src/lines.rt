@@ -3,6 +3,7 @@
 ghost use Rattle.std.specs.Prelude.{◌≡◌, ◌<◌, ◌++◌, ◌∷◌, [], length, map, take, drop, replicate, IfOk, OnOk, OnErr, slice_get};
 ghost use Rattle.dbg_base.specs.declared.limits.TheConstants.{EVENTS};
 ghost use Rattle.dbg_base.specs.ModelStates.{line_of, place_at, redo_line, last_choice, after_choice, after_redo, after_undo};
+ghost use Rattle.causal_world.specs.Scenes.{restored};
 
 use dbg_base::{Choice, Pid};
 use std::alloc::{AllocError, Global};
@@ -46,6 +47,16 @@ fn append_choice(line: &mut Vec<u32>, place: usize, choice: u32) -> Result<(), A
         line.push(choice)?;
     }
     Ok(())
+}
+
+// The line is cut at the place, and these choices are appended. Where memory runs out nothing changes.
+fn replace_end(line: &mut Vec<u32>, place: usize, choices: &[u32]) -> Result<(), AllocError>
+    ensures replaced { OnOk result (line.new.items ≡ take place line.old.items ++ choices.now) }
+    ensures kept { OnErr result (line.new.items ≡ line.old.items) }
+{
+    line.reserve(choices.len())?;
+    line.truncate(place);
+    line.extend_from_slice(choices)
 }
 
 // The choices of a line from a place on.
@@ -152,5 +163,19 @@ impl Lines {
         if p < self.places.len() {
             self.places[p] = self.places[p].saturating_sub(1);
         }
+    }
+
+    /// The place moves back, and the choices from there on are these again. Where memory runs out nothing changes.
+    pub(crate) fn restore(&mut self, pid: Pid, choices: &[u32]) -> Result<(), AllocError>
+        requires line { pid.0 < length self.old.lines }
+        requires place { pid.0 < length self.old.places }
+        ensures restored { OnOk result (self.new ≡ restored self.old pid.0 choices.now) }
+        ensures kept { OnErr result (self.new ≡ self.old) }
+    {
+        let p = pid.0 as usize;
+        let place = self.places[p].saturating_sub(1);
+        replace_end(&mut self.lines[p], place as usize, choices)?;
+        self.places[p] = place;
+        Ok(())
     }
 }

@@ -4,14 +4,14 @@ ghost use Rattle.std.specs.Prelude.{◌≡◌, ℕ, ◌+◌, ◌<◌, ◌≤◌,
 ghost use Rattle.std.specs.Prelude.{slice_index, slice_index_or};
 ghost use Rattle.std.specs.Vec.{vec_len, vec_capacity};
 ghost use Rattle.dbg_base.specs.Trees as tree;
-ghost use Rattle.dbg_base.specs.ModelStates.{after_rollback};
+ghost use Rattle.dbg_base.specs.ModelStates.{ModelState, after_undo, after_rollback};
 ghost use Rattle.cut_core.specs.Tallies.{got_by};
 ghost use Rattle.cut_core.specs.ConsistentCuts.{IsConsistentCut, places};
 ghost use Rattle.fifo_grid.specs.Grids.{room_at};
 ghost use Rattle.causal_world.specs.Scenes.{scene, IsWorldOf, unmade};
-ghost use Rattle.causal_world.specs.Worlds.{IsSomeWorld, LastExchange, last_event};
+ghost use Rattle.causal_world.specs.Worlds.{IsSomeWorld, LastExchange, last_of};
 ghost use Rattle.causal_world.specs.Room.{HasRoomBack, puts_before};
-ghost use Rattle.causal_world.specs.Rollings.{CanTakeBack, IsNextBack, IsRolledFrom};
+ghost use Rattle.causal_world.specs.Rollings.{CanTakeFrom, IsNextBack, IsRolledFrom};
 
 use crate::channels::received;
 use crate::events::revert;
@@ -88,25 +88,23 @@ pub(crate) fn last_exchange(grid: &Grid, past: &Past, pid: Pid) -> Result<Exchan
     }
 }
 
-/// The last event of the process, which may be undone, is taken back.
+/// The last event of the process, which may be undone, is taken back. The lines and places are left to the caller.
 pub(crate) fn take_back(
-    lines: &mut Lines,
     envs: &mut Vec<Env>,
     grid: &mut Grid,
     past: &mut Past,
     pid: Pid,
 ) -> Option<Event>
-    requires { CanTakeBack (scene lines.old envs.old.items grid.old.channels past.old) grid.old pid.0 }
-    ensures was { result ≡ last_event (scene lines.old envs.old.items grid.old.channels past.old) pid.0 }
-    ensures left { IfSome result (λ event. scene lines.new envs.new.items grid.new.channels past.new
-        ≡ unmade (scene lines.old envs.old.items grid.old.channels past.old) pid.0 event) }
+    requires { CanTakeFrom envs.old.items grid.old past.old pid.0 }
+    ensures was { result ≡ last_of past.old.events pid.0 }
+    ensures left { IfSome result (λ event. (state : ModelState) → scene (after_undo state pid.0) envs.new.items grid.new.channels past.new
+        ≡ unmade (scene state envs.old.items grid.old.channels past.old) pid.0 event) }
     ensures ways { IfSome result (λ event. (i j : ℕ)
         → room_at grid.old.room i j ≤ room_at grid.new.room i j + puts_before pid.0 event.exchange i j) }
 {
     let Some(event) = past.pop(pid) else {
         return None;
     };
-    lines.retreat(pid);
     revert(envs, grid, pid, &event);
     Some(event)
 }
@@ -155,9 +153,10 @@ pub(crate) fn roll_back(
     ensures moves { lines.new ≡ after_rollback lines.old cut.now }
 {
     while let Some(pid) = next_back(lines, envs.as_slice(), grid, past, cut) {
-        match take_back(lines, envs, grid, past, pid) {
+        match take_back(envs, grid, past, pid) {
             Some(event) => taken.push_reserved(Taken { pid, event }),
             None => return,
         }
+        lines.retreat(pid);
     }
 }

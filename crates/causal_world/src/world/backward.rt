@@ -9,14 +9,14 @@ ghost use Rattle.dbg_base.specs.Reversal.{MayUndo};
 ghost use Rattle.cut_core.specs.ConsistentCuts.{IsConsistentCut};
 ghost use Rattle.causal_world.specs.Scenes.{IsWorldOf};
 ghost use Rattle.causal_world.specs.Worlds.{Undoable};
-ghost use Rattle.causal_world.specs.Rollings.{IsRolledFrom};
+ghost use Rattle.causal_world.specs.Rollings.{IsRolledFrom, IsRedone, IsStepped, TakesOut};
 
 use crate::channels::make_room_before;
-use crate::rolled::{Rolled, Taken};
+use crate::rolled::{Cutoff, Rolled, Taken};
 use crate::rolling::{behind, last_exchange, make_room_back, roll_back, take_back};
 use crate::world::World;
 use dbg_base::{Cut, Pid, Refusal};
-use event_rows::Exchange;
+use event_rows::{Event, Exchange};
 use std::alloc::Global;
 
 impl World {
@@ -37,6 +37,22 @@ impl World {
         Ok(())
     }
 
+    // The last event of the process is taken out, where it may be undone. Where memory runs out nothing changes.
+    fn pop_event(&mut self, pid: Pid) -> Result<Event, Refusal>
+        ensures took { IfOk result (λ event. TakesOut self.old pid.0 event self.new) }
+        ensures refuses { IfErr result (λ refusal.
+            ((P : tree.Program) → IsWorldOf P self.old → CannotUndo P self.old.state pid.0 refusal) ⊎ (refusal ≡ Memory)) }
+        ensures kept { OnErr result (self.new ≡ self.old) }
+    {
+        let exchange = self.undoable(pid)?;
+        make_room_before(&mut self.grid, pid, exchange)?;
+        let Some(event) = take_back(&mut self.envs, &mut self.grid, &mut self.past, pid) else {
+            return Err(Refusal::NothingToUndo);
+        };
+        self.lines.retreat(pid);
+        Ok(event)
+    }
+
     /// The last event of the process is taken back: its variables have their old values, a message that it sent leaves the back of its
     /// channel, and one that it took is at the front again. The place moves back, and the line stays. It is refused, and changes
     /// nothing, as `can_undo` tells, or as `Memory`, where that runs out.
@@ -49,21 +65,45 @@ impl World {
             ((P : tree.Program) → IsWorldOf P self.old → CannotUndo P self.old.state pid.0 refusal) ⊎ (refusal ≡ Memory)) }
         ensures kept { OnErr result (self.new ≡ self.old) }
     {
-        let exchange = self.undoable(pid)?;
         let mut taken = Vec::new(alloc);
         taken.reserve(1)?;
-        make_room_before(&mut self.grid, pid, exchange)?;
-        let Some(event) = take_back(
-            &mut self.lines,
-            &mut self.envs,
-            &mut self.grid,
-            &mut self.past,
-            pid,
-        ) else {
-            return Err(Refusal::NothingToUndo);
-        };
+        let event = self.pop_event(pid)?;
         taken.push_reserved(Taken { pid, event });
         Ok(Rolled { taken })
+    }
+
+    /// A redo of the process is taken back, which left the world as it is: the world is as it was before. It is refused only as
+    /// `Memory`, where that runs out, and then changes nothing.
+    pub fn unredo(&mut self, pid: Pid) -> Result<(), Refusal>
+        requires { (P : tree.Program) × IsRedone P pid.0 self.old }
+        ensures back { (P : tree.Program) (r : IsRedone P pid.0 self.old) → OnOk result (self.new ≡ r.before) }
+        ensures refuses { IfErr result (λ refusal. refusal ≡ Memory) }
+        ensures kept { OnErr result (self.new ≡ self.old) }
+    {
+        let _event = self.pop_event(pid)?;
+        Ok(())
+    }
+
+    /// A step of the process is taken back, which left the world as it is and cut these choices off: the world is as it was before,
+    /// with those choices. It is refused only as `Memory`, where that runs out, and then changes nothing and hands the choices back.
+    pub fn unstep(&mut self, pid: Pid, cutoff: Cutoff) -> Result<(), (Refusal, Cutoff)>
+        requires { (P : tree.Program) × IsStepped P pid.0 cutoff self.old }
+        ensures back { (P : tree.Program) (s : IsStepped P pid.0 cutoff self.old) → OnOk result (self.new ≡ s.before) }
+        ensures refuses { IfErr result (λ refused. (refused.0 ≡ Memory) × (refused.1 ≡ cutoff)) }
+        ensures kept { OnErr result (self.new ≡ self.old) }
+    {
+        let exchange = match self.undoable(pid) {
+            Ok(exchange) => exchange,
+            Err(refusal) => return Err((refusal, cutoff)),
+        };
+        if make_room_before(&mut self.grid, pid, exchange).is_err() {
+            return Err((Refusal::Memory, cutoff));
+        }
+        if self.lines.restore(pid, cutoff.choices.as_slice()).is_err() {
+            return Err((Refusal::Memory, cutoff));
+        }
+        let _event = take_back(&mut self.envs, &mut self.grid, &mut self.past, pid);
+        Ok(())
     }
 
     /// The events behind this consistent cut are taken back, one by one, each where nothing that is left depends on it: the places are

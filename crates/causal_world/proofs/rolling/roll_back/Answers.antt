@@ -1,5 +1,6 @@
 use Rattle.std.proofs.Common.{◌≡◌, List, sum, Some, refl, subst, sym, ap, ◌∙◌, arith, rules}
 use Rattle.dbg_base.specs.LocalStates.{LocalState}
+use Rattle.dbg_base.specs.ModelStates.{ModelState}
 use Rattle.event_rows.specs.EventValues.{EventValue}
 use Rattle.causal_world.specs.Scenes.{Scene, scene, unmade}
 use Rattle.causal_world.specs.Worlds.{IsSomeWorld, last_event}
@@ -8,7 +9,7 @@ use Rattle.cut_core.specs.ConsistentCuts.{places}
 use Rattle.causal_world.proofs.Calls.{undo_left}
 use Rattle.causal_world.proofs.Reversing.{some_left, can_back, reverses_on, fewer, more_left, at_rest, Reverses}
 use Rattle.causal_world.proofs.rolling.roll_back.Goals as goal
-use Rattle.causal_world.proofs.rolling.roll_back.Goals.{In-Some, After-push_reserved}
+use Rattle.causal_world.proofs.rolling.roll_back.Goals.{In-Some, After-retreat}
 
 pub next_back-requires-clause-world : goal.next_back-requires-clause-world
 next_back-requires-clause-world c =
@@ -22,9 +23,11 @@ next c =
     c.args.cut.now c.in-Some.pid.0) c.as_slice.ensures.value c.in-Some.ensures
 
 pub take_back-requires : goal.take_back-requires
-take_back-requires c =
-    can_back _ c.loop-pid.grid c.args.cut.now c.in-Some.pid.0 (some_left _ _ _ _ _ c.requires.world c.loop-pid.invariant.reverses) refl
-    c.loop-pid.invariant.reverses.consistent c.loop-pid.invariant.reverses.ways (next (goal.at.take_back-requires c).In-Some)
+take_back-requires c = (
+  c.loop-pid.lines,
+  can_back _ c.loop-pid.grid c.args.cut.now c.in-Some.pid.0 (some_left _ _ _ _ _ c.requires.world c.loop-pid.invariant.reverses) refl
+      c.loop-pid.invariant.reverses.consistent c.loop-pid.invariant.reverses.ways (next (goal.at.take_back-requires c).In-Some),
+)
 
 pub push_reserved-requires : goal.push_reserved-requires
 push_reserved-requires c =
@@ -32,16 +35,23 @@ push_reserved-requires c =
     omega (arith, more_left c.loop-pid.past.kinds c.args.cut.now c.in-Some.pid.0 c.loop-pid.invariant.reverses.consistent n.0,
     c.loop-pid.invariant.room)
 
-was : (c : After-push_reserved)
+was : (c : After-retreat)
     → last_event (scene c.loop-pid.lines c.loop-pid.envs.items c.loop-pid.grid.channels c.loop-pid.past) c.in-Some.pid.0
     ≡ Some c.in-Some-take_back.event
 was c = sym c.take_back.ensures.was ∙ c.in-Some-take_back.is
+
+left : (c : After-retreat) → scene c.retreat.new.self c.take_back.new.envs.items c.take_back.new.grid.channels c.take_back.new.past
+    ≡ unmade (scene c.loop-pid.lines c.loop-pid.envs.items c.loop-pid.grid.channels c.loop-pid.past) c.in-Some.pid.0
+    c.in-Some-take_back.event
+left c =
+    ap (λ (state : ModelState). scene state c.take_back.new.envs.items c.take_back.new.grid.channels c.take_back.new.past) c.retreat.ensures
+    ∙ c.in-Some-take_back.ensures.left c.loop-pid.lines
 
 pub loop-pid-smaller : goal.loop-pid-smaller
 loop-pid-smaller c =
     let some = some_left _ _ _ _ _ c.requires.world c.loop-pid.invariant.reverses in
     let less = fewer _ c.in-Some.pid.0 c.in-Some-take_back.event some (was c) in
-    let kinds = ap (λ (w : Scene). sum (places w.kinds)) c.in-Some-take_back.ensures.left in
+    let kinds = ap (λ (w : Scene). sum (places w.kinds)) (left c) in
     omega (arith, less, kinds)
 
 pub loop-pid-preserved : goal.loop-pid-preserved
@@ -51,12 +61,12 @@ loop-pid-preserved c =
     let event = c.in-Some-take_back.event in
     let n = next (goal.at.loop-pid-preserved c).In-Some in
     let less = fewer _ p event some (was c) in
-    let kinds = ap (λ (w : Scene). sum (places w.kinds)) c.in-Some-take_back.ensures.left in
+    let kinds = ap (λ (w : Scene). sum (places w.kinds)) (left c) in
     record {
       reverses = subst (Reverses _ _ c.take_back.new.grid.room c.args.cut.now) (sym c.push_reserved.ensures.items)
           (reverses_on _ _ _ c.loop-pid.grid.room c.take_back.new.grid.room c.args.cut.now c.loop-pid.taken.items
           (record { pid = c.in-Some.pid; event = event }) c.requires.world c.loop-pid.invariant.reverses n.0 (was c)
-          (undo_left _ p event n.1.1 (was c)) c.in-Some-take_back.ensures.left c.in-Some-take_back.ensures.ways);
+          (undo_left _ p event n.1.1 (was c)) (left c) c.in-Some-take_back.ensures.ways);
       room = omega (arith, less, kinds, c.loop-pid.invariant.room, c.push_reserved.ensures.len, c.push_reserved.ensures.capacity);
     }
 

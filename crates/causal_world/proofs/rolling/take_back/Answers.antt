@@ -6,20 +6,20 @@ use Rattle.causal_world.proofs.rolling.take_back.Goals as goal
 use Rattle.causal_world.proofs.rolling.take_back.Goals.{In-Some}
 
 pub pop-requires : goal.pop-requires
-pop-requires c = record { whole = can_pop _ c.args.grid.now c.args.pid.0 c.requires }
+pop-requires c = record { whole = can_pop _ c.args.grid.now c.args.pid.0 c.requires.1 }
 
 pub revert-requires-clause-here : goal.revert-requires-clause-here
 revert-requires-clause-here c =
-    undo_here c.requires.world.0 _ c.args.pid.0 c.requires.event c.requires.world.1 c.requires.was
+    undo_here c.requires.1.world.0 _ c.args.pid.0 c.requires.1.event c.requires.1.world.1 c.requires.1.was
 
-was : (c : In-Some) → Some c.in-Some.event ≡ Some c.requires.event
-was c = sym (popped _ _ c.pop.result c.in-Some.event c.pop.ensures.last c.in-Some.is) ∙ c.requires.was
+was : (c : In-Some) → Some c.in-Some.event ≡ Some c.requires.1.event
+was c = sym (popped _ _ c.pop.result c.in-Some.event c.pop.ensures.last c.in-Some.is) ∙ c.requires.1.was
 
 pub revert-requires-clause-messages : goal.revert-requires-clause-messages
 revert-requires-clause-messages c =
     let same = was (goal.at.revert-requires-clause-messages c).In-Some in
-    let is : c.requires.event ≡ c.in-Some.event = cc in
-    subst (λ (e : EventValue). HasRoomBefore c.args.grid.now c.args.pid.0 e.exchange) is c.requires.messages
+    let is : c.requires.1.event ≡ c.in-Some.event = cc in
+    subst (λ (e : EventValue). HasRoomBefore c.args.grid.now c.args.pid.0 e.exchange) is c.requires.1.messages
 
 pub returns-clause-was : goal.returns-clause-was
 returns-clause-was c = sym (popped _ _ c.pop.result c.in-Some.event c.pop.ensures.last c.in-Some.is)

@@ -1,0 +1,45 @@
+use Rattle.std.proofs.Common.{◌≡◌, ℤ, List, Some, subst, sym, ap, ◌∙◌}
+use Rattle.dbg_base.specs.ModelStates.{ModelState}
+use Rattle.dbg_base.specs.Trees.{Program}
+use Rattle.causal_world.specs.Scenes.{Scene, scene, IsWorldOf, unmade}
+use Rattle.causal_world.specs.Worlds.{last_event}
+use Rattle.causal_world.specs.Rollings.{CanTakeBack, TakesOut}
+use Rattle.causal_world.proofs.Calls.{can_take, may_take, undo_left}
+use Rattle.causal_world.proofs.world.World.pop_event.Goals as goal
+use Rattle.causal_world.proofs.world.World.pop_event.Goals.{After-retreat}
+
+pub take_back-requires : goal.take_back-requires
+take_back-requires c =
+    let inside = c.self.inside in (
+      inside.lines,
+      subst (λ (channels : List (List (List ℤ))). CanTakeBack (scene inside.lines inside.envs.items channels inside.past)
+          c.make_room_before.new.grid c.args.pid.0) (sym c.in_ok-make_room_before.ensures.kept)
+          (can_take _ c.make_room_before.new.grid c.args.pid.0 c.in_ok-exchange.exchange c.self.invariant
+          (rw (← c.self.view_is) at c.in_ok-exchange.ensures) c.in_ok-make_room_before.ensures.room),
+    )
+
+took : (c : After-retreat) → TakesOut c.args.self.now c.args.pid.0 c.in-Some.event
+    (scene c.retreat.new.self c.take_back.new.envs.items c.take_back.new.grid.channels c.take_back.new.past)
+took c =
+    let inside = c.self.inside in
+    let p = c.args.pid.0 in
+    let event = c.in-Some.event in
+    let now : List (List (List ℤ)) → Scene = λ channels. scene inside.lines inside.envs.items channels inside.past in
+    let same : now c.make_room_before.new.grid.channels ≡ c.args.self.now = ap now c.in_ok-make_room_before.ensures.kept ∙ c.self.view_is in
+    let was : last_event c.args.self.now p ≡ Some event =
+    ap (λ (w : Scene). last_event w p) (sym same) ∙ sym c.take_back.ensures.was ∙ c.in-Some.is in
+    record {
+      was = was;
+      may = may_take c.args.self.now p event c.in_ok-exchange.ensures was;
+      left = ap (λ (state : ModelState). scene state c.take_back.new.envs.items c.take_back.new.grid.channels c.take_back.new.past)
+          c.retreat.ensures ∙ c.in-Some.ensures.left inside.lines ∙ ap (λ (w : Scene). unmade w p event) same;
+    }
+
+pub invariant_of-self-2 : goal.invariant_of-self-2
+invariant_of-self-2 c =
+    let t = took (goal.at.invariant_of-self-2 c).After-retreat in
+    let P = c.self.invariant.0 in
+    (P, subst (IsWorldOf P) (sym t.left) (t.may P (subst (IsWorldOf P) c.self.view_is c.self.invariant.1)).1)
+
+pub returns-clause-took : goal.returns-clause-took
+returns-clause-took c = took (goal.at.returns-clause-took c).After-retreat
