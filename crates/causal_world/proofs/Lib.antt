@@ -38,3 +38,4 @@ pub mod Looking
 pub mod Behind
 pub mod Reversing
 pub mod Sames
+pub mod Inverses

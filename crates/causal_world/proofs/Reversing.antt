@@ -237,7 +237,7 @@ abbrev pub AreStuck : Scene → List ℕ → ℕ → Type 0
 AreStuck w cut n = (q : ℕ) → q < n
     → (place_at w.state q ≤ get_or cut q 0) ⊎ ((P : Program) → IsWorldOf P w → MayUndo P (history_of w.state) q → ⊥)
 
-choices_counted : (P : Program) (w : Scene) (p : ℕ) → IsWorldOf P w → length (get_or (history_of w.state) p []) ≡ place_at w.state p
+pub choices_counted : (P : Program) (w : Scene) (p : ℕ) → IsWorldOf P w → length (get_or (history_of w.state) p []) ≡ place_at w.state p
 choices_counted P w p of =
     ap (λ (l : List ℕ). length l) (line_at w.state.lines w.state.places p)
     ∙ length-take-le (place_at w.state p) (line_of w.state p) (of.state.within p)

@@ -1,9 +1,9 @@
 -- Events taken back one after the other.
-use Rattle.std.specs.Prelude.{◌≡◌, ℕ, ◌<◌, List, [], ◌∷◌, length, Some, slice_index, slice_index_or}
+use Rattle.std.specs.Prelude.{◌≡◌, ℕ, ◌<◌, List, [], ◌∷◌, length, Some, slice_get, slice_index, slice_index_or}
 use Rattle.dbg_base.specs.Trees.{Program}
 use Rattle.dbg_base.specs.Reversal.{MayUndo}
 use Rattle.dbg_base.specs.LocalStates.{LocalState}
-use Rattle.dbg_base.specs.ModelStates.{ModelState, history_of, after_choice, after_redo, redo_line}
+use Rattle.dbg_base.specs.ModelStates.{ModelState, line_of, place_at, history_of, after_choice, after_redo, redo_line}
 use Rattle.fifo_grid.specs.Grids.{GridState}
 use Rattle.event_rows.specs.declared.exchange.Exchange.{Exchange}
 use Rattle.event_rows.specs.EventValues.{EventValue}
@@ -63,6 +63,7 @@ pub record IsStepped (P : Program) (p : ℕ) (cutoff : List ℕ) (w : Scene) : T
   pub before : Scene
   pub of : IsWorldOf P before
   pub now : IsWorldOf P w
+  pub here : p < length P
   pub choice : ℕ
   pub state : w.state ≡ after_choice before.state p choice
   pub cut : cutoff ≡ redo_line before.state p
@@ -72,4 +73,7 @@ pub record IsRedone (P : Program) (p : ℕ) (w : Scene) : Type 0 where
   pub before : Scene
   pub of : IsWorldOf P before
   pub now : IsWorldOf P w
+  pub here : p < length P
+  pub choice : ℕ
+  pub next : slice_get (line_of before.state p) (place_at before.state p) ≡ Some choice
   pub state : w.state ≡ after_redo before.state p

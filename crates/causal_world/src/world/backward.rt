@@ -80,8 +80,10 @@ impl World {
         ensures refuses { IfErr result (λ refusal. refusal ≡ Memory) }
         ensures kept { OnErr result (self.new ≡ self.old) }
     {
-        let _event = self.pop_event(pid)?;
-        Ok(())
+        match self.pop_event(pid) {
+            Ok(_event) => Ok(()),
+            Err(refusal) => Err(refusal),
+        }
     }
 
     /// A step of the process is taken back, which left the world as it is and cut these choices off: the world is as it was before,
@@ -96,13 +98,17 @@ impl World {
             Ok(exchange) => exchange,
             Err(refusal) => return Err((refusal, cutoff)),
         };
-        if make_room_before(&mut self.grid, pid, exchange).is_err() {
-            return Err((Refusal::Memory, cutoff));
+        match make_room_before(&mut self.grid, pid, exchange) {
+            Ok(()) => {}
+            Err(_) => return Err((Refusal::Memory, cutoff)),
         }
-        if self.lines.restore(pid, cutoff.choices.as_slice()).is_err() {
-            return Err((Refusal::Memory, cutoff));
+        match self.lines.restore(pid, cutoff.choices.as_slice()) {
+            Ok(()) => {}
+            Err(_) => return Err((Refusal::Memory, cutoff)),
         }
-        let _event = take_back(&mut self.envs, &mut self.grid, &mut self.past, pid);
+        let Some(_event) = take_back(&mut self.envs, &mut self.grid, &mut self.past, pid) else {
+            return Err((Refusal::Memory, cutoff));
+        };
         Ok(())
     }
 
