@@ -1,11 +1,11 @@
 -- The lists of the places of events: one event more, and one less.
 use Rattle.std.proofs.Common.{◌≡◌, inl, inr, ℕ, ◌+◌, ◌-◌, ◌*◌, ◌<◌, ◌≤◌, ◌==◌, Bool, true, false, List, [], ◌∷◌, ◌++◌}
-use Rattle.std.proofs.Common.{length, get_or, set, take, map, min, replicate, refl, sym, ap, subst, ◌∙◌, arith}
+use Rattle.std.proofs.Common.{length, get_or, set, take, map, min, refl, sym, ap, subst, ◌∙◌, arith}
 use mathlib.Core.Path.{fun_ext}
 use Rattle.std.specs.List.{count_by}
 use Rattle.std.proofs.lemmas.Bool.{cases_eq, false_from_ne_true}
 use Rattle.std.proofs.lemmas.Bool.Decides.{Decides-eqb, Decides-like, same_from_decides}
-use Rattle.std.proofs.lemmas.List.{length-set, length-map, length-replicate, get_or-replicate, get_or-set_same, get_or-set_other}
+use Rattle.std.proofs.lemmas.List.{length-set, length-map, get_or-set_same, get_or-set_other}
 use Rattle.cut_core.specs.declared.kind.Kind.{Kind}
 use Rattle.dbg_base.proofs.Places.{seen_at}
 use Rattle.cut_core.specs.declared.kind.Kind.TheVariants.{Sent, Got, Local}
@@ -70,15 +70,6 @@ module _ (kinds : List Kind) (x : Kind) (lists : List (List ℕ)) (s : ℕ) (e :
       (λ r ne lt. left_no (is_in (length lists - 1) r) kinds x (get_or lists r []) (are.1 r lt)
       (in_no_other (length lists - 1) s r x e ne))
       there
-
--- no event
-pub none_listed : (n : ℕ) → 0 < n → AreListed [] (replicate n [])
-none_listed n some =
-    let long : length (replicate {A = List ℕ} n []) ≡ n = length-replicate {A = List ℕ} n [] in (
-      omega arith,
-      λ s lt. subst (λ (places : List ℕ). IsPlaces (is_in (length (replicate {A = List ℕ} n []) - 1) s) [] places)
-          (sym (get_or-replicate n s [] [] (omega arith))) (refl, λ k lt. absurd (omega arith)),
-    )
 
 -- a list of its own has the places of all that did the same
 same_kind : (last : ℕ) (w x : Kind) → own_list w < last → is_in last (own_list w) x ≡ is_like w x

@@ -1,5 +1,5 @@
 -- Room for more events, in each list of places.
-use Rattle.std.proofs.Common.{◌≡◌, inl, inr, ℕ, ◌+◌, ◌-◌, ◌^◌, ◌<◌, ◌≤◌, List, [], ◌∷◌, ◌++◌, length, get_or, set, max}
+use Rattle.std.proofs.Common.{◌≡◌, inl, inr, ℕ, ◌+◌, ◌-◌, ◌<◌, ◌≤◌, List, [], ◌∷◌, ◌++◌, length, get_or, set}
 use Rattle.std.proofs.Common.{sym, subst, arith}
 use Rattle.std.proofs.lemmas.Bool.{cases_eq}
 use Rattle.std.proofs.lemmas.List.{length-set, length_push, get_or-set_same, get_or-set_other}
@@ -14,15 +14,6 @@ module _ (kinds : List Kind) (spare : ℕ) (rooms : List ℕ) (room : ℕ) (has 
     counted = omega (arith, has.counted);
     events = omega (arith, has.events);
     lists = λ s lt. let a = has.lists s (omega arith) in let b = grows s in omega arith;
-  }
-
-  -- where there is room for so many
-  pub room_raised : (more : ℕ) → length kinds + more < 2 ^ 32 → more ≤ spare
-      → ((s : ℕ) → s < length rooms → more ≤ get_or rooms s 0) → HasRoom kinds spare rooms (max room more)
-  room_raised more fits within each = record {
-    counted = omega (arith, has.counted);
-    events = omega (arith, has.events);
-    lists = λ s lt. let a = has.lists s lt in let b = each s lt in omega arith;
   }
 
   -- one event more
