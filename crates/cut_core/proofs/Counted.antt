@@ -1,16 +1,22 @@
 -- How many of the first events are of a kind.
-use Rattle.std.proofs.Common.{◌≡◌, inl, inr, ℕ, zero, suc, ◌+◌, ◌-◌, ◌<◌, ◌≤◌, Bool, true, cond, List, [], length, get_or, take}
+use Rattle.std.proofs.Common.{◌≡◌, inl, inr, ℕ, zero, suc, ◌+◌, ◌-◌, ◌<◌, ◌≤◌, Bool, true, cond, List, [], ◌∷◌, length, get_or, take}
 use Rattle.std.proofs.Common.{Option, Some, None, MatchOption, refl, sym, ap, subst, ◌∙◌, arith}
 use Rattle.std.specs.List.{count_by}
-use Rattle.std.proofs.lemmas.Bool.{cases_lt}
-use Rattle.std.proofs.lemmas.List.{take-take}
-use Rattle.std.proofs.lemmas.List.Sums.{count_by_more_yes, sum_by-take-le}
+use Rattle.std.proofs.lemmas.Bool.{cases_lt, cases_Bool}
+use Rattle.std.proofs.lemmas.List.{take-take, length-take}
+use Rattle.std.proofs.lemmas.List.Sums.{count_by_more_yes, count_by-le-length, sum_by-cons, sum_by-take-le}
 
 module _ {X : Type 0} (p : X → Bool) where
   -- no fewer of more
   pub count_grows : (xs : List X) (m n : ℕ) → m ≤ n → count_by p (take m xs) ≤ count_by p (take n xs)
   count_grows xs m n le =
       subst (λ ys. count_by p ys ≤ count_by p (take n xs)) (take-take m n xs le) (sum_by-take-le (λ x. cond (p x) 1 0) (take n xs) m)
+
+  -- no more than there are
+  pub count_within : (xs : List X) (n : ℕ) → count_by p (take n xs) ≤ n
+  count_within xs n =
+      let a : count_by p (take n xs) ≤ length (take n xs) = count_by-le-length p (take n xs) in
+      omega (arith, length-take n xs)
 
   -- none of no one
   pub count_none : (n : ℕ) → count_by p (take n []) ≡ 0
@@ -30,6 +36,22 @@ module _ {X : Type 0} (p : X → Bool) where
   count_before xs n d first within like =
       let same : n - 1 + 1 ≡ n = omega arith in
       ap (λ k. count_by p (take k xs)) (sym same) ∙ count_by_more_yes p xs (n - 1) d (omega arith) like
+
+-- no more pass a test than one that it implies
+pub count_implied : {X : Type 0} (p q : X → Bool) → ((x : X) → p x ≡ true → q x ≡ true) → (xs : List X) → count_by p xs ≤ count_by q xs
+count_implied p q implies [] = omega arith
+count_implied p q implies (x ∷ xs) =
+    let rest : count_by p xs ≤ count_by q xs = count_implied p q implies xs in
+    let counted_p : count_by p (x ∷ xs) ≡ cond (p x) 1 0 + count_by p xs = sum_by-cons (λ y. cond (p y) 1 0) x xs in
+    let counted_q : count_by q (x ∷ xs) ≡ cond (q x) 1 0 + count_by q xs = sum_by-cons (λ y. cond (q y) 1 0) x xs in
+    let head : cond {A = ℕ} (p x) 1 0 ≤ cond {A = ℕ} (q x) 1 0 = elim (cases_Bool (p x)) [
+      | inl passes ↦
+          let one_p : cond {A = ℕ} (p x) 1 0 ≡ 1 = ap (λ (b : Bool). cond {A = ℕ} b 1 0) passes in
+          let one_q : cond {A = ℕ} (q x) 1 0 ≡ 1 = ap (λ (b : Bool). cond {A = ℕ} b 1 0) (implies x passes) in
+          omega arith
+      | inr fails ↦ let none_p : cond {A = ℕ} (p x) 1 0 ≡ 0 = ap (λ (b : Bool). cond {A = ℕ} b 1 0) fails in omega arith
+    ] in
+    omega arith
 
 -- the answer of a search says less of another thing
 pub answer_weaker : {A : Type 0} (P P' : Type 0) (Q Q' : A → Type 0) (r : Option A) → (P → P') → ((x : A) → Q x → Q' x)

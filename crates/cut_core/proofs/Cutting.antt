@@ -8,7 +8,7 @@ use Rattle.cut_core.specs.declared.kind.Kind.{Kind}
 use Rattle.cut_core.specs.Kinds.{sends_to, gets_from}
 use Rattle.cut_core.specs.Tallies.{sent_by, got_by}
 use Rattle.dbg_base.specs.Cuts.{IsAtMost}
-use Rattle.cut_core.specs.ConsistentCuts.{HasCauses, HasOrphan, IsConsistentCut}
+use Rattle.cut_core.specs.ConsistentCuts.{HasOrphan, IsConsistentCut}
 use Rattle.cut_core.proofs.Counted.{count_grows, count_below, count_none}
 
 -- a process that is not there sent nothing, and received nothing
@@ -21,13 +21,6 @@ none_got kinds j i n le =
     ap (λ (line : List Kind). count_by (gets_from i) (take n line)) (get_or_past kinds j [] le) ∙ count_none (gets_from i) n
 
 module _ (kinds : List (List Kind)) (counts : List ℕ) where
-  -- no process has received too many
-  pub causes_hold : ((i j : ℕ) → ¬ HasOrphan kinds counts i j) → HasCauses kinds counts
-  causes_hold none i j ne = elim (cases_lt (sent_by kinds i j (get_or counts i 0)) (got_by kinds j i (get_or counts j 0))) [
-    | inl lt ↦ absurd (none i j (ne, lt))
-    | inr le ↦ le
-  ]
-
   -- one that has is there
   pub receiver_there : (i j : ℕ) → HasOrphan kinds counts i j → j < length kinds
   receiver_there i j orphan = elim (cases_lt j (length kinds)) [

@@ -1,3 +1,4 @@
 pub mod Kinds
 pub mod Tallies
 pub mod ConsistentCuts
+pub mod Places

@@ -1,7 +1,8 @@
 //! What an event did.
 
-ghost use Rattle.std.specs.Prelude.{◌≡◌, ℕ, ◌≤◌, true, false, MatchOption};
+ghost use Rattle.std.specs.Prelude.{◌≡◌, ℕ, ◌≤◌, true, false, min, MatchOption};
 ghost use Rattle.cut_core.specs.Kinds.{is_like, gets_from};
+ghost use Rattle.cut_core.specs.Places.{own_list};
 
 use dbg_base::Pid;
 
@@ -26,6 +27,24 @@ impl Kind {
             (Kind::Got(from), Kind::Got(other)) => other.0 == from.0,
             (Kind::Local, Kind::Local) => true,
             _ => false,
+        }
+    }
+
+    // The number of the list in which its place stands, where the last one is for all that have none of their own.
+    pub(crate) fn list(self, last: usize) -> usize
+        ensures { result ≡ min (own_list self) last }
+    {
+        self.own_list().min(last)
+    }
+
+    // The number of the list for what did the same, if there are as many.
+    pub(crate) fn own_list(self) -> usize
+        ensures { result ≡ own_list self }
+    {
+        match self {
+            Kind::Local => 0,
+            Kind::Sent(to) => to.0 as usize * 2 + 1,
+            Kind::Got(from) => from.0 as usize * 2 + 2,
         }
     }
 

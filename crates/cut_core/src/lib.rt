@@ -4,6 +4,7 @@
 mod cuts;
 mod kind;
 mod line;
+mod places;
 mod tally;
 
 pub use cuts::{greatest_below, is_consistent, least_above};

@@ -1,34 +1,39 @@
 //! What the events of one process did.
 
-ghost use Rattle.std.specs.Prelude.{◌≡◌, ℕ, ◌+◌, ◌-◌, ◌^◌, ◌<◌, ◌≤◌, ◌++◌, ◌∷◌, [], true, length, take, OnOk, MatchOption};
-ghost use Rattle.std.specs.Prelude.{slice_index_or};
+ghost use Rattle.std.specs.Prelude.{◌≡◌, ℕ, ◌-◌, ◌^◌, ◌<◌, ◌≤◌, ◌++◌, ◌∷◌, [], true, length, map, take, replicate, IfOk, OnOk};
+ghost use Rattle.std.specs.Prelude.{slice_index, slice_index_or, MatchOption};
 ghost use Rattle.std.specs.List.{count_by};
 ghost use Rattle.cut_core.specs.Kinds.{is_like, gets_from};
 
 use crate::kind::Kind;
+use crate::places::Places;
 use dbg_base::Pid;
 use std::alloc::{AllocError, Global};
 use std::marker::Model;
 
-/// What the events of one process did, in order.
+/// What the events of one process did, in order, and the place of each in one of several lists, by what it did.
 #[derive(Debug, Drop)]
 pub(crate) struct Line {
     kinds: Vec<Kind>,
+    lists: Vec<Places>,
+    room: usize,
 }
 
 impl Model for Line {
-    ghost use Rattle.std.specs.Prelude.{◌-◌, ◌^◌, ◌<◌, length, min};
+    ghost use Rattle.std.specs.Prelude.{◌-◌, map};
     ghost use Rattle.std.specs.Vec.{vec_len, vec_capacity};
+    ghost use Rattle.cut_core.specs.Places.{AreListed, HasRoom};
     ghost use Rattle.cut_core.specs.Tallies.{LineState};
 
     ghost Value = { LineState };
 
     ghost view = { λ line. record {
       kinds = line.kinds.items;
-      room = min (vec_capacity line.kinds - vec_len line.kinds) (2 ^ 32 - 1 - vec_len line.kinds);
+      room = line.room;
     } };
 
-    ghost invariant = { λ line. length line.kinds.items < 2 ^ 32 };
+    ghost invariant = { λ line. AreListed line.kinds.items (map (λ list. list.places) line.lists.items)
+        × HasRoom line.kinds.items (vec_capacity line.kinds - vec_len line.kinds) (map (λ list. list.room) line.lists.items) line.room };
 }
 
 // How many of these are like the wanted one.
@@ -69,8 +74,8 @@ fn nth(kinds: &[Kind], wanted: Kind, k: u32) -> u32
     place
 }
 
-/// A process that is not among so many, of which one of these received.
-pub(crate) fn stranger(kinds: &[Kind], processes: u32) -> Option<Pid>
+// A process that is not among so many, of which one of these received.
+fn stranger(kinds: &[Kind], processes: u32) -> Option<Pid>
     ensures { MatchOption result ((i : ℕ) → processes ≤ i → count_by (gets_from i) kinds.now ≡ 0)
         (λ from. (processes ≤ from.0) × (0 < count_by (gets_from from.0) kinds.now)) }
 {
@@ -83,14 +88,42 @@ pub(crate) fn stranger(kinds: &[Kind], processes: u32) -> Option<Pid>
     None
 }
 
+// So many lists of no place.
+fn empty_lists(alloc: Global, lists: usize) -> Result<Vec<Places>, AllocError>
+    ensures places { IfOk result (λ made. map (λ list. list.places) made.items ≡ replicate lists []) }
+    ensures len { IfOk result (λ made. length made.items ≡ lists) }
+{
+    let mut made = Vec::new(alloc);
+    for _ in 0..lists {
+        made.push(Places::new(alloc))?;
+    }
+    Ok(made)
+}
+
+// Makes room for so many more places in each list.
+fn reserve_each(lists: &mut Vec<Places>, more: usize) -> Result<(), AllocError>
+    ensures places { map (λ list. list.places) lists.new.items ≡ map (λ list. list.places) lists.old.items }
+    ensures grows { (s : ℕ) → slice_index (map (λ list. list.room) lists.old.items) s
+        ≤ slice_index (map (λ list. list.room) lists.new.items) s }
+    ensures ok { OnOk result ((s : ℕ) → s < length lists.old.items → more ≤ slice_index (map (λ list. list.room) lists.new.items) s) }
+{
+    for s in 0..lists.len() {
+        let list = &mut lists[s];
+        list.reserve(more)?;
+    }
+    Ok(())
+}
+
 impl Line {
-    /// No event. It takes no memory.
-    pub(crate) fn new(alloc: Global) -> Line
-        ensures { result.kinds ≡ [] }
+    /// No event, and as many lists as so many processes need: for each two, for what was sent to it and received from it.
+    pub(crate) fn new(alloc: Global, processes: u32) -> Result<Line, AllocError>
+        ensures { IfOk result (λ line. line.kinds ≡ []) }
     {
-        Line {
+        Ok(Line {
             kinds: Vec::new(alloc),
-        }
+            lists: empty_lists(alloc, processes as usize * 2 + 2)?,
+            room: 0,
+        })
     }
 
     /// How many events there are.
@@ -109,7 +142,10 @@ impl Line {
         if more > u32::MAX as usize - self.kinds.len() {
             return Err(AllocError);
         }
-        self.kinds.reserve(more)
+        self.kinds.reserve(more)?;
+        reserve_each(&mut self.lists, more)?;
+        self.room = self.room.max(more);
+        Ok(())
     }
 
     /// One more event. It takes no memory.
@@ -118,7 +154,12 @@ impl Line {
         ensures kinds { self.new.kinds ≡ self.old.kinds ++ kind ∷ [] }
         ensures room { self.new.room ≡ self.old.room - 1 }
     {
+        let place = self.kinds.len() as u32;
+        let s = kind.list(self.lists.len() - 1);
+        let list = &mut self.lists[s];
+        list.push(place);
         self.kinds.push_reserved(kind);
+        self.room -= 1;
     }
 
     /// The last event is taken out, if there is one. It takes no memory.
@@ -126,11 +167,18 @@ impl Line {
         ensures kinds { self.new.kinds ≡ take (length self.old.kinds - 1) self.old.kinds }
         ensures grows { self.old.room ≤ self.new.room }
     {
-        self.kinds.pop();
+        match self.kinds.pop() {
+            Some(kind) => {
+                let s = kind.list(self.lists.len() - 1);
+                let list = &mut self.lists[s];
+                list.pop();
+            }
+            None => {}
+        }
     }
 
-    /// The first n events, or all where there are fewer.
-    pub(crate) fn first(&self, n: u32) -> &[Kind]
+    // The first n events, or all where there are fewer.
+    fn first(&self, n: u32) -> &[Kind]
         ensures kinds { result.now ≡ take n self.now.kinds }
         ensures len { length result.now < 2 ^ 32 }
     {
@@ -141,7 +189,12 @@ impl Line {
     pub(crate) fn count(&self, wanted: Kind, n: u32) -> u32
         ensures { result ≡ count_by (is_like wanted) (take n self.now.kinds) }
     {
-        count(self.first(n), wanted)
+        let list = wanted.own_list();
+        if list < self.lists.len() - 1 {
+            self.lists[list].before(n) as u32
+        } else {
+            count(self.first(n), wanted)
+        }
     }
 
     /// The number, from 1, of the k-th event that is like the wanted one.
@@ -153,6 +206,24 @@ impl Line {
         ensures like { is_like wanted (slice_index_or self.now.kinds (result - 1) wanted) ≡ true }
         ensures count { count_by (is_like wanted) (take result self.now.kinds) ≡ k }
     {
-        nth(self.kinds.as_slice(), wanted, k)
+        let list = wanted.own_list();
+        if list < self.lists.len() - 1 {
+            self.lists[list].at(k - 1) + 1
+        } else {
+            nth(self.kinds.as_slice(), wanted, k)
+        }
+    }
+
+    /// A process that is not among so many, of which one of the first n events received. Where each process of which one did has lists of
+    /// its own, and is among them, no event is looked at.
+    pub(crate) fn stranger(&self, processes: u32, n: u32) -> Option<Pid>
+        ensures { MatchOption result ((i : ℕ) → processes ≤ i → count_by (gets_from i) (take n self.now.kinds) ≡ 0)
+            (λ from. (processes ≤ from.0) × (0 < count_by (gets_from from.0) (take n self.now.kinds))) }
+    {
+        let last = self.lists.len() - 1;
+        if last <= processes as usize * 2 + 2 && self.lists[last].before(n) == 0 {
+            return None;
+        }
+        stranger(self.first(n), processes)
     }
 }

@@ -8,7 +8,7 @@ ghost use Rattle.cut_core.specs.declared.kind.Kind.TheVariants.{Sent};
 ghost use Rattle.cut_core.specs.Tallies.{sent_by, got_by};
 
 use crate::kind::Kind;
-use crate::line::{Line, stranger};
+use crate::line::Line;
 use dbg_base::Pid;
 use std::alloc::{AllocError, Global};
 use std::marker::Model;
@@ -42,7 +42,7 @@ fn empty_lines(alloc: Global, processes: u32) -> Result<Vec<Line>, AllocError>
 {
     let mut lines = Vec::new(alloc);
     for _ in 0..processes {
-        lines.push(Line::new(alloc))?;
+        lines.push(Line::new(alloc, processes)?)?;
     }
     Ok(lines)
 }
@@ -71,16 +71,6 @@ impl Tally {
         match self.lines.get(pid.0 as usize) {
             Some(line) => line.len(),
             None => 0,
-        }
-    }
-
-    // What the first n events of the process did, or all where there are fewer.
-    fn first(&self, pid: Pid, n: u32) -> &[Kind]
-        ensures { result.now ≡ take n (slice_index_or self.now.kinds pid.0 []) }
-    {
-        match self.lines.get(pid.0 as usize) {
-            Some(line) => line.first(n),
-            None => &[],
         }
     }
 
@@ -177,6 +167,9 @@ impl Tally {
             (λ from. (length self.now.kinds ≤ from.0)
             × (0 < count_by (gets_from from.0) (take n (slice_index_or self.now.kinds pid.0 [])))) }
     {
-        stranger(self.first(pid, n), self.processes())
+        match self.lines.get(pid.0 as usize) {
+            Some(line) => line.stranger(self.processes(), n),
+            None => None,
+        }
     }
 }

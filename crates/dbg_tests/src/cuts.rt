@@ -73,6 +73,33 @@ fn a_send_is_found_by_its_number(rt: HostRuntime) -> Result<(), Fail> {
 }
 
 #[test]
+fn processes_that_are_not_there_are_counted(rt: HostRuntime) -> Result<(), Fail> {
+    let mut tally = relay(rt.alloc())?;
+    let far = Pid(7);
+    noted(&mut tally, A, Kind::Sent(far))?;
+    noted(&mut tally, A, Kind::Got(far))?;
+    noted(&mut tally, A, Kind::Sent(Pid(8)))?;
+    noted(&mut tally, A, Kind::Sent(B))?;
+    assert_eq!(rt;
+        (
+            tally.sent(A, far, 3),
+            tally.sent(A, far, 9),
+            tally.got(A, far, 9),
+            tally.send_event(A, far, 1)
+        ),
+        (0, 1, 1, 4)
+    );
+    assert_eq!(rt; (tally.sent(A, B, 9), tally.send_event(A, B, 3)), (3, 7));
+    assert!(rt; is_consistent(&tally, &cut(rt.alloc(), &[4, 2, 1])?));
+    assert!(rt; !is_consistent(&tally, &cut(rt.alloc(), &[5, 2, 1])?));
+    tally.unnote(A);
+    tally.unnote(A);
+    tally.unnote(A);
+    assert_eq!(rt; (tally.got(A, far, 9), tally.sent(A, far, 9)), (0, 1));
+    Ok(())
+}
+
+#[test]
 fn cuts_keep_causes(rt: HostRuntime) -> Result<(), Fail> {
     let tally = relay(rt.alloc())?;
     assert!(rt; is_consistent(&tally, &cut(rt.alloc(), &[2, 2, 1])?));
