@@ -35,6 +35,9 @@ fn a_row_joins_that_of_another(rt: HostRuntime) -> Result<(), Fail> {
     assert_eq!(rt; clocks.row(b, 2), [4, 1, 8].as_slice());
     clocks.push_joined(b, b, 1);
     assert_eq!(rt; clocks.row(b, 3), [4, 1, 9].as_slice());
-    assert_eq!(rt; (clocks.len(a), clocks.row(a, 1)), (2, [4, 1, 7].as_slice()));
+    assert_eq!(rt;
+        (clocks.len(a), clocks.row(a, 1)),
+        (2, [4, 1, 7].as_slice())
+    );
     Ok(())
 }
