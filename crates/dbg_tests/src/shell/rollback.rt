@@ -94,6 +94,7 @@ clock c a=0 b=0 c=0
         "%%\n1 next a\n1 next a\n1 next b\n2 rollback b 0\n1 chan a b\n1 vars b\n1 place a\n1 can a\n1 redo b\n1 chan a b\n",
         "ok a 0\nok a 0\nok b 0\nok a=2 b=0\nchan a b 1 2\nvars b y=0 n=0\nplace a 2 of 2\ncan a yes\nok b 0\nchan a b 2\n",
     ),
+    // The session of docs/model.md.
     (
         "the process in the middle of three",
         CHAIN,
@@ -103,15 +104,17 @@ clock c a=0 b=0 c=0
 1 step b 0
 1 step b 1
 1 next c
+1 clock a
+1 clock b
+1 clock c
 1 rollback b 1
 1 chan a b
 1 chan b c
-1 vars c
 1 place c
 1 redo c
 1 redo b
 1 redo c
-1 vars c
+1 rollback a 0
 1 clock c
 ",
         "ok a 0
@@ -119,16 +122,18 @@ ok a 0
 ok b 0
 ok b 1
 ok c 0
+clock a a=2 b=0 c=0
+clock b a=1 b=2 c=0
+clock c a=1 b=2 c=1
 ok a=2 b=1 c=0
 chan a b 1
 chan b c
-vars c z=0
 place c 0 of 1
 no 5
 ok b 1
 ok c 0
-vars c z=1
-clock c a=1 b=2 c=1
+ok a=0 b=0 c=0
+clock c a=0 b=0 c=0
 ",
     ),
     (
