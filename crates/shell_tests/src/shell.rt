@@ -43,7 +43,7 @@ fn joined(alloc: Global, front: &str, back: &str) -> Result<Vec<u8>, AllocError>
 }
 
 // What `check` writes for a text, and the status.
-pub(crate) fn checked(alloc: Global, text: &[u8]) -> (Vec<u8>, u8) {
+fn checked(alloc: Global, text: &[u8]) -> (Vec<u8>, u8) {
     let mut reader = text;
     let mut writer = Vec::new(alloc);
     let outcome = check(alloc, &mut reader, &mut writer);
