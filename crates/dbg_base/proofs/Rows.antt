@@ -12,7 +12,8 @@ use Rattle.dbg_base.specs.Configurations.{start_of, values_of, channel_of}
 use Rattle.dbg_base.specs.Firing.{fire, effect_of}
 use Rattle.dbg_base.specs.Histories.{play, local_state, progress_of}
 use Rattle.dbg_base.specs.ModelStates.{ModelState, opening_state, configuration_of, line_of, redo_line, after_choice, after_undo}
-use Rattle.dbg_base.specs.Calls.{Give, Step, Next, Ask, Vars, Chan}
+use Rattle.dbg_base.specs.ModelStates.{after_rollback}
+use Rattle.dbg_base.specs.Calls.{Give, Step, Next, Rollback, Ask, Vars, Chan, Clock}
 use Rattle.dbg_base.specs.WellFormed.{is_well_formed}
 use Rattle.dbg_base.specs.Acts.{lowest_enabled, step_choice, next_choice, redo_choice}
 use Rattle.dbg_base.specs.CommandLines.{parsed_line}
@@ -138,6 +139,13 @@ can_be_made_again = refl
 made_again : redo_choice system (after_undo received 1) 1 ≡ Ok 0
 made_again = refl
 
+-- a rollback leaves the lines, so that all of it can be made again
+rolled_back : after_rollback received (1 ∷ 0 ∷ []) ≡ record { lines = two_and_one; places = 1 ∷ 0 ∷ [] }
+rolled_back = refl
+
+can_be_made_again_after : redo_line (after_rollback received (0 ∷ 0 ∷ [])) 0 ≡ 0 ∷ 0 ∷ []
+can_be_made_again_after = refl
+
 -- a step cuts the redo line
 cut_line : line_of (after_choice (after_undo (after_undo received 0) 0) 0 0) 0 ≡ 0 ∷ []
 cut_line = refl
@@ -240,6 +248,12 @@ one_word_too_many = refl
 reads_step : parsed_line system (codes "2 step b 1") ≡ Ok (Some (record { seat = 2; call = Give (Step 1 1) }))
 reads_step = refl
 
+reads_clock : parsed_line system (codes "1 clock b") ≡ Ok (Some (record { seat = 1; call = Ask (Clock 1) }))
+reads_clock = refl
+
+reads_rollback : parsed_line system (codes "2 rollback b 0") ≡ Ok (Some (record { seat = 2; call = Give (Rollback 1 0) }))
+reads_rollback = refl
+
 reads_chan : parsed_line system (codes "1 chan a b") ≡ Ok (Some (record { seat = 1; call = Ask (Chan 0 1) }))
 reads_chan = refl
 
@@ -248,6 +262,12 @@ no_receiver = refl
 
 no_number : parsed_line system (codes "1 step d x") ≡ Err BadLine
 no_number = refl
+
+no_place : parsed_line system (codes "1 rollback d x") ≡ Err BadLine
+no_place = refl
+
+no_process_to_roll_back : parsed_line system (codes "1 rollback d 0") ≡ Err UnknownProcess
+no_process_to_roll_back = refl
 
 blank_line : parsed_line system (codes "   ") ≡ Ok None
 blank_line = refl

@@ -5,20 +5,20 @@ use Rattle.std.specs.Bool.{MatchBool}
 use Rattle.dbg_base.specs.declared.said.Said.{Said}
 use Rattle.dbg_base.specs.declared.said.Said.TheVariants.{Accepted, Refused}
 use Rattle.dbg_base.specs.declared.said.Done.{Done}
-use Rattle.dbg_base.specs.declared.said.Done.TheVariants.{Played, Undone}
+use Rattle.dbg_base.specs.declared.said.Done.TheVariants.{Played, Undone, Places}
 use Rattle.dbg_base.specs.declared.refusal.Refusal.{Refusal}
 use Rattle.dbg_base.specs.declared.refusal.Refusal.TheVariants.{UnknownProcess, UnknownChoice, ProcessFull, NothingToRedo, NoneEnabled}
-use Rattle.dbg_base.specs.declared.refusal.Refusal.TheVariants.{NothingToUndo, Consequence}
+use Rattle.dbg_base.specs.declared.refusal.Refusal.TheVariants.{NothingToUndo, Consequence, BadPlace}
 use Rattle.dbg_base.specs.declared.limits.TheConstants.{EVENTS}
 use Rattle.dbg_base.specs.Trees.{Command, Program, process_of, command_of}
 use Rattle.dbg_base.specs.Configurations.{Configuration}
 use Rattle.dbg_base.specs.Firing.{fire, fire_command}
 use Rattle.dbg_base.specs.Histories.{IsPossible}
 use Rattle.dbg_base.specs.Orders.{target_in}
-use Rattle.dbg_base.specs.Reversal.{without_last, MayUndo}
-use Rattle.dbg_base.specs.Calls.{Plan, Step, Next, Undo, Redo}
+use Rattle.dbg_base.specs.Reversal.{without_last, MayUndo, IsRollback}
+use Rattle.dbg_base.specs.Calls.{Plan, Step, Next, Undo, Redo, Rollback}
 use Rattle.dbg_base.specs.ModelStates.{ModelState, line_of, place_at, history_of, configuration_of, last_choice, after_choice, after_undo}
-use Rattle.dbg_base.specs.ModelStates.{after_redo, halted_of}
+use Rattle.dbg_base.specs.ModelStates.{after_redo, after_rollback, halted_of}
 
 -- the refusal is told, and nothing is changed
 abbrev pub Refuses : Refusal → ModelState → Said → ModelState → Type 0
@@ -102,6 +102,17 @@ pub record KeepsEvent (P : Program) (p : ℕ) (M : ModelState) (said : Said) (M'
   pub why : CannotUndo P M p refusal
   pub told : Refuses refusal M said M'
 
+-- Process p is rolled back at n: the events behind the cut are taken back, and the places are told.
+pub record RollsBack (P : Program) (p n : ℕ) (M : ModelState) (said : Said) (M' : ModelState) : Type 0 where
+  pub cut : List ℕ
+  pub is : IsRollback P (history_of M) p n cut
+  pub told : Accepts P (Places cut) said M'
+  pub left : M' ≡ after_rollback M cut
+
+-- it is rolled back, unless n is more than its place
+abbrev pub RollsBackAt : Program → ℕ → ℕ → ModelState → Said → ModelState → Type 0
+RollsBackAt P p n M said M' = MatchBool (nat_lt (place_at M p) n) (Refuses BadPlace M said M') (RollsBack P p n M said M')
+
 -- a command about a process is refused where there is no such process
 abbrev pub WithProcess : Program → ℕ → Type 0 → ModelState → Said → ModelState → Type 0
 WithProcess P p Does M said M' = MatchBool (nat_lt p (length P)) Does (Refuses UnknownProcess M said M')
@@ -112,3 +123,4 @@ Acts P (Step p k) M said M' = WithProcess P p (Plays P p (step_choice P M p k) (
 Acts P (Next p) M said M' = WithProcess P p (Plays P p (next_choice P M p) (after_choice M p) M said M') M said M'
 Acts P (Redo p) M said M' = WithProcess P p (Plays P p (redo_choice P M p) (λ k. after_redo M p) M said M') M said M'
 Acts P (Undo p) M said M' = WithProcess P p (TakesBack P p M said M' ⊎ KeepsEvent P p M said M') M said M'
+Acts P (Rollback p n) M said M' = WithProcess P p (RollsBackAt P p n M said M') M said M'

@@ -17,11 +17,13 @@ pub data Plan : Type 0 where
   Next : (process : ℕ) → Plan
   Undo : (process : ℕ) → Plan
   Redo : (process : ℕ) → Plan
+  Rollback : (process place : ℕ) → Plan
 
 -- a question, which changes nothing
 pub data Query : Type 0 where
   Vars : (process : ℕ) → Query
   Chan : (source target : ℕ) → Query
+  Clock : (process : ℕ) → Query
   Place : (process : ℕ) → Query
   Can : (process : ℕ) → Query
 
@@ -40,12 +42,14 @@ plan_of (plans.Step pid choice) = Some (Step pid.0 choice.0)
 plan_of (plans.Next pid) = Some (Next pid.0)
 plan_of (plans.Undo pid) = Some (Undo pid.0)
 plan_of (plans.Redo pid) = Some (Redo pid.0)
+plan_of (plans.Rollback pid place) = Some (Rollback pid.0 place)
 plan_of given = None
 
 -- the same for a query
 abbrev pub query_of : query.Query → Option Query
 query_of (queries.Vars pid) = Some (Vars pid.0)
 query_of (queries.Chan source target) = Some (Chan source.0 target.0)
+query_of (queries.Clock pid) = Some (Clock pid.0)
 query_of (queries.Place pid) = Some (Place pid.0)
 query_of (queries.Can pid) = Some (Can pid.0)
 query_of asked = None
@@ -68,6 +72,7 @@ asked_query given = None
 abbrev pub query_told : Query → query.Query
 query_told (Vars p) = queries.Vars (record { 0 = p })
 query_told (Chan i j) = queries.Chan (record { 0 = i }) (record { 0 = j })
+query_told (Clock p) = queries.Clock (record { 0 = p })
 query_told (Place p) = queries.Place (record { 0 = p })
 query_told (Can p) = queries.Can (record { 0 = p })
 

@@ -8,7 +8,7 @@ use Rattle.dbg_base.specs.declared.refusal.Refusal.{Refusal}
 use Rattle.dbg_base.specs.declared.refusal.Refusal.TheVariants.{UnknownProcess, BadLine}
 use Rattle.dbg_base.specs.declared.limits.TheConstants.{LINE_BYTES, NAME_BYTES, SEATS}
 use Rattle.dbg_base.specs.Names.{place_of}
-use Rattle.dbg_base.specs.Calls.{Call, Give, Step, Next, Undo, Redo, Ask, Vars, Chan, Place, Can}
+use Rattle.dbg_base.specs.Calls.{Call, Give, Step, Next, Undo, Redo, Rollback, Ask, Vars, Chan, Clock, Place, Can}
 use Rattle.dbg_base.specs.Trees.{Program, names_of}
 use Rattle.dbg_base.specs.Tokens.{is_word, is_numeral}
 
@@ -68,9 +68,10 @@ process_call word process =
     else (if bytes_eq word (codes "undo") then map_ok (λ p. Give (Undo p)) process
     else (if bytes_eq word (codes "redo") then map_ok (λ p. Give (Redo p)) process
     else (if bytes_eq word (codes "vars") then map_ok (λ p. Ask (Vars p)) process
+    else (if bytes_eq word (codes "clock") then map_ok (λ p. Ask (Clock p)) process
     else (if bytes_eq word (codes "place") then map_ok (λ p. Ask (Place p)) process
     else (if bytes_eq word (codes "can") then map_ok (λ p. Ask (Can p)) process
-    else Err BadLine)))))
+    else Err BadLine))))))
 
 -- goes on with a name, and a word that is none makes the line a bad one
 abbrev pub with_name : Option (List ℕ) → (List ℕ → Result Call Refusal) → Result Call Refusal
@@ -91,17 +92,22 @@ with_both call (Ok first) second = map_ok (call first) second
 abbrev pub step_call : Program → List ℕ → List ℕ → Result Call Refusal
 step_call P process choice = with_number (number_word choice) (λ k. map_ok (λ p. Give (Step p k)) (named_process P process))
 
+-- the process is rolled back to this number of events
+abbrev pub rollback_call : Program → List ℕ → List ℕ → Result Call Refusal
+rollback_call P process place = with_number (number_word place) (λ n. map_ok (λ p. Give (Rollback p n)) (named_process P process))
+
 -- the messages from a process to another
 abbrev pub chan_call : Program → List ℕ → List ℕ → Result Call Refusal
 chan_call P source target =
     with_name (name_word target) (λ name. with_both (λ i j. Ask (Chan i j)) (named_process P source) (named_process P name))
 
--- the call of a word that is about a process and one of its commands, or about a sender and a receiver
+-- the call of a word that is about a process and one of its commands or places, or about a sender and a receiver
 abbrev pub pair_call : Program → List ℕ → List ℕ → List ℕ → Result Call Refusal
 pair_call P word first second =
     if bytes_eq word (codes "step") then step_call P first second
+    else (if bytes_eq word (codes "rollback") then rollback_call P first second
     else (if bytes_eq word (codes "chan") then chan_call P first second
-    else Err BadLine)
+    else Err BadLine))
 
 -- The call of a command word and its arguments. The shape of all of them comes first, and then what they name.
 abbrev pub call_of_words : Program → List (List ℕ) → Result Call Refusal

@@ -5,7 +5,7 @@ ghost use Rattle.std.specs.List.{list_all, prefix_len};
 ghost use Rattle.std.specs.Option.{option_map};
 ghost use Rattle.dbg_base.specs.Tokens.{is_letter, is_word_byte};
 ghost use Rattle.dbg_base.specs.CommandLines.{is_blank, words_of, without_return, number_word, seat_word, name_word, map_ok, named_process};
-ghost use Rattle.dbg_base.specs.CommandLines.{process_call, step_call, chan_call, call_of_words, parsed_line};
+ghost use Rattle.dbg_base.specs.CommandLines.{process_call, step_call, rollback_call, chan_call, call_of_words, parsed_line};
 ghost use Rattle.proc_lang.specs.Programs.{program_of};
 ghost use Rattle.dbg_shell.specs.Lines.{begins_word, called, asked, requested};
 
@@ -150,6 +150,8 @@ fn process_call(word: &[u8], process: Result<Pid, Refusal>) -> Result<Call, Refu
         Ok(Call::Give(Plan::Redo(process?)))
     } else if word == b"vars".as_slice() {
         Ok(Call::Ask(Query::Vars(process?)))
+    } else if word == b"clock".as_slice() {
+        Ok(Call::Ask(Query::Clock(process?)))
     } else if word == b"place".as_slice() {
         Ok(Call::Ask(Query::Place(process?)))
     } else if word == b"can".as_slice() {
@@ -166,6 +168,15 @@ fn step_call(program: &Program, process: Name, choice: &[u8]) -> Result<Call, Re
     let choice = number_word(choice).ok_or(Refusal::BadLine)?;
     let pid = named_process(program, process)?;
     Ok(Call::Give(Plan::Step(pid, Choice(choice))))
+}
+
+// The call that takes the process back to this count of events.
+fn rollback_call(program: &Program, process: Name, place: &[u8]) -> Result<Call, Refusal>
+    ensures { called result ≡ map_ok Some (rollback_call (program_of program.now) process place.now) }
+{
+    let place = number_word(place).ok_or(Refusal::BadLine)?;
+    let pid = named_process(program, process)?;
+    Ok(Call::Give(Plan::Rollback(pid, place)))
 }
 
 // The call that asks for the messages between two processes.
@@ -198,6 +209,8 @@ fn call_with_two(
     let name = name_word(first).ok_or(Refusal::BadLine)?;
     if word == b"step".as_slice() {
         step_call(program, name, second)
+    } else if word == b"rollback".as_slice() {
+        rollback_call(program, name, second)
     } else if word == b"chan".as_slice() {
         chan_call(program, name, second)
     } else {

@@ -86,6 +86,27 @@ fn undo(world: &mut World, program: &Program, pid: Pid) -> Result<Reply, Refusal
     Ok(reply(Done::Undone(pid, choice)))
 }
 
+// The process goes back to this count of events, and the others no further than they must.
+fn rollback(
+    world: &mut World,
+    alloc: Global,
+    program: &Program,
+    pid: Pid,
+    n: u32,
+) -> Result<Reply, Refusal>
+    requires { IsWorldOf (program_of program.now) world.old }
+    ensures of { IsWorldOf (program_of program.now) world.new }
+    ensures acts { ActsOrRefuses (program_of program.now) (model.Rollback pid.0 n) world.old.state result world.new.state }
+{
+    known(program, pid)?;
+    if n > world.place(pid) {
+        return Err(Refusal::BadPlace);
+    }
+    let cut = world.rollback_cut(alloc, pid, n)?;
+    let _rolled = world.roll_to(alloc, &cut)?;
+    Ok(reply(Done::Places(cut)))
+}
+
 // Gives a command.
 fn give(world: &mut World, alloc: Global, program: &Program, plan: &Plan) -> Result<Reply, Refusal>
     requires { IsWorldOf (program_of program.now) world.old }
@@ -98,6 +119,7 @@ fn give(world: &mut World, alloc: Global, program: &Program, plan: &Plan) -> Res
         Plan::Next(pid) => next(world, alloc, program, *pid),
         Plan::Undo(pid) => undo(world, program, *pid),
         Plan::Redo(pid) => redo(world, alloc, program, *pid),
+        Plan::Rollback(pid, n) => rollback(world, alloc, program, *pid, *n),
         _ => Err(Refusal::BadLine),
     }
 }
@@ -125,6 +147,16 @@ fn messages(
     known(program, source)?;
     known(program, target)?;
     Ok(Answer::Messages(world.channel(alloc, source, target)?))
+}
+
+// The clock of the process's present state.
+fn clock(world: &World, alloc: Global, program: &Program, pid: Pid) -> Result<Answer, Refusal>
+    requires { IsWorldOf (program_of program.now) world.now }
+    ensures { AnswersOrRefuses (program_of program.now) world.now.state (model.Clock pid.0) result }
+{
+    known(program, pid)?;
+    let counts = world.clock(alloc, pid, world.place(pid))?;
+    Ok(Answer::Counts(counts))
 }
 
 // The process's place and the length of its line.
@@ -156,6 +188,7 @@ fn ask(world: &World, alloc: Global, program: &Program, query: &Query) -> Result
     match query {
         Query::Vars(pid) => values(world, alloc, program, *pid),
         Query::Chan(source, target) => messages(world, alloc, program, *source, *target),
+        Query::Clock(pid) => clock(world, alloc, program, *pid),
         Query::Place(pid) => place(world, program, *pid),
         Query::Can(pid) => can(world, program, *pid),
         _ => Err(Refusal::BadLine),

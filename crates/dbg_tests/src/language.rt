@@ -10,8 +10,8 @@ mod programs;
 mod readers;
 mod ties;
 
-use crate::shell::checked;
-use proc_lang::{ProgError, parse_program};
+use dbg_base::Pid;
+use proc_lang::{ProgError, Program, parse_program};
 use std::alloc::{AllocError, Global};
 use std::process::Abort;
 
@@ -49,10 +49,42 @@ fn between(alloc: Global, front: &str, text: &str, back: &str) -> Result<Vec<u8>
     Ok(all)
 }
 
-fn expect_told(rt: &impl Abort, alloc: Global, name: &str, text: &[u8], want: &str, status: u8) {
-    let (told, code) = checked(alloc, text);
-    assert_eq!(rt; told.as_slice(), want.as_bytes(), "{name}");
-    assert_eq!(rt; code, status, "{name}");
+// How many commands all processes have.
+fn command_count(program: &Program) -> u32 {
+    let mut commands = 0u32;
+    for p in 0..program.processes() {
+        commands = commands.saturating_add(program.commands(Pid(p)));
+    }
+    commands
+}
+
+// The size of the program, or its first fault, as a text tells it.
+fn told(alloc: Global, text: &[u8]) -> Result<String, AllocError> {
+    match parse_program(alloc, text) {
+        Ok(program) => {
+            let processes = program.processes();
+            let commands = command_count(&program);
+            format!(in alloc; "{processes} processes, {commands} commands")
+        }
+        Err(ProgError::Bad(fault)) => {
+            let kind = fault.kind.number();
+            let at = fault.at;
+            format!(in alloc; "fault {kind} at {at}")
+        }
+        Err(ProgError::Memory) => format!(in alloc; "memory"),
+    }
+}
+
+fn expect_told(
+    rt: &impl Abort,
+    alloc: Global,
+    name: &str,
+    text: &[u8],
+    want: &str,
+) -> Result<(), AllocError> {
+    let told = told(alloc, text)?;
+    assert_eq!(rt; told.as_str(), want, "{name}");
+    Ok(())
 }
 
 // The text is a program of so many processes and commands.
@@ -64,9 +96,8 @@ fn expect_accepted(
     processes: u32,
     commands: u32,
 ) -> Result<(), AllocError> {
-    let want = format!(in alloc; "ok {processes} processes {commands} commands\n")?;
-    expect_told(rt, alloc, name, text, want.as_str(), 0);
-    Ok(())
+    let want = format!(in alloc; "{processes} processes, {commands} commands")?;
+    expect_told(rt, alloc, name, text, want.as_str())
 }
 
 // The text has a first fault of this kind, at this offset.
@@ -78,9 +109,8 @@ fn expect_refused(
     kind: u32,
     at: usize,
 ) -> Result<(), AllocError> {
-    let want = format!(in alloc; "program refused {kind} at {at}\n")?;
-    expect_told(rt, alloc, name, text, want.as_str(), 3);
-    Ok(())
+    let want = format!(in alloc; "fault {kind} at {at}")?;
+    expect_told(rt, alloc, name, text, want.as_str())
 }
 
 // The same, at the mark of the text.

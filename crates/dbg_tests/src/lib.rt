@@ -1,4 +1,4 @@
-//! The tests of the crates below this one, by the crate that they test: what no contract says, over public calls.
+//! The tests of the crates below `dbg_shell`, by the crate that they test: what no contract says, over public calls.
 #![tactic(auto)]
 
 #[cfg(test)]
@@ -15,5 +15,3 @@ mod evaluation;
 mod events;
 #[cfg(test)]
 mod language;
-#[cfg(test)]
-mod shell;

@@ -21,7 +21,7 @@ const PROCESSES: [Repeated; 6] = [
         part: "process p# { } ",
         count: 32,
         back: "",
-        want: "ok 32 processes 0 commands\n",
+        want: "32 processes, 0 commands",
     },
     Repeated {
         name: "33 processes",
@@ -30,7 +30,7 @@ const PROCESSES: [Repeated; 6] = [
         count: 33,
         back: "",
         // 10 parts of 15 bytes, 22 of 16, and `process ` of 8
-        want: "program refused 7 at 510\n",
+        want: "fault 7 at 510",
     },
     Repeated {
         name: "a 33rd process whose body has a fault",
@@ -38,7 +38,7 @@ const PROCESSES: [Repeated; 6] = [
         part: "process p# { } ",
         count: 32,
         back: "process p { when 1 : x := 1; }",
-        want: "program refused 7 at 510\n",
+        want: "fault 7 at 510",
     },
     Repeated {
         name: "a 33rd process whose name is taken",
@@ -46,7 +46,7 @@ const PROCESSES: [Repeated; 6] = [
         part: "process p# { } ",
         count: 32,
         back: "process p0 { }",
-        want: "program refused 4 at 510\n",
+        want: "fault 4 at 510",
     },
     Repeated {
         name: "a message to the 33rd process, which is known",
@@ -55,7 +55,7 @@ const PROCESSES: [Repeated; 6] = [
         count: 32,
         back: "",
         // a front of 38 bytes, 10 parts of 15, 21 of 16, and `process ` of 8
-        want: "program refused 7 at 532\n",
+        want: "fault 7 at 532",
     },
     Repeated {
         name: "a fault before the 33rd process",
@@ -64,7 +64,7 @@ const PROCESSES: [Repeated; 6] = [
         count: 32,
         back: "",
         // `process a { when ` has 17 bytes
-        want: "program refused 6 at 17\n",
+        want: "fault 6 at 17",
     },
 ];
 
@@ -75,7 +75,7 @@ const VARIABLES: [Repeated; 4] = [
         part: "var v# = 0; ",
         count: 32,
         back: "} process b { var x = 0; }",
-        want: "ok 2 processes 0 commands\n",
+        want: "2 processes, 0 commands",
     },
     Repeated {
         name: "33 variables",
@@ -84,7 +84,7 @@ const VARIABLES: [Repeated; 4] = [
         count: 33,
         back: "}",
         // a front of 12 bytes, 10 parts of 12, 22 of 13, and `var ` of 4
-        want: "program refused 7 at 422\n",
+        want: "fault 7 at 422",
     },
     Repeated {
         name: "a 33rd variable whose name is taken",
@@ -92,7 +92,7 @@ const VARIABLES: [Repeated; 4] = [
         part: "var v# = 0; ",
         count: 32,
         back: "var v31 = 0; }",
-        want: "program refused 4 at 422\n",
+        want: "fault 4 at 422",
     },
     Repeated {
         name: "a fault behind the 33rd variable",
@@ -100,7 +100,7 @@ const VARIABLES: [Repeated; 4] = [
         part: "var v# = 0; ",
         count: 33,
         back: "when v32 : send a 1; }",
-        want: "program refused 7 at 422\n",
+        want: "fault 7 at 422",
     },
 ];
 
@@ -112,7 +112,7 @@ const COMMANDS: [Repeated; 5] = [
         part: "when (x = #) : x := (x + 1); ",
         count: 64,
         back: "}",
-        want: "ok 1 processes 64 commands\n",
+        want: "1 processes, 64 commands",
     },
     Repeated {
         name: "64 commands of one process and one of another",
@@ -120,7 +120,7 @@ const COMMANDS: [Repeated; 5] = [
         part: "when (x = #) : x := (x + 1); ",
         count: 64,
         back: "}",
-        want: "ok 2 processes 65 commands\n",
+        want: "2 processes, 65 commands",
     },
     Repeated {
         name: "65 commands",
@@ -129,7 +129,7 @@ const COMMANDS: [Repeated; 5] = [
         count: 65,
         back: "}",
         // a front of 23 bytes, 10 parts of 29 and 54 of 30
-        want: "program refused 7 at 1933\n",
+        want: "fault 7 at 1933",
     },
     Repeated {
         name: "a 65th command that has a fault",
@@ -137,7 +137,7 @@ const COMMANDS: [Repeated; 5] = [
         part: "when (x = #) : x := (x + 1); ",
         count: 64,
         back: "when y : x := 1; }",
-        want: "program refused 7 at 1933\n",
+        want: "fault 7 at 1933",
     },
     Repeated {
         name: "a fault before the 65th command",
@@ -146,7 +146,7 @@ const COMMANDS: [Repeated; 5] = [
         count: 64,
         back: "}",
         // a front of 23 bytes, and `when ` of 5
-        want: "program refused 6 at 28\n",
+        want: "fault 6 at 28",
     },
 ];
 
@@ -157,7 +157,7 @@ const WORDS: [Repeated; 4] = [
         part: "a",
         count: 32,
         back: " { }",
-        want: "ok 1 processes 0 commands\n",
+        want: "1 processes, 0 commands",
     },
     Repeated {
         name: "a word of 33 letters",
@@ -165,7 +165,7 @@ const WORDS: [Repeated; 4] = [
         part: "a",
         count: 33,
         back: "",
-        want: "program refused 2 at 8\n",
+        want: "fault 2 at 8",
     },
     Repeated {
         name: "a number with 1,000 zeros in front",
@@ -173,7 +173,7 @@ const WORDS: [Repeated; 4] = [
         part: "0",
         count: 1_000,
         back: "9223372036854775807; }",
-        want: "ok 1 processes 0 commands\n",
+        want: "1 processes, 0 commands",
     },
     Repeated {
         name: "a number of 1,000 digits",
@@ -181,7 +181,7 @@ const WORDS: [Repeated; 4] = [
         part: "1",
         count: 1_000,
         back: "; }",
-        want: "program refused 2 at 20\n",
+        want: "fault 2 at 20",
     },
 ];
 
@@ -214,8 +214,7 @@ fn as_many_as_may_be_and_one_more(rt: HostRuntime) -> Result<(), Fail> {
     for table in tables {
         for row in table {
             let text = text_of(alloc, row)?;
-            let status = if row.want.starts_with("ok") { 0 } else { 3 };
-            expect_told(&rt, alloc, row.name, text.as_slice(), row.want, status);
+            expect_told(&rt, alloc, row.name, text.as_slice(), row.want)?;
         }
     }
     Ok(())
@@ -223,14 +222,14 @@ fn as_many_as_may_be_and_one_more(rt: HostRuntime) -> Result<(), Fail> {
 
 // What is repeated in front of a value's middle, how often, the middle, and what is told. Behind the middle as many parentheses close.
 const NESTED: [(&str, u32, &str, &str); 5] = [
-    ("(1 + ", 32, "x", "ok 2 processes 1 commands\n"),
+    ("(1 + ", 32, "x", "2 processes, 1 commands"),
     // a front of 40 bytes, and 32 parts of 5
-    ("(1 + ", 33, "x", "program refused 7 at 200\n"),
-    ("(- ", 31, "sent(b)", "ok 2 processes 1 commands\n"),
+    ("(1 + ", 33, "x", "fault 7 at 200"),
+    ("(- ", 31, "sent(b)", "2 processes, 1 commands"),
     // a front of 40 bytes, 32 parts of 3, and `sent` of 4
-    ("(- ", 32, "sent(b)", "program refused 7 at 140\n"),
+    ("(- ", 32, "sent(b)", "fault 7 at 140"),
     // a comparison is no number: the outermost one stands behind 40 bytes
-    ("(1 < ", 32, "x", "program refused 6 at 40\n"),
+    ("(1 < ", 32, "x", "fault 6 at 40"),
 ];
 
 #[test]
@@ -246,8 +245,7 @@ fn thirty_two_parentheses_may_be_open(rt: HostRuntime) -> Result<(), Fail> {
             text.push(b')')?;
         }
         text.extend_from_slice(b"; } process b { }")?;
-        let status = if want.starts_with("ok") { 0 } else { 3 };
-        expect_told(&rt, alloc, part, text.as_slice(), want, status);
+        expect_told(&rt, alloc, part, text.as_slice(), want)?;
     }
     Ok(())
 }

@@ -6,6 +6,7 @@ mod jobs;
 mod lines;
 mod programs;
 mod replies;
+mod rollback;
 mod sessions;
 mod undo;
 
@@ -42,7 +43,7 @@ fn joined(alloc: Global, front: &str, back: &str) -> Result<Vec<u8>, AllocError>
 }
 
 // What `check` writes for a text, and the status.
-pub(crate) fn checked(alloc: Global, text: &[u8]) -> (Vec<u8>, u8) {
+fn checked(alloc: Global, text: &[u8]) -> (Vec<u8>, u8) {
     let mut reader = text;
     let mut writer = Vec::new(alloc);
     let outcome = check(alloc, &mut reader, &mut writer);
@@ -57,4 +58,19 @@ fn served(alloc: Global, input: &[u8]) -> (Vec<u8>, u8) {
     let outcome = serve(alloc, &mut reader, &mut writer);
     let code = status(&outcome);
     (writer, code)
+}
+
+// Rows of a name, a program, the lines behind it and what is written for them.
+fn expect_rows(
+    rt: &impl Abort,
+    alloc: Global,
+    rows: &[(&str, &str, &str, &str)],
+) -> Result<(), AllocError> {
+    for (name, program, lines, want) in rows {
+        let input = joined(alloc, program, lines)?;
+        let (replies, code) = served(alloc, input.as_slice());
+        assert_eq!(rt; replies.as_slice(), want.as_bytes(), "{name}");
+        assert_eq!(rt; code, 0, "{name}");
+    }
+    Ok(())
 }

@@ -132,3 +132,97 @@ fn two_seats_undo_unrelated_work(rt: HostRuntime) {
     assert_eq!(rt; replies.as_slice(), AFTER_UNDO.as_bytes());
     assert_eq!(rt; code, 0);
 }
+
+// The text of examples/rollback.rdbg: a client and a primary that seat 1 steps, and a backup that seat 2 steps. The primary answers a
+// request once the backup has its copy.
+const ROLLBACK: &str = "process client {
+  var asked = 0;
+  var answer = 0;
+  when (asked < 3) : send primary (asked + 1), asked := (asked + 1);
+  when true : recv primary answer;
+}
+process primary {
+  var request = 0;
+  var value = 0;
+  var stored = 0;
+  when (got(client) = sent(client)) : recv client request;
+  when (sent(backup) < got(client)) : send backup (value + request), value := (value + request);
+  when true : recv backup stored;
+  when (sent(client) < got(backup)) : send client value;
+}
+process backup {
+  var copy = 0;
+  when (sent(primary) < got(primary)) : send primary copy;
+  when true : recv primary copy;
+}
+%%
+1 next client
+1 next client
+1 next primary
+1 next primary
+1 next primary
+2 next backup
+2 next backup
+1 next primary
+1 next primary
+1 step client 1
+1 vars client
+1 clock client
+1 next primary
+1 next primary
+1 clock primary
+2 undo backup
+2 rollback backup 0
+1 vars client
+1 vars primary
+1 chan client primary
+1 chan primary backup
+1 redo primary
+2 redo backup
+2 redo backup
+1 redo primary
+1 redo primary
+1 redo client
+1 vars client
+2 rollback backup 3
+";
+
+// The client's answer depends on the backup's acknowledgement. So where the backup goes back to its start, the primary goes back to
+// where it waits for that, and the client to where it waits for the answer; its requests stay, and so does the copy on its way.
+const ROLLED: &str = "ok client 0
+ok client 0
+ok primary 0
+ok primary 1
+no 24
+ok backup 1
+ok backup 0
+ok primary 2
+ok primary 3
+ok client 1
+vars client asked=2 answer=1
+clock client client=3 primary=4 backup=2
+ok primary 0
+ok primary 1
+clock primary client=2 primary=6 backup=2
+no 7 primary
+ok client=2 primary=2 backup=0
+vars client asked=2 answer=0
+vars primary request=1 value=1 stored=0
+chan client primary 2
+chan primary backup 1
+no 5
+ok backup 1
+ok backup 0
+ok primary 2
+ok primary 3
+ok client 1
+vars client asked=2 answer=1
+no 10
+";
+
+#[test]
+fn a_backup_is_rolled_back(rt: HostRuntime) {
+    let (replies, code) = served(rt.alloc(), ROLLBACK.as_bytes());
+    assert_eq!(rt; replies.as_slice(), ROLLED.as_bytes());
+    assert_eq!(rt; code, 0);
+}

@@ -1,9 +1,9 @@
 use super::sessions::{COUNTS, LEAST, NUMBER, PAIR, SWAP};
-use super::{TWO, joined, served};
+use super::{TWO, expect_rows, joined, served};
 use std::test::Fail;
 
 // The two processes of `TWO`, and one that has nothing to do with them.
-const THREE: &str = "process a {
+pub(super) const THREE: &str = "process a {
   var x = 0;
   when (x < 3) : send b (x + 1), x := (x + 1);
 }
@@ -22,7 +22,7 @@ process c {
 const COUNTER: &str = "process c { var z = 0; when true : z := (z + 1); }\n";
 
 // A name, a program, the lines behind it and what is written for them.
-const ROWS: [(&str, &str, &str, &str); 14] = [
+const ROWS: [(&str, &str, &str, &str); 12] = [
     (
         "a refusal for each cause",
         TWO,
@@ -35,6 +35,7 @@ const ROWS: [(&str, &str, &str, &str); 14] = [
         "%%
 1 step a 0
 1 step b 0
+1 clock b
 1 undo a
 1 can a
 1 can b
@@ -49,6 +50,7 @@ const ROWS: [(&str, &str, &str, &str); 14] = [
 ",
         "ok a 0
 ok b 0
+clock b a=1 b=1
 no 7 b
 can a no 7 b
 can b yes
@@ -140,80 +142,6 @@ ok b 0
 ",
     ),
     (
-        "concurrent work, in one order",
-        THREE,
-        "%%
-1 next a
-1 next c
-1 next b
-1 vars a
-1 vars b
-1 vars c
-1 chan a b
-1 chan b a
-1 chan c a
-1 place a
-1 place b
-1 place c
-1 can a
-1 can b
-1 can c
-",
-        "ok a 0
-ok c 0
-ok b 0
-vars a x=1
-vars b y=1 n=1
-vars c z=1
-chan a b
-chan b a
-chan c a
-place a 1 of 1
-place b 1 of 1
-place c 1 of 1
-can a no 7 b
-can b yes
-can c yes
-",
-    ),
-    (
-        "concurrent work, in another order",
-        THREE,
-        "%%
-1 next c
-1 next a
-1 next b
-1 vars a
-1 vars b
-1 vars c
-1 chan a b
-1 chan b a
-1 chan c a
-1 place a
-1 place b
-1 place c
-1 can a
-1 can b
-1 can c
-",
-        "ok c 0
-ok a 0
-ok b 0
-vars a x=1
-vars b y=1 n=1
-vars c z=1
-chan a b
-chan b a
-chan c a
-place a 1 of 1
-place b 1 of 1
-place c 1 of 1
-can a no 7 b
-can b yes
-can c yes
-",
-    ),
-    (
         "unrelated work stays",
         THREE,
         "%%\n1 next a\n1 next c\n1 next b\n1 next c\n1 undo b\n1 undo a\n1 vars c\n1 undo c\n1 redo a\n1 vars c\n1 vars a\n",
@@ -229,12 +157,65 @@ can c yes
 
 #[test]
 fn work_is_undone_along_causality(rt: HostRuntime) -> Result<(), Fail> {
+    expect_rows(&rt, rt.alloc(), &ROWS)?;
+    Ok(())
+}
+
+// What is asked where `a` has sent, `b` has received and `c` has worked alone, and the answers.
+const QUESTIONS: &str = "1 vars a
+1 vars b
+1 vars c
+1 chan a b
+1 chan b a
+1 chan c a
+1 place a
+1 place b
+1 place c
+1 clock a
+1 clock b
+1 clock c
+1 can a
+1 can b
+1 can c
+";
+
+const ANSWERS: &str = "vars a x=1
+vars b y=1 n=1
+vars c z=1
+chan a b
+chan b a
+chan c a
+place a 1 of 1
+place b 1 of 1
+place c 1 of 1
+clock a a=1 b=0 c=0
+clock b a=1 b=1 c=0
+clock c a=0 b=0 c=1
+can a no 7 b
+can b yes
+can c yes
+";
+
+#[test]
+fn concurrent_work_is_the_same_in_either_order(rt: HostRuntime) -> Result<(), Fail> {
     let alloc = rt.alloc();
-    for (name, program, lines, want) in &ROWS {
-        let input = joined(alloc, program, lines)?;
+    let orders = [
+        (
+            "%%\n1 next a\n1 next c\n1 next b\n",
+            "ok a 0\nok c 0\nok b 0\n",
+        ),
+        (
+            "%%\n1 next c\n1 next a\n1 next b\n",
+            "ok c 0\nok a 0\nok b 0\n",
+        ),
+    ];
+    for (lines, told) in &orders {
+        let mut input = joined(alloc, THREE, lines)?;
+        input.extend_from_slice(QUESTIONS.as_bytes())?;
+        let want = joined(alloc, told, ANSWERS)?;
         let (replies, code) = served(alloc, input.as_slice());
-        assert_eq!(rt; replies.as_slice(), want.as_bytes(), "{name}");
-        assert_eq!(rt; code, 0, "{name}");
+        assert_eq!(rt; replies.as_slice(), want.as_slice(), "{lines}");
+        assert_eq!(rt; code, 0, "{lines}");
     }
     Ok(())
 }

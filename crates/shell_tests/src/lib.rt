@@ -1,0 +1,5 @@
+//! The tests of `dbg_shell`: what no contract says, over public calls.
+#![tactic(auto)]
+
+#[cfg(test)]
+mod shell;
