@@ -139,6 +139,9 @@ impl Line {
         ensures grows { self.old.room ≤ self.new.room }
         ensures ok { OnOk result (more ≤ self.new.room) }
     {
+        if more <= self.room {
+            return Ok(());
+        }
         if more > u32::MAX as usize - self.kinds.len() {
             return Err(AllocError);
         }

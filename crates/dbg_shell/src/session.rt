@@ -75,14 +75,14 @@ fn redo(world: &mut World, alloc: Global, program: &Program, pid: Pid) -> Result
 }
 
 // The last event of the process is taken back.
-fn undo(world: &mut World, program: &Program, pid: Pid) -> Result<Reply, Refusal>
+fn undo(world: &mut World, alloc: Global, program: &Program, pid: Pid) -> Result<Reply, Refusal>
     requires { IsWorldOf (program_of program.now) world.old }
     ensures of { IsWorldOf (program_of program.now) world.new }
     ensures acts { ActsOrRefuses (program_of program.now) (model.Undo pid.0) world.old.state result world.new.state }
 {
     known(program, pid)?;
     let choice = world.last(pid).ok_or(Refusal::NothingToUndo)?;
-    let _rolled = world.undo(pid)?;
+    let _rolled = world.undo(alloc, pid)?;
     Ok(reply(Done::Undone(pid, choice)))
 }
 
@@ -117,7 +117,7 @@ fn give(world: &mut World, alloc: Global, program: &Program, plan: &Plan) -> Res
     match plan {
         Plan::Step(pid, choice) => step(world, alloc, program, *pid, *choice),
         Plan::Next(pid) => next(world, alloc, program, *pid),
-        Plan::Undo(pid) => undo(world, program, *pid),
+        Plan::Undo(pid) => undo(world, alloc, program, *pid),
         Plan::Redo(pid) => redo(world, alloc, program, *pid),
         Plan::Rollback(pid, n) => rollback(world, alloc, program, *pid, *n),
         _ => Err(Refusal::BadLine),
