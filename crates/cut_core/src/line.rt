@@ -11,7 +11,8 @@ use dbg_base::Pid;
 use std::alloc::{AllocError, Global};
 use std::marker::Model;
 
-/// What the events of one process did, in order, and the place of each in one of several lists, by what it did.
+/// What the events of one process did, in order, and the place of each in one of several lists, by what it did: the last list is for
+/// all that have none of their own.
 #[derive(Debug, Drop)]
 pub(crate) struct Line {
     kinds: Vec<Kind>,
@@ -217,8 +218,8 @@ impl Line {
         }
     }
 
-    /// A process that is not among so many, of which one of the first n events received. Where each process of which one did has lists of
-    /// its own, and is among them, no event is looked at.
+    /// A process that is not among so many, of which one of the first n events received. No event is looked at where none of these has
+    /// its place in the last list.
     pub(crate) fn stranger(&self, processes: u32, n: u32) -> Option<Pid>
         ensures { MatchOption result ((i : ℕ) → processes ≤ i → count_by (gets_from i) (take n self.now.kinds) ≡ 0)
             (λ from. (processes ≤ from.0) × (0 < count_by (gets_from from.0) (take n self.now.kinds))) }
