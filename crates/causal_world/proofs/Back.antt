@@ -227,8 +227,12 @@ goes_back P w p k of here last waiting =
     ap (λ (H : History). length (get_or H p [])) whole ∙ ap (λ (x : List ℕ). length x) (push_same B p k within)
     ∙ omega (arith, length_push (get_or B p []) k) in
     let some_kinds : 0 < length (get_or w.kinds p []) =
-    omega (arith, size, ap (λ (kinds : List (List Kind)). length (get_or kinds p [])) of.counts
-    ∙ ap (λ (l : List Kind). length l) (kinds_at P (history_of M) p) ∙ length-map (get_or (history_of M) p []) (kind_at P p)) in
+    omega (
+      arith,
+      size,
+      ap (λ (kinds : List (List Kind)). length (get_or kinds p [])) of.counts
+          ∙ ap (λ (l : List Kind). length l) (kinds_at P (history_of M) p) ∙ length-map (get_or (history_of M) p []) (kind_at P p),
+    ) in
     record {
       event = m.event;
       is = ap (λ (x : Configuration). event_at P x p k) standing ∙ m.is;

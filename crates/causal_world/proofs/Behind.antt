@@ -91,7 +91,7 @@ last_kind P w p event of was =
     ∙ ap (λ (kinds : List (List Kind)). with_kind kinds p (kind_at P p k)) before in
     let here : p < length w.kinds = omega (arith, made.here, kinds_there P w of) in
     let size : length (get_or (with_kind (without_kind w.kinds p) p (kind_at P p k)) p [])
-        ≡ length (get_or (without_kind w.kinds p) p []) + 1 =
+    ≡ length (get_or (without_kind w.kinds p) p []) + 1 =
     one_longer (without_kind w.kinds p) p (kind_at P p k) (omega (arith, here, length-set w.kinds p (without_back (get_or w.kinds p [])))) in
     record {
       here = here;
@@ -138,6 +138,7 @@ sum_next c i =
     take_nothing : (i : ℕ) → take {A = ℕ} i [] ≡ []
     take_nothing zero = refl
     take_nothing (suc i) = refl
+
     next : (c : List ℕ) (i : ℕ) → sum (take (suc i) c) ≡ sum (take i c) + get_or c i 0
     next [] i = omega (arith, ap (λ (l : List ℕ). sum l) (take_nothing i))
     next (m ∷ c) zero =

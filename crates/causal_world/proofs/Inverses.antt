@@ -25,8 +25,11 @@ use Rattle.causal_world.proofs.Sames.{same_world}
 -- The last choice may be taken back where the history without it is possible.
 may_last : (P : Program) (H B : History) (p k : ℕ) → H ≡ with_last B p k → p < length B → IsPossible P B → MayUndo P H p
 may_last P H B p k same here possible = record {
-  some = omega (arith, ap (λ (X : History). length (get_or X p [])) same ∙ ap (λ (l : List ℕ). length l) (push_same B p k here),
-      length_push (get_or B p []) k);
+  some = omega (
+    arith,
+    ap (λ (X : History). length (get_or X p [])) same ∙ ap (λ (l : List ℕ). length l) (push_same B p k here),
+    length_push (get_or B p []) k,
+  );
   rest = subst (IsPossible P) (sym (ap (λ (X : History). without_last X p) same ∙ without_with B p k here)) possible;
 }
 
@@ -99,7 +102,7 @@ restored_back M p k has_line has_place within =
     let places : set (set M.places p (n + 1)) p (get_or (set M.places p (n + 1)) p 0 - 1) ≡ M.places =
     set-set M.places p (n + 1) (get_or (set M.places p (n + 1)) p 0 - 1) ∙ ap (set M.places p) back ∙ set-get_or M.places p 0 in
     let lines : set (set M.lines p longer) p (take (get_or (set M.places p (n + 1)) p 0 - 1) (get_or (set M.lines p longer) p [])
-        ++ drop n line) ≡ M.lines =
+    ++ drop n line) ≡ M.lines =
     set-set M.lines p longer (take (get_or (set M.places p (n + 1)) p 0 - 1) (get_or (set M.lines p longer) p []) ++ drop n line)
     ∙ ap (λ (m : ℕ). set M.lines p (take m (get_or (set M.lines p longer) p []) ++ drop n line)) back
     ∙ ap (λ (l : List ℕ). set M.lines p (take n l ++ drop n line)) own

@@ -39,3 +39,4 @@ pub mod Behind
 pub mod Reversing
 pub mod Sames
 pub mod Inverses
+pub mod Again

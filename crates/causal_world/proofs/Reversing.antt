@@ -38,7 +38,7 @@ use Rattle.causal_world.proofs.Behind.{LastKind, last_kind, placed, sum_strict, 
 
 -- Lists of events that were taken back.
 
-unmade_more : (w : Scene) (taken : List Taken) (t : Taken)
+pub unmade_more : (w : Scene) (taken : List Taken) (t : Taken)
     → unmade_all w (taken ++ t ∷ []) ≡ unmade (unmade_all w taken) t.pid.0 t.event
 unmade_more w [] t = refl
 unmade_more w (x ∷ taken) t = unmade_more (unmade w x.pid.0 x.event) taken t
@@ -249,8 +249,12 @@ none_behind w cut some consistent stuck =
     let of = some.1 in
     let H = history_of w.state in
     ⊎_elim
-    (λ (rest : (p : ℕ) → length (get_or H p []) ≤ get_or cut p 0). λ p. (let below = rest p in omega (arith, below, events_counted P w p of,
-    choices_counted P w p of)))
+    (λ (rest : (p : ℕ) → length (get_or H p []) ≤ get_or cut p 0). λ p. (let below = rest p in omega (
+      arith,
+      below,
+      events_counted P w p of,
+      choices_counted P w p of,
+    )))
     (λ (found : (p : ℕ) × (get_or cut p 0 < length (get_or H p [])) × MayUndo P H p).
     let size : length (get_or w.kinds found.0 []) ≡ length (get_or H found.0 []) =
     events_counted P w found.0 of ∙ sym (choices_counted P w found.0 of) in

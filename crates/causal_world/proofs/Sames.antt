@@ -100,6 +100,7 @@ remade P w p event of was before =
     placed : (n : ℕ) (line : List ℕ) (k : ℕ) → choice_before n line ≡ Some k → (m : ℕ) × (n ≡ suc m) × (n - 1 ≡ m) × (slice_get line m ≡ Some k)
     placed zero line k e = cc
     placed (suc m) line k e = (m, refl, omega arith, e)
+
     again : (M : ModelState) (p : ℕ) → p < length M.places → (m : ℕ) → place_at M p ≡ suc m → after_redo (after_undo M p) p ≡ M
     again M p here m is =
         let n = place_at M p in

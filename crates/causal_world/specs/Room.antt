@@ -1,20 +1,29 @@
 -- Room for the messages of an event.
-use Rattle.std.specs.Prelude.{ℕ, ◌+◌, ◌<◌, ◌≤◌, ◌==◌, ◌&&◌, List, ◌∷◌, length, slice_index, slice_index_or, [], if◌then◌else◌}
+use Rattle.std.specs.Prelude.{ℕ, ◌+◌, ◌<◌, ◌≤◌, Bool, ◌==◌, ◌&&◌, List, ◌∷◌, length, slice_index, slice_index_or, [], if◌then◌else◌}
 use Rattle.fifo_grid.specs.Grids.{GridState, room_at}
 use Rattle.cut_core.specs.declared.kind.Kind.{Kind}
+use Rattle.std.specs.List.{count_by}
 use Rattle.cut_core.specs.Tallies.{got_by}
 use Rattle.event_rows.specs.declared.exchange.Exchange.{Exchange}
 use Rattle.event_rows.specs.declared.exchange.Exchange.TheVariants.{Sent, Took}
 use Rattle.causal_world.specs.declared.rolled.Taken.{Taken}
+use Rattle.causal_world.specs.Pasts.{PastState, HasRoomFor}
 
--- where both processes are there, there is room for a message from the first to the second
+-- where both processes are there, there is room for so many messages from the first to the second
+abbrev pub HasRooms : GridState → ℕ → ℕ → ℕ → Type 0
+HasRooms grid more i j = i < length grid.channels → j < length (slice_index_or grid.channels i []) → more ≤ room_at grid.room i j
+
 abbrev pub HasRoom : GridState → ℕ → ℕ → Type 0
-HasRoom grid i j = i < length grid.channels → j < length (slice_index_or grid.channels i []) → 0 < room_at grid.room i j
+HasRoom grid i j = HasRooms grid 1 i j
 
--- there is room for what the exchange sends
+-- there is room for so many messages to where the exchange sends
+abbrev pub HasRoomsAfter : GridState → ℕ → Exchange → ℕ → Type 0
+HasRoomsAfter grid p (Sent target value count) more = HasRooms grid more p target.0
+HasRoomsAfter grid p exchange more = Unit {0}
+
+-- there is room for what it sends
 abbrev pub HasRoomAfter : GridState → ℕ → Exchange → Type 0
-HasRoomAfter grid p (Sent target value count) = HasRoom grid p target.0
-HasRoomAfter grid p exchange = Unit {0}
+HasRoomAfter grid p exchange = HasRoomsAfter grid p exchange 1
 
 -- there is room for what it took
 abbrev pub HasRoomBefore : GridState → ℕ → Exchange → Type 0
@@ -36,9 +45,17 @@ abbrev pub puts_of : List Taken → ℕ → ℕ → ℕ
 puts_of [] i j = 0
 puts_of (taken ∷ others) i j = puts_after taken.pid.0 taken.event.exchange i j + puts_of others i j
 
--- there is room for all messages that they send
-abbrev pub HasRoomForth : List (List ℕ) → List Taken → Type 0
-HasRoomForth room taken = (i j : ℕ) → puts_of taken i j ≤ room_at room i j
+-- it is an event of process p
+abbrev pub is_of : ℕ → Taken → Bool
+is_of p taken = taken.pid.0 == p
+
+-- there is room for all messages that they send, where there are so many processes
+abbrev pub HasRoomForth : ℕ → List (List ℕ) → List Taken → Type 0
+HasRoomForth processes room taken = (i j : ℕ) → i < processes → j < processes → puts_of taken i j ≤ room_at room i j
+
+-- there is room for the events of each process
+abbrev pub HasRoomForEach : PastState → List Taken → Type 0
+HasRoomForEach past taken = (p : ℕ) → p < length past.kinds → HasRoomFor past p (count_by (is_of p) taken)
 
 -- there is room for all messages that go back as the events behind the cut are taken back
 abbrev pub HasRoomBack : List (List ℕ) → List (List Kind) → List ℕ → Type 0

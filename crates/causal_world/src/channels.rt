@@ -3,7 +3,7 @@
 ghost use Rattle.std.specs.Prelude.{◌≡◌, ◌≤◌, ◌+◌, ℕ, OnOk};
 ghost use Rattle.fifo_grid.specs.Grids.{room_at};
 ghost use Rattle.causal_world.specs.Scenes.{channels_after, channels_before};
-ghost use Rattle.causal_world.specs.Room.{HasRoomAfter, HasRoomBefore, puts_after, puts_before};
+ghost use Rattle.causal_world.specs.Room.{HasRoomsAfter, HasRoomAfter, HasRoomBefore, puts_after, puts_before};
 ghost use Rattle.causal_world.specs.Worlds.{ReceivedBy};
 
 use dbg_base::Pid;
@@ -11,17 +11,19 @@ use event_rows::Exchange;
 use fifo_grid::Grid;
 use std::alloc::AllocError;
 
-/// Makes room for what the exchange sends. Where memory runs out no message changes.
+/// Makes room for so many messages to where the exchange sends. No room is lost, and where memory runs out no message changes.
 pub(crate) fn make_room_after(
     grid: &mut Grid,
     pid: Pid,
     exchange: Exchange,
+    more: usize,
 ) -> Result<(), AllocError>
     ensures kept { grid.new.channels ≡ grid.old.channels }
-    ensures room { OnOk result (HasRoomAfter grid.new pid.0 exchange) }
+    ensures grows { (i j : ℕ) → room_at grid.old.room i j ≤ room_at grid.new.room i j }
+    ensures room { OnOk result (HasRoomsAfter grid.new pid.0 exchange more) }
 {
     match exchange {
-        Exchange::Sent { target, .. } => grid.reserve(pid, target, 1),
+        Exchange::Sent { target, .. } => grid.reserve(pid, target, more),
         _ => Ok(()),
     }
 }

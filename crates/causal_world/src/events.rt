@@ -32,7 +32,7 @@ pub(crate) fn make_room(
     ensures messages { OnOk result (HasRoomAfter grid.new pid.0 exchange) }
     ensures room { OnOk result (pid.0 < length past.old.kinds → HasRoomFor past.new pid.0 1) }
 {
-    make_room_after(grid, pid, exchange)?;
+    make_room_after(grid, pid, exchange, 1)?;
     past.reserve(pid, 1)
 }
 

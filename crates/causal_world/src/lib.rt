@@ -6,6 +6,7 @@ mod deciding;
 mod events;
 pub mod laws;
 mod lines;
+mod making;
 mod past;
 mod rolled;
 mod rolling;

@@ -110,13 +110,7 @@ pub(crate) fn take_back(
 }
 
 // A process behind the cut whose last event may be taken back, or None where no process is behind it.
-fn next_back(
-    lines: &Lines,
-    envs: &[Env],
-    grid: &Grid,
-    past: &Past,
-    cut: &[u32],
-) -> Option<Pid>
+fn next_back(lines: &Lines, envs: &[Env], grid: &Grid, past: &Past, cut: &[u32]) -> Option<Pid>
     requires world { IsSomeWorld (scene lines.now envs.now grid.now.channels past.now) }
     requires cut { IsConsistentCut past.now.kinds cut.now }
     ensures { MatchOption result ((p : ℕ) → length (slice_index_or past.now.kinds p []) ≤ slice_index cut.now p)

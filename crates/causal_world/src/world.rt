@@ -19,6 +19,7 @@ ghost use Rattle.causal_world.specs.Scenes.{IsWorldOf, made, unmade};
 ghost use Rattle.causal_world.specs.Worlds.{CanMake, Undoable};
 
 mod backward;
+mod forth;
 
 use crate::channels::{make_room_before, received};
 use crate::deciding::{lowest, try_choice};

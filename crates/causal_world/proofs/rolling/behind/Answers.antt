@@ -8,5 +8,14 @@ loop-p-preserved c =
     let kinds = c.args.tally.now.kinds in
     let before = c.loop-p.invariant in
     let added : c.in_ok-more.more ≡ c.loop-p.more + c.saturating_sub-own.result = search rules in
-    omega (arith, before, sum_next (places kinds) c.loop-p.p, sum_next c.args.cut.now c.loop-p.p, placed kinds c.loop-p.p, c.len.ensures,
-    c.count_of.ensures, c.saturating_sub-own.ensures, added)
+    omega (
+      arith,
+      before,
+      sum_next (places kinds) c.loop-p.p,
+      sum_next c.args.cut.now c.loop-p.p,
+      placed kinds c.loop-p.p,
+      c.len.ensures,
+      c.count_of.ensures,
+      c.saturating_sub-own.ensures,
+      added,
+    )

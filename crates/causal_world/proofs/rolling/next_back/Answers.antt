@@ -16,9 +16,10 @@ returns-in-Ok c =
 pub loop-p-preserved : goal.loop-p-preserved
 loop-p-preserved c =
     stuck_more _ c.args.cut.now c.loop-p.p c.loop-p.invariant (elim c.if-place-count_of.branch [
-      then-place-count_of+in-Err w ↦ inr (stuck_by _ c.loop-p.p w.in-Err._refusal
+      | then-place-count_of+in-Err w ↦ inr (stuck_by _ c.loop-p.p w.in-Err._refusal
           (subst (LastExchange c.args.past.now.events c.args.grid.now.channels c.loop-p.p) w.in-Err.is w.last_exchange.ensures))
-    | else-place-count_of w ↦ inl (omega (arith, w.if-place-count_of.false, c.place.ensures, c.count_of.ensures)) ])
+      | else-place-count_of w ↦ inl (omega (arith, w.if-place-count_of.false, c.place.ensures, c.count_of.ensures))
+    ])
 
 pub returns : goal.returns
 returns c =

@@ -32,8 +32,11 @@ take_back-requires c = (
 pub push_reserved-requires : goal.push_reserved-requires
 push_reserved-requires c =
     let n = next (goal.at.push_reserved-requires c).In-Some in
-    omega (arith, more_left c.loop-pid.past.kinds c.args.cut.now c.in-Some.pid.0 c.loop-pid.invariant.reverses.consistent n.0,
-    c.loop-pid.invariant.room)
+    omega (
+      arith,
+      more_left c.loop-pid.past.kinds c.args.cut.now c.in-Some.pid.0 c.loop-pid.invariant.reverses.consistent n.0,
+      c.loop-pid.invariant.room,
+    )
 
 was : (c : After-retreat)
     → last_event (scene c.loop-pid.lines c.loop-pid.envs.items c.loop-pid.grid.channels c.loop-pid.past) c.in-Some.pid.0

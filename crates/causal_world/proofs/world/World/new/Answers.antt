@@ -8,6 +8,8 @@ returns-clause-of c = opened (program_of c.args.program.now) _ (search rules) (s
     (search rules) (search rules)
 
 pub invariant_of-result : goal.invariant_of-result
-invariant_of-result c =
-    (program_of c.args.program.now, opened (program_of c.args.program.now) _ (search rules) (search rules) (search rules) (search rules)
-    (search rules) (search rules))
+invariant_of-result c = (
+  program_of c.args.program.now,
+  opened (program_of c.args.program.now) _ (search rules) (search rules) (search rules) (search rules)
+      (search rules) (search rules),
+)

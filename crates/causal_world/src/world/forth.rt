@@ -1,0 +1,34 @@
+//! Going forth again, to where the world was before events were taken back.
+
+ghost use Rattle.std.specs.Prelude.{◌≡◌, [], IfErr, OnOk, OnErr};
+ghost use Rattle.dbg_base.specs.declared.refusal.Refusal.TheVariants.{Memory};
+ghost use Rattle.dbg_base.specs.Trees as tree;
+ghost use Rattle.causal_world.specs.Rollings.{IsRolled};
+
+use crate::making::{make_room_forth, roll_forth};
+use crate::rolled::Rolled;
+use crate::world::World;
+use dbg_base::Refusal;
+
+impl World {
+    /// The events that were taken back, which left the world as it is, are made again, the last first: the world is as it was before
+    /// they were taken back. It is refused only as `Memory`, where that runs out; then nothing changes, and the events are still there.
+    pub fn forth(&mut self, rolled: &mut Rolled) -> Result<(), Refusal>
+        requires { (P : tree.Program) × IsRolled P rolled.old self.old }
+        ensures back { (P : tree.Program) (r : IsRolled P rolled.old self.old) → OnOk result (self.new ≡ r.before) }
+        ensures done { OnOk result (rolled.new ≡ []) }
+        ensures refuses { IfErr result (λ refusal. refusal ≡ Memory) }
+        ensures kept { OnErr result (self.new ≡ self.old) }
+        ensures left { OnErr result (rolled.new ≡ rolled.old) }
+    {
+        make_room_forth(&mut self.grid, &mut self.past, rolled.taken.as_slice())?;
+        roll_forth(
+            &mut self.lines,
+            &mut self.envs,
+            &mut self.grid,
+            &mut self.past,
+            &mut rolled.taken,
+        );
+        Ok(())
+    }
+}
