@@ -1,0 +1,5 @@
+//! The tests of `proc_lang`: what no contract says, over public calls.
+#![tactic(auto)]
+
+#[cfg(test)]
+mod language;
