@@ -1,5 +1,6 @@
 -- Events that were taken back are made again.
-use Rattle.std.proofs.Common.{◌≡◌, ◌≢◌, ℕ, zero, suc, ◌+◌, ◌-◌, ◌<◌, ◌≤◌, ◌⊎◌, inl, inr, ℤ, ◌==◌, ◌&&◌, Bool, true, false, cond, List, [], ◌∷◌, ◌++◌, length}
+use Rattle.std.proofs.Common.{◌≡◌, ◌≢◌, ℕ, zero, suc, ◌+◌, ◌-◌, ◌<◌, ◌≤◌, ◌⊎◌, inl, inr, ℤ, ◌==◌, ◌&&◌, Bool, true, false, cond, List}
+use Rattle.std.proofs.Common.{[], ◌∷◌, ◌++◌, length}
 use Rattle.std.proofs.Common.{get_or, take, count_by, Some, refl, sym, ap, ◌∙◌, subst, ⊎_elim, arith}
 use Rattle.std.proofs.lemmas.Bool.{cases_eq, cases_lt, eq-eqb, ne_eqb}
 use Rattle.std.proofs.lemmas.List.Sums.{sum_by-cons, sum_by_push}
@@ -9,16 +10,14 @@ use Rattle.dbg_base.specs.ModelStates.{line_of, place_at, after_redo}
 use Rattle.fifo_grid.specs.Grids.{GridState, room_at}
 use Rattle.event_rows.specs.declared.exchange.Exchange.{Exchange}
 use Rattle.event_rows.specs.declared.exchange.Exchange.TheVariants.{Nothing, Sent, Took}
-use Rattle.cut_core.specs.declared.kind.Kind.{Kind}
-use Rattle.event_rows.specs.EventValues.{EventValue}
 use Rattle.causal_world.specs.declared.rolled.Taken.{Taken}
 use Rattle.causal_world.specs.Pasts.{PastState, HasRoomFor, kind_done, with_kind, AreClocksOf}
 use Rattle.causal_world.specs.Scenes.{Scene, IsWorldOf, made, unmade}
 use Rattle.causal_world.specs.Room.{HasRoomsAfter, puts_after, puts_of, is_of, HasRoomForth, HasRoomForEach}
-use Rattle.causal_world.specs.Worlds.{IsSomeWorld, Makes, CanMake, last_event}
-use Rattle.causal_world.specs.Rollings.{unmade_all, AreTakenBack, IsRolledFrom, IsRolled}
+use Rattle.causal_world.specs.Worlds.{IsSomeWorld, Makes, last_event}
+use Rattle.causal_world.specs.Rollings.{unmade_all, AreTakenBack, IsRolledFrom}
 use Rattle.causal_world.proofs.Reversing.{unmade_more, channels_there}
-use Rattle.causal_world.proofs.Sames.{Remade, remade}
+use Rattle.causal_world.proofs.Sames.{remade}
 
 -- How many messages the events send.
 
@@ -119,7 +118,8 @@ room_behind processes old new front t changes room i j i_there j_there =
     let change = changes i j in
     omega (arith, enough, change, puts_push front t i j)
 
-counted_push : (p : ℕ) (front : List Taken) (t : Taken) → count_by (is_of p) (front ++ t ∷ []) ≡ count_by (is_of p) front + cond (t.pid.0 == p) 1 0
+counted_push : (p : ℕ) (front : List Taken) (t : Taken) → count_by (is_of p) (front ++ t ∷ [])
+    ≡ count_by (is_of p) front + cond (t.pid.0 == p) 1 0
 counted_push p front t = sum_by_push (λ (x : Taken). cond (is_of p x) 1 0) front t
 
 pub room_one : (past : PastState) (front : List Taken) (t : Taken) → t.pid.0 < length past.kinds → HasRoomForEach past (front ++ t ∷ [])

@@ -1,9 +1,7 @@
 -- Events taken back until the places are those of a cut.
-use Rattle.std.proofs.Common.{◌≡◌, ◌≢◌, ℕ, zero, suc, ◌+◌, ◌-◌, ◌<◌, ◌≤◌, ◌⊎◌, ◌==◌, ◌&&◌, Bool, true, false, cond, ℤ, List, [], ◌∷◌, ◌++◌, length}
-use Rattle.std.proofs.Common.{get_or, set, take, map, sum, Option, Some, None, refl, sym, ap, ◌∙◌, subst, ⊎_elim, arith}
-use Rattle.std.proofs.lemmas.Bool.{cases_eq, eq-eqb, ne_eqb}
-use Rattle.std.proofs.lemmas.List.{length-map, length-set, length-take-le, map-set, get_or-map, get_or-set_same, get_or-set_other, set-set, set-get_or}
-use Rattle.std.proofs.lemmas.List.{ext_get_or}
+use Rattle.std.proofs.Common.{◌≡◌, ℕ, zero, suc, ◌+◌, ◌-◌, ◌<◌, ◌≤◌, ◌==◌, ◌&&◌, Bool, true, false, cond, ℤ, List, [], ◌∷◌, length}
+use Rattle.std.proofs.Common.{get_or, set, take, sum, Option, Some, None, refl, sym, ap, ◌∙◌, subst, arith}
+use Rattle.std.proofs.lemmas.List.{length-map, length-set, length-take-le, map-set, get_or-map}
 use Rattle.std.proofs.lemmas.List.Sums.{sum_by-cons, sum_by-set}
 use Rattle.std.specs.Prelude.{if◌then◌else◌}
 use Rattle.std.specs.Option.{option_map}
@@ -12,29 +10,22 @@ use Rattle.dbg_base.specs.LocalStates.{LocalState}
 use Rattle.dbg_base.specs.Configurations.{Configuration, state_in}
 use Rattle.dbg_base.specs.Firing.{Effect, effect_of}
 use Rattle.dbg_base.specs.Histories.{History}
-use Rattle.dbg_base.specs.ModelStates.{ModelState, history_of, place_at, after_undo, after_rollback}
-use Rattle.dbg_base.specs.Reversal.{MayUndo, without_back, without_last}
+use Rattle.dbg_base.specs.ModelStates.{history_of, after_undo}
+use Rattle.dbg_base.specs.Reversal.{without_back}
 use Rattle.cut_core.specs.declared.kind.Kind.{Kind}
 use Rattle.cut_core.specs.Kinds.{gets_from}
-use Rattle.cut_core.specs.Tallies.{got_by}
-use Rattle.cut_core.specs.ConsistentCuts.{IsConsistentCut, places}
-use Rattle.fifo_grid.specs.Grids.{GridState, room_at}
-use Rattle.event_rows.specs.declared.exchange.Exchange.{Exchange}
-use Rattle.event_rows.specs.declared.exchange.Exchange.TheVariants.{Nothing, Sent, Took}
+use Rattle.cut_core.specs.ConsistentCuts.{places}
 use Rattle.event_rows.specs.EventValues.{EventValue}
-use Rattle.causal_world.specs.declared.rolled.Taken.{Taken}
 use Rattle.causal_world.specs.Pasts.{kind_at, kind_of_action, kind_of_command, kinds_of, with_kind, without_kind}
-use Rattle.causal_world.specs.Scenes.{Scene, IsWorldOf, unmade, message_for, exchange_for, event_by, event_of, event_if, event_at}
-use Rattle.causal_world.specs.Room.{HasRoomBefore, HasRoomBack, puts_before}
-use Rattle.causal_world.specs.Worlds.{IsSomeWorld, UndoableBy, last_event}
-use Rattle.causal_world.specs.Rollings.{unmade_all, AreTakenBack, IsRolledFrom, CanTakeBack, IsNextBack}
-use Rattle.causal_world.proofs.Squares.{square_play}
-use Rattle.causal_world.proofs.LineStates.{history_undo, length_cut}
+use Rattle.causal_world.specs.Scenes.{Scene, IsWorldOf, message_for, exchange_for, event_by, event_if}
+use Rattle.causal_world.specs.Room.{puts_before}
+use Rattle.causal_world.specs.Worlds.{last_event}
+use Rattle.causal_world.proofs.LineStates.{history_undo}
 use Rattle.causal_world.proofs.Back.{history_without}
 use Rattle.causal_world.proofs.Standing.{last_made}
-use Rattle.causal_world.proofs.Clocking.{got_grows, got_more, one_longer, one_shorter, continues_less, cut_less, same_got}
-use Rattle.causal_world.proofs.KindsOf.{kinds_more, kinds_less, length_kinds}
-use Rattle.causal_world.proofs.Calls.{kinds_there, events_counted}
+use Rattle.causal_world.proofs.Clocking.{one_longer}
+use Rattle.causal_world.proofs.KindsOf.{kinds_more, kinds_less}
+use Rattle.causal_world.proofs.Calls.{kinds_there}
 
 -- What the last event took is what its kind says.
 
@@ -92,7 +83,8 @@ last_kind P w p event of was =
     let here : p < length w.kinds = omega (arith, made.here, kinds_there P w of) in
     let size : length (get_or (with_kind (without_kind w.kinds p) p (kind_at P p k)) p [])
     ≡ length (get_or (without_kind w.kinds p) p []) + 1 =
-    one_longer (without_kind w.kinds p) p (kind_at P p k) (omega (arith, here, length-set w.kinds p (without_back (get_or w.kinds p [])))) in
+    one_longer (without_kind w.kinds p) p (kind_at P p k)
+    (omega (arith, here, length-set w.kinds p (without_back (get_or w.kinds p [])))) in
     record {
       here = here;
       some = omega (arith, size, ap (λ (kinds : List (List Kind)). length (get_or kinds p [])) is);

@@ -108,7 +108,8 @@ same_scene state states channels past w a b c d e f g =
 -- the clocks of a world that is made are those of its events
 timed_by : (w new : Scene) (p : ℕ) (event : EventValue) (state : ModelState) → new ≡ made w p event state new.clocks
     → AreClocksOf new.kinds new.clocks → AreClocksOf (with_kind w.kinds p (kind_done event.exchange)) new.clocks
-timed_by w new p event state same timed = subst (λ (kinds : List (List Kind)). AreClocksOf kinds new.clocks) (ap (λ (s : Scene). s.kinds) same) timed
+timed_by w new p event state same timed =
+    subst (λ (kinds : List (List Kind)). AreClocksOf kinds new.clocks) (ap (λ (s : Scene). s.kinds) same) timed
 
 module _ (w new : Scene) (p k : ℕ) (event : EventValue) (timed : AreClocksOf new.kinds new.clocks) where
   pub steps_to : (P : Program) → IsWorldOf P w → Makes P w p k event → place_at w.state p < EVENTS

@@ -1,5 +1,6 @@
 -- A step or a redo that is taken back leaves the world before it.
-use Rattle.std.proofs.Common.{◌≡◌, ℕ, ◌+◌, ◌-◌, ◌<◌, ◌≤◌, ◌⊎◌, List, [], ◌∷◌, ◌++◌, length, get_or, set, take, drop, Some, refl, sym, ap, ◌∙◌, subst}
+use Rattle.std.proofs.Common.{◌≡◌, ℕ, ◌+◌, ◌-◌, ◌<◌, ◌≤◌, ◌⊎◌, List, [], ◌∷◌, ◌++◌, length, get_or, set, take, drop, Some, sym, ap, ◌∙◌}
+use Rattle.std.proofs.Common.{subst}
 use Rattle.std.proofs.Common.{⊎_elim, arith, take-append-drop}
 use Rattle.std.proofs.lemmas.List.{set-set, set-get_or, get_or-set_same, length-take-le, length_push, take_at}
 use Rattle.dbg_base.specs.declared.refusal.Refusal.{Refusal}
@@ -8,7 +9,8 @@ use Rattle.dbg_base.specs.Acts.{CannotUndo}
 use Rattle.dbg_base.specs.Trees.{Program}
 use Rattle.dbg_base.specs.Histories.{History, IsPossible, play}
 use Rattle.dbg_base.specs.Orders.{with_last}
-use Rattle.dbg_base.specs.ModelStates.{ModelState, line_of, place_at, history_of, redo_line, after_choice, after_redo, after_undo, IsStateOf}
+use Rattle.dbg_base.specs.ModelStates.{ModelState, line_of, place_at, history_of, redo_line, after_choice, after_redo, after_undo}
+use Rattle.dbg_base.specs.ModelStates.{IsStateOf}
 use Rattle.dbg_base.specs.Reversal.{MayUndo, without_last}
 use Rattle.event_rows.specs.EventValues.{EventValue}
 use Rattle.causal_world.specs.Pasts.{kinds_of}

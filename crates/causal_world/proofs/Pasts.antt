@@ -1,5 +1,5 @@
 -- What is kept of events agrees, as events are added and taken back.
-use Rattle.std.proofs.Common.{◌≡◌, ◌≢◌, ℕ, zero, suc, ◌+◌, ◌-◌, ◌<◌, ◌≤◌, List, [], ◌∷◌, ◌++◌, length, get_or, set, take, map, replicate}
+use Rattle.std.proofs.Common.{◌≡◌, ℕ, zero, suc, ◌+◌, ◌-◌, ◌<◌, ◌≤◌, List, [], ◌∷◌, ◌++◌, length, get_or, set, take, map, replicate}
 use Rattle.std.proofs.Common.{Some, refl, sym, ap, ◌∙◌, subst, arith}
 use Rattle.std.proofs.lemmas.List.{length-take, length-take-le, length_push}
 use Rattle.std.proofs.lemmas.List.Sums.{count_by-le-length}
@@ -49,7 +49,8 @@ as_many events kinds clocks p past = many events kinds p past.sizes
     many [] (own ∷ kinds) p e = cc
     many (own ∷ events) [] p e = cc
     many (own ∷ events) (row ∷ kinds) zero e = cc
-    many (own ∷ events) (row ∷ kinds) (suc p) e = many events kinds p (let rest : map (λ own. length own) events ≡ places kinds = cc in rest)
+    many (own ∷ events) (row ∷ kinds) (suc p) e =
+        many events kinds p (let rest : map (λ own. length own) events ≡ places kinds = cc in rest)
 
 -- the sizes stay the same where one list of each changes to the same length
 pub sizes_set : (events : List (List EventValue)) (kinds : List (List Kind)) (p : ℕ) (own : List EventValue) (row : List Kind)

@@ -1,15 +1,15 @@
 -- Events taken back in turn, until the places are those of a cut.
-use Rattle.std.proofs.Common.{◌≡◌, ◌≢◌, ℕ, zero, suc, ◌+◌, ◌-◌, ◌<◌, ◌≤◌, ◌⊎◌, ◌==◌, ◌&&◌, Bool, true, false, cond, ℤ, List, [], ◌∷◌, ◌++◌, length}
-use Rattle.std.proofs.Common.{get_or, set, take, count_by, sum, Option, Some, None, Ok, Err, refl, sym, ap, ◌∙◌, subst, ⊎_elim, arith}
+use Rattle.std.proofs.Common.{◌≡◌, ◌≢◌, ℕ, suc, ◌+◌, ◌<◌, ◌≤◌, ◌⊎◌, ◌==◌, ◌&&◌, Bool, true, false, cond, ℤ, List, [], ◌∷◌, ◌++◌, length}
+use Rattle.std.proofs.Common.{get_or, take, count_by, sum, Some, Ok, Err, refl, sym, ap, ◌∙◌, subst, ⊎_elim, arith}
 use Rattle.std.proofs.lemmas.Bool.{cases_eq, eq-eqb, ne_eqb}
-use Rattle.std.proofs.lemmas.List.{length-map, length-set, length-take-le, get_or-map, get_or-set_other, ext_get_or}
+use Rattle.std.proofs.lemmas.List.{length-map, length-set, length-take-le, get_or-set_other, ext_get_or}
 use Rattle.std.specs.Prelude.{if◌then◌else◌}
 use Rattle.dbg_base.specs.declared.refusal.Refusal.{Refusal}
 use Rattle.dbg_base.specs.declared.refusal.Refusal.TheVariants.{NothingToUndo, Consequence}
 use Rattle.dbg_base.specs.Acts.{CannotUndo}
 use Rattle.dbg_base.specs.Trees.{Program}
 use Rattle.dbg_base.specs.Configurations.{Configuration}
-use Rattle.dbg_base.specs.ModelStates.{ModelState, history_of, place_at, line_of, after_rollback}
+use Rattle.dbg_base.specs.ModelStates.{history_of, place_at, line_of, after_rollback}
 use Rattle.dbg_base.specs.Reversal.{MayUndo, without_back}
 use Rattle.cut_core.specs.declared.kind.Kind.{Kind}
 use Rattle.cut_core.specs.Kinds.{gets_from}
@@ -20,13 +20,12 @@ use Rattle.event_rows.specs.declared.exchange.Exchange.{Exchange}
 use Rattle.event_rows.specs.declared.exchange.Exchange.TheVariants.{Nothing, Sent, Took}
 use Rattle.event_rows.specs.EventValues.{EventValue}
 use Rattle.causal_world.specs.declared.rolled.Taken.{Taken}
-use Rattle.causal_world.specs.Pasts.{with_kind, without_kind}
+use Rattle.causal_world.specs.Pasts.{without_kind}
 use Rattle.causal_world.specs.Scenes.{Scene, IsWorldOf, unmade}
 use Rattle.causal_world.specs.Room.{HasRoomBefore, HasRoomBack, puts_before}
-use Rattle.causal_world.specs.Worlds.{IsSomeWorld, UndoableBy, LastExchange, last_event}
+use Rattle.causal_world.specs.Worlds.{IsSomeWorld, LastExchange, last_event}
 use Rattle.causal_world.specs.Rollings.{unmade_all, AreTakenBack, IsRolledFrom, CanTakeBack, IsNextBack}
 use Rattle.causal_world.proofs.Squares.{IsSquare, square_play}
-use Rattle.causal_world.proofs.LineStates.{length_cut}
 use Rattle.causal_world.proofs.Clocking.{got_grows, got_more, one_shorter, continues_less, cut_less, same_got}
 use Rattle.causal_world.proofs.Standing.{undoable_by}
 use Rattle.causal_world.proofs.Cutting.{line_at}

@@ -1,18 +1,18 @@
 -- A world is known by its lines and places, and an event that was taken back can be made again.
-use Rattle.std.proofs.Common.{◌≡◌, ℕ, zero, suc, ◌+◌, ◌-◌, ◌<◌, List, [], ◌∷◌, length, get_or, set, replicate, Some, Ok, refl, sym, ap, ◌∙◌}
+use Rattle.std.proofs.Common.{◌≡◌, ℕ, zero, suc, ◌+◌, ◌-◌, ◌<◌, List, [], length, get_or, set, replicate, Some, Ok, refl, sym, ap, ◌∙◌}
 use Rattle.std.proofs.Common.{subst, arith}
 use Rattle.std.proofs.lemmas.List.{set-set, set-get_or, get_or-set_same}
 use Rattle.std.specs.Prelude.{slice_get}
-use Rattle.dbg_base.specs.Trees.{Program, process_of}
+use Rattle.dbg_base.specs.Trees.{Program}
 use Rattle.dbg_base.specs.Configurations.{Configuration, start_of}
 use Rattle.dbg_base.specs.Firing.{fire}
 use Rattle.dbg_base.specs.Histories.{History, IsPossible, play}
-use Rattle.dbg_base.specs.Orders.{Event, with_last}
+use Rattle.dbg_base.specs.Orders.{with_last}
 use Rattle.dbg_base.specs.ModelStates.{ModelState, line_of, place_at, history_of, configuration_of, choice_before, after_undo, after_redo}
 use Rattle.event_rows.specs.EventValues.{EventValue}
 use Rattle.cut_core.specs.declared.kind.Kind.{Kind}
 use Rattle.causal_world.specs.Pasts.{kind_done, with_kind, kinds_of, AreClocksOf}
-use Rattle.causal_world.specs.Scenes.{Scene, IsWorldOf, event_at, events_of, made, unmade, with_done}
+use Rattle.causal_world.specs.Scenes.{Scene, IsWorldOf, event_at, made, unmade, with_done}
 use Rattle.causal_world.specs.Worlds.{Makes, last_event}
 use Rattle.causal_world.proofs.Bubbling.{IsOrderOf}
 use Rattle.causal_world.proofs.Joining.{joined}
@@ -97,7 +97,8 @@ remade P w p event of was before =
           (repeats P (unmade w p event) p k event clocks before makes timed next) of (again M p here place.0 place.1);
     }
   where
-    placed : (n : ℕ) (line : List ℕ) (k : ℕ) → choice_before n line ≡ Some k → (m : ℕ) × (n ≡ suc m) × (n - 1 ≡ m) × (slice_get line m ≡ Some k)
+    placed : (n : ℕ) (line : List ℕ) (k : ℕ) → choice_before n line ≡ Some k
+        → (m : ℕ) × (n ≡ suc m) × (n - 1 ≡ m) × (slice_get line m ≡ Some k)
     placed zero line k e = cc
     placed (suc m) line k e = (m, refl, omega arith, e)
 

@@ -7,7 +7,8 @@ ghost use Rattle.dbg_base.specs.declared.limits.TheConstants.{EVENTS};
 ghost use Rattle.dbg_base.specs.LocalStates.{start_among};
 ghost use Rattle.proc_lang.specs.Programs.{program_of};
 ghost use Rattle.causal_world.specs.Scenes.{with_event, without_event};
-ghost use Rattle.causal_world.specs.Pasts.{kind_done, with_kind, without_kind, without_row, IsWhole, AreClocksOf, HasRoomFor, IsCause, row_at};
+ghost use Rattle.causal_world.specs.Pasts.{kind_done, with_kind, without_kind, without_row, row_at};
+ghost use Rattle.causal_world.specs.Pasts.{IsWhole, AreClocksOf, HasRoomFor, IsCause};
 
 use clock_rows::Clocks;
 use cut_core::{Kind, Tally};

@@ -40,6 +40,7 @@ rolls_back P M M' p n cut reply here within is left is_done is_none =
     let rolled : RollsBack P p n M said M' =
     record { cut = cut; is = is; told = accepts P M' (Places cut) reply is_done is_none; left = left } in
     let acts : RollsBackAt P p n M said M' =
-    subst (λ (t : Bool). MatchBool t (Refuses BadPlace M said M') (RollsBack P p n M said M')) (sym (le-ltb (place_at M p) n within)) rolled in
+    subst (λ (t : Bool). MatchBool t (Refuses BadPlace M said M') (RollsBack P p n M said M'))
+    (sym (le-ltb (place_at M p) n within)) rolled in
     inl (subst (λ (t : Bool). MatchBool t (RollsBackAt P p n M said M') (Refuses UnknownProcess M said M'))
     (sym (lt-ltb p (length P) here)) acts)

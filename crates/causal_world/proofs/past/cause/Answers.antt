@@ -1,4 +1,4 @@
-use Rattle.std.proofs.Common.{◌≡◌, ◌≢◌, ℕ, ◌+◌, ◌≤◌, length, get_or, [], refl, subst, sym, ap, ◌∙◌, arith, rules}
+use Rattle.std.proofs.Common.{◌≢◌, ℕ, ◌+◌, refl, subst, sym, ap, ◌∙◌, arith, rules}
 use Rattle.cut_core.specs.declared.kind.Kind.{Kind}
 use Rattle.cut_core.specs.Tallies.{got_by}
 use Rattle.causal_world.specs.Pasts.{IsWhole, with_kind, IsCause}

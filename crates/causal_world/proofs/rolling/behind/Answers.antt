@@ -1,4 +1,4 @@
-use Rattle.std.proofs.Common.{◌≡◌, ◌+◌, sum, length, arith, rules}
+use Rattle.std.proofs.Common.{◌≡◌, ◌+◌, arith, rules}
 use Rattle.cut_core.specs.ConsistentCuts.{places}
 use Rattle.causal_world.proofs.Behind.{sum_next, placed}
 use Rattle.causal_world.proofs.rolling.behind.Goals as goal

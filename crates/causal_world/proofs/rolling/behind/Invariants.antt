@@ -1,4 +1,4 @@
-use Rattle.std.proofs.Common.{ℕ, ◌+◌, ◌≤◌, sum, take}
+use Rattle.std.proofs.Common.{◌+◌, ◌≤◌, sum, take}
 use Rattle.cut_core.specs.ConsistentCuts.{places}
 use Rattle.causal_world.proofs.rolling.behind.Given as goal
 

@@ -1,9 +1,7 @@
-use Rattle.std.proofs.Common.{◌≡◌, ℕ, ◌<◌, ◌≤◌, ◌⊎◌, List, length, inl, inr, suc, ⊎_elim, subst, sym, ap, ◌∙◌, arith, rules, Ok, Err}
-use Rattle.std.proofs.lemmas.Bool.{cases_eq}
+use Rattle.std.proofs.Common.{List, length, inl, inr, subst, ap, arith}
 use Rattle.cut_core.specs.declared.kind.Kind.{Kind}
-use Rattle.event_rows.specs.declared.exchange.Exchange.{Exchange}
 use Rattle.causal_world.specs.Worlds.{LastExchange}
-use Rattle.causal_world.proofs.Reversing.{AreStuck, none_behind, next_by, stuck_by, stuck_more}
+use Rattle.causal_world.proofs.Reversing.{none_behind, next_by, stuck_by, stuck_more}
 use Rattle.causal_world.proofs.rolling.next_back.Goals as goal
 use Rattle.causal_world.proofs.rolling.next_back.Goals.{then-place-count_of+in-Err, else-place-count_of}
 

@@ -1,7 +1,6 @@
-use Rattle.std.proofs.Common.{◌≡◌, List, sum, Some, refl, subst, sym, ap, ◌∙◌, arith, rules}
+use Rattle.std.proofs.Common.{◌≡◌, List, sum, Some, refl, subst, sym, ap, ◌∙◌, arith}
 use Rattle.dbg_base.specs.LocalStates.{LocalState}
 use Rattle.dbg_base.specs.ModelStates.{ModelState}
-use Rattle.event_rows.specs.EventValues.{EventValue}
 use Rattle.causal_world.specs.Scenes.{Scene, scene, unmade}
 use Rattle.causal_world.specs.Worlds.{IsSomeWorld, last_event}
 use Rattle.causal_world.specs.Rollings.{IsNextBack}

@@ -1,4 +1,4 @@
-use Rattle.std.proofs.Common.{◌≡◌, ℕ, ◌+◌, ◌≤◌, sum}
+use Rattle.std.proofs.Common.{◌+◌, ◌≤◌, sum}
 use Rattle.std.specs.Vec.{vec_len, vec_capacity}
 use Rattle.cut_core.specs.ConsistentCuts.{places}
 use Rattle.causal_world.specs.Scenes.{scene}

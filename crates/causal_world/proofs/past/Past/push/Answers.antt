@@ -1,4 +1,4 @@
-use Rattle.std.proofs.Common.{List, arith, ap, subst, sym, ◌∙◌}
+use Rattle.std.proofs.Common.{ap, subst, sym, ◌∙◌}
 use Rattle.cut_core.specs.declared.kind.Kind.{Kind}
 use Rattle.causal_world.specs.Pasts.{IsPast, IsWhole, kind_done, with_kind}
 use Rattle.causal_world.proofs.Pasts.{fits_row, pushed_past, same_past}

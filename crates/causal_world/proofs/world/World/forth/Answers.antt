@@ -1,4 +1,4 @@
-use Rattle.std.proofs.Common.{◌≡◌, ℕ, List, length, refl, subst, sym, ap, ◌∙◌}
+use Rattle.std.proofs.Common.{◌≡◌, List, length, refl, subst, sym, ◌∙◌}
 use Rattle.cut_core.specs.declared.kind.Kind.{Kind}
 use Rattle.dbg_base.specs.Trees.{Program}
 use Rattle.causal_world.specs.declared.rolled.Taken.{Taken}

@@ -1,10 +1,9 @@
 use Rattle.std.proofs.Common.{◌≡◌, ℤ, List, Some, subst, sym, ap, ◌∙◌}
 use Rattle.dbg_base.specs.ModelStates.{ModelState}
-use Rattle.dbg_base.specs.Trees.{Program}
 use Rattle.causal_world.specs.Scenes.{Scene, scene, IsWorldOf, unmade}
 use Rattle.causal_world.specs.Worlds.{last_event}
 use Rattle.causal_world.specs.Rollings.{CanTakeBack, TakesOut}
-use Rattle.causal_world.proofs.Calls.{can_take, may_take, undo_left}
+use Rattle.causal_world.proofs.Calls.{can_take, may_take}
 use Rattle.causal_world.proofs.world.World.pop_event.Goals as goal
 use Rattle.causal_world.proofs.world.World.pop_event.Goals.{After-retreat}
 

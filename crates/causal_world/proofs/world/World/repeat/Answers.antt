@@ -24,7 +24,8 @@ happen-requires-clause-room c =
 pub happen-requires-clause-few : goal.happen-requires-clause-few
 happen-requires-clause-few c =
     subst (λ (kinds : List (List Kind)). length (slice_index_or kinds c.args.pid.0 []) < EVENTS) (sym c.in_ok-make_room.ensures.kinds)
-    (can_few _ c.args.pid.0 c.args.choice.0 c.args.event (rw (← c.self.view_is) at c.requires.can) (next_few _ _ _ _ (rw (← c.self.view_is) at c.requires.can) (rw (← c.self.view_is) at c.requires.next)))
+    (can_few _ c.args.pid.0 c.args.choice.0 c.args.event (rw (← c.self.view_is) at c.requires.can)
+    (next_few _ _ _ _ (rw (← c.self.view_is) at c.requires.can) (rw (← c.self.view_is) at c.requires.next)))
 
 pub happen-requires-clause-whole : goal.happen-requires-clause-whole
 happen-requires-clause-whole c =
@@ -36,7 +37,8 @@ pub invariant_of-self-2 : goal.invariant_of-self-2
 invariant_of-self-2 c =
     let p = c.args.pid.0 in
     let event = c.args.event in
-    some_repeat _ _ p c.args.choice.0 event c.happen.ensures.clocks (rw (← c.self.view_is) at c.requires.can) (rw (← c.self.view_is) at c.requires.next)
+    some_repeat _ _ p c.args.choice.0 event c.happen.ensures.clocks (rw (← c.self.view_is) at c.requires.can)
+    (rw (← c.self.view_is) at c.requires.next)
     (same_scene _ _ _ c.happen.new.past _ c.advance.ensures c.happen.ensures.states
     (c.happen.ensures.channels
     ∙ ap (λ (l : List (List (List ℤ))). channels_after l p event.exchange) c.in_ok-make_room.ensures.channels)

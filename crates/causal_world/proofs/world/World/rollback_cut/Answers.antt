@@ -1,6 +1,5 @@
 use Rattle.std.proofs.Common.{List, ℕ, length, sym, ap, ◌∙◌}
 use Rattle.cut_core.specs.declared.kind.Kind.{Kind}
-use Rattle.dbg_base.specs.ModelStates.{ModelState}
 use Rattle.causal_world.specs.Scenes.{Scene}
 use Rattle.causal_world.proofs.Looking.{same_size, is_rollback}
 use Rattle.causal_world.proofs.world.World.rollback_cut.Goals as goal

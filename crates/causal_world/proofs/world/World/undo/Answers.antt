@@ -14,11 +14,12 @@ back c P of =
     let event = c.in_ok-event.event in
     let took = c.in_ok-event.ensures.took in
     let items = c.push_reserved.ensures.items
-    ∙ ap (λ (l : List Taken). l ++ record { pid = c.args.pid; event = event } ∷ []) (c.in_ok-reserve.ensures.items ∙ c.new-taken.ensures.items) in
+    ∙ ap (λ (l : List Taken). l ++ record { pid = c.args.pid; event = event } ∷ [])
+    (c.in_ok-reserve.ensures.items ∙ c.new-taken.ensures.items) in
     subst (λ (w : Scene). IsRolledFrom P c.args.self.now c.push_reserved.new.self.items w) (sym took.left)
     (subst (λ (l : List Taken). IsRolledFrom P c.args.self.now l (unmade c.args.self.now p event)) (sym items)
-    (rolled_more P c.args.self.now c.args.self.now [] (record { pid = c.args.pid; event = event }) (rolled_none P c.args.self.now of) took.was
-    (took.may P of).1))
+    (rolled_more P c.args.self.now c.args.self.now [] (record { pid = c.args.pid; event = event }) (rolled_none P c.args.self.now of)
+    took.was (took.may P of).1))
 
 pub returns-clause-of : goal.returns-clause-of
 returns-clause-of c = λ P of. rolled_of P _ _ _ (back (goal.at.returns-clause-of c).After-push_reserved P of)

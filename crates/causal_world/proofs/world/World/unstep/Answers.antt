@@ -1,6 +1,5 @@
-use Rattle.std.proofs.Common.{◌≡◌, ℕ, ℤ, List, Some, refl, subst, sym, ap, ◌∙◌}
+use Rattle.std.proofs.Common.{◌≡◌, ℤ, List, Some, refl, subst, sym, ap, ◌∙◌}
 use Rattle.dbg_base.specs.Trees.{Program}
-use Rattle.dbg_base.specs.ModelStates.{ModelState, after_undo}
 use Rattle.causal_world.specs.Scenes.{Scene, scene, IsWorldOf, unmade, restored}
 use Rattle.causal_world.specs.Worlds.{last_event}
 use Rattle.causal_world.specs.Rollings.{CanTakeBack, IsStepped}
