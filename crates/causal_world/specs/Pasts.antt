@@ -104,6 +104,13 @@ pub record PastState : Type 0 where
   pub kind_room : List ℕ
   pub clock_room : List ℕ
 
+-- the same is kept, whatever the room
+pub record IsSamePast (old new : PastState) : Type 0 where
+  pub starts : new.starts ≡ old.starts
+  pub events : new.events ≡ old.events
+  pub kinds : new.kinds ≡ old.kinds
+  pub clocks : new.clocks ≡ old.clocks
+
 -- What is kept of the same events agrees, and no message was received that was not sent.
 pub record IsPast (events : List (List EventValue)) (kinds : List (List Kind)) (clocks : List (List (List ℕ))) : Type 0 where
   pub sizes : map (λ own. length own) events ≡ places kinds

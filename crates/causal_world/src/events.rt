@@ -5,7 +5,7 @@ ghost use Rattle.dbg_base.specs.declared.limits.TheConstants.{EVENTS};
 ghost use Rattle.dbg_base.specs.LocalStates.{no_state};
 ghost use Rattle.event_rows.specs.Events.{after_event, before_event};
 ghost use Rattle.causal_world.specs.Scenes.{channels_after, channels_before, with_event};
-ghost use Rattle.causal_world.specs.Pasts.{IsWhole, AreClocksOf, HasRoomFor, kind_done, with_kind};
+ghost use Rattle.causal_world.specs.Pasts.{IsWhole, AreClocksOf, IsSamePast, HasRoomFor, kind_done, with_kind};
 ghost use Rattle.fifo_grid.specs.Grids.{room_at};
 ghost use Rattle.causal_world.specs.Room.{HasRoomAfter, HasRoomBefore, puts_after, puts_before};
 
@@ -25,10 +25,7 @@ pub(crate) fn make_room(
     exchange: Exchange,
 ) -> Result<(), AllocError>
     ensures channels { grid.new.channels ≡ grid.old.channels }
-    ensures starts { past.new.starts ≡ past.old.starts }
-    ensures events { past.new.events ≡ past.old.events }
-    ensures kinds { past.new.kinds ≡ past.old.kinds }
-    ensures clocks { past.new.clocks ≡ past.old.clocks }
+    ensures same { IsSamePast past.old past.new }
     ensures messages { OnOk result (HasRoomAfter grid.new pid.0 exchange) }
     ensures room { OnOk result (pid.0 < length past.old.kinds → HasRoomFor past.new pid.0 1) }
 {

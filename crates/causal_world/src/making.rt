@@ -5,7 +5,7 @@ ghost use Rattle.std.specs.List.{count_by};
 ghost use Rattle.dbg_base.specs.Trees as tree;
 ghost use Rattle.fifo_grid.specs.Grids.{room_at};
 ghost use Rattle.causal_world.specs.Scenes.{scene};
-ghost use Rattle.causal_world.specs.Pasts.{HasRoomFor};
+ghost use Rattle.causal_world.specs.Pasts.{IsSamePast};
 ghost use Rattle.causal_world.specs.Room.{puts_of, is_of, HasRoomForth, HasRoomForEach};
 ghost use Rattle.causal_world.specs.Rollings.{IsRolled};
 
@@ -54,10 +54,7 @@ pub(crate) fn make_room_forth(
     taken: &[Taken],
 ) -> Result<(), AllocError>
     ensures channels { grid.new.channels ≡ grid.old.channels }
-    ensures starts { past.new.starts ≡ past.old.starts }
-    ensures events { past.new.events ≡ past.old.events }
-    ensures kinds { past.new.kinds ≡ past.old.kinds }
-    ensures clocks { past.new.clocks ≡ past.old.clocks }
+    ensures same { IsSamePast past.old past.new }
     ensures ways { OnOk result ((i j : ℕ) → i < length past.old.kinds → i < length grid.old.channels
         → j < length (slice_index_or grid.old.channels i []) → puts_of taken.now i j ≤ room_at grid.new.room i j) }
     ensures room { OnOk result (HasRoomForEach past.new taken.now) }

@@ -8,7 +8,7 @@ ghost use Rattle.dbg_base.specs.LocalStates.{start_among};
 ghost use Rattle.proc_lang.specs.Programs.{program_of};
 ghost use Rattle.causal_world.specs.Scenes.{with_event, without_event};
 ghost use Rattle.causal_world.specs.Pasts.{kind_done, with_kind, without_kind, without_row, row_at};
-ghost use Rattle.causal_world.specs.Pasts.{IsWhole, AreClocksOf, HasRoomFor, IsCause};
+ghost use Rattle.causal_world.specs.Pasts.{IsWhole, AreClocksOf, IsSamePast, HasRoomFor, IsCause};
 
 use clock_rows::Clocks;
 use cut_core::{Kind, Tally};
@@ -123,10 +123,7 @@ impl Past {
     /// Makes room for so many more events of the process. No room is lost, and nothing changes that is seen, also where it is refused,
     /// which is only where memory runs out.
     pub(crate) fn reserve(&mut self, pid: Pid, more: usize) -> Result<(), AllocError>
-        ensures starts { self.new.starts ≡ self.old.starts }
-        ensures events { self.new.events ≡ self.old.events }
-        ensures kinds { self.new.kinds ≡ self.old.kinds }
-        ensures clocks { self.new.clocks ≡ self.old.clocks }
+        ensures same { IsSamePast self.old self.new }
         ensures grows { (q n : ℕ) → HasRoomFor self.old q n → HasRoomFor self.new q n }
         ensures ok { OnOk result (pid.0 < length self.old.kinds → HasRoomFor self.new pid.0 more) }
     {

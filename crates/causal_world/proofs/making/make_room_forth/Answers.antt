@@ -17,13 +17,15 @@ loop-p-preserved c =
     let from = c.in_ok-make_room_from.ensures in
     let reserved = c.in_ok-reserve.ensures in
     let sizes : length c.tally.result.now.kinds ≡ length c.loop-p.past.kinds =
-    ap (λ (k : List (List Kind)). length k) (c.tally.ensures ∙ sym old.kinds) in
+    ap (λ (k : List (List Kind)). length k) (c.tally.ensures ∙ sym old.same.kinds) in
     record {
       channels = from.channels ∙ old.channels;
-      starts = reserved.starts ∙ old.starts;
-      events = reserved.events ∙ old.events;
-      kinds = reserved.kinds ∙ old.kinds;
-      clocks = reserved.clocks ∙ old.clocks;
+      same = record {
+        starts = reserved.same.starts ∙ old.same.starts;
+        events = reserved.same.events ∙ old.same.events;
+        kinds = reserved.same.kinds ∙ old.same.kinds;
+        clocks = reserved.same.clocks ∙ old.same.clocks;
+      };
       ways = λ i j less here column.
           ⊎_elim
           (λ (same : i ≡ p). subst (λ (x : ℕ). puts_of taken x j ≤ room_at c.make_room_from.new.grid.room x j) (sym same)

@@ -14,7 +14,7 @@ happen-requires-clause-here c =
 
 pub happen-requires-clause-kept : goal.happen-requires-clause-kept
 happen-requires-clause-kept c =
-    subst (λ (kinds : List (List Kind)). c.args.pid.0 < length kinds) (sym c.in_ok-make_room.ensures.kinds)
+    subst (λ (kinds : List (List Kind)). c.args.pid.0 < length kinds) (sym c.in_ok-make_room.ensures.same.kinds)
     (can_keep _ c.args.pid.0 c.args.choice.0 c.args.event (rw (← c.self.view_is) at c.requires.can))
 
 pub happen-requires-clause-room : goal.happen-requires-clause-room
@@ -23,14 +23,14 @@ happen-requires-clause-room c =
 
 pub happen-requires-clause-few : goal.happen-requires-clause-few
 happen-requires-clause-few c =
-    subst (λ (kinds : List (List Kind)). length (slice_index_or kinds c.args.pid.0 []) < EVENTS) (sym c.in_ok-make_room.ensures.kinds)
+    subst (λ (kinds : List (List Kind)). length (slice_index_or kinds c.args.pid.0 []) < EVENTS) (sym c.in_ok-make_room.ensures.same.kinds)
     (can_few _ c.args.pid.0 c.args.choice.0 c.args.event (rw (← c.self.view_is) at c.requires.can)
     (rw (← c.self.view_is) at c.requires.few))
 
 pub happen-requires-clause-whole : goal.happen-requires-clause-whole
 happen-requires-clause-whole c =
     subst (λ (kinds : List (List Kind)). IsWhole (with_kind kinds c.args.pid.0 (kind_done c.args.event.exchange)))
-    (sym c.in_ok-make_room.ensures.kinds)
+    (sym c.in_ok-make_room.ensures.same.kinds)
     (can_whole _ c.args.pid.0 c.args.choice.0 c.args.event (rw (← c.self.view_is) at c.requires.can))
 
 pub invariant_of-self-2 : goal.invariant_of-self-2
@@ -42,8 +42,8 @@ invariant_of-self-2 c =
     (same_scene _ _ _ c.happen.new.past _ c.in_ok-append.ensures.appended c.happen.ensures.states
     (c.happen.ensures.channels
     ∙ ap (λ (l : List (List (List ℤ))). channels_after l p event.exchange) c.in_ok-make_room.ensures.channels)
-    (c.happen.ensures.starts ∙ c.in_ok-make_room.ensures.starts)
-    (c.happen.ensures.events ∙ ap (λ (l : List (List EventValue)). with_event l p (Some event)) c.in_ok-make_room.ensures.events)
+    (c.happen.ensures.starts ∙ c.in_ok-make_room.ensures.same.starts)
+    (c.happen.ensures.events ∙ ap (λ (l : List (List EventValue)). with_event l p (Some event)) c.in_ok-make_room.ensures.same.events)
     (c.happen.ensures.kinds
-    ∙ ap (λ (l : List (List Kind)). with_kind l p (kind_done event.exchange)) c.in_ok-make_room.ensures.kinds)
+    ∙ ap (λ (l : List (List Kind)). with_kind l p (kind_done event.exchange)) c.in_ok-make_room.ensures.same.kinds)
     refl)
