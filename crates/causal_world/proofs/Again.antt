@@ -1,10 +1,10 @@
 -- Events that were taken back are made again.
-use Rattle.std.proofs.Common.{◌≡◌, ◌≢◌, ℕ, zero, suc, ◌+◌, ◌-◌, ◌<◌, ◌≤◌, ◌⊎◌, inl, inr, ℤ, ◌==◌, ◌&&◌, Bool, true, false, cond, List}
+use Rattle.std.proofs.Common.{◌≡◌, ◌≢◌, ℕ, zero, suc, ◌+◌, ◌-◌, ◌<◌, ◌≤◌, inl, inr, ℤ, ◌==◌, Bool, cond, List}
 use Rattle.std.proofs.Common.{[], ◌∷◌, ◌++◌, length}
 use Rattle.std.proofs.Common.{get_or, take, count_by, Some, refl, sym, ap, ◌∙◌, subst, ⊎_elim, arith}
 use Rattle.std.proofs.lemmas.Bool.{cases_eq, cases_lt, eq-eqb, ne_eqb}
 use Rattle.std.proofs.lemmas.List.Sums.{sum_by-cons, sum_by_push}
-use Rattle.std.specs.Prelude.{slice_get, if◌then◌else◌}
+use Rattle.std.specs.Prelude.{slice_get}
 use Rattle.dbg_base.specs.Trees.{Program}
 use Rattle.dbg_base.specs.ModelStates.{line_of, place_at, after_redo}
 use Rattle.fifo_grid.specs.Grids.{GridState, room_at}
@@ -16,6 +16,7 @@ use Rattle.causal_world.specs.Scenes.{Scene, IsWorldOf, made, unmade}
 use Rattle.causal_world.specs.Room.{HasRoomsAfter, puts_after, puts_of, is_of, HasRoomForth, HasRoomForEach}
 use Rattle.causal_world.specs.Worlds.{IsSomeWorld, Makes, last_event}
 use Rattle.causal_world.specs.Rollings.{unmade_all, AreTakenBack, IsRolledFrom}
+use Rattle.causal_world.proofs.Ones.{one_at_most, one_of_both, none_of_one}
 use Rattle.causal_world.proofs.Reversing.{unmade_more, channels_there}
 use Rattle.causal_world.proofs.Sames.{remade}
 
@@ -29,12 +30,7 @@ puts_push (x ∷ taken) t i j = omega (arith, puts_push taken t i j)
 -- no more than one each
 puts_few : (p i j : ℕ) (exchange : Exchange) → puts_after p exchange i j ≤ cond (p == i) 1 0
 puts_few p i j Nothing = omega arith
-puts_few p i j (Sent target value count) = few (p == i) (target.0 == j)
-  where
-    few : (a b : Bool) → (if a && b then 1 else 0) ≤ cond a 1 0
-    few true true = omega arith
-    few true false = omega arith
-    few false b = omega arith
+puts_few p i j (Sent target value count) = one_at_most (p == i) (target.0 == j)
 puts_few p i j (Took source message count) = omega arith
 
 pub puts_counted : (taken : List Taken) (i j : ℕ) → puts_of taken i j ≤ count_by (is_of i) taken
@@ -99,14 +95,9 @@ room_for_last processes grid front t here inside room = by t.event.exchange refl
     by (Sent target value count) e = λ there column.
         let enough = room t.pid.0 target.0 here (inside target.0 column) in
         let one : puts_after t.pid.0 t.event.exchange t.pid.0 target.0 ≡ 1 =
-        ap (λ (x : Exchange). puts_after t.pid.0 x t.pid.0 target.0) e ∙ both (t.pid.0 == t.pid.0) (target.0 == target.0)
+        ap (λ (x : Exchange). puts_after t.pid.0 x t.pid.0 target.0) e ∙ one_of_both (t.pid.0 == t.pid.0) (target.0 == target.0)
         (eq-eqb t.pid.0 t.pid.0 refl) (eq-eqb target.0 target.0 refl) in
         omega (arith, enough, one, puts_push front t t.pid.0 target.0)
-      where
-        both : (a b : Bool) → a ≡ true → b ≡ true → ◌≡◌ {A = ℕ} (if a && b then 1 else 0) 1
-        both true true x y = refl
-        both true false x y = cc
-        both false b x y = cc
     by (Took source message count) e = tt
 
 -- what is left has room
@@ -186,16 +177,10 @@ sends_here channels room q p j more (Sent target value count) here column some e
     (λ (own : q ≡ p). ⊎_elim
     (λ (to : target.0 ≡ j). subst (λ (x : ℕ). more ≤ room_at room p x) to
     (enough own here (subst (λ (x : ℕ). x < length (get_or channels p [])) (sym to) column)))
-    (λ (apart : target.0 ≢ j). absurd (omega (arith, some, none (q == p) (target.0 == j) (inr (ne_eqb target.0 j apart)))))
+    (λ (apart : target.0 ≢ j). absurd (omega (arith, some, none_of_one (q == p) (target.0 == j) (inr (ne_eqb target.0 j apart)))))
     (cases_eq target.0 j))
-    (λ (apart : q ≢ p). absurd (omega (arith, some, none (q == p) (target.0 == j) (inl (ne_eqb q p apart)))))
+    (λ (apart : q ≢ p). absurd (omega (arith, some, none_of_one (q == p) (target.0 == j) (inl (ne_eqb q p apart)))))
     (cases_eq q p)
-  where
-    none : (a b : Bool) → (a ≡ false) ⊎ (b ≡ false) → ◌≡◌ {A = ℕ} (if a && b then 1 else 0) 0
-    none true true (inl e) = cc
-    none true true (inr e) = cc
-    none true false e = refl
-    none false b e = refl
 sends_here channels room q p j more (Took source message count) here column some enough = absurd (omega (arith, some))
 
 pub room_from_next : (channels : List (List (List ℤ))) (old : List (List ℕ)) (grid : GridState) (taken : List Taken) (k p more : ℕ)

@@ -1,9 +1,8 @@
 -- Events taken back until the places are those of a cut.
-use Rattle.std.proofs.Common.{◌≡◌, ℕ, zero, suc, ◌+◌, ◌-◌, ◌<◌, ◌≤◌, ◌==◌, ◌&&◌, Bool, true, false, cond, ℤ, List, [], ◌∷◌, length}
+use Rattle.std.proofs.Common.{◌≡◌, ℕ, zero, suc, ◌+◌, ◌-◌, ◌<◌, ◌≤◌, ◌==◌, cond, ℤ, List, [], ◌∷◌, length}
 use Rattle.std.proofs.Common.{get_or, set, take, sum, Option, Some, None, refl, sym, ap, ◌∙◌, subst, arith}
 use Rattle.std.proofs.lemmas.List.{length-map, length-set, length-take-le, map-set, get_or-map}
 use Rattle.std.proofs.lemmas.List.Sums.{sum_by-cons, sum_by-set}
-use Rattle.std.specs.Prelude.{if◌then◌else◌}
 use Rattle.std.specs.Option.{option_map}
 use Rattle.dbg_base.specs.Trees.{Action, Local, Sends, Receives, Command, Program, command_of}
 use Rattle.dbg_base.specs.LocalStates.{LocalState}
@@ -20,6 +19,7 @@ use Rattle.causal_world.specs.Pasts.{kind_at, kind_of_action, kind_of_command, k
 use Rattle.causal_world.specs.Scenes.{Scene, IsWorldOf, message_for, exchange_for, event_by, event_if}
 use Rattle.causal_world.specs.Room.{puts_before}
 use Rattle.causal_world.specs.Worlds.{last_event}
+use Rattle.causal_world.proofs.Ones.{one_at_most}
 use Rattle.causal_world.proofs.LineStates.{history_undo}
 use Rattle.causal_world.proofs.Back.{history_without}
 use Rattle.causal_world.proofs.Standing.{last_made}
@@ -28,11 +28,6 @@ use Rattle.causal_world.proofs.KindsOf.{kinds_more, kinds_less}
 use Rattle.causal_world.proofs.Calls.{kinds_there}
 
 -- What the last event took is what its kind says.
-
-one_at_most : (a b : Bool) → (if a && b then 1 else 0) ≤ cond a 1 0
-one_at_most true true = omega arith
-one_at_most true false = omega arith
-one_at_most false b = omega arith
 
 taken_kind : (p k i : ℕ) (action : Action) (state : LocalState) (taken : Option ℤ) (effect : Effect)
     → puts_before p (event_by k action state taken effect).exchange i p ≤ cond (gets_from i (kind_of_action action)) 1 0

@@ -1,4 +1,5 @@
 pub mod Grids
+pub mod Ones
 pub mod Moves
 pub mod Diamonds
 pub mod Bubbling

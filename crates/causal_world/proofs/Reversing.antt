@@ -1,5 +1,5 @@
 -- Events taken back in turn, until the places are those of a cut.
-use Rattle.std.proofs.Common.{◌≡◌, ◌≢◌, ℕ, suc, ◌+◌, ◌<◌, ◌≤◌, ◌⊎◌, ◌==◌, ◌&&◌, Bool, true, false, cond, ℤ, List, [], ◌∷◌, ◌++◌, length}
+use Rattle.std.proofs.Common.{◌≡◌, ◌≢◌, ℕ, suc, ◌+◌, ◌<◌, ◌≤◌, ◌⊎◌, inr, ◌==◌, ◌&&◌, cond, ℤ, List, [], ◌∷◌, ◌++◌, length}
 use Rattle.std.proofs.Common.{get_or, take, count_by, sum, Some, Ok, Err, refl, sym, ap, ◌∙◌, subst, ⊎_elim, arith}
 use Rattle.std.proofs.lemmas.Bool.{cases_eq, eq-eqb, ne_eqb}
 use Rattle.std.proofs.lemmas.List.{length-map, length-set, length-take-le, get_or-set_other, ext_get_or}
@@ -25,6 +25,7 @@ use Rattle.causal_world.specs.Scenes.{Scene, IsWorldOf, unmade}
 use Rattle.causal_world.specs.Room.{HasRoomBefore, HasRoomBack, puts_before}
 use Rattle.causal_world.specs.Worlds.{IsSomeWorld, LastExchange, last_event}
 use Rattle.causal_world.specs.Rollings.{unmade_all, AreTakenBack, IsRolledFrom, CanTakeBack, IsNextBack}
+use Rattle.causal_world.proofs.Ones.{one_of_both, none_of_one}
 use Rattle.causal_world.proofs.Squares.{IsSquare, square_play}
 use Rattle.causal_world.proofs.Clocking.{got_grows, got_more, one_shorter, continues_less, cut_less, same_got}
 use Rattle.causal_world.proofs.Standing.{undoable_by}
@@ -74,20 +75,10 @@ rolled_more P before w taken t r was of = record {
 puts_other : (p i j : ℕ) (exchange : Exchange) → j ≢ p → puts_before p exchange i j ≡ 0
 puts_other p i j Nothing apart = refl
 puts_other p i j (Sent target value count) apart = refl
-puts_other p i j (Took source message count) apart = none (source.0 == i) (p == j) (ne_eqb p j (λ x. apart (sym x)))
-  where
-    none : (a b : Bool) → b ≡ false → ◌≡◌ {A = ℕ} (if a && b then 1 else 0) 0
-    none true true e = cc
-    none true false e = refl
-    none false b e = refl
+puts_other p i j (Took source message count) apart = none_of_one (source.0 == i) (p == j) (inr (ne_eqb p j (λ x. apart (sym x))))
 
 puts_one : (s p : ℕ) → ◌≡◌ {A = ℕ} (if (s == s) && (p == p) then 1 else 0) 1
-puts_one s p = one (s == s) (p == p) (eq-eqb s s refl) (eq-eqb p p refl)
-  where
-    one : (a b : Bool) → a ≡ true → b ≡ true → ◌≡◌ {A = ℕ} (if a && b then 1 else 0) 1
-    one true true e f = refl
-    one true false e f = cc
-    one false b e f = cc
+puts_one s p = one_of_both (s == s) (p == p) (eq-eqb s s refl) (eq-eqb p p refl)
 
 module _ (w : Scene) (p : ℕ) (event : EventValue) (cut : List ℕ) (last : LastKind w p event) (consistent : IsConsistentCut w.kinds cut)
     (behind : get_or cut p 0 < length (get_or w.kinds p [])) where
