@@ -27,14 +27,6 @@ order_both P c d b (e ∷ E) F first second =
     let step = first_step (fire P c e.process e.choice) (λ x. order_from P x E) d first in
     legal_behind P c step.0 b e (E ++ F) step.1 (order_both P step.0 d b E F step.2 second)
 
-pub order_parts : (P : Program) (c b : Configuration) (E F : List Event) → order_from P c (E ++ F) ≡ Ok b
-    → (d : Configuration) × (order_from P c E ≡ Ok d) × (order_from P d F ≡ Ok b)
-order_parts P c b [] F legal = (c, refl, legal)
-order_parts P c b (e ∷ E) F legal =
-    let step = first_step (fire P c e.process e.choice) (λ x. order_from P x (E ++ F)) b legal in
-    let rest = order_parts P step.0 b E F step.2 in
-    (rest.0, legal_behind P c step.0 rest.0 e E step.1 rest.1, rest.2)
-
 pub one_event : (P : Program) (c d : Configuration) (p k : ℕ) → fire P c p k ≡ Ok d
     → order_from P c (record { process = p; choice = k } ∷ []) ≡ Ok d
 one_event P c d p k fires = legal_behind P c d d (record { process = p; choice = k }) [] fires refl
@@ -231,14 +223,3 @@ local_kept P H p k q n d all within fires there few =
     ∙ get_or_append_left (get_or states q []) (state_in d q ∷ []) no_state n (omega (arith, s.size))))
     (λ (apart : q ≢ p). ap (λ (l : List LocalState). get_or l n no_state) (push_other states p q (state_in d p) apart))
     (cases_eq q p)
-
--- and its process's new one is the last
-pub local_new : (P : Program) (H : History) (p k : ℕ) (d : Configuration) → IsPossible P H → p < length H → fire P (play P H) p k ≡ Ok d
-    → local_state P (with_last H p k) p (suc (length (get_or H p []))) ≡ state_in d p
-local_new P H p k d all within fires =
-    let states = (progress_of P H).states in
-    let s = last_stands P H p all (is_there P (play P H) d p k fires) in
-    ap (λ (x : List (List LocalState)). get_or (get_or x p []) (suc (length (get_or H p []))) no_state)
-    (states_more P H p k d all within fires)
-    ∙ ap (λ (l : List LocalState). get_or l (suc (length (get_or H p []))) no_state) (push_same states p (state_in d p) s.there)
-    ∙ get_or_push (get_or states p []) (state_in d p) no_state (suc (length (get_or H p []))) s.size

@@ -228,21 +228,6 @@ faulted command c p taken takes e =
     fault_by command command.action c p refl (ap (effect_of command (state_in c p)) (sym same) ∙ e)
     (subst (λ (t : Option ℤ). Takes (Ok t) command.action c p) same takes)
 
--- there is nothing to take
-
-received_nothing : (command : Command) (source : ℕ) (c : Configuration) (p : ℕ) (refusal : Refusal) (messages : List ℤ)
-    → TakesFront (Err refusal) (slice_get messages 0) → receive command c p source messages ≡ Err refusal
-received_nothing command source c p refusal [] takes =
-    let same : ChannelEmpty ≡ refusal = cc in ap (λ (r : Refusal). Err r) same
-received_nothing command source c p refusal (m ∷ rest) takes = cc
-
-pub nothing_taken : (command : Command) (action : Action) (c : Configuration) (p : ℕ) (refusal : Refusal) → Takes (Err refusal) action c p
-    → proceed command action c p ≡ Err refusal
-nothing_taken command Local c p refusal takes = cc
-nothing_taken command (Sends target value) c p refusal takes = cc
-nothing_taken command (Receives source variable) c p refusal takes =
-    received_nothing command source c p refusal (channel_of c source p) takes
-
 decides_by : (found : Result EventValue Refusal) (command : Command) (c : Configuration) (p k : ℕ) (taken : Option ℤ)
     → Takes (Ok taken) command.action c p → MakesEvent found k command (state_in c p) taken
     → DecidesBy found (event_if c p k (Some command)) (proceed command command.action c p) c p

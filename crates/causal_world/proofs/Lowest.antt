@@ -44,9 +44,3 @@ passes_next P c p k refusal lt before fires =
     sym (lowest_next P c p k lt
     ∙ ap (λ (r : Result Configuration Refusal). fires_first r k (lowest_from (k + 1) (drop (k + 1) (process_of P p).commands) c p)) fires)
     ∙ before
-
--- there is no further one
-pub none_is : (P : Program) (c : Configuration) (p k : ℕ) → length (process_of P p).commands ≤ k → NoneBefore P c p k
-    → lowest_enabled P c p ≡ None
-none_is P c p k past before =
-    sym before ∙ ap (λ (xs : List Command). lowest_from k xs c p) (drop_all k (process_of P p).commands past)

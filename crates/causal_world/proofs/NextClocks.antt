@@ -12,17 +12,13 @@ use Rattle.cut_core.specs.Tallies.{sent_by, got_by}
 use Rattle.cut_core.specs.ConsistentCuts.{IsConsistentCut}
 use Rattle.clock_rows.specs.Clocks.{join, next_row}
 use Rattle.cut_core.proofs.Counted.{count_before, count_below}
+use Rattle.clock_rows.proofs.Joins.{length_join}
 use Rattle.causal_world.specs.Pasts.{with_kind, IsWhole, IsClockOf, IsSender, IsOwnLast, IsCause}
 use Rattle.causal_world.proofs.Pushes.{push_other}
 use Rattle.causal_world.proofs.Clocking.{Continues, continues_more, one_longer, got_more, sent_grows, got_grows, same_sent, cut_more}
 use Rattle.causal_world.proofs.Clocking.{kept_clock}
 
 -- Joins.
-
-length_joined : (row other : List ℕ) → length row ≡ length other → length (join row other) ≡ length row
-length_joined [] other long = refl
-length_joined (m ∷ row) [] long = absurd (omega (arith, long))
-length_joined (m ∷ row) (n ∷ other) long = ap (λ (k : ℕ). suc k) (length_joined row other (omega (arith, long)))
 
 joined_at : (row other : List ℕ) (i : ℕ) → length row ≡ length other → get_or (join row other) i 0 ≡ max (get_or row i 0) (get_or other i 0)
 joined_at [] [] i long = omega arith
@@ -133,7 +129,7 @@ module _ (kinds : List (List Kind)) (p q m : ℕ) (kind : Kind) (row joined : Li
   -- the counts of the next event's clock
   next_own : get_or next p 0 ≡ suc n
   next_own =
-      let size : length (join row joined) ≡ length kinds = length_joined row joined long ∙ own.consistent.sizes in
+      let size : length (join row joined) ≡ length kinds = length_join row joined long ∙ own.consistent.sizes in
       let at : get_or next p 0 ≡ get_or (join row joined) p 0 + 1 =
       get_or-set_same (join row joined) p (get_or (join row joined) p 0 + 1) 0 (omega (arith, size, here)) in
       omega (arith, at, follows)
@@ -277,7 +273,7 @@ module _ (kinds : List (List Kind)) (p q m : ℕ) (kind : Kind) (row joined : Li
   is_next : IsClockOf more p (suc n) next
   is_next = record {
     consistent = record {
-      sizes = length-set (join row joined) p (get_or (join row joined) p 0 + 1) ∙ length_joined row joined long
+      sizes = length-set (join row joined) p (get_or (join row joined) p 0 + 1) ∙ length_join row joined long
           ∙ own.consistent.sizes ∙ sym parts.size;
       within = inside;
       causes = caused;

@@ -11,7 +11,7 @@ use Rattle.dbg_base.specs.Reversal.{without_back, without_last, MayUndo, IsPermi
 use Rattle.cut_core.specs.ConsistentCuts.{IsConsistentCut}
 use Rattle.causal_world.specs.Pasts.{kinds_of}
 use Rattle.causal_world.proofs.Cutting.{line_at}
-use Rattle.causal_world.proofs.Unfiring.{within_without}
+use Rattle.causal_world.proofs.Unfiring.{within_by}
 use Rattle.causal_world.proofs.Chains.{undos_to, front_after}
 use Rattle.causal_world.proofs.KindsOf.{cut_consistent, consistent_cut}
 
@@ -22,13 +22,10 @@ size_at P H cut p is =
     ap (λ (l : List ℕ). length l) (line_at H cut p) ∙ length-take-le (get_or cut p 0) (get_or H p []) (is.within p)
 
 -- an undo leaves one choice less
-some_there : (H : History) (p : ℕ) → 0 < length (get_or H p []) → p < length H
-some_there H p some = omega (arith, within_without H p some, length-set H p (without_back (get_or H p [])))
-
 size_without : (H : History) (p : ℕ) → 0 < length (get_or H p [])
     → length (get_or (without_last H p) p []) ≡ length (get_or H p []) - 1
 size_without H p some =
-    ap (λ (l : List ℕ). length l) (get_or-set_same H p (without_back (get_or H p [])) [] (some_there H p some))
+    ap (λ (l : List ℕ). length l) (get_or-set_same H p (without_back (get_or H p [])) [] (within_by H p some))
     ∙ length-take-le (length (get_or H p []) - 1) (get_or H p []) (omega arith)
 
 -- a history is at the cut, or some process is behind it and may undo
@@ -57,44 +54,6 @@ first_undo P H cut (p ∷ undos) is permitted leads =
 pub some_undo : (P : Program) (H : History) (cut : List ℕ) → IsPossible P H → IsConsistent P H cut
     → ((p : ℕ) → length (get_or H p []) ≤ get_or cut p 0) ⊎ ((p : ℕ) × (get_or cut p 0 < length (get_or H p [])) × MayUndo P H p)
 some_undo P H cut all is = let led = undos_to P H cut all is in first_undo P H cut led.undos is led.permitted led.leads
-
--- the cut stays consistent while processes behind it take choices back
-taken_still : (H : History) (p q n : ℕ) → p < length H → (q ≡ p → n < length (get_or H p []))
-    → take n (get_or (without_last H p) q []) ≡ take n (get_or H q [])
-taken_still H p q n here less =
-    ⊎_elim
-    (λ (same : q ≡ p). subst (λ (x : ℕ). take n (get_or (without_last H p) x []) ≡ take n (get_or H x [])) (sym same)
-    (let lt = less same in
-    ap (λ (l : List ℕ). take n l) (get_or-set_same H p (without_back (get_or H p [])) [] here)
-    ∙ take-take n (length (get_or H p []) - 1) (get_or H p []) (omega (arith, lt))))
-    (λ (apart : q ≢ p). ap (λ (l : List ℕ). take n l) (get_or-set_other H p q (without_back (get_or H p [])) [] apart))
-    (cases_eq q p)
-
-pub still_consistent : (P : Program) (H : History) (cut : List ℕ) (p : ℕ) → IsConsistent P H cut
-    → get_or cut p 0 < length (get_or H p []) → IsConsistent P (without_last H p) cut
-still_consistent P H cut p is less =
-    let some : 0 < length (get_or H p []) = omega arith in
-    let here = some_there H p some in
-    let taken = λ (q : ℕ). taken_still H p q (get_or cut q 0) here
-    (λ (same : q ≡ p). subst (λ (x : ℕ). get_or cut x 0 < length (get_or H p [])) (sym same) less) in
-    record {
-      sizes = is.sizes ∙ sym (length-set H p (without_back (get_or H p [])));
-      within = λ q. ⊎_elim
-          (λ (same : q ≡ p). subst (λ (x : ℕ). get_or cut x 0 ≤ length (get_or (without_last H p) x [])) (sym same)
-          (omega (arith, less, size_without H p some)))
-          (λ (apart : q ≢ p).
-          let line : length (get_or (without_last H p) q []) ≡ length (get_or H q []) =
-          ap (λ (l : List ℕ). length l) (get_or-set_other H p q (without_back (get_or H p [])) [] apart) in
-          let le = is.within q in omega (arith, le, line))
-          (cases_eq q p);
-      causes = λ i j apart.
-          let gets : got P (without_last H p) j i (get_or cut j 0) ≡ got P H j i (get_or cut j 0) =
-          ap (λ (l : List ℕ). count_by (receives_from P j i) l) (taken j) in
-          let sends : sent P (without_last H p) i j (get_or cut i 0) ≡ sent P H i j (get_or cut i 0) =
-          ap (λ (l : List ℕ). count_by (sends_to P i j) l) (taken i) in
-          let caused : got P H j i (get_or cut j 0) ≤ sent P H i j (get_or cut i 0) = is.causes i j apart in
-          omega (arith, gets, sends, caused);
-    }
 
 -- the cut with n choices of p, and all choices of the others
 module _ (H : History) (p n : ℕ) (top : List ℕ) (same : top ≡ set (map length H) p n) (here : p < length H) where

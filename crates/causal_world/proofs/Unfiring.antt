@@ -51,7 +51,7 @@ back_and_last l some =
     let whole : length l ≤ length l - 1 + 1 = omega arith in
     sym (take_more l (length l - 1) 0 last) ∙ take_all (length l - 1 + 1) l whole
 
-within_by : (H : History) (p : ℕ) → 0 < length (get_or H p []) → p < length H
+pub within_by : (H : History) (p : ℕ) → 0 < length (get_or H p []) → p < length H
 within_by H p some = grind (arith, get_or_past {X = List ℕ})
 
 pub with_without : (H : History) (p : ℕ) → 0 < length (get_or H p []) → with_last (without_last H p) p (last_choice H p) ≡ H

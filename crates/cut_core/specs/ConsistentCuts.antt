@@ -3,10 +3,6 @@ use Rattle.std.specs.Prelude.{◌≡◌, ◌≢◌, ℕ, ◌<◌, ◌≤◌, Lis
 use Rattle.cut_core.specs.declared.kind.Kind.{Kind}
 use Rattle.cut_core.specs.Tallies.{sent_by, got_by}
 
--- no process has received more messages from another one than that one has sent to it
-abbrev pub HasCauses : List (List Kind) → List ℕ → Type 0
-HasCauses kinds cut = (i j : ℕ) → i ≢ j → got_by kinds j i (slice_index cut j) ≤ sent_by kinds i j (slice_index cut i)
-
 -- A cut has one count for each process, at most as large as its number of events. It is consistent where no process has received more
 -- messages from another one than that one has sent to it.
 pub record IsConsistentCut (kinds : List (List Kind)) (cut : List ℕ) : Type 0 where

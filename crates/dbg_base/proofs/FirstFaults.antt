@@ -126,7 +126,7 @@ sign_takes Slash = omega arith
 sign_takes Percent = omega arith
 
 -- a token takes a byte at least
-token_takes : (token : Token) (piece : List ℕ) → Spells token piece → 1 ≤ length piece
+pub token_takes : (token : Token) (piece : List ℕ) → Spells token piece → 1 ≤ length piece
 token_takes token (b ∷ piece) spelled = omega arith
 token_takes (Word []) [] spelled = absurd (false≢true spelled.1)
 token_takes (Word (b ∷ word)) [] spelled = absurd (let e : ◌≡◌ {A = List ℕ} [] (b ∷ word) = spelled.0 in cc)

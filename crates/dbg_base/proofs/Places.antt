@@ -33,30 +33,6 @@ module _ {A B : Type 0} (R : B → B → Type 0) (same : (b : B) → R b b) (f :
   related_after (z ∷ xs) (suc i) x y here lt r zero = same (f z)
   related_after (z ∷ xs) (suc i) x y here lt r (suc k) = related_after xs i x y here (omega arith) r k
 
--- one place of a list of lists is written: what stands there, what stands elsewhere, and how long the lists are
-module _ {A : Type 0} (d : A) where
-  pub nested_same : (rows : List (List A)) (i j : ℕ) (x : A) → i < length rows → j < length (get_or rows i [])
-      → get_or (get_or (set rows i (set (get_or rows i []) j x)) i []) j d ≡ x
-  nested_same rows i j x there inside =
-      ap (λ (row : List A). get_or row j d) (get_or-set_same rows i (set (get_or rows i []) j x) [] there)
-      ∙ get_or-set_same (get_or rows i []) j x d inside
-
-  pub nested_other : (rows : List (List A)) (i j a b : ℕ) (x : A) → (a ≡ i → b ≡ j → ⊥)
-      → get_or (get_or (set rows i (set (get_or rows i []) j x)) a []) b d ≡ get_or (get_or rows a []) b d
-  nested_other [] i j a b x ne = refl
-  nested_other (row ∷ rows) zero j zero b x ne = get_or-set_other row j b x d (λ e. ne refl e)
-  nested_other (row ∷ rows) zero j (suc a) b x ne = refl
-  nested_other (row ∷ rows) (suc i) j zero b x ne = refl
-  nested_other (row ∷ rows) (suc i) j (suc a) b x ne = nested_other rows i j a b x (λ e f. ne (ap suc e) f)
-
-  pub nested_length : (rows : List (List A)) (i j a : ℕ) (x : A)
-      → length (get_or (set rows i (set (get_or rows i []) j x)) a []) ≡ length (get_or rows a [])
-  nested_length [] i j a x = refl
-  nested_length (row ∷ rows) zero j zero x = length-set row j x
-  nested_length (row ∷ rows) zero j (suc a) x = refl
-  nested_length (row ∷ rows) (suc i) j zero x = refl
-  nested_length (row ∷ rows) (suc i) j (suc a) x = nested_length rows i j a x
-
 -- a place where more than 0 stands is there
 pub below_at : (xs : List ℕ) (i : ℕ) → 0 < get_or xs i 0 → i < length xs
 below_at [] i h = absurd (omega arith)

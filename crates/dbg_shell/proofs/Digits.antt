@@ -10,9 +10,7 @@ use Rattle.std.proofs.Math.Nat.{pow-le-pow_right}
 use Rattle.std.proofs.lemmas.Grind.{common_steps}
 use Rattle.std.specs.Str.Parse.{digits_value}
 use Rattle.dbg_base.specs.Tokens.{is_digit}
-
-pub digit_range : (b : ℕ) → is_digit b ≡ true → (48 ≤ b) × (b ≤ 57)
-digit_range b h = (grind (arith, nat_tests), grind (arith, nat_tests))
+use Rattle.proc_lang.proofs.Numbers.{digit_range}
 
 -- with a digit more the number still has few digits, and it fits
 pub stays_low : (i n number digit : ℕ) → i < n → n ≤ 9 → number < 10 ^ i → digit ≤ 9

@@ -103,16 +103,3 @@ known_may {known = None} empty reads = tt
 known_may {known = Some xs} {left = None} empty reads = absurd reads.keeps
 known_may {first = first} {known = Some xs} {bytes = bytes} {left = Some ys} empty reads =
     (ys, whole_is first bytes xs ys empty reads.keeps, reads.ends)
-
--- the bytes that were read are few
-pub few_read : (first : List ℕ) (known : Option (List ℕ)) (bytes : List ℕ) (left : Option (List ℕ)) → first ≡ []
-    → KeepsInput first known bytes left
-    → length bytes ≤ INPUT_BYTES + 1 → IfSome known (λ input. ReadsFew input left)
-few_read first None bytes left empty keeps few = tt
-few_read first (Some xs) bytes None empty keeps few = absurd keeps
-few_read first (Some xs) bytes (Some ys) empty keeps few = (bytes, ys, refl, whole_is first bytes xs ys empty keeps, few)
-
--- where nothing was read
-pub none_read : (known : Option (List ℕ)) → IfSome known (λ input. ReadsFew input known)
-none_read None = tt
-none_read (Some xs) = ([], xs, refl, refl, omega arith)

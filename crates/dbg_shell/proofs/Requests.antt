@@ -41,12 +41,6 @@ requests seat called (Ok (Some request)) e =
 requests seat called (Ok None) e = cc
 requests seat called (Err refusal) e = cc
 
--- nothing was read
-pub asks_nothing : (known : Result (Option Request) Refusal) → Ok None ≡ map_ok (option_map requested) known → Ok None ≡ known
-asks_nothing (Ok (Some request)) e = cc
-asks_nothing (Ok None) e = refl
-asks_nothing (Err refusal) e = cc
-
 -- the line was refused
 pub is_refused : (refusal : Refusal) (known : Result (Option Request) Refusal) → Err refusal ≡ map_ok (option_map requested) known
     → Err refusal ≡ known

@@ -21,10 +21,6 @@ slice_on xs a b c first second =
     let there : drop n (drop a xs) ≡ drop b xs = drop-drop n a xs ∙ ap (λ (k : ℕ). drop k xs) (omega arith) in
     ap (λ (k : ℕ). take k (drop a xs)) longer ∙ take-add n m (drop a xs) ∙ ap (λ (ys : List ℕ). take n (drop a xs) ++ take m ys) there
 
-with_nothing : (o : Option Parts) → o ≡ option_map (with_text []) o
-with_nothing None = refl
-with_nothing (Some parts) = refl
-
 texts_join : (s line t : List ℕ) (o : Option Parts) → t ≡ s ++ (line ++ 10 ∷ [])
     → option_map (with_text s) (option_map (line_before line) o) ≡ option_map (with_text t) o
 texts_join s line t None e = refl
@@ -36,14 +32,6 @@ texts_join s line t (Some parts) e =
 pub record SoFar (whole : List ℕ) (from at : ℕ) : Type 0 where
   pub begun : from ≤ at
   pub split : parts_of (lines_from from whole) ≡ option_map (with_text (slice_range whole from at)) (parts_of (lines_from at whole))
-
-pub so_far_begins : (whole : List ℕ) (from : ℕ) → SoFar whole from from
-so_far_begins whole from =
-    let none : 0 ≡ from - from = omega arith in
-    record {
-      begun = omega arith;
-      split = with_nothing _ ∙ ap (λ (n : ℕ). option_map (with_text (take n (drop from whole))) (parts_of (lines_from from whole))) none;
-    }
 
 parts_behind : (line : List ℕ) (lines : List (List ℕ)) → is_end_line line ≡ false
     → parts_of (line ∷ lines) ≡ option_map (line_before line) (parts_of lines)
@@ -130,9 +118,6 @@ line_is input bytes line at new span end told seen test = ap is_end_line (sym (s
 -- the parts of whatever the input may be
 abbrev pub SoFarAny : List ℕ → Bool → ℕ → ℕ → Type 0
 SoFarAny bytes ended from at = (input : List ℕ) → MayBe bytes ended input → SoFar input from at
-
-pub so_far_any : (bytes : List ℕ) (ended : Bool) (from : ℕ) → SoFarAny bytes ended from from
-so_far_any bytes ended from input may = so_far_begins input from
 
 module _ (before : List ℕ) (was : Bool) (bytes : List ℕ) (ended : Bool) (from at new : ℕ) (next : Next)
     (so_far : SoFarAny before was from at)

@@ -71,14 +71,6 @@ pub stopped_first : {A B : Type 0} {e : ServeFault} {r : Result B ServeFault} {a
     → Writes a b r (x ++ y ++ z)
 stopped_first {x = x} y z h k = rw (append_assoc x y z) (stopped (y ++ z) h k)
 
--- what was written is handed on
-pub writes_kept : {A B : Type 0} {u : A} {a b c : Option (List ℕ)} {r : Result B ServeFault} {x : List ℕ} → Writes {A = A} a b (Ok u) x
-    → Keeps b c → IfErr r (λ f. f ≡ Write)
-    → Writes a c r x
-writes_kept {a = a} {b = b} {c = c} {r = Ok v} {x = x} h k e = record { whole = Appends-kept a b c x h.whole k; part = tt; fault = tt }
-writes_kept {a = a} {b = b} {c = c} {r = Err f} {x = x} h k e = record
-    { whole = tt; part = (x, [], sym (append-nil x), Appends-kept a b c x h.whole k); fault = e }
-
 -- the next part of a text is written
 pub progress_more : {A : Type 0} {u : A} (a b c : Option (List ℕ)) (bytes rest part others : List ℕ) → Progress a b bytes rest
     → rest ≡ part ++ others → Writes b c (Ok u) part → Progress a c bytes others

@@ -1,3 +1,2 @@
 pub mod Undone
 pub mod Pasts
-pub mod Made

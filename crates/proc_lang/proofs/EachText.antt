@@ -17,6 +17,7 @@ use Rattle.dbg_base.specs.Tokens.{IsWithinLimits, BeginsWithNoToken, HasTokens, 
 use Rattle.proc_lang.specs.Scanning.{BeginsWithNoSign, StandsInFront, TakesToken, MeetsFault}
 use Rattle.proc_lang.proofs.Runs.{and_first}
 use Rattle.proc_lang.proofs.Fronts.{word_stands, number_stands, stands, clash, same_first, word_first}
+use Rattle.dbg_base.proofs.FirstFaults.{token_takes}
 use Rattle.proc_lang.proofs.TokenLaws.{spells_first, sign_from, sign_known, sign_written}
 use Rattle.proc_lang.proofs.TokenLists.{IsBehind, behind_more, has_tokens, has_fault}
 use Rattle.proc_lang.proofs.Lexing.{only_spaces, takes_token, meets_fault, meets_limit}
@@ -190,11 +191,6 @@ deep_or_not depth token shallow =
       | inr le ↦ inr (omega (arith, le, shallow))
     ]
 
--- what writes a token has a byte
-some_piece : (token : Token) (piece : List ℕ) → Spells token piece → 1 ≤ length piece
-some_piece token [] writes = absurd (spells_first token [] writes)
-some_piece token (b ∷ piece) writes = omega arith
-
 -- one step: only spaces are left, or a token is passed, or a fault is met
 record Step (left : List ℕ) (at depth : ℕ) : Type 0 where
   p : Placed
@@ -234,14 +230,14 @@ module _ (left : List ℕ) (at depth : ℕ) (shallow : depth ≤ OPEN_PARENTHESE
                   length-append (takes.gap ++ takes.piece) (drop n rest),
                   length-append takes.gap takes.piece,
                   ap length (append_assoc takes.gap takes.piece (drop n rest)),
-                  some_piece token takes.piece takes.spelled,
+                  token_takes token takes.piece takes.spelled,
                 );
               }))
         ]
         | inr large ↦ inr (inr (
           record { kind = fault.Token; at = at + gap },
           meets_fault left rest gap refl cut at (at + gap) depth fault.Token refl
-              (omega (arith, some_piece token (take n rest) stands_so.spelled, length-take-le n rest stands_so.within, stands_so.within))
+              (omega (arith, token_takes token (take n rest) stands_so.spelled, length-take-le n rest stands_so.within, stands_so.within))
               (take n rest, drop n rest, token, stands_so.spelled, stands_so.longest, sym (take-append-drop n rest), large),
         ))
       ]

@@ -26,7 +26,7 @@ front_is_less k digits =
     ap (digits_value 10) (sym (take-append-drop k digits)) ∙ after_append 0 (take k digits) (drop k digits) in
     omega (arith, whole, after_grows (digits_value 10 (take k digits)) (drop k digits))
 
-digit_range : (b : ℕ) → is_digit b ≡ true → (48 ≤ b) × (b ≤ 57)
+pub digit_range : (b : ℕ) → is_digit b ≡ true → (48 ≤ b) × (b ≤ 57)
 digit_range b h = (leb-true 48 b (and_first (leb 48 b) (leb b 57) h), leb-true b 57 (and_second (leb 48 b) (leb b 57) h))
 
 -- each of the digits is one

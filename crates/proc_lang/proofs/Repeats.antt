@@ -109,10 +109,6 @@ module _ {A : Type 0} (Derives : List Placed → A → Type 0) (test : Token →
   front_first front x (Err n) = refl
   front_first front x (Ok found) = ap (λ (l : List A). Ok (l, found.1)) (sym (append_assoc front (x ∷ []) found.0))
 
-  front_nothing : (read : Read (List A)) → with_front [] read ≡ read
-  front_nothing (Err n) = refl
-  front_nothing (Ok found) = refl
-
   -- the code's list so far, and the tokens that are left, in a loop that reads them
   abbrev pub IsReading : {X : Type 0} → (X → A) → List X → List Placed → List Placed → Type 0
   IsReading view xs left tokens = with_front (map view xs) (read_many test one left) ≡ read_many test one tokens

@@ -8,26 +8,6 @@ use Rattle.std.proofs.lemmas.List.Sums.{prefix_len-drop_yes, prefix_len-drop_no,
 abbrev pub PassedSoFar : (ℕ → Bool) → List ℕ → ℕ → Type 0
 PassedSoFar p bytes i = prefix_len p bytes ≡ i + prefix_len p (drop i bytes)
 
-module _ (p : ℕ → Bool) (bytes : List ℕ) (i : ℕ) (so_far : PassedSoFar p bytes i) where
-  -- the byte passes too
-  pub passed_more : (b : ℕ) → i < length bytes → b ≡ get_or bytes i 0 → true ≡ p b → PassedSoFar p bytes (i + 1)
-  passed_more b lt here test =
-      let step : prefix_len p (drop i bytes) ≡ 1 + prefix_len p (drop (i + 1) bytes) =
-      prefix_len-drop_yes p bytes i 0 lt (ap p (sym here) ∙ sym test) in
-      omega (arith, so_far, step)
-
-  -- the byte does not pass
-  pub passed_stop : (b : ℕ) → i < length bytes → b ≡ get_or bytes i 0 → false ≡ p b → i ≡ prefix_len p bytes
-  passed_stop b lt here test =
-      let step : prefix_len p (drop i bytes) ≡ 0 = prefix_len-drop_no p bytes i 0 lt (ap p (sym here) ∙ sym test) in
-      omega (arith, so_far, step)
-
-  -- no byte is left
-  pub passed_all : length bytes ≤ i → i ≤ length bytes → length bytes ≡ prefix_len p bytes
-  passed_all ge le =
-      let step : prefix_len p (drop i bytes) ≡ 0 = prefix_len-drop_all p bytes i ge in
-      omega (arith, so_far, step)
-
 pub and_first : (a b : Bool) → (a && b) ≡ true → a ≡ true
 and_first true b h = refl
 and_first false b h = h

@@ -163,10 +163,6 @@ name_completes front rest x d any =
     one_completes named_in front rest x
     (word_at x.at x.name, d.0, ap (option_map (λ name. record { at = x.at; name = name })) (name_found x.name d.1)) any
 
-pub name_takes : Takes read_name
-unfolding read_name
-name_takes = one_takes named_in
-
 -- a name is no reserved word
 pub name_is_not : (word name : List ℕ) → list_any (bytes_eq word) reserved_words ≡ true → IsName name → bytes_eq name word ≡ false
 name_is_not word name reserved is_name =

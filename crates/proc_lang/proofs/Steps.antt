@@ -266,15 +266,6 @@ module _ {A B : Type 0} (First : List Placed → A → Type 0) (Second : A → L
               ];
         }
 
-  -- what follows the first one is what the second one derives, with what follows both
-  pub both_complete : (Between Behind : List Placed → Type 0) → Completes First Between read
-      → ((x : A) → Completes (Second x) Behind (next x))
-      → ((x : A) (second rest : List Placed) (y : B) → Second x second y → Behind rest → Between (second ++ rest))
-      → Completes (Then First Second) Behind read_both
-  both_complete Between Behind one two follows front rest y d behind =
-      ap (λ (l : List Placed). read_both (l ++ rest)) d.5 ∙ ap read_both (append_assoc d.1 d.2 rest)
-      ∙ bind_to _ _ _ _ (one d.1 (d.2 ++ rest) d.0 d.3 (follows d.0 d.2 rest y d.4 behind)) (two d.0 d.2 rest y d.4 behind)
-
 -- what was read, seen otherwise
 abbrev pub Last : {A B : Type 0} → (A → B) → (List Placed → A → Type 0) → List Placed → B → Type 0
 Last {A} f First tokens y = (x : A) × First tokens x × (f x ≡ y)
@@ -311,10 +302,6 @@ module _ {A B : Type 0} (f : A → B) (First : List Placed → A → Type 0) (re
       | inr h ↦ absurd (let bad : ◌≡◌ {A = Result (B × List Placed) ℕ} (Ok (f h.0.0, h.0.1)) (Err n) = h.2 in cc)
     ];
   }
-
-  pub last_completes : (Behind : List Placed → Type 0) → Completes First Behind read → Completes (Last f First) Behind read_last
-  last_completes Behind one front rest y d behind =
-      bind_to _ _ _ _ (one front rest d.0 d.1 behind) (ap (λ (z : B). Ok (z, rest)) d.2)
 
 -- one of two readers, by the first token
 module _ {A : Type 0} (Derives : List Placed → A → Type 0) (test : Token → Bool) (read other_read : List Placed → Read A) where

@@ -108,10 +108,6 @@ process_takes = takes_by DerivesProcess read_process process_reader (λ front x 
 further_reader : IsReader (DeriveInTurn DerivesProcess) (read_many (is_word_token (codes "process")) read_process)
 further_reader = many_reader DerivesProcess (is_word_token (codes "process")) read_process process_reader process_takes
 
-some_program : Begins DerivesProgram []
-some_program =
-    let one = process_reader.some in (one.0, one.1 ∷ [], (one.0, [], one.2, refl, sym (append-nil one.0)))
-
 -- what one process and others derive is a program
 abbrev Program : List Placed → List WrittenProcess → Type 0
 Program = Then DerivesProcess (λ first. Last (λ others. first ∷ others) (DeriveInTurn DerivesProcess))

@@ -1,6 +1,7 @@
 use Rattle.std.proofs.Common.{◌≡◌, ◌+◌, ◌*◌, ◌^◌, ◌<◌, ◌≤◌, length, get_or, true, arith, sym, ◌∙◌, ap}
 use Rattle.dbg_base.specs.Tokens.{is_digit}
-use Rattle.dbg_shell.proofs.Digits.{digit_range, stays_low, digits_more, value_more}
+use Rattle.proc_lang.proofs.Numbers.{digit_range}
+use Rattle.dbg_shell.proofs.Digits.{stays_low, digits_more, value_more}
 use Rattle.dbg_shell.proofs.command_line.number_word.Goals as goal
 use Rattle.dbg_shell.proofs.command_line.number_word.Goals.{After-from, Else-not-is_ascii_digit}
 
