@@ -15,7 +15,6 @@ use Rattle.causal_world.proofs.Playing.{possible, listed}
 use Rattle.causal_world.proofs.Pushes.{push, push_same, push_other, set_push, push_set, push_set_other, length-push}
 use Rattle.causal_world.proofs.Diamonds.{kept_state}
 use Rattle.causal_world.proofs.States.{states_step, same_states}
-use Rattle.causal_world.proofs.Histories.{is_there}
 
 -- one list behind another
 pub order_both : (P : Program) (c d b : Configuration) (E F : List Event) → order_from P c E ≡ Ok d → order_from P d F ≡ Ok b

@@ -1,11 +1,10 @@
 -- A history is rolled back to a consistent cut, undo by undo.
 use Rattle.std.proofs.Common.{◌≡◌, ◌≢◌, ℕ, zero, suc, ◌+◌, ◌-◌, ◌<◌, ◌≤◌, ◌⊎◌, inl, inr, List, [], ◌∷◌, length, get_or, set}
-use Rattle.std.proofs.Common.{take, map, count_by, refl, sym, ap, ◌∙◌, subst, ⊎_elim, arith}
+use Rattle.std.proofs.Common.{map, refl, sym, ap, ◌∙◌, subst, ⊎_elim, arith}
 use Rattle.std.proofs.lemmas.Bool.{cases_eq}
-use Rattle.std.proofs.lemmas.List.{length-set, length-map, length-append, length-take-le, get_or-set_same, get_or-set_other, take-take}
+use Rattle.std.proofs.lemmas.List.{length-map, length-append, length-take-le, get_or-set_same, get_or-set_other}
 use Rattle.dbg_base.specs.Trees.{Program}
 use Rattle.dbg_base.specs.Histories.{History, IsPossible}
-use Rattle.dbg_base.specs.Counts.{sends_to, receives_from, sent, got}
 use Rattle.dbg_base.specs.Cuts.{IsConsistent, IsAtMost, history_at}
 use Rattle.dbg_base.specs.Reversal.{without_back, without_last, MayUndo, IsPermitted, after_undos, IsRollback}
 use Rattle.cut_core.specs.ConsistentCuts.{IsConsistentCut}

@@ -1,10 +1,11 @@
 //! Events taken back in turn, each where nothing that is left depends on it.
 
-ghost use Rattle.std.specs.Prelude.{◌≡◌, ℕ, ◌+◌, ◌<◌, ◌≤◌, ◌++◌, [], length, sum, IfOk, OnOk, IfSome, MatchOption, Some};
-ghost use Rattle.std.specs.Prelude.{slice_index, slice_index_or};
+ghost use Rattle.std.specs.Prelude.{◌≡◌, ℕ, ◌+◌, ◌<◌, ◌≤◌, ◌++◌, ◌⊎◌, [], length, sum, IfOk, OnOk, IfSome, MatchOption, Some};
+ghost use Rattle.std.specs.Prelude.{slice_index, slice_index_or, IsTrue, false};
 ghost use Rattle.std.specs.Vec.{vec_len, vec_capacity};
 ghost use Rattle.dbg_base.specs.Trees as tree;
-ghost use Rattle.dbg_base.specs.ModelStates.{ModelState, after_undo, after_rollback};
+ghost use Rattle.dbg_base.specs.ModelStates.{ModelState, history_of, place_at, after_undo, after_rollback};
+ghost use Rattle.dbg_base.specs.Reversal.{MayUndo};
 ghost use Rattle.cut_core.specs.Tallies.{got_by};
 ghost use Rattle.cut_core.specs.ConsistentCuts.{IsConsistentCut, places};
 ghost use Rattle.fifo_grid.specs.Grids.{room_at};
@@ -53,6 +54,9 @@ fn make_room_to(grid: &mut Grid, tally: &Tally, to: Pid, count: u32) -> Result<(
         → got_by tally.now.kinds to.0 i (length (slice_index_or tally.now.kinds to.0 []))
         ≤ got_by tally.now.kinds to.0 i count + room_at grid.new.room i to.0) }
 {
+    if tally.len(to) <= count {
+        return Ok(());
+    }
     for i in 0..tally.processes() {
         let all = tally.got(to, Pid(i), tally.len(to));
         let more = all.saturating_sub(tally.got(to, Pid(i), count));
@@ -109,19 +113,37 @@ pub(crate) fn take_back(
     Some(event)
 }
 
-// A process behind the cut whose last event may be taken back, or None where no process is behind it.
-fn next_back(lines: &Lines, envs: &[Env], grid: &Grid, past: &Past, cut: &[u32]) -> Option<Pid>
+// Whether the process is behind the cut, and its last event may be taken back.
+fn is_next(lines: &Lines, envs: &[Env], grid: &Grid, past: &Past, cut: &[u32], pid: Pid) -> bool
+    requires { IsSomeWorld (scene lines.now envs.now grid.now.channels past.now) }
+    ensures next { IsTrue result → IsNextBack (scene lines.now envs.now grid.now.channels past.now) cut.now pid.0 }
+    ensures stuck { result ≡ false → (place_at lines.now pid.0 ≤ slice_index cut.now pid.0)
+        ⊎ ((P : tree.Program) → IsWorldOf P (scene lines.now envs.now grid.now.channels past.now)
+        → ¬ MayUndo P (history_of lines.now) pid.0) }
+{
+    lines.place(pid) > count_of(cut, pid) && last_exchange(grid, past, pid).is_ok()
+}
+
+// A process behind the cut whose last event may be taken back, or None where no process is behind it. The first one is tried first.
+fn next_back(
+    lines: &Lines,
+    envs: &[Env],
+    grid: &Grid,
+    past: &Past,
+    cut: &[u32],
+    first: Pid,
+) -> Option<Pid>
     requires world { IsSomeWorld (scene lines.now envs.now grid.now.channels past.now) }
     requires cut { IsConsistentCut past.now.kinds cut.now }
     ensures { MatchOption result ((p : ℕ) → length (slice_index_or past.now.kinds p []) ≤ slice_index cut.now p)
         (λ pid. IsNextBack (scene lines.now envs.now grid.now.channels past.now) cut.now pid.0) }
 {
+    if is_next(lines, envs, grid, past, cut, first) {
+        return Some(first);
+    }
     for p in 0..past.tally().processes() {
-        if lines.place(Pid(p)) > count_of(cut, Pid(p)) {
-            match last_exchange(grid, past, Pid(p)) {
-                Ok(_exchange) => return Some(Pid(p)),
-                Err(_refusal) => {}
-            }
+        if is_next(lines, envs, grid, past, cut, Pid(p)) {
+            return Some(Pid(p));
         }
     }
     None
@@ -146,9 +168,17 @@ pub(crate) fn roll_back(
         (scene lines.new envs.new.items grid.new.channels past.new) }
     ensures moves { lines.new ≡ after_rollback lines.old cut.now }
 {
-    while let Some(pid) = next_back(lines, envs.as_slice(), grid, past, cut) {
+    let mut first = Pid(0);
+    while let Some(pid) = next_back(lines, envs.as_slice(), grid, past, cut, first) {
         match take_back(envs, grid, past, pid) {
-            Some(event) => taken.push_reserved(Taken { pid, event }),
+            Some(event) => {
+                // Most likely the sender of a message that went back is next.
+                first = match event.exchange() {
+                    Exchange::Took { source, .. } => source,
+                    _ => pid,
+                };
+                taken.push_reserved(Taken { pid, event });
+            }
             None => return,
         }
         lines.retreat(pid);

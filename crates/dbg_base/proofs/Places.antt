@@ -1,6 +1,6 @@
 -- One place of a list, as seen by what stands there: what a change of it makes, and what it keeps.
-use Rattle.std.proofs.Common.{◌≡◌, ℕ, zero, suc, ◌<◌, List, [], ◌∷◌, length, get_or, set, map, refl, sym, ap, subst, ◌∙◌, arith}
-use Rattle.std.proofs.lemmas.List.{length-map, length-set, map-set, get_or-map, get_or-set_same, get_or-set_other}
+use Rattle.std.proofs.Common.{◌≡◌, ℕ, zero, suc, ◌<◌, List, [], ◌∷◌, length, get_or, set, map, sym, ap, subst, ◌∙◌, arith}
+use Rattle.std.proofs.lemmas.List.{length-map, map-set, get_or-map, get_or-set_same}
 use Rattle.std.proofs.Math.Seq.{map-set_same}
 
 module _ {A B : Type 0} (f : A → B) (xs : List A) (i : ℕ) (x : A) (here : get_or xs i x ≡ x) (lt : i < length xs) where

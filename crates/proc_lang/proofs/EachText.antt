@@ -18,7 +18,7 @@ use Rattle.proc_lang.specs.Scanning.{BeginsWithNoSign, StandsInFront, TakesToken
 use Rattle.proc_lang.proofs.Runs.{and_first}
 use Rattle.proc_lang.proofs.Fronts.{word_stands, number_stands, stands, clash, same_first, word_first}
 use Rattle.dbg_base.proofs.FirstFaults.{token_takes}
-use Rattle.proc_lang.proofs.TokenLaws.{spells_first, sign_from, sign_known, sign_written}
+use Rattle.proc_lang.proofs.TokenLaws.{sign_from, sign_known, sign_written}
 use Rattle.proc_lang.proofs.TokenLists.{IsBehind, behind_more, has_tokens, has_fault}
 use Rattle.proc_lang.proofs.Lexing.{only_spaces, takes_token, meets_fault, meets_limit}
 
