@@ -14,7 +14,8 @@ pub roll_forth-requires-clause-ways : goal.roll_forth-requires-clause-ways
 roll_forth-requires-clause-ways c =
     let inside = c.self.inside in
     let room = c.in_ok-make_room_forth.ensures in
-    subst (λ (k : List (List Kind)). HasRoomForth (length k) c.make_room_forth.new.grid.room c.rolled.inside.taken.items) (sym room.same.kinds)
+    subst (λ (k : List (List Kind)). HasRoomForth (length k) c.make_room_forth.new.grid.room c.rolled.inside.taken.items)
+    (sym room.same.kinds)
     (ways_forth (scene inside.lines inside.envs.items inside.grid.channels inside.past) c.make_room_forth.new.grid.room
     c.rolled.inside.taken.items c.as_slice.result.now c.self.invariant c.as_slice.ensures.value room.ways)
 
@@ -25,7 +26,8 @@ back c P r =
     let room = c.in_ok-make_room_forth.ensures in
     let same : scene inside.lines inside.envs.items c.make_room_forth.new.grid.channels c.make_room_forth.new.past ≡ c.args.self.now =
     same_scene inside.lines inside.envs.items c.make_room_forth.new.grid.channels c.make_room_forth.new.past
-    (scene inside.lines inside.envs.items inside.grid.channels inside.past) refl refl room.channels room.same.starts room.same.events room.same.kinds
+    (scene inside.lines inside.envs.items inside.grid.channels inside.past) refl refl room.channels room.same.starts room.same.events
+    room.same.kinds
     room.same.clocks ∙ c.self.view_is in
     c.roll_forth.ensures.back P (record {
       before = r.before;
