@@ -1,4 +1,4 @@
-//! The tests of the crates below `causal_world` but `proc_lang`, by the crate that they test: what no contract says, over public calls.
+//! The tests of the crates below `dbg_shell` but `proc_lang`, by the crate that they test: what no contract says, over public calls.
 #![tactic(auto)]
 
 #[cfg(test)]
@@ -13,3 +13,6 @@ mod cuts;
 mod evaluation;
 #[cfg(test)]
 mod events;
+pub mod world_calls;
+#[cfg(test)]
+mod worlds;

@@ -1,0 +1,154 @@
+//! Calls of a world for its tests, each of which says what the next one requires.
+
+ghost use Rattle.std.specs.Prelude.{◌≡◌, ◌<◌, length, IfOk, OnOk};
+ghost use Rattle.proc_lang.specs.Programs.{program_of};
+ghost use Rattle.causal_world.specs.Scenes.{IsWorldOf};
+ghost use Rattle.causal_world.specs.Rollings.{IsRolled, IsStepped, IsRedone};
+
+use causal_world::{Cutoff, Rolled, World};
+use dbg_base::{Choice, Cut, Pid, Refusal};
+use proc_lang::Program;
+use std::alloc::Global;
+
+// Refuses a process that the program does not have.
+fn known(program: &Program, pid: Pid) -> Result<(), Refusal>
+    ensures { OnOk result (pid.0 < length (program_of program.now)) }
+{
+    if pid.0 < program.processes() {
+        Ok(())
+    } else {
+        Err(Refusal::UnknownProcess)
+    }
+}
+
+/// The process makes this command.
+pub fn step(
+    world: &mut World,
+    alloc: Global,
+    program: &Program,
+    pid: Pid,
+    choice: Choice,
+) -> Result<Cutoff, Refusal>
+    requires { IsWorldOf (program_of program.now) world.old }
+    ensures of { IsWorldOf (program_of program.now) world.new }
+    ensures made { IfOk result (λ cutoff. IsStepped (program_of program.now) pid.0 cutoff world.new) }
+{
+    known(program, pid)?;
+    let cutoff = world.step(alloc, program, pid, choice)?;
+    Ok(cutoff)
+}
+
+/// A step is taken back.
+pub fn unstep(world: &mut World, program: &Program, pid: Pid, cutoff: Cutoff) -> Result<(), Refusal>
+    requires { IsStepped (program_of program.now) pid.0 cutoff world.old }
+    ensures { OnOk result (IsWorldOf (program_of program.now) world.new) }
+{
+    let Ok(()) = world.unstep(pid, cutoff) else {
+        return Err(Refusal::Memory);
+    };
+    Ok(())
+}
+
+/// The process makes the choice at its place again.
+pub fn redo(
+    world: &mut World,
+    alloc: Global,
+    program: &Program,
+    pid: Pid,
+) -> Result<Choice, Refusal>
+    requires { IsWorldOf (program_of program.now) world.old }
+    ensures of { IsWorldOf (program_of program.now) world.new }
+    ensures made { OnOk result (IsRedone (program_of program.now) pid.0 world.new) }
+{
+    known(program, pid)?;
+    let choice = world.redo(alloc, program, pid)?;
+    Ok(choice)
+}
+
+/// A redo is taken back.
+pub fn unredo(world: &mut World, program: &Program, pid: Pid) -> Result<(), Refusal>
+    requires { IsRedone (program_of program.now) pid.0 world.old }
+    ensures { OnOk result (IsWorldOf (program_of program.now) world.new) }
+{
+    world.unredo(pid)?;
+    Ok(())
+}
+
+/// The last event of the process is taken back.
+pub fn undo(
+    world: &mut World,
+    alloc: Global,
+    program: &Program,
+    pid: Pid,
+) -> Result<Rolled, Refusal>
+    requires { IsWorldOf (program_of program.now) world.old }
+    ensures of { IsWorldOf (program_of program.now) world.new }
+    ensures back { IfOk result (λ rolled. IsRolled (program_of program.now) rolled world.new) }
+{
+    let rolled = world.undo(alloc, pid)?;
+    Ok(rolled)
+}
+
+/// The process goes back to this count of events, and the others no further than they must.
+pub fn rollback(
+    world: &mut World,
+    alloc: Global,
+    program: &Program,
+    pid: Pid,
+    n: u32,
+) -> Result<Rolled, Refusal>
+    requires { IsWorldOf (program_of program.now) world.old }
+    ensures of { IsWorldOf (program_of program.now) world.new }
+    ensures back { IfOk result (λ rolled. IsRolled (program_of program.now) rolled world.new) }
+{
+    known(program, pid)?;
+    if n > world.place(pid) {
+        return Err(Refusal::BadPlace);
+    }
+    let cut = world.rollback_cut(alloc, pid, n)?;
+    let rolled = world.roll_to(alloc, &cut)?;
+    Ok(rolled)
+}
+
+/// The events that were taken back are made again.
+pub fn forth(world: &mut World, program: &Program, mut rolled: Rolled) -> Result<(), Refusal>
+    requires { IsRolled (program_of program.now) rolled world.old }
+    ensures { OnOk result (IsWorldOf (program_of program.now) world.new) }
+{
+    world.forth(&mut rolled)?;
+    Ok(())
+}
+
+/// The clock of the process behind its n-th event.
+pub fn clock(
+    world: &World,
+    alloc: Global,
+    program: &Program,
+    pid: Pid,
+    n: u32,
+) -> Result<Cut, Refusal>
+    requires { IsWorldOf (program_of program.now) world.now }
+{
+    known(program, pid)?;
+    if n > world.place(pid) {
+        return Err(Refusal::BadPlace);
+    }
+    world.clock(alloc, pid, n)
+}
+
+/// How many events of another process the clock of the process counts behind its n-th event.
+pub fn clock_part(
+    world: &World,
+    program: &Program,
+    pid: Pid,
+    n: u32,
+    of: Pid,
+) -> Result<u32, Refusal>
+    requires { IsWorldOf (program_of program.now) world.now }
+{
+    known(program, pid)?;
+    if n > world.place(pid) {
+        return Err(Refusal::BadPlace);
+    }
+    Ok(world.clock_part(pid, n, of))
+}
