@@ -55,7 +55,7 @@ fn expect(
     values: [i64; 3],
     messages: (&[i64], &[i64]),
 ) -> Result<(), Fail> {
-    for (pid, value) in [A, B, C].iter().zip(values.iter()) {
+    for (pid, value) in &[(A, values[0]), (B, values[1]), (C, values[2])] {
         assert_eq!(rt; world.vars(alloc, *pid)?.items(), [*value].as_slice());
     }
     assert_eq!(rt; world.channel(alloc, A, B)?.items(), messages.0);
