@@ -1,6 +1,6 @@
 //! Tests of `causal_world`: with ample memory a world goes forth and back, and tells what its events did.
 
-ghost use Rattle.std.specs.Prelude.{OnOk};
+ghost use Rattle.std.specs.Prelude.{IfOk};
 ghost use Rattle.proc_lang.specs.Programs.{program_of};
 ghost use Rattle.causal_world.specs.Scenes.{IsWorldOf};
 
@@ -26,40 +26,71 @@ fn relay(alloc: Global) -> Result<Program, ProgError> {
     parse_program(alloc, text.as_bytes())
 }
 
-// The world makes these events: two of the first process, two of the second, one of the third.
-fn play(world: &mut World, alloc: Global, program: &Program) -> Result<(), Refusal>
-    requires { IsWorldOf (program_of program.now) world.old }
-    ensures { IsWorldOf (program_of program.now) world.new }
+// The world of the program behind two events of the first process, two of the second and one of the third.
+fn played(alloc: Global, program: &Program) -> Result<World, Refusal>
+    ensures { IfOk result (λ world. IsWorldOf (program_of program.now) world) }
 {
-    step(world, alloc, program, A, Choice(0))?;
-    step(world, alloc, program, A, Choice(0))?;
-    step(world, alloc, program, B, Choice(0))?;
-    step(world, alloc, program, B, Choice(1))?;
-    step(world, alloc, program, C, Choice(0))?;
+    let mut world = World::new(alloc, program)?;
+    step(&mut world, alloc, program, A, Choice(0))?;
+    step(&mut world, alloc, program, A, Choice(0))?;
+    step(&mut world, alloc, program, B, Choice(0))?;
+    step(&mut world, alloc, program, B, Choice(1))?;
+    step(&mut world, alloc, program, C, Choice(0))?;
+    Ok(world)
+}
+
+// Of each process the place, the length of its line and the value; and the messages from the first to the second, and from there to
+// the third.
+#[derive(Clone, Copy)]
+struct Shown<'a> {
+    processes: [(u32, u32, i64); 3],
+    messages: [&'a [i64]; 2],
+}
+
+fn expect(rt: &impl Abort, alloc: Global, world: &World, shown: &Shown) -> Result<(), Fail> {
+    for (pid, (place, line_len, value)) in [A, B, C].into_iter().zip(shown.processes) {
+        assert_eq!(rt; (world.place(pid), world.line_len(pid)), (place, line_len));
+        assert_eq!(rt; world.vars(alloc, pid)?.items(), [value].as_slice());
+    }
+    assert_eq!(rt; world.channel(alloc, A, B)?.items(), shown.messages[0]);
+    assert_eq!(rt; world.channel(alloc, B, C)?.items(), shown.messages[1]);
     Ok(())
 }
 
-// The places, and the lengths of the lines.
-fn places(world: &World) -> ([u32; 3], [u32; 3]) {
-    (
-        [world.place(A), world.place(B), world.place(C)],
-        [world.line_len(A), world.line_len(B), world.line_len(C)],
-    )
-}
+// What a world shows that has played.
+const PLAYED: Shown = Shown {
+    processes: [(2, 2, 2), (2, 2, 1), (1, 1, 11)],
+    messages: [&[2], &[]],
+};
 
-// The values of the three, and the messages from the first to the second, and from there to the third.
-fn expect(
+// What it shows where the third process has gone back.
+const RECEIVED_BACK: Shown = Shown {
+    processes: [(2, 2, 2), (2, 2, 1), (0, 1, 0)],
+    messages: [&[2], &[11]],
+};
+
+fn expect_clock(
     rt: &impl Abort,
     alloc: Global,
     world: &World,
-    values: [i64; 3],
-    messages: (&[i64], &[i64]),
-) -> Result<(), Fail> {
-    for (pid, value) in [A, B, C].iter().zip(values.iter()) {
-        assert_eq!(rt; world.vars(alloc, *pid)?.items(), [*value].as_slice());
-    }
-    assert_eq!(rt; world.channel(alloc, A, B)?.items(), messages.0);
-    assert_eq!(rt; world.channel(alloc, B, C)?.items(), messages.1);
+    program: &Program,
+    event: (Pid, u32),
+    counts: [u32; 3],
+) -> Result<(), Fail>
+    requires { IsWorldOf (program_of program.now) world.now }
+{
+    let (pid, n) = event;
+    assert_eq!(rt;
+        clock(world, alloc, program, pid, n)?.counts(),
+        counts.as_slice()
+    );
+    let parts = [
+        clock_part(world, program, pid, n, A)?,
+        clock_part(world, program, pid, n, B)?,
+        clock_part(world, program, pid, n, C)?,
+        clock_part(world, program, pid, n, Pid(3))?,
+    ];
+    assert_eq!(rt; parts, [counts[0], counts[1], counts[2], 0]);
     Ok(())
 }
 
@@ -67,37 +98,38 @@ fn expect(
 fn clocks_of_earlier_events(rt: HostRuntime) -> Result<(), Fail> {
     let alloc = rt.alloc();
     let program = relay(alloc)?;
-    let mut world = World::new(alloc, &program)?;
-    play(&mut world, alloc, &program)?;
-    let table = [
-        (C, 1, [1, 2, 1]),
-        (C, 0, [0, 0, 0]),
-        (B, 2, [1, 2, 0]),
-        (B, 1, [1, 1, 0]),
-        (A, 1, [1, 0, 0]),
-    ];
-    for (pid, n, want) in &table {
-        let counts = clock(&world, alloc, &program, *pid, *n)?;
-        assert_eq!(rt; counts.counts(), want.as_slice());
-        assert_eq!(rt; clock_part(&world, &program, *pid, *n, A)?, want[0]);
-        assert_eq!(rt; clock_part(&world, &program, *pid, *n, B)?, want[1]);
-    }
-    assert_eq!(rt; clock_part(&world, &program, C, 1, Pid(3))?, 0);
-    Ok(())
+    let world = played(alloc, &program)?;
+    expect_clock(&rt, alloc, &world, &program, (C, 1), [1, 2, 1])?;
+    expect_clock(&rt, alloc, &world, &program, (C, 0), [0, 0, 0])?;
+    expect_clock(&rt, alloc, &world, &program, (B, 2), [1, 2, 0])?;
+    expect_clock(&rt, alloc, &world, &program, (B, 1), [1, 1, 0])?;
+    expect_clock(&rt, alloc, &world, &program, (A, 1), [1, 0, 0])
 }
 
 #[test]
 fn a_tally_of_events(rt: HostRuntime) -> Result<(), Fail> {
     let alloc = rt.alloc();
-    let program = relay(alloc)?;
-    let mut world = World::new(alloc, &program)?;
-    play(&mut world, alloc, &program)?;
+    let world = played(alloc, &relay(alloc)?)?;
     let tally = world.tally();
     assert_eq!(rt; (tally.len(A), tally.len(B), tally.len(C)), (2, 2, 1));
-    assert_eq!(rt; (tally.sent(A, B, 1), tally.sent(A, B, 2)), (1, 2));
-    assert_eq!(rt; (tally.got(B, A, 0), tally.got(B, A, 2)), (0, 1));
-    assert_eq!(rt; (tally.sent(B, C, 1), tally.sent(B, C, 2)), (0, 1));
-    assert_eq!(rt; (tally.got(C, B, 1), tally.got(C, A, 1)), (1, 0));
+    assert_eq!(rt;
+        [
+            tally.sent(A, B, 1),
+            tally.sent(A, B, 2),
+            tally.sent(B, C, 1),
+            tally.sent(B, C, 2)
+        ],
+        [1, 2, 0, 1]
+    );
+    assert_eq!(rt;
+        [
+            tally.got(B, A, 0),
+            tally.got(B, A, 2),
+            tally.got(C, B, 1),
+            tally.got(C, A, 1)
+        ],
+        [0, 1, 1, 0]
+    );
     Ok(())
 }
 
@@ -105,83 +137,70 @@ fn a_tally_of_events(rt: HostRuntime) -> Result<(), Fail> {
 fn a_rollback_and_forth(rt: HostRuntime) -> Result<(), Fail> {
     let alloc = rt.alloc();
     let program = relay(alloc)?;
-    let mut world = World::new(alloc, &program)?;
-    play(&mut world, alloc, &program)?;
+    let mut world = played(alloc, &program)?;
     let rolled = rollback(&mut world, alloc, &program, A, 0)?;
-    assert_eq!(rt; places(&world), ([0, 0, 0], [2, 2, 1]));
-    expect(&rt, alloc, &world, [0, 0, 0], (&[], &[]))?;
+    let start = Shown {
+        processes: [(0, 2, 0), (0, 2, 0), (0, 1, 0)],
+        messages: [&[], &[]],
+    };
+    expect(&rt, alloc, &world, &start)?;
     forth(&mut world, &program, rolled)?;
-    assert_eq!(rt; places(&world), ([2, 2, 1], [2, 2, 1]));
-    expect(&rt, alloc, &world, [2, 1, 11], (&[2], &[]))?;
-    assert_eq!(rt;
-        clock(&world, alloc, &program, C, 1)?.counts(),
-        [1, 2, 1].as_slice()
-    );
-    assert_eq!(rt; world.tally().sent(A, B, 2), 2);
-    Ok(())
+    expect(&rt, alloc, &world, &PLAYED)?;
+    expect_clock(&rt, alloc, &world, &program, (C, 1), [1, 2, 1])
 }
 
 #[test]
 fn a_rollback_of_some_and_forth(rt: HostRuntime) -> Result<(), Fail> {
     let alloc = rt.alloc();
     let program = relay(alloc)?;
-    let mut world = World::new(alloc, &program)?;
-    play(&mut world, alloc, &program)?;
+    let mut world = played(alloc, &program)?;
     let rolled = rollback(&mut world, alloc, &program, B, 1)?;
-    assert_eq!(rt; places(&world), ([2, 1, 0], [2, 2, 1]));
-    expect(&rt, alloc, &world, [2, 1, 0], (&[2], &[]))?;
+    let sent_back = Shown {
+        processes: [(2, 2, 2), (1, 2, 1), (0, 1, 0)],
+        messages: [&[2], &[]],
+    };
+    expect(&rt, alloc, &world, &sent_back)?;
     forth(&mut world, &program, rolled)?;
-    assert_eq!(rt; places(&world), ([2, 2, 1], [2, 2, 1]));
-    expect(&rt, alloc, &world, [2, 1, 11], (&[2], &[]))?;
-    Ok(())
+    expect(&rt, alloc, &world, &PLAYED)
 }
 
 #[test]
 fn an_undo_and_forth(rt: HostRuntime) -> Result<(), Fail> {
     let alloc = rt.alloc();
     let program = relay(alloc)?;
-    let mut world = World::new(alloc, &program)?;
-    play(&mut world, alloc, &program)?;
+    let mut world = played(alloc, &program)?;
     let rolled = undo(&mut world, alloc, &program, C)?;
-    assert_eq!(rt; places(&world), ([2, 2, 0], [2, 2, 1]));
-    expect(&rt, alloc, &world, [2, 1, 0], (&[2], &[11]))?;
+    expect(&rt, alloc, &world, &RECEIVED_BACK)?;
     forth(&mut world, &program, rolled)?;
-    assert_eq!(rt; places(&world), ([2, 2, 1], [2, 2, 1]));
-    expect(&rt, alloc, &world, [2, 1, 11], (&[2], &[]))?;
-    Ok(())
+    expect(&rt, alloc, &world, &PLAYED)
 }
 
 #[test]
 fn a_redo_is_taken_back(rt: HostRuntime) -> Result<(), Fail> {
     let alloc = rt.alloc();
     let program = relay(alloc)?;
-    let mut world = World::new(alloc, &program)?;
-    play(&mut world, alloc, &program)?;
+    let mut world = played(alloc, &program)?;
     undo(&mut world, alloc, &program, C)?;
-    assert_eq!(rt; redo(&mut world, alloc, &program, C)?, Choice(0));
-    assert_eq!(rt; places(&world), ([2, 2, 1], [2, 2, 1]));
+    redo(&mut world, alloc, &program, C)?;
+    expect(&rt, alloc, &world, &PLAYED)?;
     unredo(&mut world, &program, C)?;
-    assert_eq!(rt; places(&world), ([2, 2, 0], [2, 2, 1]));
-    expect(&rt, alloc, &world, [2, 1, 0], (&[2], &[11]))?;
-    Ok(())
+    expect(&rt, alloc, &world, &RECEIVED_BACK)
 }
 
 #[test]
 fn a_step_gives_back_what_it_cut_off(rt: HostRuntime) -> Result<(), Fail> {
     let alloc = rt.alloc();
     let program = relay(alloc)?;
-    let mut world = World::new(alloc, &program)?;
-    play(&mut world, alloc, &program)?;
+    let mut world = played(alloc, &program)?;
     rollback(&mut world, alloc, &program, B, 0)?;
-    assert_eq!(rt; places(&world), ([2, 0, 0], [2, 2, 1]));
     let cutoff = step(&mut world, alloc, &program, B, Choice(1))?;
-    assert_eq!(rt; places(&world), ([2, 1, 0], [2, 1, 1]));
-    expect(&rt, alloc, &world, [2, 0, 0], (&[1, 2], &[10]))?;
+    let sent_ten = Shown {
+        processes: [(2, 2, 2), (1, 1, 0), (0, 1, 0)],
+        messages: [&[1, 2], &[10]],
+    };
+    expect(&rt, alloc, &world, &sent_ten)?;
     unstep(&mut world, &program, B, cutoff)?;
-    assert_eq!(rt; places(&world), ([2, 0, 0], [2, 2, 1]));
-    expect(&rt, alloc, &world, [2, 0, 0], (&[1, 2], &[]))?;
-    assert_eq!(rt; redo(&mut world, alloc, &program, B)?, Choice(0));
-    assert_eq!(rt; redo(&mut world, alloc, &program, B)?, Choice(1));
-    expect(&rt, alloc, &world, [2, 1, 0], (&[2], &[11]))?;
-    Ok(())
+    redo(&mut world, alloc, &program, B)?;
+    redo(&mut world, alloc, &program, B)?;
+    expect(&rt, alloc, &world, &RECEIVED_BACK)
 }
