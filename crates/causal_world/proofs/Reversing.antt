@@ -255,16 +255,6 @@ none_behind w cut some consistent stuck =
     (stuck found.0 (has_events w.kinds found.0 (let behind = found.1 in omega (arith, behind, size)))))
     (some_undo P H cut of.possible (cut_consistent P H cut (subst (λ (k : List (List Kind)). IsConsistentCut k cut) of.counts consistent)))
 
-pub stuck_more : (w : Scene) (cut : List ℕ) (n : ℕ) → AreStuck w cut n
-    → (place_at w.state n ≤ get_or cut n 0) ⊎ ((P : Program) → IsWorldOf P w → MayUndo P (history_of w.state) n → ⊥)
-    → AreStuck w cut (n + 1)
-stuck_more w cut n before own q within =
-    ⊎_elim
-    (λ (same : q ≡ n). subst (λ (x : ℕ). (place_at w.state x ≤ get_or cut x 0)
-    ⊎ ((P : Program) → IsWorldOf P w → MayUndo P (history_of w.state) x → ⊥)) (sym same) own)
-    (λ (apart : q ≢ n). before q (omega (arith, within, apart)))
-    (cases_eq q n)
-
 -- by what its last event exchanged
 pub next_by : (w : Scene) (cut : List ℕ) (p : ℕ) (exchange : Exchange) → LastExchange w.events w.standing.channels p (Ok exchange)
     → get_or cut p 0 < place_at w.state p → IsSomeWorld w → IsNextBack w cut p

@@ -124,7 +124,7 @@ fn is_next(lines: &Lines, envs: &[Env], grid: &Grid, past: &Past, cut: &[u32], p
     lines.place(pid) > count_of(cut, pid) && last_exchange(grid, past, pid).is_ok()
 }
 
-// A process behind the cut whose last event may be taken back, or None where no process is behind it. The first one is tried first.
+// A process behind the cut whose last event may be taken back, or None where no process is behind it. `first` is tried before the others.
 fn next_back(
     lines: &Lines,
     envs: &[Env],

@@ -5,7 +5,7 @@ use Rattle.cut_core.specs.declared.kind.Kind.{Kind}
 use Rattle.cut_core.specs.Kinds.{gets_from}
 use Rattle.cut_core.specs.Tallies.{sent_by, got_by}
 use Rattle.dbg_base.specs.Cuts.{IsAtMost}
-use Rattle.cut_core.specs.ConsistentCuts.{HasOrphan, IsConsistentCut, IsWithin}
+use Rattle.cut_core.specs.ConsistentCuts.{HasOrphan, IsWithin, IsLowered}
 use Rattle.cut_core.proofs.Counted.{count_before}
 use Rattle.cut_core.proofs.Cutting.{receiver_there, lowered_keeps, lowered_less, sum_changes, less_at}
 
@@ -26,14 +26,24 @@ module _ (kinds : List (List Kind)) (counts : List ℕ) (i j n : ℕ) (d : Kind)
       let lt : n - 1 < get_or counts j 0 = less in
       omega arith
 
-  pub lowered_below : IsAtMost (set counts j (n - 1)) counts
+  lowered_below : IsAtMost (set counts j (n - 1)) counts
   lowered_below = less_at counts j (n - 1) there (omega (arith, less))
 
-  pub lowered_within : IsWithin kinds (set counts j (n - 1))
-  lowered_within =
-      (length-set counts j (n - 1) ∙ within.0, λ p. let a = lowered_below p in let b = within.1 p in omega arith)
+  pub lowered_by : IsLowered kinds counts (set counts j (n - 1))
+  lowered_by = record {
+    within = (length-set counts j (n - 1) ∙ within.0, λ p. let a = lowered_below p in let b = within.1 p in omega arith);
+    below = lowered_below;
+    greatest = lowered_keeps kinds counts i j n orphan there count;
+  }
 
-  pub lowered_greatest : (top : List ℕ) → ((c : List ℕ) → IsConsistentCut kinds c → IsAtMost c top → IsAtMost c counts)
-      → (c : List ℕ) → IsConsistentCut kinds c → IsAtMost c top → IsAtMost c (set counts j (n - 1))
-  lowered_greatest top old c consistent below =
-      lowered_keeps kinds counts i j n orphan there count c consistent (old c consistent below)
+module _ (kinds : List (List Kind)) where
+  pub lowered_none : (counts : List ℕ) → IsWithin kinds counts → IsLowered kinds counts counts
+  lowered_none counts within = record { within = within; below = λ p. omega arith; greatest = λ c consistent below. below }
+
+  pub lowered_more : (before counts after : List ℕ) → IsLowered kinds before counts → IsLowered kinds counts after
+      → IsLowered kinds before after
+  lowered_more before counts after one two = record {
+    within = two.within;
+    below = λ p. let a = one.below p in let b = two.below p in omega arith;
+    greatest = λ c consistent below. two.greatest c consistent (one.greatest c consistent below);
+  }

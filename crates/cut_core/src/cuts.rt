@@ -1,10 +1,10 @@
 //! Cuts that keep the cause of each message that was received.
 
 ghost use Rattle.std.specs.Prelude.{◌≡◌, ◌≢◌, ℕ, ◌+◌, ◌-◌, ◌<◌, ◌≤◌, List, [], length, min, sum, slice_index, slice_index_or};
-ghost use Rattle.std.specs.Prelude.{IfOk, IsTrue, IsSome, IfSome, ◌↔◌, MatchOption};
+ghost use Rattle.std.specs.Prelude.{false, IfOk, IsTrue, IsSome, IfSome, ◌↔◌, MatchOption};
 ghost use Rattle.cut_core.specs.Tallies.{sent_by, got_by};
 ghost use Rattle.dbg_base.specs.Cuts.{IsAtMost};
-ghost use Rattle.cut_core.specs.ConsistentCuts.{IsConsistentCut, IsWithin, HasOrphan, places};
+ghost use Rattle.cut_core.specs.ConsistentCuts.{IsConsistentCut, IsWithin, IsLowered, HasOrphan, places};
 
 use crate::kind::Kind;
 use crate::tally::Tally;
@@ -97,6 +97,40 @@ impl Tally {
         Ok(made)
     }
 
+    // The process goes back to before the first message that it received too many, and tells whether there was one.
+    fn lower_at(&self, counts: &mut [u32], to: Pid) -> bool
+        requires within { IsWithin self.now.kinds counts.old }
+        requires there { to.0 < length self.now.kinds }
+        ensures lowered { IsLowered self.now.kinds counts.old counts.new }
+        ensures less { IsTrue result → sum counts.new < sum counts.old }
+        ensures same { result ≡ false → counts.new ≡ counts.old }
+        ensures none { (i : ℕ) → ¬ HasOrphan self.now.kinds counts.new i to.0 }
+    {
+        let mut lowered = false;
+        while let Some(from) = self.orphan_of(counts, to) {
+            let sent = self.sent(from, to, count_of(counts, from));
+            counts[to.0 as usize] = self.nth(to, Kind::Got(from), sent + 1) - 1;
+            lowered = true;
+        }
+        lowered
+    }
+
+    // Each process goes back like this, one after the other; it tells whether any did.
+    fn lower_each(&self, counts: &mut [u32]) -> bool
+        requires { IsWithin self.now.kinds counts.old }
+        ensures lowered { IsLowered self.now.kinds counts.old counts.new }
+        ensures less { IsTrue result → sum counts.new < sum counts.old }
+        ensures none { result ≡ false → (i j : ℕ) → ¬ HasOrphan self.now.kinds counts.new i j }
+    {
+        let mut lowered = false;
+        for j in 0..self.processes() {
+            if self.lower_at(counts, Pid(j)) {
+                lowered = true;
+            }
+        }
+        lowered
+    }
+
     // The counts go down to the greatest consistent cut below: each process that received a message too many goes back to before it.
     fn lower(&self, counts: &mut [u32])
         requires { IsWithin self.now.kinds counts.old }
@@ -104,10 +138,7 @@ impl Tally {
         ensures below { IsAtMost counts.new counts.old }
         ensures greatest { (c : List ℕ) → IsConsistentCut self.now.kinds c → IsAtMost c counts.old → IsAtMost c counts.new }
     {
-        while let Some((from, to)) = self.orphan(counts) {
-            let sent = self.sent(from, to, count_of(counts, from));
-            counts[to.0 as usize] = self.nth(to, Kind::Got(from), sent + 1) - 1;
-        }
+        while self.lower_each(counts) {}
     }
 
     // The counts go up to the least consistent cut above: each process of which another one received more goes on to where it sent it.

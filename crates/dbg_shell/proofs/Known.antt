@@ -1,13 +1,12 @@
 -- What was written, told of whatever the input may be, where the reader's bytes are known.
-use Rattle.std.proofs.Common.{◌≡◌, ℕ, ◌+◌, ◌≤◌, Bool, List, [], ◌++◌, length, Option, Some, None, refl, sym, ap, ◌∙◌, subst, arith}
+use Rattle.std.proofs.Common.{◌≡◌, ℕ, Bool, List, [], ◌++◌, Option, Some, None, sym, ap, ◌∙◌, subst}
 use Rattle.std.specs.Prelude.{IfSome, IfOk, IfErr, Result, Ok, Err}
-use Rattle.dbg_base.specs.declared.limits.TheConstants.{INPUT_BYTES}
 use Rattle.dbg_shell.specs.declared.outcome.Served.{Served}
 use Rattle.dbg_shell.specs.declared.outcome.ServeFault.{ServeFault}
 use Rattle.dbg_shell.specs.declared.outcome.ServeFault.TheVariants.{Write}
-use Rattle.dbg_shell.specs.Spans.{KeepsInput, MayBe, ReadsOn}
+use Rattle.dbg_shell.specs.Spans.{MayBe, ReadsOn}
 use Rattle.dbg_shell.specs.Writing.{Writes}
-use Rattle.dbg_shell.specs.Serving.{ReadsFew, WritesSome, WritesFront}
+use Rattle.dbg_shell.specs.Serving.{WritesSome, WritesFront}
 
 -- how a run ended, and what it wrote
 abbrev pub Ending : Type 1

@@ -1,10 +1,10 @@
 -- Texts that are written one behind the other.
 use Rattle.std.proofs.Common.{◌≡◌, ℕ, List, [], ◌++◌, Option, Result, Ok, Err, refl, sym, ◌∙◌, ap, append_assoc, subst, take, drop, add-one}
 use Rattle.std.proofs.Common.{length, get_or, ◌<◌}
-use Rattle.std.specs.Prelude.{IsErrAnd, IfErr, Some, None, ◌+◌, suc, ◌∷◌, slice_get, codes}
+use Rattle.std.specs.Prelude.{IsErrAnd, Some, None, ◌+◌, suc, ◌∷◌, slice_get, codes}
 use Rattle.std.specs.List.{flat_map}
-use Rattle.std.specs.Io.KnownBytes.{Appends, Keeps}
-use Rattle.std.proofs.KnownBytes.{Appends-nil, Appends-trans, Appends-kept}
+use Rattle.std.specs.Io.KnownBytes.{Appends}
+use Rattle.std.proofs.KnownBytes.{Appends-nil, Appends-trans}
 use Rattle.std.proofs.lemmas.List.{append-nil, take-append-drop}
 use Rattle.std.proofs.lemmas.List.Concat.{flat_map-append}
 use Rattle.std.proofs.lemmas.Option.{slice_get_read}
