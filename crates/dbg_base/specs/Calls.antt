@@ -9,7 +9,8 @@ use Rattle.dbg_base.specs.declared.call.Query.TheVariants as queries
 use Rattle.dbg_base.specs.declared.call.Call as call
 use Rattle.dbg_base.specs.declared.call.Call.TheVariants as calls
 use Rattle.dbg_base.specs.declared.call.Conjunct as conjunct
-use Rattle.dbg_base.specs.Trees.{Tree, tree_of}
+use Rattle.dbg_base.specs.Trees.{tree_of}
+use Rattle.dbg_base.specs.Predicates.{Conjunct}
 
 -- a command, which changes the session where it is accepted
 pub data Plan : Type 0 where
@@ -30,11 +31,6 @@ pub data Query : Type 0 where
 pub data Call : Type 0 where
   Give : (plan : Plan) → Call
   Ask : (query : Query) → Call
-
--- one part of a breakpoint's predicate: a truth expression of one process
-pub record Conjunct : Type 0 where
-  pub process : ℕ
-  pub expression : Tree
 
 -- the plan of the code as the model's, and none for one that no line gives yet
 abbrev pub plan_of : plan.Plan → Option Plan

@@ -6,7 +6,8 @@ use Rattle.dbg_base.specs.declared.call.Plan.{Plan}
 use Rattle.dbg_base.specs.declared.call.Plan.TheVariants.{Break}
 use Rattle.dbg_base.specs.declared.call.Call.{Call}
 use Rattle.dbg_base.specs.declared.call.Call.TheVariants.{Give}
-use Rattle.dbg_base.specs.Calls.{Conjunct, conjunct_of}
+use Rattle.dbg_base.specs.Predicates.{Conjunct}
+use Rattle.dbg_base.specs.Calls.{conjunct_of}
 
 -- what a call that copies returned: a value that is as it should be, or that memory ran out
 abbrev pub IsCopy : {T : Type 0} → Result T Refusal → (T → Type 0) → Type 0

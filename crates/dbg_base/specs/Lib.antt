@@ -15,6 +15,9 @@ pub mod ModelStates
 pub mod Counts
 pub mod Cuts
 pub mod Clocks
+pub mod Predicates
+pub mod Frontiers
+pub mod Eliminations
 pub mod Reversal
 pub mod Calls
 pub mod Acts

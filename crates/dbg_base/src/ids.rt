@@ -1,6 +1,6 @@
 //! Numbers of processes and commands, and cuts.
 
-ghost use Rattle.std.specs.Prelude.{◌≡◌};
+ghost use Rattle.std.specs.Prelude.{◌≡◌, ◌<◌, length, slice_set};
 ghost use Rattle.dbg_base.specs.Copies.{IsCopy};
 
 use crate::refusal::Refusal;
@@ -41,6 +41,14 @@ impl Cut {
         ensures { result.now ≡ self.now }
     {
         self.counts.as_slice()
+    }
+
+    /// Sets the count of a process that is there. It takes no memory.
+    pub fn set(&mut self, pid: Pid, count: u32)
+        requires { pid.0 < length self.old }
+        ensures { self.new ≡ slice_set self.old pid.0 count }
+    {
+        self.counts[pid.0 as usize] = count;
     }
 
     /// Gives the counts back. It takes no memory.

@@ -5,6 +5,7 @@
 #![tactic(auto)]
 
 mod call;
+mod elimination;
 mod expr;
 mod fault;
 mod ids;
@@ -16,6 +17,7 @@ mod sequence;
 mod sign;
 
 pub use call::{Call, Conjunct, Plan, Query};
+pub use elimination::{Cause, Elimination};
 pub use expr::{Direction, Expr, Operator, Sort};
 pub use fault::{FaultKind, ProgFault};
 pub use ids::{Choice, Cut, Pid};

@@ -1,0 +1,41 @@
+-- Predicates of a global state: conjunctions of local ones.
+use Rattle.std.specs.Prelude.{◌≡◌, ℕ, List, Bool, true, false, Option, Some, None, slice_index}
+use Rattle.std.specs.List.{AllByRecursion}
+use Rattle.dbg_base.specs.Trees.{Tree, Program}
+use Rattle.dbg_base.specs.LocalStates.{LocalState}
+use Rattle.dbg_base.specs.Evaluation.{evaluate}
+use Rattle.dbg_base.specs.Firing.{truth_of}
+use Rattle.dbg_base.specs.Histories.{History, local_state}
+use Rattle.dbg_base.specs.Cuts.{IsConsistent, IsAtMost}
+
+-- one part of a predicate: a truth expression of one process
+pub record Conjunct : Type 0 where
+  pub process : ℕ
+  pub expression : Tree
+
+-- a truth value that is there and true
+abbrev pub is_known_true : Option Bool → Bool
+is_known_true None = false
+is_known_true (Some truth) = truth
+
+-- where the evaluation faults the expression does not hold
+abbrev pub holds : Tree → LocalState → Bool
+holds tree state = is_known_true (truth_of (evaluate tree state))
+
+-- the conjunct is true behind the n-th choice of its process
+abbrev pub is_true : Program → History → Conjunct → ℕ → Bool
+is_true P H conjunct n = holds conjunct.expression (local_state P H conjunct.process n)
+
+-- A consistent cut satisfies conjuncts where each is true in the local state of its process there.
+pub record Satisfies (P : Program) (H : History) (conjuncts : List Conjunct) (cut : List ℕ) : Type 0 where
+  pub consistent : IsConsistent P H cut
+  pub all : AllByRecursion (λ conjunct. is_true P H conjunct (slice_index cut conjunct.process) ≡ true) conjuncts
+
+-- The cut is the least of those that satisfy the conjuncts.
+pub record IsLeast (P : Program) (H : History) (conjuncts : List Conjunct) (cut : List ℕ) : Type 0 where
+  pub satisfies : Satisfies P H conjuncts cut
+  pub least : (other : List ℕ) → Satisfies P H conjuncts other → IsAtMost cut other
+
+-- no cut satisfies them
+abbrev pub NoCut : Program → History → List Conjunct → Type 0
+NoCut P H conjuncts = (cut : List ℕ) → ¬ Satisfies P H conjuncts cut
