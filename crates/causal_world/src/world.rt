@@ -1,7 +1,7 @@
 //! A world: a system of processes, changed in place by its events.
 
 ghost use Rattle.std.specs.Prelude.{◌≡◌, ℕ, List, ◌<◌, ◌≤◌, ◌⊎◌, length, IfOk, IfErr, MatchResult, OnOk, OnErr};
-ghost use Rattle.std.specs.Prelude.{Some, Ok, Err, slice_get, slice_index};
+ghost use Rattle.std.specs.Prelude.{Some, Ok, Err, slice_get, slice_index, slice_index_or, []};
 ghost use Rattle.std.specs.Option.{option_map};
 ghost use Rattle.dbg_base.specs.declared.limits.TheConstants.{EVENTS};
 ghost use Rattle.dbg_base.specs.declared.refusal.Refusal.TheVariants.{Memory};
@@ -14,9 +14,11 @@ ghost use Rattle.dbg_base.specs.Acts.{step_choice, next_choice, redo_choice, Can
 ghost use Rattle.dbg_base.specs.Reversal.{MayUndo, IsRollback};
 ghost use Rattle.cut_core.specs.ConsistentCuts.{IsConsistentCut};
 ghost use Rattle.proc_lang.specs.Programs.{program_of};
-ghost use Rattle.causal_world.specs.Pasts.{AreClocksOf};
+ghost use Rattle.causal_world.specs.Pasts.{AreClocksOf, row_at};
 ghost use Rattle.causal_world.specs.Scenes.{IsWorldOf, made, unmade};
-ghost use Rattle.causal_world.specs.Worlds.{CanMake, Undoable};
+ghost use Rattle.causal_world.specs.Worlds.{CanMake, IsSomeWorld, Undoable};
+ghost use Rattle.dbg_base.specs.LocalStates.{no_state};
+ghost use Rattle.event_rows.specs.Events.{past_of};
 
 mod backward;
 mod forth;
@@ -252,8 +254,10 @@ impl World {
 
     /// The local state of a process that is there.
     pub fn env(&self, pid: Pid) -> &Env
-        requires { pid.0 < length self.now.standing.states }
-        ensures { slice_get self.now.standing.states pid.0 ≡ Some result.now }
+        requires { pid.0 < length self.now.state.places }
+        ensures present { slice_get self.now.standing.states pid.0 ≡ Some result.now }
+        ensures past { result.now ≡ past_of (slice_index_or self.now.starts pid.0 no_state) (slice_index_or self.now.events pid.0 [])
+            (length (slice_index_or self.now.events pid.0 [])) }
     {
         &self.envs[pid.0 as usize]
     }
@@ -274,15 +278,17 @@ impl World {
     pub fn clock_part(&self, pid: Pid, n: u32, of: Pid) -> u32
         requires process { pid.0 < length self.now.state.places }
         requires event { n ≤ place_at self.now.state pid.0 }
-        ensures { (P : tree.Program) (cut : List ℕ) → IsWorldOf P self.now → IsClock P (history_of self.now.state) pid.0 n cut
+        ensures row { result ≡ slice_index (row_at self.now.clocks pid.0 n) of.0 }
+        ensures part { (P : tree.Program) (cut : List ℕ) → IsWorldOf P self.now → IsClock P (history_of self.now.state) pid.0 n cut
             → result ≡ slice_index cut of.0 }
     {
         count_of(self.past.clock(pid, n), of)
     }
 
-    /// What the events did to messages: sends and receives of each process, in order.
+    /// What the events did to messages: sends and receives of each process, in order. A world is always one of some program.
     pub fn tally(&self) -> &Tally
-        ensures { result.now.kinds ≡ self.now.kinds }
+        ensures kinds { result.now.kinds ≡ self.now.kinds }
+        ensures world { IsSomeWorld self.now }
     {
         self.past.tally()
     }

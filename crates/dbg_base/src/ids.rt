@@ -1,6 +1,6 @@
 //! Numbers of processes and commands, and cuts.
 
-ghost use Rattle.std.specs.Prelude.{◌≡◌, ◌<◌, length, slice_set};
+ghost use Rattle.std.specs.Prelude.{◌≡◌, ◌<◌, length, slice_index, slice_set};
 ghost use Rattle.dbg_base.specs.Copies.{IsCopy};
 
 use crate::refusal::Refusal;
@@ -41,6 +41,16 @@ impl Cut {
         ensures { result.now ≡ self.now }
     {
         self.counts.as_slice()
+    }
+
+    /// The count of a process, which is 0 where it is not there. It takes no memory.
+    pub fn count(&self, pid: Pid) -> u32
+        ensures { result ≡ slice_index self.now pid.0 }
+    {
+        match self.counts.get(pid.0 as usize) {
+            Some(count) => *count,
+            None => 0,
+        }
     }
 
     /// Sets the count of a process that is there. It takes no memory.

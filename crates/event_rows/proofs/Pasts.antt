@@ -9,12 +9,20 @@ use Rattle.event_rows.specs.declared.setting.Setting.{Setting}
 use Rattle.event_rows.specs.Settings.{put_back, with_old_values}
 use Rattle.event_rows.specs.EventValues.{EventValue}
 use Rattle.event_rows.specs.Events.{after_event, after_events, past_of}
-use Rattle.event_rows.specs.Truths.{holds}
+use Rattle.dbg_base.specs.Predicates.{holds}
+use Rattle.event_rows.specs.Truths.{truths_along}
 
 pub after_one_more : (state : LocalState) (events : List EventValue) (event : EventValue)
     → after_events state (events ++ event ∷ []) ≡ after_event event (after_events state events)
 after_one_more state [] event = refl
 after_one_more state (e ∷ events) event = after_one_more (after_event e state) events event
+
+one_truth_more : (tree : Tree) (state : LocalState) (events : List EventValue) (event : EventValue)
+    → truths_along tree state (events ++ event ∷ [])
+    ≡ truths_along tree state events ++ holds tree (after_event event (after_events state events)) ∷ []
+one_truth_more tree state [] event = refl
+one_truth_more tree state (e ∷ events) event =
+    ap (λ (l : List Bool). holds tree state ∷ l) (one_truth_more tree (after_event e state) events event)
 
 module _ (start : LocalState) (events : List EventValue) where
   -- one event more
@@ -25,19 +33,14 @@ module _ (start : LocalState) (events : List EventValue) where
       ∙ after_one_more start (take i events) event
 
   -- one truth more
-  pub truths_more : (tree : Tree) (truths : List Bool) (i : ℕ) (truth : Bool) → length truths ≡ i + 1
-      → truth ≡ holds tree (past_of start events (i + 1))
-      → ((n : ℕ) → n ≤ i → get_or truths n false ≡ holds tree (past_of start events n))
-      → (n : ℕ) → n ≤ i + 1 → get_or (truths ++ truth ∷ []) n false ≡ holds tree (past_of start events n)
-  truths_more tree truths i truth len last before n le = elim (cases_eq n (i + 1)) [
-    | inl e ↦
-        get_or_push truths truth false n (len ∙ sym e) ∙ last
-        ∙ ap (λ (k : ℕ). holds tree (past_of start events k)) (sym e)
-    | inr ne ↦
-        let less : n ≤ i = omega (arith, ne) in
-        let there : n < length truths = omega arith in
-        get_or_append_left truths (truth ∷ []) false n there ∙ before n less
-  ]
+  pub truths_more : (tree : Tree) (i : ℕ) (event : EventValue) → i < length events → get_or events i event ≡ event
+      → truths_along tree start (take (i + 1) events)
+      ≡ truths_along tree start (take i events) ++ holds tree (past_of start events (i + 1)) ∷ []
+  truths_more tree i event lt here =
+      ap (truths_along tree start) (take_more events i event lt ∙ ap (λ (e : EventValue). take i events ++ e ∷ []) here)
+      ∙ one_truth_more tree start (take i events) event
+      ∙ ap (λ (s : LocalState). truths_along tree start (take i events) ++ holds tree s ∷ []) (sym (past_more i event lt here))
+
 
 put_back_last : (settings : List Setting) (s : Setting) (values : List ℤ)
     → put_back values (settings ++ s ∷ []) ≡ put_back (set values s.variable s.old) settings

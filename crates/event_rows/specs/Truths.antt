@@ -1,15 +1,12 @@
--- Whether an expression is true in a local state.
-use Rattle.std.specs.Prelude.{Bool, false, Option, Some, None}
+-- Where an expression is true.
+use Rattle.std.specs.Prelude.{Bool, List, [], ◌∷◌}
 use Rattle.dbg_base.specs.Trees.{Tree}
 use Rattle.dbg_base.specs.LocalStates.{LocalState}
-use Rattle.dbg_base.specs.Evaluation.{evaluate}
-use Rattle.dbg_base.specs.Firing.{truth_of}
+use Rattle.dbg_base.specs.Predicates.{holds}
+use Rattle.event_rows.specs.EventValues.{EventValue}
+use Rattle.event_rows.specs.Events.{after_event}
 
--- a truth value that is there and true
-abbrev pub is_known_true : Option Bool → Bool
-is_known_true None = false
-is_known_true (Some truth) = truth
-
--- where the evaluation faults it is not true
-abbrev pub holds : Tree → LocalState → Bool
-holds tree state = is_known_true (truth_of (evaluate tree state))
+-- whether the expression holds in the local state, and behind each of these events in turn
+abbrev pub truths_along : Tree → LocalState → List EventValue → List Bool
+truths_along tree state [] = holds tree state ∷ []
+truths_along tree state (event ∷ events) = holds tree state ∷ truths_along tree (after_event event state) events

@@ -7,7 +7,8 @@ ghost use Rattle.dbg_base.specs.Trees.{tree_of};
 ghost use Rattle.dbg_base.specs.LocalStates.{no_state, start_among};
 ghost use Rattle.proc_lang.specs.Programs.{program_of};
 ghost use Rattle.event_rows.specs.Events.{after_event, after_events, past_of, advanced, retreated};
-ghost use Rattle.event_rows.specs.Truths.{holds};
+ghost use Rattle.event_rows.specs.Truths as model;
+ghost use Rattle.dbg_base.specs.Predicates.{holds};
 
 use crate::event::Event;
 use crate::line::Line;
@@ -72,9 +73,7 @@ fn truths_along(
     events: &[Event],
     expr: &Expr,
 ) -> Result<Vec<bool>, AllocError>
-    ensures len { IfOk result (λ truths. length truths.items ≡ length events.now + 1) }
-    ensures truths { IfOk result (λ truths. (n : ℕ) → n ≤ length events.now
-        → slice_index_or truths.items n false ≡ holds (tree_of expr.now) (past_of env.old events.now n)) }
+    ensures { IfOk result (λ truths. truths.items ≡ model.truths_along (tree_of expr.now) env.old events.now) }
 {
     let mut truths = Vec::new(alloc);
     truths.push(is_true(expr, env))?;
@@ -232,10 +231,8 @@ impl Rows {
     /// For each n from 0 to the number of the process's events, whether the expression is true after the first n of them; where its
     /// evaluation faults it is not. It is refused where memory runs out, and where the process is not there.
     pub fn truths(&self, alloc: Global, pid: Pid, expr: &Expr) -> Result<Sequence<bool>, AllocError>
-        ensures len { IfOk result (λ truths. length truths ≡ length (slice_index_or self.now.events pid.0 []) + 1) }
-        ensures truths { IfOk result (λ truths. (n : ℕ) → n ≤ length (slice_index_or self.now.events pid.0 [])
-            → slice_index_or truths n false ≡ holds (tree_of expr.now)
-            (past_of (slice_index_or self.now.starts pid.0 no_state) (slice_index_or self.now.events pid.0 []) n)) }
+        ensures { IfOk result (λ truths. truths ≡ model.truths_along (tree_of expr.now) (slice_index_or self.now.starts pid.0 no_state)
+            (slice_index_or self.now.events pid.0 [])) }
     {
         let mut env = self.start(pid)?;
         let truths = truths_along(alloc, &mut env, self.events(pid), expr)?;

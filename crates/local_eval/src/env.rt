@@ -126,6 +126,22 @@ impl Env {
         }
     }
 
+    /// Takes over the values and counts of another local state of the same process. It takes no memory.
+    pub fn assign(&mut self, other: &Env)
+        requires values { length self.old.values ≡ length other.now.values }
+        requires sent { length self.old.sent ≡ length other.now.sent }
+        requires got { length self.old.got ≡ length other.now.got }
+        ensures { self.new ≡ other.now }
+    {
+        self.values.as_mut_slice().copy_from_slice(other.values());
+        self.sent
+            .as_mut_slice()
+            .copy_from_slice(other.counts(Direction::Sent));
+        self.got
+            .as_mut_slice()
+            .copy_from_slice(other.counts(Direction::Got));
+    }
+
     /// Sets a variable that is there. It takes no memory.
     pub fn set(&mut self, index: u32, value: i64)
         requires { index < length self.old.values }

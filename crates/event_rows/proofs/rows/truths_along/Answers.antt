@@ -1,24 +1,27 @@
-use Rattle.std.proofs.Common.{◌≡◌, ℕ, ◌+◌, ◌≤◌, Bool, List, false, get_or, [], ◌∷◌, length, length-append, sym, ap, ◌∙◌, arith}
+use Rattle.std.proofs.Common.{◌≡◌, ◌+◌, ◌++◌, ◌∷◌, [], Bool, List, take, sym, ap, ◌∙◌, arith}
 use Rattle.dbg_base.specs.Trees.{tree_of}
+use Rattle.dbg_base.specs.LocalStates.{LocalState}
+use Rattle.dbg_base.specs.Predicates.{holds}
 use Rattle.event_rows.specs.Events.{after_event, past_of}
-use Rattle.event_rows.specs.Truths.{holds}
+use Rattle.event_rows.specs.Truths.{truths_along}
 use Rattle.event_rows.proofs.Pasts.{past_more, truths_more}
 use Rattle.event_rows.proofs.rows.truths_along.Goals as goal
 
 pub loop-event-preserved : goal.loop-event-preserved
 loop-event-preserved c =
-    let there : c.redo.new.env ≡ past_of c.args.env.now c.args.events.now (c.loop-event.event-index + 1) =
+    let start = c.args.env.now in
+    let events = c.args.events.now in
+    let i = c.loop-event.event-index in
+    let tree = tree_of c.args.expr.now in
+    let here = sym c.event-item.is in
+    let there : c.redo.new.env ≡ past_of start events (i + 1) =
     c.redo.ensures ∙ ap (after_event c.event-item.result) c.loop-event.invariant.state
-    ∙ sym (past_more c.args.env.now c.args.events.now c.loop-event.event-index c.event-item.result (omega arith) (sym c.event-item.is)) in
+    ∙ sym (past_more start events i c.event-item.result (omega arith) here) in
     record {
       state = there;
-      len = omega (
-        arith,
-        ap length c.in_ok-push-2.ensures.items,
-        length-append c.loop-event.truths.items (c.is_true-in-loop-event.result ∷ []),
-      );
-      truths = λ (n : ℕ) (le : n ≤ c.loop-event.event-index + 1). ap (λ (ts : List Bool). get_or ts n false) c.in_ok-push-2.ensures.items
-          ∙ truths_more c.args.env.now c.args.events.now (tree_of c.args.expr.now) c.loop-event.truths.items c.loop-event.event-index
-          c.is_true-in-loop-event.result c.loop-event.invariant.len
-          (c.is_true-in-loop-event.ensures ∙ ap (holds (tree_of c.args.expr.now)) there) c.loop-event.invariant.truths n le;
+      truths = c.in_ok-push-2.ensures.items
+          ∙ ap (λ (l : List Bool). l ++ c.is_true-in-loop-event.result ∷ []) c.loop-event.invariant.truths
+          ∙ ap (λ (b : Bool). truths_along tree start (take i events) ++ b ∷ [])
+          (c.is_true-in-loop-event.ensures ∙ ap (λ (s : LocalState). holds tree s) there)
+          ∙ sym (truths_more start events tree i c.event-item.result (omega arith) here);
     }

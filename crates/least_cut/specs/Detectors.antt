@@ -1,0 +1,137 @@
+-- What contracts see of a detector, and what it is of a world.
+use Rattle.std.specs.Prelude.{◌≡◌, ℕ, ◌+◌, ◌-◌, ◌<◌, ◌≤◌, ◌⊎◌, ◌&&◌, ◌==◌, Bool, List, [], length, map, take, nat_le, slice_index}
+use Rattle.std.specs.Prelude.{slice_index_or, slice_set}
+use Rattle.std.specs.List.{AllByRecursion, list_any}
+use Rattle.dbg_base.specs.declared.elimination.Elimination.{Elimination}
+use Rattle.dbg_base.specs.Trees.{Program}
+use Rattle.dbg_base.specs.Histories.{History}
+use Rattle.dbg_base.specs.Cuts.{IsAtMost}
+use Rattle.dbg_base.specs.Reversal.{without_last}
+use Rattle.dbg_base.specs.ModelStates.{place_at, history_of}
+use Rattle.dbg_base.specs.Predicates.{Conjunct}
+use Rattle.dbg_base.specs.declared.said.Head.{Head}
+use Rattle.dbg_base.specs.Frontiers.{IsFrontier, heads_of}
+use Rattle.dbg_base.specs.Eliminations.{reach_from}
+use Rattle.causal_world.specs.Scenes.{Scene, IsWorldOf}
+use Rattle.least_cut.specs.Watches.{TruthLine, WatchState, WatchRoom, conjunct_in, IsWatchOf, WasWatchOf}
+use Rattle.least_cut.specs.Searches.{IsTrailFrom, IsSettledAt, none_of, steps_up_to}
+
+-- its conjuncts as they are watched, a candidate for each process, and the eliminations that led to them; and how many of these there
+-- may be without memory
+pub record DetectorState : Type 0 where
+  pub watches : List WatchRoom
+  pub candidates : List ℕ
+  pub trail : List Elimination
+  pub trail_room : ℕ
+
+abbrev pub states_of : DetectorState → List WatchState
+states_of d = map (λ watch. watch.state) d.watches
+
+abbrev pub conjuncts_of : DetectorState → List Conjunct
+conjuncts_of d = map (λ watch. conjunct_in watch.state) d.watches
+
+abbrev pub lines_of : DetectorState → List TruthLine
+lines_of d = map (λ watch. watch.state.line) d.watches
+
+-- what is kept of each conjunct is that of the world
+abbrev pub AreWatchesOf : Scene → List WatchRoom → Type 0
+AreWatchesOf w watches = AllByRecursion (λ watch. IsWatchOf w watch.state) watches
+
+-- there is room for the truths of so many events of the process
+abbrev pub HasTruthRoom : List ℕ → WatchRoom → Type 0
+HasTruthRoom places watch = slice_index places watch.state.line.process + 1 ≤ watch.room
+
+-- with these places it needs no memory
+pub record HasRoomUpTo (d : DetectorState) (places : List ℕ) : Type 0 where
+  pub truths : AllByRecursion (HasTruthRoom places) d.watches
+  pub trail : steps_up_to places ≤ d.trail_room
+
+-- its candidates are where its eliminations lead in the world
+pub record IsSearchOf (w : Scene) (d : DetectorState) : Type 0 where
+  pub watches : AreWatchesOf w d.watches
+  pub sound : IsTrailFrom w (lines_of d) (none_of w) d.trail
+  pub reached : reach_from (none_of w) d.trail ≡ d.candidates
+  pub room : HasRoomUpTo d w.state.places
+
+-- and nothing is left to rule out
+pub record IsDetectorOf (w : Scene) (d : DetectorState) : Type 0 where
+  pub search : IsSearchOf w d
+  pub settled : (q : ℕ) → q < length w.state.places → IsSettledAt w (lines_of d) d.candidates q
+
+-- Its candidates went on in the world, and its conjuncts and its room stayed.
+pub record GoesOn (w : Scene) (old new : DetectorState) : Type 0 where
+  pub search : IsSearchOf w new
+  pub watches : new.watches ≡ old.watches
+  pub trail_room : new.trail_room ≡ old.trail_room
+  pub most : IsAtMost old.candidates new.candidates
+
+-- No process that is named by a conjunct has as many events as these, as far as it is known.
+abbrev pub is_past_in : List TruthLine → ℕ → ℕ → Bool
+is_past_in lines p n = list_any (λ line. (line.process == p) && nat_le (length line.truths) n) lines
+
+-- What is known of the conjuncts is that of the world, and all else stayed.
+pub record Watches (w : Scene) (old new : DetectorState) : Type 0 where
+  pub watches : AreWatchesOf w new.watches
+  pub conjuncts : conjuncts_of new ≡ conjuncts_of old
+  pub rooms : map (λ watch. watch.room) new.watches ≡ map (λ watch. watch.room) old.watches
+  pub candidates : new.candidates ≡ old.candidates
+  pub trail : new.trail ≡ old.trail
+  pub trail_room : new.trail_room ≡ old.trail_room
+
+-- The last eliminations were dropped, until the candidate of process p is at most the limit.
+pub record DropsTo (p limit : ℕ) (old new : DetectorState) : Type 0 where
+  pub watches : new.watches ≡ old.watches
+  pub trail_room : new.trail_room ≡ old.trail_room
+  pub search : (v : Scene) → IsSearchOf v old → IsSearchOf v new
+  pub below : (v : Scene) → IsSearchOf v old → slice_index new.candidates p ≤ limit
+  pub most : (v : Scene) → IsSearchOf v old → IsAtMost new.candidates old.candidates
+
+-- The eliminations up to this component of process p stay, where the world was v before: it is at most one behind the last event, and
+-- behind it only where no event was taken back.
+pub record IsLimit (v w : Scene) (p n : ℕ) : Type 0 where
+  pub most : n ≤ place_at w.state p + 1
+  pub kept : (n ≤ place_at w.state p) ⊎ (place_at v.state p ≤ place_at w.state p)
+
+-- the frontier is told, component by component
+pub record TellsFrontier (P : Program) (H : History) (conjuncts : List Conjunct) (heads : List Head) : Type 0 where
+  pub tuple : List ℕ
+  pub is : IsFrontier P H conjuncts tuple
+  pub told : heads ≡ heads_of H tuple
+
+-- The same, and no less room.
+pub record IsSameButRoom (old new : DetectorState) : Type 0 where
+  pub states : states_of new ≡ states_of old
+  pub candidates : new.candidates ≡ old.candidates
+  pub trail : new.trail ≡ old.trail
+  pub room : (places : List ℕ) → HasRoomUpTo old places → HasRoomUpTo new places
+
+-- the places with one event more of process p
+abbrev pub one_more : Scene → ℕ → List ℕ
+one_more w p = slice_set w.state.places p (place_at w.state p + 1)
+
+-- The detector was that of a world before, and both worlds are of one program.
+pub record WasOf (P : Program) (before : Scene) (d : DetectorState) (w : Scene) : Type 0 where
+  pub detector : IsDetectorOf before d
+  pub of : IsWorldOf P before
+  pub now : IsWorldOf P w
+
+-- Process p has made one event since.
+abbrev pub IsGrown : DetectorState → ℕ → Scene → Type 0
+IsGrown d p w =
+    (P : Program) × (before : Scene) × WasOf P before d w × (0 < place_at w.state p)
+    × (history_of before.state ≡ without_last (history_of w.state) p)
+
+-- Process p has lost its last event since.
+abbrev pub IsShrunk : DetectorState → ℕ → Scene → Type 0
+IsShrunk d p w =
+    (P : Program) × (before : Scene) × WasOf P before d w × (history_of w.state ≡ without_last (history_of before.state) p)
+
+-- the second history begins with the first one, process by process
+abbrev pub Begins : History → History → Type 0
+Begins H more = (length H ≡ length more) × ((p : ℕ) → take (length (slice_index_or H p [])) (slice_index_or more p []) ≡ slice_index_or H p [])
+
+-- Events were made since, or taken back.
+abbrev pub IsMoved : DetectorState → Scene → Type 0
+IsMoved d w =
+    (P : Program) × (before : Scene) × WasOf P before d w
+    × (Begins (history_of before.state) (history_of w.state) ⊎ Begins (history_of w.state) (history_of before.state))

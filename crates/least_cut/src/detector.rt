@@ -1,0 +1,312 @@
+//! A detector: the least cut that satisfies a breakpoint, as far as the events go.
+
+ghost use Rattle.std.specs.Prelude.{◌≡◌, ℕ, ◌<◌, ◌≤◌, ◌+◌, [], length, map, IfOk, IfErr, IfSome, OnOk, MatchOption};
+ghost use Rattle.std.specs.Prelude.{◌≢◌, slice_index};
+ghost use Rattle.std.specs.List.{AllByRecursion};
+ghost use Rattle.dbg_base.specs.Trees as tree;
+ghost use Rattle.dbg_base.specs.Calls.{conjunct_of};
+ghost use Rattle.dbg_base.specs.Predicates.{IsLeast, NoCut};
+ghost use Rattle.dbg_base.specs.Frontiers.{IsFrontier};
+ghost use Rattle.dbg_base.specs.Eliminations.{IsSound, reach};
+ghost use Rattle.dbg_base.specs.ModelStates.{place_at, history_of};
+ghost use Rattle.causal_world.specs.Scenes.{Scene, IsWorldOf};
+ghost use Rattle.least_cut.specs.Watches.{conjunct_in, scan_of, IsWatchOf, WasWatchOf};
+ghost use Rattle.dbg_base.specs.declared.refusal.Refusal.TheVariants.{Memory};
+ghost use Rattle.causal_world.specs.Worlds.{IsSomeWorld};
+ghost use Rattle.least_cut.specs.Searches as model;
+ghost use Rattle.least_cut.specs.Searches.{is_false_in};
+ghost use Rattle.least_cut.specs.Detectors.{conjuncts_of, lines_of, is_past_in, one_more, AreWatchesOf, HasTruthRoom, HasRoomUpTo};
+ghost use Rattle.least_cut.specs.Detectors.{IsSearchOf, IsDetectorOf, IsGrown, IsShrunk, IsMoved, IsSameButRoom, DropsTo, IsLimit};
+ghost use Rattle.least_cut.specs.Detectors.{Watches, TellsFrontier};
+
+mod search;
+
+use crate::scan::Scan;
+use crate::watch::Watch;
+use causal_world::World;
+use dbg_base::{Conjunct, Cut, Elimination, Head, Pid, Refusal, Sequence};
+use std::alloc::{AllocError, Global};
+use std::marker::Model;
+
+/// The conjuncts of a breakpoint, where each is true, a candidate for each process, and the eliminations that led to the candidates. It
+/// belongs to a world, which it follows as events are made and taken back. Contracts see it as these, and as the room that it has.
+#[derive(Debug, Drop)]
+pub struct Detector {
+    watches: Vec<Watch>,
+    candidates: Cut,
+    trail: Vec<Elimination>,
+}
+
+impl Model for Detector {
+    ghost use Rattle.std.specs.Vec.{vec_capacity};
+    ghost use Rattle.least_cut.specs.Detectors.{DetectorState};
+
+    ghost Value = { DetectorState };
+
+    ghost view = { λ d. record {
+      watches = d.watches.items;
+      candidates = d.candidates;
+      trail = d.trail.items;
+      trail_room = vec_capacity d.trail;
+    } };
+}
+
+// What is kept of each conjunct.
+fn watches_of(
+    alloc: Global,
+    conjuncts: Sequence<Conjunct>,
+    scan: Scan,
+    world: &World,
+) -> Result<Vec<Watch>, Refusal>
+    requires here { AllByRecursion (λ conjunct. conjunct.process < length world.now.state.places) (map conjunct_of conjuncts) }
+    requires scan { scan ≡ scan_of world.now (map conjunct_of conjuncts) }
+    ensures of { IfOk result (λ watches. AreWatchesOf world.now watches.items) }
+    ensures conjuncts { IfOk result (λ watches. map (λ watch. conjunct_in watch.state) watches.items ≡ map conjunct_of conjuncts) }
+{
+    let mut watches = Vec::new(alloc);
+    for (conjunct, truths) in conjuncts
+        .into_items()
+        .into_iter()
+        .zip(scan.into_lines())
+    {
+        watches.push(Watch::new(conjunct, truths, world)?)?;
+    }
+    Ok(watches)
+}
+
+/// The most eliminations that there can be where the processes have so many events, or None where that is no number.
+fn steps_up_to(counts: &[u32]) -> Option<usize>
+    ensures { IfSome result (λ steps. steps ≡ model.steps_up_to counts.now) }
+{
+    let mut steps: usize = 0;
+    for count in counts {
+        steps = steps.checked_add(*count as usize + 1)?;
+    }
+    Some(steps)
+}
+
+impl Detector {
+    /// The detector of these conjuncts, at least one, in a world that has their processes, where they are true as the scan says. It is
+    /// refused only as `Memory`, where that runs out.
+    pub fn new(
+        alloc: Global,
+        conjuncts: Sequence<Conjunct>,
+        scan: Scan,
+        world: &World,
+    ) -> Result<Detector, Refusal>
+        requires here { AllByRecursion (λ conjunct. conjunct.process < length world.now.state.places) (map conjunct_of conjuncts) }
+        requires scan { scan ≡ scan_of world.now (map conjunct_of conjuncts) }
+        ensures of { IfOk result (λ made. IsDetectorOf world.now made) }
+        ensures conjuncts { IfOk result (λ made. conjuncts_of made ≡ map conjunct_of conjuncts) }
+        ensures refuses { IfErr result (λ refusal. refusal ≡ Memory) }
+    {
+        let tally = world.tally();
+        let watches = watches_of(alloc, conjuncts, scan, world)?;
+        let candidates = Cut::new(vec![in alloc; 0; tally.processes() as usize]?);
+        let mut detector = Detector {
+            watches,
+            candidates,
+            trail: Vec::new(alloc),
+        };
+        detector.reserve_to(&tally.all_events(alloc)?)?;
+        detector.run(world);
+        Ok(detector)
+    }
+
+    // The candidate of this process.
+    fn candidate(&self, pid: Pid) -> u32
+        ensures { result ≡ slice_index self.now.candidates pid.0 }
+    {
+        self.candidates.count(pid)
+    }
+
+    // Whether one of the conjuncts is false behind the n-th event of the process.
+    fn is_false(&self, pid: Pid, n: u32) -> bool
+        ensures { result ≡ is_false_in (lines_of self.now) pid.0 n }
+    {
+        for watch in &self.watches {
+            if watch.is_false(pid, n) {
+                return true;
+            }
+        }
+        false
+    }
+
+    // Whether the process is named by a conjunct and has fewer events than these.
+    fn is_past(&self, pid: Pid, n: u32) -> bool
+        ensures { result ≡ is_past_in (lines_of self.now) pid.0 n }
+    {
+        for watch in &self.watches {
+            if watch.is_past(pid, n) {
+                return true;
+            }
+        }
+        false
+    }
+
+    /// Makes room for one event more of the process, after which there are at most so many eliminations. No room is lost, and nothing
+    /// changes that is seen, also where it is refused, which is only where memory runs out.
+    pub fn reserve(&mut self, world: &World, pid: Pid, steps: usize) -> Result<(), AllocError>
+        ensures same { IsSameButRoom self.old self.new }
+        ensures ok { OnOk result (HasRoomUpTo self.old world.now.state.places → model.steps_up_to (one_more world.now pid.0) ≤ steps
+            → HasRoomUpTo self.new (one_more world.now pid.0)) }
+    {
+        let events = world.place(pid).saturating_add(1);
+        for watch in &mut self.watches {
+            if watch.pid() == pid {
+                watch.reserve_to(events)?;
+            }
+        }
+        self.trail.reserve(steps.saturating_sub(self.trail.len()))
+    }
+
+    /// Makes room for as many events as the cut has. No room is lost, and nothing changes that is seen, also where it is refused, which
+    /// is only where memory runs out.
+    pub fn reserve_to(&mut self, cut: &Cut) -> Result<(), AllocError>
+        ensures same { IsSameButRoom self.old self.new }
+        ensures ok { OnOk result (HasRoomUpTo self.new cut.now) }
+    {
+        let steps = steps_up_to(cut.counts()).ok_or(AllocError)?;
+        for watch in &mut self.watches {
+            let events = cut.count(watch.pid());
+            watch.reserve_to(events)?;
+        }
+        self.trail.reserve(steps.saturating_sub(self.trail.len()))
+    }
+
+    // What is known of the conjuncts of this process is that of the world.
+    fn watch(&mut self, world: &World, pid: Pid)
+        requires world { IsSomeWorld world.now }
+        requires was { AllByRecursion (λ watch. WasWatchOf watch.state world.now) self.old.watches }
+        requires others { AllByRecursion (λ watch. watch.state.line.process ≢ pid.0 → IsWatchOf world.now watch.state) self.old.watches }
+        requires room { AllByRecursion (HasTruthRoom world.now.state.places) self.old.watches }
+        ensures { Watches world.now self.old self.new }
+    {
+        for watch in &mut self.watches {
+            if watch.pid() == pid {
+                watch.follow(world);
+            }
+        }
+    }
+
+    // What is known of all conjuncts is that of the world.
+    fn watch_all(&mut self, world: &World)
+        requires world { IsSomeWorld world.now }
+        requires was { AllByRecursion (λ watch. WasWatchOf watch.state world.now) self.old.watches }
+        requires room { AllByRecursion (HasTruthRoom world.now.state.places) self.old.watches }
+        ensures { Watches world.now self.old self.new }
+    {
+        for watch in &mut self.watches {
+            watch.follow(world);
+        }
+    }
+
+    // The candidate up to which the eliminations of the process stay: its last event, and also behind that where none was taken back.
+    fn limit(&self, world: &World, pid: Pid) -> u32
+        requires { IsSomeWorld world.now }
+        ensures { (v : Scene) → IsSomeWorld v → IsSearchOf v self.now → IsLimit v world.now pid.0 result }
+    {
+        let place = world.place(pid);
+        if self.is_past(pid, place + 1) {
+            place + 1
+        } else {
+            place
+        }
+    }
+
+    // The last eliminations are dropped, until the candidate of the process is at most this.
+    fn drop_to(&mut self, pid: Pid, limit: u32)
+        requires { (v : Scene) × IsSearchOf v self.old }
+        ensures { DropsTo pid.0 limit self.old self.new }
+    {
+        while self.candidate(pid) > limit {
+            let Some(step) = self.trail.pop() else {
+                return;
+            };
+            self.candidates.set(step.pid, step.from);
+        }
+    }
+
+    /// The detector goes on with the world, in which the process has made an event. It takes no memory.
+    pub fn grow(&mut self, pid: Pid, world: &World)
+        requires grown { IsGrown self.old pid.0 world.now }
+        requires room { HasRoomUpTo self.old world.now.state.places }
+        ensures of { IsDetectorOf world.now self.new }
+        ensures conjuncts { conjuncts_of self.new ≡ conjuncts_of self.old }
+    {
+        self.watch(world, pid);
+        if self.candidate(pid) == world.place(pid) && self.settle(world, pid) {
+            self.run(world);
+        }
+    }
+
+    /// The detector goes back with the world, in which the process has lost its last event. It takes no memory.
+    pub fn shrink(&mut self, pid: Pid, world: &World)
+        requires shrunk { IsShrunk self.old pid.0 world.now }
+        ensures of { IsDetectorOf world.now self.new }
+        ensures conjuncts { conjuncts_of self.new ≡ conjuncts_of self.old }
+    {
+        let limit = self.limit(world, pid);
+        self.drop_to(pid, limit);
+        self.watch(world, pid);
+        self.run(world);
+    }
+
+    /// The detector becomes that of the world, in which events were made or taken back. It takes no memory.
+    pub fn follow(&mut self, world: &World)
+        requires moved { IsMoved self.old world.now }
+        requires room { HasRoomUpTo self.old world.now.state.places }
+        ensures of { IsDetectorOf world.now self.new }
+        ensures conjuncts { conjuncts_of self.new ≡ conjuncts_of self.old }
+    {
+        for p in 0..world.tally().processes() {
+            let limit = self.limit(world, Pid(p));
+            self.drop_to(Pid(p), limit);
+        }
+        self.watch_all(world);
+        self.run(world);
+    }
+
+    /// The least cut that satisfies the conjuncts, or None where none does. It takes no memory.
+    pub fn cut(&self) -> Option<&Cut>
+        ensures { (w : Scene) (P : tree.Program) → IsDetectorOf w self.now → IsWorldOf P w
+            → MatchOption result (NoCut P (history_of w.state) (conjuncts_of self.now))
+            (λ cut. IsLeast P (history_of w.state) (conjuncts_of self.now) cut.now) }
+    {
+        for watch in &self.watches {
+            let pid = watch.pid();
+            if watch.is_past(pid, self.candidate(pid)) {
+                return None;
+            }
+        }
+        Some(&self.candidates)
+    }
+
+    /// The frontier: for each process its candidate, or that it is past. It is refused only as `Memory`, where that runs out.
+    pub fn frontier(&self, alloc: Global) -> Result<Sequence<Head>, Refusal>
+        ensures frontier { IfOk result (λ heads. (w : Scene) (P : tree.Program) → IsDetectorOf w self.now → IsWorldOf P w
+            → TellsFrontier P (history_of w.state) (conjuncts_of self.now) heads) }
+        ensures refuses { IfErr result (λ refusal. refusal ≡ Memory) }
+    {
+        let mut heads = Vec::new(alloc);
+        for (p, count) in self.candidates.counts().iter().enumerate() {
+            let head = if self.is_past(Pid(p as u32), *count) {
+                Head::Past
+            } else {
+                Head::At(*count)
+            };
+            heads.push(head)?;
+        }
+        Ok(Sequence::new(heads))
+    }
+
+    /// The eliminations that led to the frontier, in order. It takes no memory.
+    pub fn why(&self) -> &[Elimination]
+        ensures sound { (w : Scene) (P : tree.Program) → IsDetectorOf w self.now → IsWorldOf P w
+            → IsSound P (history_of w.state) (conjuncts_of self.now) result.now }
+        ensures frontier { (w : Scene) (P : tree.Program) → IsDetectorOf w self.now → IsWorldOf P w
+            → IsFrontier P (history_of w.state) (conjuncts_of self.now) (reach (history_of w.state) result.now) }
+    {
+        self.trail.as_slice()
+    }
+}

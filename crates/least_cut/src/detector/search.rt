@@ -1,0 +1,139 @@
+//! The search for the least cut: candidates go on past what no satisfying cut has, until nothing is left to rule out.
+
+ghost use Rattle.std.specs.Prelude.{◌≡◌, ◌≢◌, ℕ, ◌<◌, ◌≤◌, length, min, sum, IsTrue, false, slice_index, slice_set};
+ghost use Rattle.dbg_base.specs.Cuts.{IsAtMost};
+ghost use Rattle.dbg_base.specs.ModelStates.{place_at};
+ghost use Rattle.causal_world.specs.Worlds.{IsSomeWorld};
+ghost use Rattle.causal_world.specs.Pasts.{row_at};
+ghost use Rattle.least_cut.specs.Searches.{IsStep, IsSettledAt, PassesPart, is_false_in};
+ghost use Rattle.least_cut.specs.Detectors.{lines_of, IsSearchOf, IsDetectorOf, GoesOn};
+
+use crate::detector::Detector;
+use causal_world::World;
+use dbg_base::{Cause, Elimination, Pid};
+
+impl Detector {
+    // The elimination is made.
+    fn eliminate(&mut self, world: &World, step: Elimination)
+        requires world { IsSomeWorld world.now }
+        requires search { IsSearchOf world.now self.old }
+        requires step { IsStep world.now (lines_of self.old) self.old.candidates step }
+        ensures on { GoesOn world.now self.old self.new }
+        ensures set { self.new.candidates ≡ slice_set self.old.candidates step.pid.0 step.to }
+    {
+        self.candidates.set(step.pid, step.to);
+        self.trail.push_reserved(step);
+    }
+
+    // The candidate of this process goes on past the local states in which a conjunct is false.
+    fn pass_false(&mut self, world: &World, pid: Pid)
+        requires world { IsSomeWorld world.now }
+        requires search { IsSearchOf world.now self.old }
+        requires here { pid.0 < length world.now.state.places }
+        ensures on { GoesOn world.now self.old self.new }
+        ensures truth { slice_index self.new.candidates pid.0 ≤ place_at world.now.state pid.0
+            → is_false_in (lines_of self.new) pid.0 (slice_index self.new.candidates pid.0) ≡ false }
+        ensures others { (r : ℕ) → r ≢ pid.0 → slice_index self.new.candidates r ≡ slice_index self.old.candidates r }
+    {
+        let place = world.place(pid);
+        while self.candidate(pid) <= place && self.is_false(pid, self.candidate(pid)) {
+            let from = self.candidate(pid);
+            let step = Elimination {
+                pid,
+                from,
+                to: from + 1,
+                cause: Cause::FalseAt,
+            };
+            self.eliminate(world, step);
+        }
+    }
+
+    // The candidate of process `of` goes on to its part in the clock of this process, and it is told whether it did.
+    fn pass_part(&mut self, world: &World, pid: Pid, of: Pid) -> bool
+        requires world { IsSomeWorld world.now }
+        requires search { IsSearchOf world.now self.old }
+        requires here { pid.0 < length world.now.state.places }
+        requires of { of.0 < length world.now.state.places }
+        ensures on { GoesOn world.now self.old self.new }
+        ensures part { PassesPart world.now self.old.candidates pid.0 of.0 self.new.candidates }
+        ensures more { IsTrue result → sum self.old.candidates < sum self.new.candidates }
+        ensures same { result ≡ false → self.new.candidates ≡ self.old.candidates }
+    {
+        let event = self.candidate(pid).min(world.place(pid));
+        let from = self.candidate(of);
+        let to = world.clock_part(pid, event, of);
+        if to <= from {
+            return false;
+        }
+        let step = Elimination {
+            pid: of,
+            from,
+            to,
+            cause: Cause::Passed(pid, event),
+        };
+        self.eliminate(world, step);
+        true
+    }
+
+    // All candidates go on to the clock of this process, and it is told whether any did.
+    fn pass_clock(&mut self, world: &World, pid: Pid) -> bool
+        requires world { IsSomeWorld world.now }
+        requires search { IsSearchOf world.now self.old }
+        requires here { pid.0 < length world.now.state.places }
+        ensures on { GoesOn world.now self.old self.new }
+        ensures clock { IsAtMost (row_at world.now.clocks pid.0 (min (slice_index self.old.candidates pid.0)
+            (place_at world.now.state pid.0))) self.new.candidates }
+        ensures own { slice_index self.new.candidates pid.0 ≡ slice_index self.old.candidates pid.0 }
+        ensures more { IsTrue result → sum self.old.candidates < sum self.new.candidates }
+        ensures same { result ≡ false → self.new.candidates ≡ self.old.candidates }
+    {
+        let mut moved = false;
+        for p in 0..world.tally().processes() {
+            if self.pass_part(world, pid, Pid(p)) {
+                moved = true;
+            }
+        }
+        moved
+    }
+
+    // Rules out all that this process can by itself, and tells whether others went on.
+    pub(crate) fn settle(&mut self, world: &World, pid: Pid) -> bool
+        requires world { IsSomeWorld world.now }
+        requires search { IsSearchOf world.now self.old }
+        requires here { pid.0 < length world.now.state.places }
+        ensures on { GoesOn world.now self.old self.new }
+        ensures settled { IsSettledAt world.now (lines_of self.new) self.new.candidates pid.0 }
+        ensures more { IsTrue result → sum self.old.candidates < sum self.new.candidates }
+        ensures others { result ≡ false → (r : ℕ) → r ≢ pid.0 → slice_index self.new.candidates r ≡ slice_index self.old.candidates r }
+    {
+        self.pass_false(world, pid);
+        self.pass_clock(world, pid)
+    }
+
+    // Each process does so, one after the other, and it is told whether others went on.
+    fn round(&mut self, world: &World) -> bool
+        requires world { IsSomeWorld world.now }
+        requires search { IsSearchOf world.now self.old }
+        ensures on { GoesOn world.now self.old self.new }
+        ensures settled { result ≡ false → IsDetectorOf world.now self.new }
+        ensures more { IsTrue result → sum self.old.candidates < sum self.new.candidates }
+    {
+        let mut moved = false;
+        for p in 0..world.tally().processes() {
+            if self.settle(world, Pid(p)) {
+                moved = true;
+            }
+        }
+        moved
+    }
+
+    // Rules out all that can be.
+    pub(crate) fn run(&mut self, world: &World)
+        requires world { IsSomeWorld world.now }
+        requires search { IsSearchOf world.now self.old }
+        ensures on { GoesOn world.now self.old self.new }
+        ensures of { IsDetectorOf world.now self.new }
+    {
+        while self.round(world) {}
+    }
+}

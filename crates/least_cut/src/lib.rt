@@ -1,0 +1,13 @@
+//! The least cut that satisfies a conjunction of local predicates, or that there is none, kept as events are made and taken back; and
+//! the list of eliminations behind it, which anyone can check.
+#![tactic(auto)]
+
+mod checking;
+mod detector;
+mod scan;
+mod watch;
+
+pub use checking::check_why;
+pub use dbg_base::{Cause, Elimination};
+pub use detector::Detector;
+pub use scan::Scan;

@@ -1,0 +1,147 @@
+//! Where conjuncts are true.
+
+ghost use Rattle.std.specs.Prelude.{◌≡◌, ◌<◌, ◌≤◌, ◌++◌, ◌∷◌, [], true, not, ◌&&◌, ◌==◌, length, map, take, IfOk, OnOk};
+ghost use Rattle.std.specs.Prelude.{slice_index_or};
+ghost use Rattle.dbg_base.specs.Calls.{conjunct_of};
+ghost use Rattle.least_cut.specs.Watches.{truth_line, scan_of};
+ghost use Rattle.least_cut.specs.Searches.{is_false_in};
+
+use causal_world::World;
+use dbg_base::{Conjunct, Pid, Refusal};
+use std::alloc::{AllocError, Global};
+use std::marker::Model;
+
+/// In which local states of a process its conjunct is true, from the start on. Contracts see this, and how many truths there may be
+/// without memory.
+#[derive(Debug, Drop)]
+pub(crate) struct Truths {
+    pid: Pid,
+    truths: Vec<bool>,
+}
+
+impl Model for Truths {
+    ghost use Rattle.std.specs.Vec.{vec_capacity};
+    ghost use Rattle.least_cut.specs.Watches.{TruthsState};
+
+    ghost Value = { TruthsState };
+
+    ghost view = { λ t. record {
+      line = record { process = t.pid.0; truths = t.truths.items };
+      room = vec_capacity t.truths;
+    } };
+}
+
+impl Truths {
+    // Where the conjunct is true in the world. It is refused only as `Memory`, where that runs out.
+    fn of(alloc: Global, world: &World, conjunct: &Conjunct) -> Result<Truths, Refusal>
+        ensures { IfOk result (λ made. made.line ≡ truth_line world.now (conjunct_of conjunct.now)) }
+    {
+        let truths = world.rows().truths(alloc, conjunct.pid, &conjunct.expr)?;
+        Ok(Truths {
+            pid: conjunct.pid,
+            truths: truths.into_items(),
+        })
+    }
+
+    /// The process.
+    pub(crate) fn pid(&self) -> Pid
+        ensures { result.0 ≡ self.now.line.process }
+    {
+        self.pid
+    }
+
+    /// How many local states are known.
+    pub(crate) fn len(&self) -> usize
+        ensures { result ≡ length self.now.line.truths }
+    {
+        self.truths.len()
+    }
+
+    /// Whether the conjunct is known to be false behind the n-th event of this process.
+    pub(crate) fn is_false(&self, pid: Pid, n: u32) -> bool
+        ensures { result ≡ ((self.now.line.process == pid.0) && not (slice_index_or self.now.line.truths n true)) }
+    {
+        if self.pid != pid {
+            return false;
+        }
+        match self.truths.get(n as usize) {
+            Some(truth) => !*truth,
+            None => false,
+        }
+    }
+
+    /// Only so many local states are there.
+    pub(crate) fn truncate(&mut self, len: usize)
+        ensures line { self.new.line ≡ record self.old.line { truths = take len self.old.line.truths } }
+        ensures room { self.new.room ≡ self.old.room }
+    {
+        self.truths.truncate(len);
+    }
+
+    /// One local state more is there. It takes no memory.
+    pub(crate) fn push(&mut self, truth: bool)
+        requires { length self.old.line.truths < self.old.room }
+        ensures line { self.new.line ≡ record self.old.line { truths = self.old.line.truths ++ truth ∷ [] } }
+        ensures room { self.new.room ≡ self.old.room }
+    {
+        self.truths.push_reserved(truth);
+    }
+
+    /// Makes room for so many local states in all. No room is lost, and the truths stay, also where it is refused.
+    pub(crate) fn reserve_to(&mut self, len: usize) -> Result<(), AllocError>
+        ensures line { self.new.line ≡ self.old.line }
+        ensures grows { self.old.room ≤ self.new.room }
+        ensures ok { OnOk result (len ≤ self.new.room) }
+    {
+        self.truths.reserve(len.saturating_sub(self.truths.len()))
+    }
+}
+
+/// Where each of some conjuncts is true in a world.
+#[derive(Debug, Drop)]
+pub struct Scan {
+    lines: Vec<Truths>,
+}
+
+impl Model for Scan {
+    ghost use Rattle.std.specs.Prelude.{List, map};
+    ghost use Rattle.least_cut.specs.Watches.{TruthLine};
+
+    ghost Value = { List TruthLine };
+
+    ghost view = { λ scan. map (λ t. t.line) scan.lines.items };
+}
+
+impl Scan {
+    /// Evaluates each conjunct in each local state of its process, which is there. One that faults is not true. It is refused only as
+    /// `Memory`, where that runs out.
+    pub fn of(alloc: Global, world: &World, conjuncts: &[Conjunct]) -> Result<Scan, Refusal>
+        ensures { IfOk result (λ scan. scan ≡ scan_of world.now (map conjunct_of conjuncts.now)) }
+    {
+        let mut lines = Vec::new(alloc);
+        for conjunct in conjuncts {
+            lines.push(Truths::of(alloc, world, conjunct)?)?;
+        }
+        Ok(Scan { lines })
+    }
+
+    /// Whether one of the conjuncts is false behind the n-th event of the process.
+    pub(crate) fn is_false(&self, pid: Pid, n: u32) -> bool
+        ensures { result ≡ is_false_in self.now pid.0 n }
+    {
+        for line in &self.lines {
+            if line.is_false(pid, n) {
+                return true;
+            }
+        }
+        false
+    }
+
+    /// Where each conjunct is true, in order.
+    pub(crate) fn into_lines(self) -> Vec<Truths>
+        ensures { map (λ t. t.line) result.items ≡ self }
+    {
+        let Scan { lines } = self;
+        lines
+    }
+}

@@ -1,0 +1,115 @@
+//! A conjunct that is watched as its process makes events and takes them back.
+
+ghost use Rattle.std.specs.Prelude.{◌≡◌, ◌<◌, ◌≤◌, ◌+◌, ◌&&◌, ◌==◌, not, true, length, IfOk, OnOk, nat_le, slice_index_or};
+ghost use Rattle.dbg_base.specs.Calls.{conjunct_of};
+ghost use Rattle.dbg_base.specs.ModelStates.{place_at};
+ghost use Rattle.causal_world.specs.Worlds.{IsSomeWorld};
+ghost use Rattle.least_cut.specs.Watches.{conjunct_in, truth_line, IsWatchOf, IsAdvanced, WasWatchOf};
+
+use crate::scan::Truths;
+use causal_world::World;
+use dbg_base::{Conjunct, Expr, Pid, Refusal};
+use local_eval::{Env, guard};
+use std::alloc::{AllocError, Global};
+use std::marker::Model;
+
+/// A conjunct, where it is true, and the last local state of its process. Contracts see this, and how many truths there may be without
+/// memory.
+#[derive(Debug, Drop)]
+pub(crate) struct Watch {
+    truths: Truths,
+    expr: Expr,
+    env: Env,
+}
+
+impl Model for Watch {
+    ghost use Rattle.dbg_base.specs.Trees.{tree_of};
+    ghost use Rattle.least_cut.specs.Watches.{WatchRoom};
+
+    ghost Value = { WatchRoom };
+
+    ghost view = { λ watch. record {
+      state = record { line = watch.truths.line; expression = tree_of watch.expr; env = watch.env };
+      room = watch.truths.room;
+    } };
+}
+
+impl Watch {
+    /// Watches a conjunct, where this is known of it in the world. It is refused only as `Memory`, where that runs out.
+    pub(crate) fn new(conjunct: Conjunct, truths: Truths, world: &World) -> Result<Watch, Refusal>
+        requires here { conjunct.pid.0 < length world.now.state.places }
+        requires line { truths.line ≡ truth_line world.now (conjunct_of conjunct) }
+        ensures of { IfOk result (λ watch. IsWatchOf world.now watch.state) }
+        ensures conjunct { IfOk result (λ watch. conjunct_in watch.state ≡ conjunct_of conjunct) }
+        ensures room { IfOk result (λ watch. length watch.state.line.truths ≤ watch.room) }
+    {
+        let Conjunct { pid, expr } = conjunct;
+        let env = world.env(pid).copy()?;
+        Ok(Watch { truths, expr, env })
+    }
+
+    /// The process.
+    pub(crate) fn pid(&self) -> Pid
+        ensures { result.0 ≡ self.now.state.line.process }
+    {
+        self.truths.pid()
+    }
+
+    /// Whether the process has fewer events than these, as far as it is known.
+    pub(crate) fn is_past(&self, pid: Pid, n: u32) -> bool
+        ensures { result ≡ ((self.now.state.line.process == pid.0) && nat_le (length self.now.state.line.truths) n) }
+    {
+        self.truths.pid() == pid && self.truths.len() <= n as usize
+    }
+
+    /// Whether the conjunct is known to be false behind the n-th event of this process.
+    pub(crate) fn is_false(&self, pid: Pid, n: u32) -> bool
+        ensures { result ≡ ((self.now.state.line.process == pid.0) && not (slice_index_or self.now.state.line.truths n true)) }
+    {
+        self.truths.is_false(pid, n)
+    }
+
+    /// Makes room for the truths of so many events of the process. No room is lost, and nothing changes that is seen, also where it is
+    /// refused.
+    pub(crate) fn reserve_to(&mut self, events: u32) -> Result<(), AllocError>
+        ensures state { self.new.state ≡ self.old.state }
+        ensures grows { self.old.room ≤ self.new.room }
+        ensures ok { OnOk result (events + 1 ≤ self.new.room) }
+    {
+        self.truths.reserve_to(events as usize + 1)
+    }
+
+    // The next event of the process is there.
+    fn advance(&mut self, world: &World)
+        requires { length self.old.state.line.truths < self.old.room }
+        ensures next { IsAdvanced world.now self.old.state self.new.state }
+        ensures room { self.new.room ≡ self.old.room }
+    {
+        let pid = self.truths.pid();
+        world
+            .rows()
+            .advance(pid, self.truths.len() - 1, &mut self.env);
+        self.truths
+            .push(matches!(guard(&self.expr, &self.env), Ok(true)));
+    }
+
+    /// What was known in a world is known in this one, where events were made or taken back since. It takes no memory.
+    pub(crate) fn follow(&mut self, world: &World)
+        requires world { IsSomeWorld world.now }
+        requires was { WasWatchOf self.old.state world.now }
+        requires room { place_at world.now.state self.old.state.line.process + 1 ≤ self.old.room }
+        ensures of { IsWatchOf world.now self.new.state }
+        ensures conjunct { conjunct_in self.new.state ≡ conjunct_in self.old.state }
+        ensures room { self.new.room ≡ self.old.room }
+    {
+        let pid = self.truths.pid();
+        let states = world.place(pid) as usize + 1;
+        if self.truths.len() > states {
+            self.truths.truncate(states);
+            self.env.assign(world.env(pid));
+        }
+        while self.truths.len() < states {
+            self.advance(world);
+        }
+    }
+}
