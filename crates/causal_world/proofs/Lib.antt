@@ -28,6 +28,7 @@ pub mod Records
 pub mod Forth
 pub mod Back
 pub mod Standing
+pub mod Present
 pub mod Calls
 pub mod Clocking
 pub mod NextClocks

@@ -1,4 +1,4 @@
-use Rattle.std.proofs.Common.{ℕ, List, ap, ◌∙◌}
+use Rattle.std.proofs.Common.{◌≡◌, ℕ, List, ap, ◌∙◌}
 use Rattle.std.specs.Prelude.{slice_index}
 use Rattle.dbg_base.specs.ModelStates.{history_of}
 use Rattle.causal_world.specs.Scenes.{Scene}
@@ -12,10 +12,17 @@ clock-requires-clause-here c = is_kept _ c.args.pid.0 c.self.invariant (rw (← 
 pub clock-requires-clause-event : goal.clock-requires-clause-event
 clock-requires-clause-event c = has_event _ c.args.pid.0 c.args.n c.self.invariant (rw (← c.self.view_is) at c.requires.event)
 
-pub returns : goal.returns
-returns c = λ P cut of clock.
-    let p = c.args.pid.0 in
+row : (c : goal.After-count_of) → c.count_of.result ≡ slice_index (row_at c.args.self.now.clocks c.args.pid.0 c.args.n) c.args.of.0
+row c =
     c.count_of.ensures ∙ ap (λ (row : List ℕ). slice_index row c.args.of.0) (c.clock.ensures.row
-    ∙ ap (λ (w : Scene). row_at w.clocks p c.args.n) c.self.view_is)
+    ∙ ap (λ (w : Scene). row_at w.clocks c.args.pid.0 c.args.n) c.self.view_is)
+
+pub returns-clause-row : goal.returns-clause-row
+returns-clause-row c = row c
+
+pub returns-clause-part : goal.returns-clause-part
+returns-clause-part c = λ P cut of clock.
+    let p = c.args.pid.0 in
+    row c
     ∙ same_part P (history_of c.args.self.now.state) p c.args.n c.args.of.0 (row_at c.args.self.now.clocks p c.args.n) cut
     (row_is_clock P c.args.self.now p c.args.n of c.requires.process c.requires.event) clock
