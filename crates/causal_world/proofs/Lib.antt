@@ -41,3 +41,4 @@ pub mod Reversing
 pub mod Sames
 pub mod Inverses
 pub mod Again
+pub mod Remembered
