@@ -42,3 +42,4 @@ pub mod Sames
 pub mod Inverses
 pub mod Again
 pub mod Remembered
+pub mod Earlier

@@ -1,8 +1,8 @@
 -- What the search for a cut reaches: it stays below each cut that satisfies the conjuncts, and below each settled tuple.
-use Rattle.std.proofs.Common.{◌≡◌, ◌≢◌, ℕ, zero, suc, ◌+◌, ◌-◌, ◌<◌, ◌≤◌, min, Bool, true, false, not, ◌&&◌, ◌||◌, ◌==◌, ◌⊎◌, inl, inr}
+use Rattle.std.proofs.Common.{◌≡◌, ◌≢◌, ℕ, zero, suc, ◌+◌, ◌<◌, ◌≤◌, min, Bool, true, false, not, ◌&&◌, ◌||◌, ◌==◌, ◌⊎◌, inl, inr}
 use Rattle.std.proofs.Common.{List, [], ◌∷◌, length, get_or, set, map, sum, replicate, refl, sym, ap, ◌∙◌, subst, ⊎_elim, arith}
-use Rattle.std.specs.List.{AllByRecursion, list_any}
-use Rattle.std.proofs.lemmas.Bool.{cases_lt, cases_eq, eqb-true}
+use Rattle.std.specs.List.{AllByRecursion}
+use Rattle.std.proofs.lemmas.Bool.{cases_lt, eqb-true}
 use Rattle.std.proofs.lemmas.List.{length-set, length-replicate, get_or_past}
 use Rattle.std.proofs.lemmas.List.Sums.{sum_by-cons, sum_by-set}
 use Rattle.dbg_base.specs.declared.elimination.Elimination.{Elimination}
@@ -11,7 +11,7 @@ use Rattle.dbg_base.specs.declared.elimination.Cause.TheVariants.{FalseAt, Passe
 use Rattle.dbg_base.specs.Trees.{Program}
 use Rattle.dbg_base.specs.Histories.{History}
 use Rattle.dbg_base.specs.Counts.{sent, got, sends_to, receives_from}
-use Rattle.dbg_base.specs.Cuts.{IsConsistent, IsAtMost}
+use Rattle.dbg_base.specs.Cuts.{IsAtMost}
 use Rattle.dbg_base.specs.Clocks.{IsClock}
 use Rattle.dbg_base.specs.Predicates.{Conjunct, is_true, Satisfies, IsLeast, NoCut}
 use Rattle.dbg_base.specs.Frontiers.{choices_at, IsSettled, IsFrontier}
@@ -79,7 +79,7 @@ not_ruled_out P H p n Q holds (conjunct ∷ conjuncts) all ruled =
 -- One step.
 
 module _ (P : Program) (H : History) (conjuncts : List Conjunct) where
-  -- where no conjunct of process p is false at a component that is at least another, at which one is false, it is more
+  -- a component at which the conjuncts hold is more than a lower one at which one of them is false
   false_below : (p from bound : ℕ) (Q : Conjunct → Type 0) → AllByRecursion Q conjuncts → from ≤ bound
       → ((conjunct : Conjunct) → conjunct.process ≡ p → from ≡ bound → Q conjunct → is_true P H conjunct from ≡ true)
       → is_ruled_out P H conjuncts p from ≡ true → from + 1 ≤ bound
@@ -120,8 +120,7 @@ module _ (P : Program) (H : History) (conjuncts : List Conjunct) where
         omega (arith, above, part.part)
 
     to_settled : (other : List ℕ) (cause : Cause) → IsCaused P H conjuncts tuple p step.from step.to cause
-        → IsSettled P H conjuncts other
-        → HasClocks P H → IsAtMost tuple other → step.to ≤ get_or other p 0
+        → IsSettled P H conjuncts other → HasClocks P H → IsAtMost tuple other → step.to ≤ get_or other p 0
     to_settled other FalseAt caused settled clocks below =
         let le = below p in
         let within = is.within in
@@ -170,9 +169,7 @@ module _ (P : Program) (H : History) (conjuncts : List Conjunct) where
 
   -- so is every settled tuple
   pub stays_settled : (tuple : List ℕ) (steps : List Elimination) (other : List ℕ) → IsSoundFrom P H conjuncts tuple steps
-      → IsSettled P H conjuncts other
-      → (clocks : HasClocks P H)
-      → IsAtMost tuple other → IsAtMost (reach_from tuple steps) other
+      → IsSettled P H conjuncts other → HasClocks P H → IsAtMost tuple other → IsAtMost (reach_from tuple steps) other
   stays_settled tuple [] other sound settled clocks below = below
   stays_settled tuple (step ∷ steps) other sound settled clocks below =
       stays_settled (eliminated tuple step) steps other sound.1 settled clocks
@@ -264,7 +261,8 @@ module _ (P : Program) (H : History) (conjuncts : List Conjunct) (steps : List E
     abbrev tuple : List ℕ
     tuple = reach H steps
 
-    caused : ((p : ℕ) → get_or tuple p 0 ≤ choices_at H p) → (i j : ℕ) → i ≢ j → got P H j i (get_or tuple j 0) ≤ sent P H i j (get_or tuple i 0)
+    caused : ((p : ℕ) → get_or tuple p 0 ≤ choices_at H p)
+        → (i j : ℕ) → i ≢ j → got P H j i (get_or tuple j 0) ≤ sent P H i j (get_or tuple i 0)
     caused few i j apart =
         let few_there = few j in
         ⊎_elim
