@@ -7,12 +7,12 @@ use Rattle.std.proofs.lemmas.List.{take_all, take-take}
 use Rattle.std.proofs.lemmas.List.Sums.{sum_by_push}
 use Rattle.dbg_base.specs.Cuts.{IsAtMost}
 use Rattle.dbg_base.specs.Reversal.{without_back}
+use Rattle.dbg_base.proofs.Counted.{count_grows}
 use Rattle.cut_core.specs.declared.kind.Kind.{Kind}
 use Rattle.cut_core.specs.declared.kind.Kind.TheVariants as does
 use Rattle.cut_core.specs.Kinds.{sends_to, gets_from}
 use Rattle.cut_core.specs.Tallies.{sent_by, got_by}
 use Rattle.cut_core.specs.ConsistentCuts.{IsConsistentCut, places}
-use Rattle.cut_core.proofs.Counted.{count_grows}
 use Rattle.cut_core.proofs.Cutting.{none_sent}
 use Rattle.cut_core.proofs.Raising.{place_at}
 use Rattle.causal_world.specs.Pasts.{with_kind, without_kind, IsWhole, IsClockOf}

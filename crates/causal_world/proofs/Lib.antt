@@ -28,7 +28,6 @@ pub mod Records
 pub mod Forth
 pub mod Back
 pub mod Standing
-pub mod Present
 pub mod Calls
 pub mod Clocking
 pub mod NextClocks
@@ -42,3 +41,5 @@ pub mod Reversing
 pub mod Sames
 pub mod Inverses
 pub mod Again
+pub mod Remembered
+pub mod Earlier

@@ -8,7 +8,7 @@ use Rattle.dbg_base.specs.Configurations.{Configuration, start_of}
 use Rattle.dbg_base.specs.Firing.{fire}
 use Rattle.dbg_base.specs.Histories.{History, IsPossible, play}
 use Rattle.dbg_base.specs.Orders.{with_last}
-use Rattle.dbg_base.specs.ModelStates.{ModelState, line_of, place_at, history_of, configuration_of, choice_before, after_undo, after_redo}
+use Rattle.dbg_base.specs.ModelStates.{ModelState, line_of, place_at, history_of, choice_before, after_undo, after_redo}
 use Rattle.event_rows.specs.EventValues.{EventValue}
 use Rattle.cut_core.specs.declared.kind.Kind.{Kind}
 use Rattle.causal_world.specs.Pasts.{kind_done, with_kind, kinds_of, AreClocksOf}
@@ -26,29 +26,43 @@ use Rattle.causal_world.proofs.Standing.{last_made}
 use Rattle.causal_world.proofs.ClockRows.{same_clocks}
 use Rattle.causal_world.proofs.Calls.{repeats}
 
--- two worlds of one program with the same lines and places are the same
-pub same_world : (P : Program) (v w : Scene) → IsWorldOf P v → IsWorldOf P w → v.state ≡ w.state → v ≡ w
-same_world P v w of other state =
-    let history : history_of v.state ≡ history_of w.state = ap history_of state in
+-- what is known of events is the same
+pub record SamePast (v w : Scene) : Type 0 where
+  pub standing : v.standing ≡ w.standing
+  pub starts : v.starts ≡ w.starts
+  pub events : v.events ≡ w.events
+  pub kinds : v.kinds ≡ w.kinds
+  pub clocks : v.clocks ≡ w.clocks
+
+-- two worlds of one program with the same history know the same of it
+pub same_past : (P : Program) (v w : Scene) → IsWorldOf P v → IsWorldOf P w → history_of v.state ≡ history_of w.state → SamePast v w
+same_past P v w of other history =
     let order_v : IsOrderOf (history_of w.state) of.fired =
     subst (λ (H : History). IsOrderOf H of.fired) (of.history ∙ history) (takes P (start_of P) v.standing of.fired of.leads) in
     let order_w : IsOrderOf (history_of w.state) other.fired =
     subst (λ (H : History). IsOrderOf H other.fired) other.history (takes P (start_of P) w.standing other.fired other.leads) in
     let goes = joined P (start_of P) v.standing w.standing (history_of w.state) of.fired other.fired of.leads other.leads order_v order_w in
-    let standing : v.standing ≡ w.standing = of.standing ∙ ap (configuration_of P) state ∙ sym other.standing in
-    let starts : v.starts ≡ w.starts = of.starts ∙ sym other.starts in
-    let events : v.events ≡ w.events =
-    of.events ∙ goes_events P (start_of P) (replicate (length P) []) of.fired other.fired goes ∙ sym other.events in
     let kinds : v.kinds ≡ w.kinds = of.counts ∙ ap (kinds_of P) history ∙ sym other.counts in
-    let clocks : v.clocks ≡ w.clocks =
-    same_clocks w.kinds v.clocks w.clocks (subst (λ (k : List (List Kind)). AreClocksOf k v.clocks) kinds of.clocks) other.clocks in
+    record {
+      standing = of.standing ∙ ap (play P) history ∙ sym other.standing;
+      starts = of.starts ∙ sym other.starts;
+      events = of.events ∙ goes_events P (start_of P) (replicate (length P) []) of.fired other.fired goes ∙ sym other.events;
+      kinds = kinds;
+      clocks = same_clocks w.kinds v.clocks w.clocks
+          (subst (λ (k : List (List Kind)). AreClocksOf k v.clocks) kinds of.clocks) other.clocks;
+    }
+
+-- two worlds of one program with the same lines and places are the same
+pub same_world : (P : Program) (v w : Scene) → IsWorldOf P v → IsWorldOf P w → v.state ≡ w.state → v ≡ w
+same_world P v w of other state =
+    let same = same_past P v w of other (ap history_of state) in
     λ i. record {
       state = state i;
-      standing = standing i;
-      starts = starts i;
-      events = events i;
-      kinds = kinds i;
-      clocks = clocks i;
+      standing = same.standing i;
+      starts = same.starts i;
+      events = same.events i;
+      kinds = same.kinds i;
+      clocks = same.clocks i;
     }
 
 -- An event that was taken back.

@@ -18,7 +18,7 @@ use Rattle.event_rows.specs.EventValues.{EventValue}
 use Rattle.event_rows.specs.Settings.{settings_of}
 use Rattle.event_rows.specs.Events.{after_event, before_event}
 use Rattle.cut_core.specs.declared.kind.Kind.{Kind}
-use Rattle.causal_world.specs.Pasts.{PastState, AreClocksOf, row_at, kinds_of, kind_done, with_kind, without_kind, without_row}
+use Rattle.causal_world.specs.Pasts.{PastState, AreClocksOf, kinds_of, kind_done, with_kind, without_kind, row_at, without_row}
 
 -- lines and places, local states and channels, and for each process its start, its events, what they did to messages, and the clocks
 -- before and behind them
@@ -176,5 +176,6 @@ unmade w p event = record w {
 pub record IsEarlier (w more : Scene) : Type 0 where
   pub processes : length w.clocks ≡ length more.clocks
   pub starts : w.starts ≡ more.starts
-  pub events : (p n : ℕ) → n ≤ length (slice_index_or w.events p []) → take n (slice_index_or more.events p []) ≡ take n (slice_index_or w.events p [])
+  pub events : (p n : ℕ) → n ≤ length (slice_index_or w.events p [])
+      → take n (slice_index_or more.events p []) ≡ take n (slice_index_or w.events p [])
   pub clocks : (p n : ℕ) → n < length (slice_index_or w.clocks p []) → row_at more.clocks p n ≡ row_at w.clocks p n

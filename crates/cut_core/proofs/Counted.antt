@@ -1,17 +1,13 @@
 -- How many of the first events are of a kind.
 use Rattle.std.proofs.Common.{◌≡◌, inl, inr, ℕ, zero, suc, ◌+◌, ◌-◌, ◌<◌, ◌≤◌, Bool, true, cond, List, [], ◌∷◌, length, get_or, take}
-use Rattle.std.proofs.Common.{Option, Some, None, MatchOption, refl, sym, ap, subst, ◌∙◌, arith}
+use Rattle.std.proofs.Common.{Option, Some, None, MatchOption, refl, sym, ap, ◌∙◌, arith}
 use Rattle.std.specs.List.{count_by}
 use Rattle.std.proofs.lemmas.Bool.{cases_lt, cases_Bool}
-use Rattle.std.proofs.lemmas.List.{take-take, length-take}
-use Rattle.std.proofs.lemmas.List.Sums.{count_by_more_yes, count_by-le-length, sum_by-cons, sum_by-take-le}
+use Rattle.std.proofs.lemmas.List.{length-take}
+use Rattle.std.proofs.lemmas.List.Sums.{count_by_more_yes, count_by-le-length, sum_by-cons}
+use Rattle.dbg_base.proofs.Counted.{count_grows}
 
 module _ {X : Type 0} (p : X → Bool) where
-  -- no fewer of more
-  pub count_grows : (xs : List X) (m n : ℕ) → m ≤ n → count_by p (take m xs) ≤ count_by p (take n xs)
-  count_grows xs m n le =
-      subst (λ ys. count_by p ys ≤ count_by p (take n xs)) (take-take m n xs le) (sum_by-take-le (λ x. cond (p x) 1 0) (take n xs) m)
-
   -- no more than there are
   pub count_within : (xs : List X) (n : ℕ) → count_by p (take n xs) ≤ n
   count_within xs n =
@@ -27,7 +23,7 @@ module _ {X : Type 0} (p : X → Bool) where
   pub count_below : (xs : List X) (m n : ℕ) → count_by p (take m xs) < count_by p (take n xs) → m < n
   count_below xs m n less = elim (cases_lt m n) [
     | inl lt ↦ lt
-    | inr le ↦ let grows : count_by p (take n xs) ≤ count_by p (take m xs) = count_grows xs n m le in absurd (omega arith)
+    | inr le ↦ let grows : count_by p (take n xs) ≤ count_by p (take m xs) = count_grows p xs n m le in absurd (omega arith)
   ]
 
   -- where the last one passes, it is one more than before it

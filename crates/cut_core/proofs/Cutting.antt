@@ -9,7 +9,8 @@ use Rattle.cut_core.specs.Kinds.{sends_to, gets_from}
 use Rattle.cut_core.specs.Tallies.{sent_by, got_by}
 use Rattle.dbg_base.specs.Cuts.{IsAtMost}
 use Rattle.cut_core.specs.ConsistentCuts.{HasOrphan, IsConsistentCut}
-use Rattle.cut_core.proofs.Counted.{count_grows, count_below, count_none}
+use Rattle.dbg_base.proofs.Counted.{count_grows}
+use Rattle.cut_core.proofs.Counted.{count_below, count_none}
 
 -- a process that is not there sent nothing, and received nothing
 pub none_sent : (kinds : List (List Kind)) (i j n : ℕ) → length kinds ≤ i → sent_by kinds i j n ≡ 0

@@ -8,7 +8,7 @@ use Rattle.std.proofs.lemmas.List.Sums.{count_by_more_yes, sum_by_push, sum_by-t
 use Rattle.cut_core.specs.declared.kind.Kind.{Kind}
 use Rattle.cut_core.specs.declared.kind.Kind.TheVariants.{Local}
 use Rattle.cut_core.specs.Places.{IsPlace, IsPlaces}
-use Rattle.cut_core.proofs.Counted.{count_grows}
+use Rattle.dbg_base.proofs.Counted.{count_grows}
 
 module _ (p : Kind → Bool) where
   -- the count of one event more

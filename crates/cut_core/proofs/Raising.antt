@@ -9,7 +9,8 @@ use Rattle.cut_core.specs.Kinds.{sends_to, gets_from}
 use Rattle.cut_core.specs.Tallies.{sent_by, got_by}
 use Rattle.dbg_base.specs.Cuts.{IsAtMost}
 use Rattle.cut_core.specs.ConsistentCuts.{HasOrphan, IsConsistentCut, IsWithin, places}
-use Rattle.cut_core.proofs.Counted.{count_before, count_grows}
+use Rattle.dbg_base.proofs.Counted.{count_grows}
+use Rattle.cut_core.proofs.Counted.{count_before}
 use Rattle.cut_core.proofs.Cutting.{none_sent, raised_keeps, raised_more, sum_changes, more_at}
 
 -- the cut of all events, at one process

@@ -4,3 +4,5 @@ pub mod FirstFaults
 pub mod Places
 mod Rows
 mod OrderRows
+pub mod Counted
+pub mod Searching

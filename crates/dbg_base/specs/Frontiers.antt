@@ -1,5 +1,5 @@
 -- How far the search for a cut gets: for each process the first local state that nothing rules out, or the one past its last.
-use Rattle.std.specs.Prelude.{◌≡◌, ℕ, ◌+◌, ◌<◌, ◌≤◌, List, [], ◌∷◌, true, length, map, min, nat_le, if◌then◌else◌, slice_index, slice_index_or}
+use Rattle.std.specs.Prelude.{◌≡◌, ℕ, ◌+◌, ◌<◌, ◌≤◌, List, [], ◌∷◌, true, length, min, nat_le, if◌then◌else◌, slice_index, slice_index_or}
 use Rattle.std.specs.List.{AllByRecursion}
 use Rattle.dbg_base.specs.declared.said.Head.{Head}
 use Rattle.dbg_base.specs.declared.said.Head.TheVariants.{At, Past}

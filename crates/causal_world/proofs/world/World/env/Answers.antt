@@ -6,7 +6,7 @@ use Rattle.event_rows.specs.Events.{past_of}
 use Rattle.causal_world.specs.Scenes.{Scene}
 use Rattle.causal_world.specs.Worlds.{IsSomeWorld}
 use Rattle.causal_world.proofs.Standing.{states_there}
-use Rattle.causal_world.proofs.Present.{present}
+use Rattle.causal_world.proofs.Remembered.{present}
 use Rattle.causal_world.proofs.world.World.env.Goals as goal
 
 there : (w : Scene) (p : ℕ) → IsSomeWorld w → p < length w.state.places → p < length w.standing.states
