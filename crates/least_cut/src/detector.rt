@@ -40,8 +40,12 @@ pub struct Detector {
 impl Model for Detector {
     ghost use Rattle.std.specs.Vec.{vec_capacity};
     ghost use Rattle.least_cut.specs.Detectors.{DetectorState};
+    ghost use Rattle.dbg_base.specs.contracts.expr.Expr.{the_row};
+    ghost use Rattle.std.specs.Coded.{codes};
 
     ghost Value = { DetectorState };
+
+    ghost coded = { Prim.hlevel (codes, the_row.coded) };
 
     ghost view = { λ d. record {
       watches = d.watches.items;

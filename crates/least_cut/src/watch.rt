@@ -23,13 +23,16 @@ pub(crate) struct Watch {
 }
 
 impl Model for Watch {
-    ghost use Rattle.dbg_base.specs.Trees.{tree_of};
     ghost use Rattle.least_cut.specs.Watches.{WatchRoom};
+    ghost use Rattle.dbg_base.specs.contracts.expr.Expr.{the_row};
+    ghost use Rattle.std.specs.Coded.{codes};
 
     ghost Value = { WatchRoom };
 
+    ghost coded = { Prim.hlevel (codes, the_row.coded) };
+
     ghost view = { λ watch. record {
-      state = record { line = watch.truths.line; expression = tree_of watch.expr; env = watch.env };
+      state = record { line = watch.truths.line; expr = watch.expr; env = watch.env };
       room = watch.truths.room;
     } };
 }
