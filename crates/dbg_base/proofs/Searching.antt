@@ -34,7 +34,7 @@ set_below (n ∷ tuple) zero to (suc q) bound new old = old
 set_below (n ∷ tuple) (suc p) to zero bound new old = old
 set_below (n ∷ tuple) (suc p) to (suc q) bound new old = set_below tuple p to q bound (λ e. new (ap (λ (x : ℕ). suc x) e)) old
 
-none_at : (n p : ℕ) → let zero_row : List ℕ = replicate n 0 in ◌≡◌ {A = ℕ} (get_or zero_row p 0) 0
+pub none_at : (n p : ℕ) → let zero_row : List ℕ = replicate n 0 in ◌≡◌ {A = ℕ} (get_or zero_row p 0) 0
 none_at zero p = refl
 none_at (suc n) zero = refl
 none_at (suc n) (suc p) = none_at n p
