@@ -1,1 +1,4 @@
+pub mod Meanings
+pub mod Telling
 pub mod Trails
+pub mod Steps
