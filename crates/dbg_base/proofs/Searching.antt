@@ -206,7 +206,7 @@ reach_sum P H conjuncts tuple (step ∷ steps) sound size =
     sum_by-set (λ x. x) tuple step.pid.0 step.to 0 (omega arith) in
     omega arith
 
-most_sum : (tuple : List ℕ) (H : History) → length tuple ≡ length H → ((p : ℕ) → get_or tuple p 0 ≤ choices_at H p + 1)
+pub most_sum : (tuple : List ℕ) (H : History) → length tuple ≡ length H → ((p : ℕ) → get_or tuple p 0 ≤ choices_at H p + 1)
     → sum tuple ≤ most_steps H
 most_sum [] [] size within = omega arith
 most_sum [] (choices ∷ H) size within = omega arith
