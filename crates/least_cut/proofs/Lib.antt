@@ -1,3 +1,5 @@
+pub mod Each
+pub mod Truths
 pub mod Meanings
 pub mod Telling
 pub mod Trails
