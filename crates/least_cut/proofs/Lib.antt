@@ -4,3 +4,5 @@ pub mod Meanings
 pub mod Telling
 pub mod Trails
 pub mod Steps
+pub mod Following
+pub mod Growing

@@ -47,7 +47,7 @@ truths_counted tree state [] = refl
 truths_counted tree state (event ∷ events) =
     let rest = truths_counted tree (after_event event state) events in omega (arith, rest)
 
-same_there : (x y : ℕ) (a b : Bool) → (x ≡ y → a ≡ b) → ((x == y) && not a) ≡ ((x == y) && not b)
+pub same_there : (x y : ℕ) (a b : Bool) → (x ≡ y → a ≡ b) → ((x == y) && not a) ≡ ((x == y) && not b)
 same_there x y a b same =
     ⊎_elim
     (λ (here : ((x == y) ≡ true) × (x ≡ y)). ap (λ (c : Bool). (x == y) && not c) (same here.1))

@@ -1,5 +1,5 @@
 -- What contracts see of a detector, and what it is of a world.
-use Rattle.std.specs.Prelude.{◌≡◌, ℕ, ◌+◌, ◌-◌, ◌<◌, ◌≤◌, ◌⊎◌, ◌&&◌, ◌==◌, Bool, List, [], length, map, take, nat_le, slice_index}
+use Rattle.std.specs.Prelude.{◌≡◌, ℕ, ◌+◌, ◌<◌, ◌≤◌, ◌⊎◌, ◌&&◌, ◌==◌, Bool, List, [], length, map, take, nat_le, slice_index}
 use Rattle.std.specs.Prelude.{slice_index_or, slice_set}
 use Rattle.std.specs.List.{AllByRecursion, list_any}
 use Rattle.dbg_base.specs.declared.elimination.Elimination.{Elimination}
@@ -13,7 +13,7 @@ use Rattle.dbg_base.specs.declared.said.Head.{Head}
 use Rattle.dbg_base.specs.Frontiers.{IsFrontier, heads_of}
 use Rattle.dbg_base.specs.Eliminations.{reach_from}
 use Rattle.causal_world.specs.Scenes.{Scene, IsWorldOf}
-use Rattle.least_cut.specs.Watches.{TruthLine, WatchState, WatchRoom, conjunct_in, IsWatchOf, WasWatchOf}
+use Rattle.least_cut.specs.Watches.{TruthLine, WatchState, WatchRoom, conjunct_in, IsWatchOf}
 use Rattle.least_cut.specs.Searches.{IsTrailFrom, IsSettledAt, none_of, steps_up_to}
 
 -- its conjuncts as they are watched, a candidate for each process, and the eliminations that led to them; and how many of these there

@@ -1,6 +1,5 @@
 use Rattle.std.proofs.Common.{ℕ, List, ap, ◌∙◌, take_all}
 use Rattle.least_cut.specs.Searches.{steps_up_to}
-use Rattle.least_cut.proofs.Truths.{steps_more}
 use Rattle.least_cut.proofs.detector.steps_up_to.Goals as goal
 
 pub returns : goal.returns

@@ -1,4 +1,4 @@
-use Rattle.std.proofs.Common.{ℕ, ◌-◌, sum}
+use Rattle.std.proofs.Common.{◌-◌, sum}
 use Rattle.least_cut.specs.Searches.{steps_up_to}
 use Rattle.least_cut.specs.Detectors.{GoesOn}
 use Rattle.least_cut.proofs.detector.Detector.run.Given as goal

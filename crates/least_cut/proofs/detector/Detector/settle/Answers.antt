@@ -1,4 +1,4 @@
-use Rattle.std.proofs.Common.{ℕ, ◌≤◌, sum, arith}
+use Rattle.std.proofs.Common.{arith}
 use Rattle.least_cut.proofs.Steps.{on_sum}
 use Rattle.least_cut.proofs.detector.Detector.settle.Goals as goal
 
