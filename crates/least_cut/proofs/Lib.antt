@@ -1,2 +1,4 @@
 pub mod Truths
 pub mod Each
+pub mod Watched
+pub mod Following
