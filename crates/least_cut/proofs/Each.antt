@@ -100,3 +100,12 @@ module _ {A : Type 0} (R : A → A → Type 0) where
       → i < length new → P x
   at_turn P old new i x is all here lt =
       subst P (sym (here ∙ is.others i x (omega arith))) (all_at P old i x all (omega (arith, lt, is.len)))
+
+-- the same by a relation that says less
+pub became_less : {A : Type 0} (R S : A → A → Type 0) → ((a b : A) → R a b → S a b) → (old new : List A) (i : ℕ) → Became R old new i
+    → Became S old new i
+became_less R S less old new i is = record {
+  len = is.len;
+  each = λ k x lt within. less (get_or old k x) (get_or new k x) (is.each k x lt within);
+  others = is.others;
+}

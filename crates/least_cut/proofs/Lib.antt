@@ -2,3 +2,4 @@ pub mod Truths
 pub mod Each
 pub mod Watched
 pub mod Following
+pub mod Dropping

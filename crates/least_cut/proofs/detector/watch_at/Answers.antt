@@ -1,5 +1,5 @@
 use Rattle.std.proofs.Common.{◌≡◌, ◌≢◌, ℕ, ◌<◌, ◌≤◌, length, refl, sym, ap, subst, ◌∙◌, arith, false}
-use Rattle.std.specs.Vec.{vec_len}
+use Rattle.std.proofs.lemmas.Bool.{eqb-false}
 use Rattle.least_cut.specs.Watches.{WatchRoom, IsWatchOf, WasWatchOf}
 use Rattle.least_cut.specs.Detectors.{HasTruthRoom}
 use Rattle.least_cut.proofs.Each.{Became, became_more, at_turn}
@@ -33,7 +33,8 @@ loop-i-preserved c =
             is = at_turn (IsWatchedAgain c.args.world.now)
                 (λ (watch : WatchRoom). watch.state.line.process ≢ c.args.pid.0 → IsWatchOf c.args.world.now watch.state)
                 c.args.watches.now.items c.loop-i.watches.items c.loop-i.i c.index_mut-watch.result.now c.loop-i.invariant c.requires.others
-                c.index_mut-watch.ensures.value here (λ same. ?);
+                c.index_mut-watch.ensures.value here 
+                (λ same. eqb-false c.pid.result.0 c.args.pid.0 (sym c.eq.ensures ∙ x.if-eq.false) (c.pid.ensures ∙ same));
             conjunct = refl;
             room = refl;
           }))
