@@ -25,7 +25,7 @@ use Rattle.least_cut.proofs.Meanings.{IsHere, processes_counted, choices_placed}
 use Rattle.least_cut.proofs.Telling.{all_here, lines_same}
 use Rattle.least_cut.proofs.Trails.{settled_moved}
 use Rattle.least_cut.proofs.Steps.{candidates_within}
-use Rattle.least_cut.proofs.Following.{agree_along, moved_search}
+use Rattle.least_cut.proofs.Moving.{agree_along, moved_search}
 
 -- A history without the last choice of process p.
 

@@ -1,8 +1,11 @@
 pub mod Each
 pub mod Truths
+pub mod Watched
+pub mod Following
+pub mod Dropping
 pub mod Meanings
 pub mod Telling
 pub mod Trails
 pub mod Steps
-pub mod Following
+pub mod Moving
 pub mod Growing
