@@ -20,7 +20,8 @@ use Rattle.dbg_base.proofs.Searching.{reach_size, within_reach, no_cut, is_front
 use Rattle.causal_world.specs.Scenes.{Scene, IsWorldOf}
 use Rattle.least_cut.specs.Watches.{TruthLine, WatchState, WatchRoom, conjunct_in, truth_line, scan_of}
 use Rattle.least_cut.specs.Searches.{IsTrailFrom, none_of, IsSettledAt}
-use Rattle.least_cut.specs.Detectors.{DetectorState, conjuncts_of, lines_of, AreWatchesOf, IsDetectorOf, is_past_in, TellsFrontier}
+use Rattle.least_cut.specs.Detectors.{DetectorState, conjuncts_of, lines_of, AreWatchesOf, IsDetectorOf, is_past_in}
+use Rattle.least_cut.specs.Detectors.{TellsFrontier, told_head}
 use Rattle.least_cut.proofs.Meanings.{IsHere, processes_counted, choices_placed, same_start, has_clocks, truths_placed, neither}
 use Rattle.least_cut.proofs.Meanings.{trail_sound, settled_all}
 
@@ -208,7 +209,7 @@ module _ (P : Program) (w : Scene) (of : IsWorldOf P w) (d : DetectorState) (is 
       (λ p. subst (λ (tuple : List ℕ). get_or tuple p 0 ≤ choices_at (H P w of) p) (sym told_reach) (told_within p (none p))))
 
   same_head : (p : ℕ) → head_at (choices_at (H P w of) p) (get_or d.candidates p 0)
-      ≡ (if past_at p then Past else At (get_or d.candidates p 0))
+      ≡ told_head (lines_of d) p (get_or d.candidates p 0)
   same_head p = by_past (past_at p) refl
     where
       by_past : (past : Bool) → past_at p ≡ past → head_at (choices_at (H P w of) p) (get_or d.candidates p 0)
@@ -222,7 +223,7 @@ module _ (P : Program) (w : Scene) (of : IsWorldOf P w) (d : DetectorState) (is 
 
   -- the frontier, as it is told component by component
   pub told_heads : (heads : List Head) → length heads ≡ length d.candidates
-      → ((p : ℕ) → p < length d.candidates → get_or heads p Past ≡ (if past_at p then Past else At (get_or d.candidates p 0)))
+      → ((p : ℕ) → p < length d.candidates → get_or heads p Past ≡ told_head (lines_of d) p (get_or d.candidates p 0))
       → TellsFrontier P (H P w of) all heads
   told_heads heads size each =
       let sizes : length d.candidates ≡ length (H P w of) = ap (λ (tuple : List ℕ). length tuple) (sym told_reach) ∙ sized in
