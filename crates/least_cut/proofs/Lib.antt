@@ -1,3 +1,5 @@
-pub mod Checked
+pub mod Truths
+pub mod Each
 pub mod Meanings
 pub mod Telling
+pub mod Checked

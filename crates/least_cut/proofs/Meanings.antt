@@ -29,23 +29,9 @@ use Rattle.causal_world.proofs.Remembered.{remembered, events_numbered}
 use Rattle.causal_world.proofs.Reversing.{choices_counted}
 use Rattle.least_cut.specs.Watches.{TruthLine, truth_line, scan_of}
 use Rattle.least_cut.specs.Searches.{is_false_in, IsDue, IsStep, IsTrailFrom, none_of, IsSettledAt, steps_up_to}
+use Rattle.least_cut.proofs.Truths.{truth_there, length_truths}
 
 -- Lists.
-
--- the n-th truth is that behind the n-th event
-pub truth_at : (tree : Tree) (state : LocalState) (events : List EventValue) (n : ℕ) (d : Bool) → n ≤ length events
-    → get_or (truths_along tree state events) n d ≡ holds tree (past_of state events n)
-truth_at tree state [] zero d le = refl
-truth_at tree state [] (suc n) d le = absurd (omega arith)
-truth_at tree state (event ∷ events) zero d le = refl
-truth_at tree state (event ∷ events) (suc n) d le = truth_at tree (after_event event state) events n d (omega arith)
-
--- one more truth than events
-pub truths_counted : (tree : Tree) (state : LocalState) (events : List EventValue)
-    → length (truths_along tree state events) ≡ length events + 1
-truths_counted tree state [] = refl
-truths_counted tree state (event ∷ events) =
-    let rest = truths_counted tree (after_event event state) events in omega (arith, rest)
 
 same_there : (x y : ℕ) (a b : Bool) → (x ≡ y → a ≡ b) → ((x == y) && not a) ≡ ((x == y) && not b)
 same_there x y a b same =
@@ -119,7 +105,7 @@ module _ (P : Program) (w : Scene) (of : IsWorldOf P w) where
       → get_or (truth_line w conjunct).truths n d ≡ is_true P H conjunct n
   truths conjunct n d here le =
       let p = conjunct.process in
-      truth_at conjunct.expression (get_or w.starts p no_state) (get_or w.events p []) n d
+      truth_there conjunct.expression (get_or w.starts p no_state) (get_or w.events p []) n d
       (omega (arith, le, events_numbered P w p of (there p here)))
       ∙ ap (holds conjunct.expression) (sym (remembered P w p n of (there p here) le))
 
@@ -128,7 +114,7 @@ module _ (P : Program) (w : Scene) (of : IsWorldOf P w) where
       → length (truth_line w conjunct).truths ≡ place_at w.state conjunct.process + 1
   truths_placed conjunct here =
       let p = conjunct.process in
-      truths_counted conjunct.expression (get_or w.starts p no_state) (get_or w.events p [])
+      length_truths conjunct.expression (get_or w.starts p no_state) (get_or w.events p [])
       ∙ ap (λ (n : ℕ). n + 1) (events_numbered P w p of (there p here))
 
   -- a component is ruled out where a conjunct of its process is false

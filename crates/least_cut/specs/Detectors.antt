@@ -42,6 +42,17 @@ AreWatchesOf w watches = AllByRecursion (λ watch. IsWatchOf w watch.state) watc
 abbrev pub HasTruthRoom : List ℕ → WatchRoom → Type 0
 HasTruthRoom places watch = slice_index places watch.state.line.process + 1 ≤ watch.room
 
+-- they are the same, and no room was lost
+pub record AreRoomier (old new : List WatchRoom) : Type 0 where
+  pub states : map (λ watch. watch.state) new ≡ map (λ watch. watch.state) old
+  pub grows : (places : List ℕ) → AllByRecursion (HasTruthRoom places) old → AllByRecursion (HasTruthRoom places) new
+
+-- what is kept is that of the world, of the same conjuncts, and with the same room
+pub record AreWatched (w : Scene) (old new : List WatchRoom) : Type 0 where
+  pub watches : AreWatchesOf w new
+  pub conjuncts : map (λ watch. conjunct_in watch.state) new ≡ map (λ watch. conjunct_in watch.state) old
+  pub rooms : map (λ watch. watch.room) new ≡ map (λ watch. watch.room) old
+
 -- with these places it needs no memory
 pub record HasRoomUpTo (d : DetectorState) (places : List ℕ) : Type 0 where
   pub truths : AllByRecursion (HasTruthRoom places) d.watches

@@ -17,7 +17,7 @@ ghost use Rattle.least_cut.specs.Searches as model;
 ghost use Rattle.least_cut.specs.Searches.{is_false_in};
 ghost use Rattle.least_cut.specs.Detectors.{conjuncts_of, lines_of, is_past_in, one_more, AreWatchesOf, HasTruthRoom, HasRoomUpTo};
 ghost use Rattle.least_cut.specs.Detectors.{IsSearchOf, IsDetectorOf, IsGrown, IsShrunk, IsMoved, IsSameButRoom, DropsTo, IsLimit};
-ghost use Rattle.least_cut.specs.Detectors.{Watches, TellsFrontier, told_head};
+ghost use Rattle.least_cut.specs.Detectors.{Watches, TellsFrontier, AreRoomier, AreWatched, told_head};
 
 mod search;
 
@@ -89,6 +89,62 @@ fn steps_up_to(counts: &[u32]) -> Option<usize>
     Some(steps)
 }
 
+// The watches of this process get room for the truths of so many events.
+fn reserve_at(watches: &mut Vec<Watch>, pid: Pid, events: u32) -> Result<(), AllocError>
+    ensures each { AreRoomier watches.old.items watches.new.items }
+    ensures ok { OnOk result (AllByRecursion (λ watch. watch.state.line.process ≡ pid.0 → events + 1 ≤ watch.room) watches.new.items) }
+{
+    for i in 0..watches.len() {
+        let watch = &mut watches[i];
+        if watch.pid() == pid {
+            watch.reserve_to(events)?;
+        }
+    }
+    Ok(())
+}
+
+// Each watch gets room for the truths of as many events of its process as the cut has.
+fn reserve_each(watches: &mut Vec<Watch>, cut: &Cut) -> Result<(), AllocError>
+    ensures each { AreRoomier watches.old.items watches.new.items }
+    ensures ok { OnOk result (AllByRecursion (HasTruthRoom cut.now) watches.new.items) }
+{
+    for i in 0..watches.len() {
+        let watch = &mut watches[i];
+        let events = cut.count(watch.pid());
+        watch.reserve_to(events)?;
+    }
+    Ok(())
+}
+
+// What is known of the conjuncts of this process is that of the world.
+fn watch_at(watches: &mut Vec<Watch>, world: &World, pid: Pid)
+    requires world { IsSomeWorld world.now }
+    requires was { AllByRecursion (λ watch. WasWatchOf watch.state world.now) watches.old.items }
+    requires others { AllByRecursion (λ watch. watch.state.line.process ≢ pid.0 → IsWatchOf world.now watch.state) watches.old.items }
+    requires room { AllByRecursion (HasTruthRoom world.now.state.places) watches.old.items }
+    ensures { AreWatched world.now watches.old.items watches.new.items }
+{
+    for i in 0..watches.len() {
+        let watch = &mut watches[i];
+        if watch.pid() == pid {
+            watch.follow(world);
+        }
+    }
+}
+
+// What is known of all conjuncts is that of the world.
+fn watch_each(watches: &mut Vec<Watch>, world: &World)
+    requires world { IsSomeWorld world.now }
+    requires was { AllByRecursion (λ watch. WasWatchOf watch.state world.now) watches.old.items }
+    requires room { AllByRecursion (HasTruthRoom world.now.state.places) watches.old.items }
+    ensures { AreWatched world.now watches.old.items watches.new.items }
+{
+    for i in 0..watches.len() {
+        let watch = &mut watches[i];
+        watch.follow(world);
+    }
+}
+
 impl Detector {
     /// The detector of these conjuncts, at least one, in a world that has their processes, where they are true as the scan says. It is
     /// refused only as `Memory`, where that runs out.
@@ -155,12 +211,7 @@ impl Detector {
         ensures ok { OnOk result (HasRoomUpTo self.old world.now.state.places → model.steps_up_to (one_more world.now pid.0) ≤ steps
             → HasRoomUpTo self.new (one_more world.now pid.0)) }
     {
-        let events = world.place(pid).saturating_add(1);
-        for watch in &mut self.watches {
-            if watch.pid() == pid {
-                watch.reserve_to(events)?;
-            }
-        }
+        reserve_at(&mut self.watches, pid, world.place(pid).saturating_add(1))?;
         self.trail.reserve(steps.saturating_sub(self.trail.len()))
     }
 
@@ -171,10 +222,7 @@ impl Detector {
         ensures ok { OnOk result (HasRoomUpTo self.new cut.now) }
     {
         let steps = steps_up_to(cut.counts()).ok_or(AllocError)?;
-        for watch in &mut self.watches {
-            let events = cut.count(watch.pid());
-            watch.reserve_to(events)?;
-        }
+        reserve_each(&mut self.watches, cut)?;
         self.trail.reserve(steps.saturating_sub(self.trail.len()))
     }
 
@@ -186,11 +234,7 @@ impl Detector {
         requires room { AllByRecursion (HasTruthRoom world.now.state.places) self.old.watches }
         ensures { Watches world.now self.old self.new }
     {
-        for watch in &mut self.watches {
-            if watch.pid() == pid {
-                watch.follow(world);
-            }
-        }
+        watch_at(&mut self.watches, world, pid);
     }
 
     // What is known of all conjuncts is that of the world.
@@ -200,9 +244,7 @@ impl Detector {
         requires room { AllByRecursion (HasTruthRoom world.now.state.places) self.old.watches }
         ensures { Watches world.now self.old self.new }
     {
-        for watch in &mut self.watches {
-            watch.follow(world);
-        }
+        watch_each(&mut self.watches, world);
     }
 
     // The candidate up to which the eliminations of the process stay: its last event, and also behind that where none was taken back.

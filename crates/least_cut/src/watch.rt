@@ -84,7 +84,8 @@ impl Watch {
 
     // The next event of the process is there.
     fn advance(&mut self, world: &World)
-        requires { length self.old.state.line.truths < self.old.room }
+        requires some { 0 < length self.old.state.line.truths }
+        requires room { length self.old.state.line.truths < self.old.room }
         ensures next { IsAdvanced world.now self.old.state self.new.state }
         ensures room { self.new.room ≡ self.old.room }
     {
