@@ -123,13 +123,13 @@ module _ (P : Program) (w : Scene) (of : IsWorldOf P w) where
 -- A detector.
 
 -- the processes of its conjuncts are there
-all_here : (w : Scene) (watches : List WatchRoom) → AreWatchesOf w watches
+pub all_here : (w : Scene) (watches : List WatchRoom) → AreWatchesOf w watches
     → AllByRecursion (IsHere w) (map (λ (watch : WatchRoom). conjunct_in watch.state) watches)
 all_here w [] are = tt
 all_here w (watch ∷ watches) are = (are.0.here, all_here w watches are.1)
 
 -- what it knows of them is where they are true
-lines_same : (w : Scene) (watches : List WatchRoom) → AreWatchesOf w watches
+pub lines_same : (w : Scene) (watches : List WatchRoom) → AreWatchesOf w watches
     → map (λ (watch : WatchRoom). watch.state.line) watches ≡ scan_of w (map (λ (watch : WatchRoom). conjunct_in watch.state) watches)
 lines_same w [] are = refl
 lines_same w (watch ∷ watches) are =
