@@ -1,9 +1,13 @@
 -- Checking a step of the search, condition by condition.
-use Rattle.std.proofs.Common.{◌≡◌, ℕ, ◌<◌, ◌≤◌, ◌↔◌, Bool, true, false, List, length, get_or, nat_lt, IsTrue, sym, ap, ◌∙◌, subst, arith}
+use Rattle.std.proofs.Common.{◌≡◌, ℕ, zero, suc, ◌+◌, ◌<◌, ◌≤◌, ◌↔◌, Bool, true, false, List, [], ◌∷◌, length, get_or, take}
+use Rattle.std.proofs.Common.{nat_lt, IsTrue, sym, ap, ◌∙◌, subst, arith}
 use Rattle.std.proofs.lemmas.Bool.{ltb-true, lt-ltb}
+use Rattle.std.proofs.lemmas.List.{take_more}
+use Rattle.dbg_base.specs.declared.elimination.Elimination.{Elimination}
 use Rattle.dbg_base.specs.declared.elimination.Cause.{Cause}
 use Rattle.dbg_base.specs.declared.elimination.Cause.TheVariants.{FalseAt, Passed}
 use Rattle.dbg_base.specs.declared.ids.Pid.{Pid}
+use Rattle.dbg_base.specs.Eliminations.{eliminated, reach_from}
 use Rattle.dbg_base.specs.ModelStates.{place_at}
 use Rattle.cut_core.specs.declared.kind.Kind.{Kind}
 use Rattle.causal_world.specs.Scenes.{Scene}
@@ -11,7 +15,8 @@ use Rattle.causal_world.specs.Worlds.{IsSomeWorld}
 use Rattle.causal_world.specs.Pasts.{row_at}
 use Rattle.causal_world.proofs.Looking.{kinds_placed}
 use Rattle.least_cut.specs.Watches.{TruthLine}
-use Rattle.least_cut.specs.Searches.{IsDue}
+use Rattle.least_cut.specs.Searches.{IsDue, IsStep, IsTrailFrom}
+use Rattle.least_cut.proofs.Trails.{reach_push, trail_push}
 
 pub never_both : (a : Bool) → a ≡ true → a ≡ false → ⊥
 never_both a yes_it no_it = cc
@@ -40,3 +45,28 @@ due_more w lines tuple p from to part cause q n is here most has part_is same =
     λ (due : IsDue w lines tuple p from to cause).
     let passed = subst (λ (x : Cause). IsDue w lines tuple p from to x) is due in
     lt-ltb from to passed.4)
+
+-- A trail, step by step.
+
+module _ (w : Scene) (lines : List TruthLine) where
+  -- one step more
+  pub trail_more : (tuple reached : List ℕ) (steps : List Elimination) (i : ℕ) (d : Elimination) → i < length steps
+      → reach_from tuple (take i steps) ≡ reached → IsTrailFrom w lines tuple (take i steps) → IsStep w lines reached (get_or steps i d)
+      → IsTrailFrom w lines tuple (take (i + 1) steps)
+  trail_more tuple reached steps i d lt same trail is =
+      subst (λ (l : List Elimination). IsTrailFrom w lines tuple l) (sym (take_more steps i d lt))
+      (trail_push w lines tuple (take i steps) (get_or steps i d) trail
+      (subst (λ (t : List ℕ). IsStep w lines t (get_or steps i d)) (sym same) is))
+
+  -- each step of a trail may be made where those before it lead
+  pub step_of : (tuple : List ℕ) (steps : List Elimination) (i : ℕ) (d : Elimination) → IsTrailFrom w lines tuple steps
+      → i < length steps → IsStep w lines (reach_from tuple (take i steps)) (get_or steps i d)
+  step_of tuple [] i d trail lt = absurd (omega arith)
+  step_of tuple (step ∷ steps) zero d trail lt = trail.0
+  step_of tuple (step ∷ steps) (suc i) d trail lt = step_of (eliminated tuple step) steps i d trail.1 (omega arith)
+
+pub reach_more : (tuple reached : List ℕ) (steps : List Elimination) (i : ℕ) (d : Elimination) → i < length steps
+    → reach_from tuple (take i steps) ≡ reached → reach_from tuple (take (i + 1) steps) ≡ eliminated reached (get_or steps i d)
+reach_more tuple reached steps i d lt same =
+    ap (reach_from tuple) (take_more steps i d lt) ∙ reach_push tuple (take i steps) (get_or steps i d)
+    ∙ ap (λ (t : List ℕ). eliminated t (get_or steps i d)) same

@@ -1,8 +1,8 @@
 -- What a detector of a world tells of the cuts of its history.
 use Rattle.std.proofs.Common.{◌≡◌, ◌≢◌, ℕ, zero, suc, ◌+◌, ◌<◌, ◌≤◌, Bool, true, false, not, ◌&&◌, ◌||◌, ◌==◌, List, [], ◌∷◌, length}
 use Rattle.std.proofs.Common.{◌⊎◌, inl, inr, get_or, set, map, replicate, refl, sym, ap, ◌∙◌, subst, ⊎_elim, arith, nat_le, if◌then◌else◌}
-use Rattle.std.specs.List.{AllByRecursion}
-use Rattle.std.proofs.lemmas.Bool.{cases_lt, eqb-true, le-leb, lt-leb, leb-true}
+use Rattle.std.specs.List.{AllByRecursion, list_any}
+use Rattle.std.proofs.lemmas.Bool.{cases_lt, eq-eqb, eqb-true, le-leb, lt-leb, leb-true}
 use Rattle.std.proofs.lemmas.Bool.Decides.{eqb_tells}
 use Rattle.std.proofs.lemmas.List.{length-replicate, ext_get_or}
 use Rattle.dbg_base.specs.declared.elimination.Elimination.{Elimination}
@@ -119,6 +119,43 @@ module _ (P : Program) (w : Scene) (of : IsWorldOf P w) where
       absurd (cc))
       (λ (apart : ((conjunct.process == p) ≡ false) × (conjunct.process ≢ p)). let other : (conjunct.process == p) ≡ false = apart.0 in cc)
       (eqb_tells conjunct.process p)
+
+-- as many states of the process of this line are known as its candidate has events
+abbrev pub is_own_past : List ℕ → TruthLine → Bool
+is_own_past candidates line = nat_le (length line.truths) (get_or candidates line.process 0)
+
+-- which one line tells by its process
+pub own_false : (candidates : List ℕ) (line : TruthLine) (p n : ℕ) → p ≡ line.process → n ≡ get_or candidates p 0
+    → ((line.process == p) && nat_le (length line.truths) n) ≡ false → is_own_past candidates line ≡ false
+own_false candidates line p n own at_own fails =
+    let named : (line.process == p) ≡ true = eq-eqb line.process p (sym own) in
+    let few : nat_le (length line.truths) n ≡ false = cc in
+    ap (nat_le (length line.truths)) (ap (λ (x : ℕ). get_or candidates x 0) (sym own) ∙ sym at_own) ∙ few
+
+-- the line of another process tells nothing of this one
+pub other_line : (line : TruthLine) (own p n : ℕ) → own ≡ line.process → own ≢ p
+    → ((line.process == p) && nat_le (length line.truths) n) ≡ false
+other_line line own p n is apart =
+    ⊎_elim
+    (λ (same : ((line.process == p) ≡ true) × (line.process ≡ p)). absurd (apart (is ∙ same.1)))
+    (λ (other : ((line.process == p) ≡ false) × (line.process ≢ p)). let none : (line.process == p) ≡ false = other.0 in cc)
+    (eqb_tells line.process p)
+
+-- and all lines together
+pub own_none : (candidates : List ℕ) (lines : List TruthLine) → list_any (is_own_past candidates) lines ≡ false
+    → (p : ℕ) → is_past_in lines p (get_or candidates p 0) ≡ false
+own_none candidates [] none p = refl
+own_none candidates (line ∷ lines) none p =
+    let parts = neither (is_own_past candidates line) (list_any (is_own_past candidates) lines) none in
+    let rest : is_past_in lines p (get_or candidates p 0) ≡ false = own_none candidates lines parts.1 p in
+    ⊎_elim
+    (λ (same : ((line.process == p) ≡ true) × (line.process ≡ p)).
+    let is : (line.process == p) ≡ true = same.0 in
+    let own : nat_le (length line.truths) (get_or candidates p 0) ≡ false =
+    ap (λ (x : ℕ). nat_le (length line.truths) (get_or candidates x 0)) (sym same.1) ∙ parts.0 in
+    cc)
+    (λ (apart : ((line.process == p) ≡ false) × (line.process ≢ p)). let other : (line.process == p) ≡ false = apart.0 in cc)
+    (eqb_tells line.process p)
 
 -- A detector.
 

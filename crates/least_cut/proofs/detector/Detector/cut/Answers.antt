@@ -1,32 +1,42 @@
-use Rattle.std.proofs.Common.{rules, ◌≡◌, ℕ, ◌<◌, ◌≤◌, ◌+◌, [], length, map, IfOk, IfErr, IfSome, OnOk, MatchOption, ◌≢◌, slice_index, ◌-◌, ◌*◌, ◌/◌, ◌%◌, Bool, true, false, nat_eq, nat_lt, List, ◌∷◌, ◌++◌, slice_index_or, slice_set, bit_and, bit_or, Fits, w8, w32, w64, Bor, MutBor}
-use Rattle.std.specs.List.{AllByRecursion}
-use Rattle.dbg_base.specs.Trees as tree
-use Rattle.dbg_base.specs.Calls.{conjunct_of}
-use Rattle.dbg_base.specs.Predicates.{IsLeast, NoCut}
-use Rattle.dbg_base.specs.Frontiers.{IsFrontier}
-use Rattle.dbg_base.specs.Eliminations.{IsSound, reach}
-use Rattle.dbg_base.specs.ModelStates.{place_at, history_of}
-use Rattle.causal_world.specs.Scenes.{Scene, IsWorldOf}
-use Rattle.least_cut.specs.Watches.{conjunct_in, scan_of, IsWatchOf, WasWatchOf}
-use Rattle.dbg_base.specs.declared.refusal.Refusal.TheVariants.{Memory}
-use Rattle.causal_world.specs.Worlds.{IsSomeWorld}
-use Rattle.least_cut.specs.Searches as model
-use Rattle.least_cut.specs.Searches.{is_false_in}
-use Rattle.least_cut.specs.Detectors.{conjuncts_of, lines_of, is_past_in, one_more, AreWatchesOf, HasTruthRoom, HasRoomUpTo, IsSearchOf, IsDetectorOf, IsGrown, IsShrunk, IsMoved, IsSameButRoom, DropsTo, IsLimit, Watches, TellsFrontier, told_head}
+use Rattle.std.proofs.Common.{◌≡◌, ℕ, List, true, map, sym, ap, subst, ◌∙◌}
+use Rattle.dbg_base.specs.ModelStates.{history_of}
+use Rattle.dbg_base.specs.Predicates.{IsLeast}
+use Rattle.least_cut.specs.Watches.{WatchRoom}
+use Rattle.least_cut.specs.Detectors.{DetectorState, conjuncts_of, lines_of, is_past_in}
+use Rattle.least_cut.proofs.Each.{found, none_more, none_left}
+use Rattle.least_cut.proofs.Truths.{is_past_at}
+use Rattle.least_cut.proofs.Telling.{is_own_past, own_false, own_none, told_none, told_least}
 use Rattle.least_cut.proofs.detector.Detector.cut.Goals as goal
 
--- src/detector.rt:280:9
-pub loop-watch-init : goal.loop-watch-init
-loop-watch-init c = ?
-
--- src/detector.rt:283:17
 pub returns-then-is_past : goal.returns-then-is_past
-returns-then-is_past c = ?
+returns-then-is_past c w P is of =
+    let d = c.args.self.now in
+    let p : ℕ = c.pid-pid.result.0 in
+    let past : is_past_in (lines_of d) p c.candidate.result ≡ true =
+    sym (found (λ (watch : WatchRoom). watch.state.line) (is_past_at p c.candidate.result) c.deref-watch-items.result.now (lines_of d)
+    (ap (λ (l : List WatchRoom). map (λ (watch : WatchRoom). watch.state.line) l) c.deref-watch-items.ensures.value
+    ∙ ap (λ (s : DetectorState). lines_of s) c.self.view_is)
+    c.loop-watch.watch-index c.watch-item.result c.watch-item.is c.loop-watch-test.true (sym c.is_past.ensures ∙ c.if-is_past.true)) in
+    told_none P w of d is p (subst (λ (n : ℕ). is_past_in (lines_of d) p n ≡ true) c.candidate.ensures past)
 
--- src/detector.rt:280:9
 pub loop-watch-preserved : goal.loop-watch-preserved
-loop-watch-preserved c = ?
+loop-watch-preserved c =
+    let d = c.args.self.now in
+    none_more (λ (watch : WatchRoom). watch.state.line) (is_own_past d.candidates) c.deref-watch-items.result.now (lines_of d)
+    (ap (λ (l : List WatchRoom). map (λ (watch : WatchRoom). watch.state.line) l) c.deref-watch-items.ensures.value
+    ∙ ap (λ (s : DetectorState). lines_of s) c.self.view_is)
+    c.loop-watch.watch-index c.watch-item.result c.watch-item.is c.loop-watch-test.true
+    (own_false d.candidates c.watch-item.result.state.line c.pid-pid.result.0 c.candidate.result c.pid-pid.ensures c.candidate.ensures
+    (sym c.is_past.ensures ∙ c.if-is_past.false))
+    c.loop-watch.invariant
 
--- src/detector.rt:275:5
 pub returns : goal.returns
-returns c = ?
+returns c w P is of =
+    let d = c.args.self.now in
+    let none = none_left (λ (watch : WatchRoom). watch.state.line) (is_own_past d.candidates) c.deref-watch-items.result.now (lines_of d)
+    (ap (λ (l : List WatchRoom). map (λ (watch : WatchRoom). watch.state.line) l) c.deref-watch-items.ensures.value
+    ∙ ap (λ (s : DetectorState). lines_of s) c.self.view_is)
+    c.loop-watch.watch-index c.loop-watch-test.false c.loop-watch.invariant in
+    subst (λ (tuple : List ℕ). IsLeast P (history_of w.state) (conjuncts_of d) tuple)
+    (sym (ap (λ (s : DetectorState). s.candidates) c.self.view_is))
+    (told_least P w of d is (own_none d.candidates (lines_of d) (sym none)))
