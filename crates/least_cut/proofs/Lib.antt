@@ -9,3 +9,4 @@ pub mod Trails
 pub mod Steps
 pub mod Moving
 pub mod Growing
+pub mod Checked

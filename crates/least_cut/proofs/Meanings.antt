@@ -29,9 +29,11 @@ use Rattle.causal_world.proofs.Remembered.{remembered, events_numbered}
 use Rattle.causal_world.proofs.Reversing.{choices_counted}
 use Rattle.least_cut.specs.Watches.{TruthLine, truth_line, scan_of}
 use Rattle.least_cut.specs.Searches.{is_false_in, IsDue, IsStep, IsTrailFrom, none_of, IsSettledAt, steps_up_to}
+use Rattle.least_cut.proofs.Truths.{truth_there, length_truths}
 
 -- Lists.
 
+<<<<<<< HEAD
 -- the n-th truth is that behind the n-th event
 pub truth_at : (tree : Tree) (state : LocalState) (events : List EventValue) (n : ℕ) (d : Bool) → n ≤ length events
     → get_or (truths_along tree state events) n d ≡ holds tree (past_of state events n)
@@ -48,6 +50,9 @@ truths_counted tree state (event ∷ events) =
     let rest = truths_counted tree (after_event event state) events in omega (arith, rest)
 
 pub same_there : (x y : ℕ) (a b : Bool) → (x ≡ y → a ≡ b) → ((x == y) && not a) ≡ ((x == y) && not b)
+=======
+same_there : (x y : ℕ) (a b : Bool) → (x ≡ y → a ≡ b) → ((x == y) && not a) ≡ ((x == y) && not b)
+>>>>>>> h1
 same_there x y a b same =
     ⊎_elim
     (λ (here : ((x == y) ≡ true) × (x ≡ y)). ap (λ (c : Bool). (x == y) && not c) (same here.1))
@@ -119,7 +124,7 @@ module _ (P : Program) (w : Scene) (of : IsWorldOf P w) where
       → get_or (truth_line w conjunct).truths n d ≡ is_true P H conjunct n
   truths conjunct n d here le =
       let p = conjunct.process in
-      truth_at conjunct.expression (get_or w.starts p no_state) (get_or w.events p []) n d
+      truth_there conjunct.expression (get_or w.starts p no_state) (get_or w.events p []) n d
       (omega (arith, le, events_numbered P w p of (there p here)))
       ∙ ap (holds conjunct.expression) (sym (remembered P w p n of (there p here) le))
 
@@ -128,7 +133,7 @@ module _ (P : Program) (w : Scene) (of : IsWorldOf P w) where
       → length (truth_line w conjunct).truths ≡ place_at w.state conjunct.process + 1
   truths_placed conjunct here =
       let p = conjunct.process in
-      truths_counted conjunct.expression (get_or w.starts p no_state) (get_or w.events p [])
+      length_truths conjunct.expression (get_or w.starts p no_state) (get_or w.events p [])
       ∙ ap (λ (n : ℕ). n + 1) (events_numbered P w p of (there p here))
 
   -- a component is ruled out where a conjunct of its process is false

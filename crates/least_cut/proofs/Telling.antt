@@ -1,8 +1,8 @@
 -- What a detector of a world tells of the cuts of its history.
 use Rattle.std.proofs.Common.{◌≡◌, ◌≢◌, ℕ, zero, suc, ◌+◌, ◌<◌, ◌≤◌, Bool, true, false, not, ◌&&◌, ◌||◌, ◌==◌, List, [], ◌∷◌, length}
 use Rattle.std.proofs.Common.{◌⊎◌, inl, inr, get_or, set, map, replicate, refl, sym, ap, ◌∙◌, subst, ⊎_elim, arith, nat_le, if◌then◌else◌}
-use Rattle.std.specs.List.{AllByRecursion}
-use Rattle.std.proofs.lemmas.Bool.{cases_lt, eqb-true, le-leb, lt-leb, leb-true}
+use Rattle.std.specs.List.{AllByRecursion, list_any}
+use Rattle.std.proofs.lemmas.Bool.{cases_lt, eq-eqb, eqb-true, le-leb, lt-leb, leb-true}
 use Rattle.std.proofs.lemmas.Bool.Decides.{eqb_tells}
 use Rattle.std.proofs.lemmas.List.{length-replicate, ext_get_or}
 use Rattle.dbg_base.specs.declared.elimination.Elimination.{Elimination}
@@ -20,7 +20,8 @@ use Rattle.dbg_base.proofs.Searching.{reach_size, within_reach, no_cut, is_front
 use Rattle.causal_world.specs.Scenes.{Scene, IsWorldOf}
 use Rattle.least_cut.specs.Watches.{TruthLine, WatchState, WatchRoom, conjunct_in, truth_line, scan_of}
 use Rattle.least_cut.specs.Searches.{IsTrailFrom, none_of, IsSettledAt}
-use Rattle.least_cut.specs.Detectors.{DetectorState, conjuncts_of, lines_of, AreWatchesOf, IsDetectorOf, is_past_in, TellsFrontier}
+use Rattle.least_cut.specs.Detectors.{DetectorState, conjuncts_of, lines_of, AreWatchesOf, IsDetectorOf, is_past_in}
+use Rattle.least_cut.specs.Detectors.{TellsFrontier, told_head}
 use Rattle.least_cut.proofs.Meanings.{IsHere, processes_counted, choices_placed, same_start, has_clocks, truths_placed, neither}
 use Rattle.least_cut.proofs.Meanings.{trail_sound, settled_all}
 
@@ -119,6 +120,43 @@ module _ (P : Program) (w : Scene) (of : IsWorldOf P w) where
       (λ (apart : ((conjunct.process == p) ≡ false) × (conjunct.process ≢ p)). let other : (conjunct.process == p) ≡ false = apart.0 in cc)
       (eqb_tells conjunct.process p)
 
+-- as many states of the process of this line are known as its candidate has events
+abbrev pub is_own_past : List ℕ → TruthLine → Bool
+is_own_past candidates line = nat_le (length line.truths) (get_or candidates line.process 0)
+
+-- which one line tells by its process
+pub own_false : (candidates : List ℕ) (line : TruthLine) (p n : ℕ) → p ≡ line.process → n ≡ get_or candidates p 0
+    → ((line.process == p) && nat_le (length line.truths) n) ≡ false → is_own_past candidates line ≡ false
+own_false candidates line p n own at_own fails =
+    let named : (line.process == p) ≡ true = eq-eqb line.process p (sym own) in
+    let few : nat_le (length line.truths) n ≡ false = cc in
+    ap (nat_le (length line.truths)) (ap (λ (x : ℕ). get_or candidates x 0) (sym own) ∙ sym at_own) ∙ few
+
+-- the line of another process tells nothing of this one
+pub other_line : (line : TruthLine) (own p n : ℕ) → own ≡ line.process → own ≢ p
+    → ((line.process == p) && nat_le (length line.truths) n) ≡ false
+other_line line own p n is apart =
+    ⊎_elim
+    (λ (same : ((line.process == p) ≡ true) × (line.process ≡ p)). absurd (apart (is ∙ same.1)))
+    (λ (other : ((line.process == p) ≡ false) × (line.process ≢ p)). let none : (line.process == p) ≡ false = other.0 in cc)
+    (eqb_tells line.process p)
+
+-- and all lines together
+pub own_none : (candidates : List ℕ) (lines : List TruthLine) → list_any (is_own_past candidates) lines ≡ false
+    → (p : ℕ) → is_past_in lines p (get_or candidates p 0) ≡ false
+own_none candidates [] none p = refl
+own_none candidates (line ∷ lines) none p =
+    let parts = neither (is_own_past candidates line) (list_any (is_own_past candidates) lines) none in
+    let rest : is_past_in lines p (get_or candidates p 0) ≡ false = own_none candidates lines parts.1 p in
+    ⊎_elim
+    (λ (same : ((line.process == p) ≡ true) × (line.process ≡ p)).
+    let is : (line.process == p) ≡ true = same.0 in
+    let own : nat_le (length line.truths) (get_or candidates p 0) ≡ false =
+    ap (λ (x : ℕ). nat_le (length line.truths) (get_or candidates x 0)) (sym same.1) ∙ parts.0 in
+    cc)
+    (λ (apart : ((line.process == p) ≡ false) × (line.process ≢ p)). let other : (line.process == p) ≡ false = apart.0 in cc)
+    (eqb_tells line.process p)
+
 -- A detector.
 
 -- the processes of its conjuncts are there
@@ -208,7 +246,7 @@ module _ (P : Program) (w : Scene) (of : IsWorldOf P w) (d : DetectorState) (is 
       (λ p. subst (λ (tuple : List ℕ). get_or tuple p 0 ≤ choices_at (H P w of) p) (sym told_reach) (told_within p (none p))))
 
   same_head : (p : ℕ) → head_at (choices_at (H P w of) p) (get_or d.candidates p 0)
-      ≡ (if past_at p then Past else At (get_or d.candidates p 0))
+      ≡ told_head (lines_of d) p (get_or d.candidates p 0)
   same_head p = by_past (past_at p) refl
     where
       by_past : (past : Bool) → past_at p ≡ past → head_at (choices_at (H P w of) p) (get_or d.candidates p 0)
@@ -222,7 +260,7 @@ module _ (P : Program) (w : Scene) (of : IsWorldOf P w) (d : DetectorState) (is 
 
   -- the frontier, as it is told component by component
   pub told_heads : (heads : List Head) → length heads ≡ length d.candidates
-      → ((p : ℕ) → p < length d.candidates → get_or heads p Past ≡ (if past_at p then Past else At (get_or d.candidates p 0)))
+      → ((p : ℕ) → p < length d.candidates → get_or heads p Past ≡ told_head (lines_of d) p (get_or d.candidates p 0))
       → TellsFrontier P (H P w of) all heads
   told_heads heads size each =
       let sizes : length d.candidates ≡ length (H P w of) = ap (λ (tuple : List ℕ). length tuple) (sym told_reach) ∙ sized in

@@ -1,0 +1,28 @@
+use Rattle.std.proofs.Common.{rules, ◌≡◌, ℕ, ◌<◌, ◌≤◌, ◌+◌, [], length, map, IfOk, IfErr, IfSome, OnOk, MatchOption, ◌≢◌, slice_index, ◌-◌, ◌*◌, ◌/◌, ◌%◌, Bool, true, false, nat_eq, nat_lt, List, ◌∷◌, ◌++◌, slice_index_or, slice_set, bit_and, bit_or, Fits, w8, w32, w64, Bor, MutBor}
+use Rattle.std.specs.List.{AllByRecursion}
+use Rattle.dbg_base.specs.Trees as tree
+use Rattle.dbg_base.specs.Calls.{conjunct_of}
+use Rattle.dbg_base.specs.Predicates.{IsLeast, NoCut}
+use Rattle.dbg_base.specs.Frontiers.{IsFrontier}
+use Rattle.dbg_base.specs.Eliminations.{IsSound, reach}
+use Rattle.dbg_base.specs.ModelStates.{place_at, history_of}
+use Rattle.causal_world.specs.Scenes.{Scene, IsWorldOf}
+use Rattle.least_cut.specs.Watches.{conjunct_in, scan_of, IsWatchOf, WasWatchOf}
+use Rattle.dbg_base.specs.declared.refusal.Refusal.TheVariants.{Memory}
+use Rattle.causal_world.specs.Worlds.{IsSomeWorld}
+use Rattle.least_cut.specs.Searches as model
+use Rattle.least_cut.specs.Searches.{is_false_in}
+use Rattle.least_cut.specs.Detectors.{conjuncts_of, lines_of, is_past_in, one_more, AreWatchesOf, HasTruthRoom, HasRoomUpTo, IsSearchOf, IsDetectorOf, IsGrown, IsShrunk, IsMoved, IsSameButRoom, DropsTo, IsLimit, Watches, TellsFrontier, told_head}
+use Rattle.least_cut.proofs.detector.Detector.frontier.Goals as goal
+
+-- src/detector.rt:309:9
+pub loop-p-init : goal.loop-p-init
+loop-p-init c = ?
+
+-- src/detector.rt:309:9
+pub loop-p-preserved : goal.loop-p-preserved
+loop-p-preserved c = ?
+
+-- src/detector.rt:303:5
+pub returns-clause-frontier : goal.returns-clause-frontier
+returns-clause-frontier c = ?
