@@ -1,31 +1,29 @@
 -- A detector as a process makes an event or takes its last one back.
-use Rattle.std.proofs.Common.{◌≡◌, ◌≢◌, ℕ, ◌+◌, ◌-◌, ◌<◌, ◌≤◌, ◌⊎◌, min, false, List, [], ◌∷◌, length, get_or, set, take, refl, sym, ap, ◌∙◌}
+use Rattle.std.proofs.Common.{◌≡◌, ◌≢◌, ℕ, ◌-◌, ◌<◌, ◌≤◌, ◌⊎◌, min, List, [], ◌∷◌, length, map, get_or, take, sym, ap, ◌∙◌}
 use Rattle.std.proofs.Common.{subst, ⊎_elim, inl, inr, arith}
 use Rattle.std.proofs.lemmas.Bool.{cases_eq, cases_lt}
 use Rattle.std.proofs.lemmas.List.{get_or-set_same, get_or-set_other, take_all, length-take-le, length-set, get_or_past}
 use Rattle.std.specs.List.{AllByRecursion}
 use Rattle.dbg_base.specs.Trees.{Program}
-use Rattle.dbg_base.specs.LocalStates.{LocalState, no_state}
+use Rattle.dbg_base.specs.LocalStates.{no_state}
 use Rattle.dbg_base.specs.Histories.{History}
 use Rattle.dbg_base.specs.Frontiers.{choices_at}
 use Rattle.dbg_base.specs.Reversal.{without_last, without_back}
 use Rattle.dbg_base.specs.ModelStates.{place_at, history_of}
-use Rattle.event_rows.specs.EventValues.{EventValue}
 use Rattle.event_rows.specs.Events.{past_of}
 use Rattle.event_rows.specs.Truths.{truths_along}
 use Rattle.causal_world.specs.Scenes.{Scene, IsWorldOf, IsEarlier}
-use Rattle.causal_world.specs.Worlds.{IsSomeWorld}
 use Rattle.causal_world.proofs.Earlier.{earlier_world}
 use Rattle.causal_world.proofs.Remembered.{events_numbered}
 use Rattle.least_cut.specs.Watches.{TruthLine, WatchState, WatchRoom, conjunct_in, scan_of, IsWatchOf, AreAlong}
 use Rattle.least_cut.specs.Searches.{IsSettledAt}
-use Rattle.least_cut.specs.Detectors.{DetectorState, conjuncts_of, lines_of, AreWatchesOf, HasRoomUpTo, IsSearchOf, IsDetectorOf, Watches, IsLimit}
+use Rattle.least_cut.specs.Detectors.{DetectorState, conjuncts_of, lines_of, AreWatchesOf, HasRoomUpTo, IsSearchOf, IsDetectorOf, GoesOn, DropsTo, Watches, IsLimit}
 use Rattle.least_cut.specs.Detectors.{WasOf}
-use Rattle.least_cut.proofs.Meanings.{IsHere, processes_counted, choices_placed}
+use Rattle.least_cut.proofs.Meanings.{IsHere, choices_placed}
 use Rattle.least_cut.proofs.Telling.{all_here, lines_same}
-use Rattle.least_cut.proofs.Trails.{settled_moved}
+use Rattle.least_cut.proofs.Trails.{settled_moved, still_settled}
 use Rattle.least_cut.proofs.Steps.{candidates_within}
-use Rattle.least_cut.proofs.Moving.{agree_along, moved_search}
+use Rattle.least_cut.proofs.Moving.{agree_along, moved_search, room_less}
 
 -- A history without the last choice of process p.
 
@@ -202,3 +200,48 @@ module _ (P : Program) (v w : Scene) (p : ℕ) (d new : DetectorState) (was : Wa
       (λ (few : get_or d.candidates q 0 ≤ place_at v.state q). few)
       (λ (e : place_at v.state q ≡ place_at w.state q). omega (arith, e, le))
       same)))
+
+  -- nor the process itself, where it was settled and no other one went on
+  pub settled_alone : (after : DetectorState) → GoesOn w new after → IsSettledAt w (lines_of after) after.candidates p
+      → ((r : ℕ) → r ≢ p → get_or after.candidates r 0 ≡ get_or new.candidates r 0) → IsDetectorOf w after
+  settled_alone after on own others = record {
+    search = on.search;
+    settled = λ q here.
+        ⊎_elim
+        (λ (same : q ≡ p). subst (λ (x : ℕ). IsSettledAt w (lines_of after) after.candidates x) (sym same) own)
+        (λ (apart : q ≢ p).
+        subst (λ (l : List TruthLine). IsSettledAt w l after.candidates q)
+        (ap (λ (l : List WatchRoom). map (λ (watch : WatchRoom). watch.state.line) l) (sym on.watches))
+        (still_settled w (lines_of new) new.candidates after.candidates q (grown_settled q here (inl apart)) on.most (others q apart)))
+        (cases_eq q p);
+  }
+
+-- A process has lost its last event.
+
+module _ (P : Program) (v w : Scene) (p limit : ℕ) (d dropped new : DetectorState) (was : WasOf P v d w)
+    (one : history_of w.state ≡ without_last (history_of v.state) p) (limits : IsLimit v w p limit) (drops : DropsTo p limit d dropped) where
+  left : IsSearchOf v dropped
+  left = drops.search v was.detector.search
+
+  pub shrunk_along : AreAlong v w
+  shrunk_along = inr (one_earlier P w v p was.now was.of one)
+
+  pub shrunk_room : HasRoomUpTo dropped w.state.places
+  shrunk_room =
+      room_less dropped w.state.places v.state.places (same_sizes P w v p was.now was.of one) (most_places P w v p was.now was.of one)
+      left.room
+
+  within : (q : ℕ) → IsLimit v w q (get_or dropped.candidates q 0)
+  within q =
+      ⊎_elim
+      (λ (same : q ≡ p).
+      subst (λ (x : ℕ). IsLimit v w x (get_or dropped.candidates x 0)) (sym same)
+      (limit_less v w p (get_or dropped.candidates p 0) limit (drops.below v was.detector.search) limits))
+      (λ (apart : q ≢ p).
+      let most = candidates_within v dropped (P, was.of) left q in
+      let places = same_place P w v p was.now was.of one q apart in
+      record { most = omega (arith, most, places); kept = inr (omega (arith, places)) })
+      (cases_eq q p)
+
+  pub shrunk_search : Watches w dropped new → IsSearchOf w new
+  shrunk_search watched = moved_search P v w dropped new was.of was.now shrunk_along left watched within shrunk_room

@@ -1,5 +1,5 @@
 -- What is kept of a world, by the program and the history of the world.
-use Rattle.std.proofs.Common.{◌≡◌, ◌≢◌, ℕ, zero, suc, ◌+◌, ◌<◌, ◌≤◌, min, Bool, true, false, not, ◌&&◌, ◌||◌, ◌==◌, List, [], ◌∷◌, length}
+use Rattle.std.proofs.Common.{◌≡◌, ◌≢◌, ℕ, suc, ◌+◌, ◌<◌, ◌≤◌, min, Bool, true, false, not, ◌&&◌, ◌||◌, ◌==◌, List, [], ◌∷◌, length}
 use Rattle.std.proofs.Common.{get_or, map, replicate, refl, sym, ap, ◌∙◌, subst, ⊎_elim, arith}
 use Rattle.std.specs.List.{AllByRecursion}
 use Rattle.std.proofs.lemmas.Bool.{eq-eqb}
@@ -8,19 +8,15 @@ use Rattle.std.proofs.lemmas.List.Sums.{sum_by-cons}
 use Rattle.dbg_base.specs.declared.elimination.Elimination.{Elimination}
 use Rattle.dbg_base.specs.declared.elimination.Cause.{Cause}
 use Rattle.dbg_base.specs.declared.elimination.Cause.TheVariants.{FalseAt, Passed}
-use Rattle.dbg_base.specs.Trees.{Tree, Program}
-use Rattle.dbg_base.specs.LocalStates.{LocalState, no_state}
+use Rattle.dbg_base.specs.Trees.{Program}
+use Rattle.dbg_base.specs.LocalStates.{no_state}
 use Rattle.dbg_base.specs.Histories.{History}
 use Rattle.dbg_base.specs.ModelStates.{place_at, history_of}
-use Rattle.dbg_base.specs.Cuts.{IsAtMost}
 use Rattle.dbg_base.specs.Clocks.{IsClock}
 use Rattle.dbg_base.specs.Predicates.{Conjunct, holds, is_true}
 use Rattle.dbg_base.specs.Frontiers.{choices_at, IsSettled}
-use Rattle.dbg_base.specs.Eliminations.{is_ruled_out, IsPart, IsCaused, IsElimination, eliminated, IsSoundFrom, zeros, most_steps}
+use Rattle.dbg_base.specs.Eliminations.{is_ruled_out, IsCaused, eliminated, IsSoundFrom, zeros, most_steps}
 use Rattle.dbg_base.proofs.Searching.{HasClocks}
-use Rattle.event_rows.specs.EventValues.{EventValue}
-use Rattle.event_rows.specs.Events.{after_event, past_of}
-use Rattle.event_rows.specs.Truths.{truths_along}
 use Rattle.causal_world.specs.Scenes.{Scene, IsWorldOf}
 use Rattle.causal_world.specs.Pasts.{row_at}
 use Rattle.causal_world.proofs.LineStates.{length_cut}
@@ -28,31 +24,12 @@ use Rattle.causal_world.proofs.Looking.{row_is_clock, same_part}
 use Rattle.causal_world.proofs.Remembered.{remembered, events_numbered}
 use Rattle.causal_world.proofs.Reversing.{choices_counted}
 use Rattle.least_cut.specs.Watches.{TruthLine, truth_line, scan_of}
-use Rattle.least_cut.specs.Searches.{is_false_in, IsDue, IsStep, IsTrailFrom, none_of, IsSettledAt, steps_up_to}
+use Rattle.least_cut.specs.Searches.{is_false_in, IsDue, IsTrailFrom, none_of, IsSettledAt, steps_up_to}
 use Rattle.least_cut.proofs.Truths.{truth_there, length_truths}
 
 -- Lists.
 
-<<<<<<< HEAD
--- the n-th truth is that behind the n-th event
-pub truth_at : (tree : Tree) (state : LocalState) (events : List EventValue) (n : ℕ) (d : Bool) → n ≤ length events
-    → get_or (truths_along tree state events) n d ≡ holds tree (past_of state events n)
-truth_at tree state [] zero d le = refl
-truth_at tree state [] (suc n) d le = absurd (omega arith)
-truth_at tree state (event ∷ events) zero d le = refl
-truth_at tree state (event ∷ events) (suc n) d le = truth_at tree (after_event event state) events n d (omega arith)
-
--- one more truth than events
-pub truths_counted : (tree : Tree) (state : LocalState) (events : List EventValue)
-    → length (truths_along tree state events) ≡ length events + 1
-truths_counted tree state [] = refl
-truths_counted tree state (event ∷ events) =
-    let rest = truths_counted tree (after_event event state) events in omega (arith, rest)
-
 pub same_there : (x y : ℕ) (a b : Bool) → (x ≡ y → a ≡ b) → ((x == y) && not a) ≡ ((x == y) && not b)
-=======
-same_there : (x y : ℕ) (a b : Bool) → (x ≡ y → a ≡ b) → ((x == y) && not a) ≡ ((x == y) && not b)
->>>>>>> h1
 same_there x y a b same =
     ⊎_elim
     (λ (here : ((x == y) ≡ true) × (x ≡ y)). ap (λ (c : Bool). (x == y) && not c) (same here.1))

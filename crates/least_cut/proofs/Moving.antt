@@ -1,37 +1,30 @@
 -- A detector in a world with more events or fewer than the one of which it was.
-use Rattle.std.proofs.Common.{◌≡◌, ◌≢◌, ℕ, suc, ◌+◌, ◌-◌, ◌<◌, ◌≤◌, ◌⊎◌, ◌&&◌, ◌||◌, ◌==◌, min, Bool, true, false, not, List, [], ◌∷◌, length, map, get_or, drop, replicate}
-use Rattle.std.proofs.Common.{set, take, sum, refl, sym, ap, ◌∙◌, subst, ⊎_elim, inl, inr, arith}
-use Rattle.std.proofs.lemmas.Bool.{cases_eq, cases_lt, eqb-true}
-use Rattle.std.proofs.lemmas.List.{get_or-set_same, get_or-set_other, take-take, take_all, length-take-le, length-set, length-replicate, get_or_past}
+use Rattle.std.proofs.Common.{◌≡◌, ℕ, suc, ◌+◌, ◌<◌, ◌≤◌, ◌&&◌, ◌==◌, true, not, List, [], ◌∷◌, length, map, get_or, drop, replicate}
+use Rattle.std.proofs.Common.{refl, sym, ap, ◌∙◌, subst, ⊎_elim, arith}
+use Rattle.std.proofs.lemmas.List.{length-replicate}
 use Rattle.std.proofs.lemmas.List.Sums.{sum_by-cons}
-use Rattle.std.specs.List.{AllByRecursion, list_any}
+use Rattle.std.specs.List.{AllByRecursion}
 use Rattle.dbg_base.specs.declared.elimination.Elimination.{Elimination}
 use Rattle.dbg_base.specs.Eliminations.{reach_from}
 use Rattle.dbg_base.specs.Trees.{Program}
 use Rattle.dbg_base.specs.LocalStates.{LocalState, no_state}
-use Rattle.dbg_base.specs.Histories.{History}
-use Rattle.dbg_base.specs.Frontiers.{choices_at}
 use Rattle.dbg_base.specs.Predicates.{Conjunct, holds}
-use Rattle.dbg_base.specs.Reversal.{without_last, without_back}
-use Rattle.dbg_base.specs.ModelStates.{place_at, history_of}
+use Rattle.dbg_base.specs.ModelStates.{place_at}
 use Rattle.event_rows.specs.EventValues.{EventValue}
 use Rattle.event_rows.specs.Events.{after_events, past_of}
-use Rattle.event_rows.specs.Truths.{truths_along}
 use Rattle.causal_world.specs.Scenes.{Scene, IsWorldOf, IsEarlier}
-use Rattle.causal_world.specs.Pasts.{row_at}
 use Rattle.causal_world.specs.Worlds.{IsSomeWorld}
-use Rattle.causal_world.proofs.Earlier.{earlier_world}
 use Rattle.causal_world.proofs.Calls.{events_counted}
 use Rattle.causal_world.proofs.Looking.{kinds_placed}
 use Rattle.causal_world.proofs.Remembered.{events_numbered}
-use Rattle.least_cut.specs.Watches.{TruthLine, WatchState, WatchRoom, conjunct_in, truth_line, scan_of, IsWatchOf, AreAlong, WasWatchOf}
-use Rattle.least_cut.specs.Searches.{is_false_in, IsTrailFrom, IsSettledAt, none_of, steps_up_to}
-use Rattle.least_cut.specs.Detectors.{DetectorState, conjuncts_of, lines_of, AreWatchesOf, HasTruthRoom, HasRoomUpTo, IsSearchOf, IsDetectorOf}
-use Rattle.least_cut.specs.Detectors.{Watches, IsLimit, WasOf, Begins}
-use Rattle.least_cut.proofs.Meanings.{IsHere, truth_at, same_there, processes_counted, choices_placed}
+use Rattle.least_cut.specs.Watches.{TruthLine, WatchRoom, conjunct_in, truth_line, scan_of, AreAlong, WasWatchOf}
+use Rattle.least_cut.specs.Searches.{is_false_in, IsTrailFrom, none_of, steps_up_to}
+use Rattle.least_cut.specs.Detectors.{DetectorState, conjuncts_of, lines_of, AreWatchesOf, HasTruthRoom, HasRoomUpTo, IsSearchOf}
+use Rattle.least_cut.specs.Detectors.{Watches, IsLimit}
+use Rattle.least_cut.proofs.Truths.{truth_there}
+use Rattle.least_cut.proofs.Meanings.{IsHere, same_there}
 use Rattle.least_cut.proofs.Telling.{all_here, lines_same}
-use Rattle.least_cut.proofs.Trails.{Agree, trail_moved, settled_moved}
-use Rattle.least_cut.proofs.Steps.{candidates_sized, candidates_within}
+use Rattle.least_cut.proofs.Trails.{Agree, trail_moved}
 
 -- The local states that both worlds have.
 
@@ -46,10 +39,10 @@ module _ (P : Program) (v w : Scene) (of : IsWorldOf P v) (other : IsWorldOf P w
       let same : past_of (get_or w.starts p no_state) (get_or w.events p []) n ≡ past_of (get_or v.starts p no_state) (get_or v.events p []) n =
       ap (λ (l : List LocalState). past_of (get_or l p no_state) (get_or w.events p []) n) (sym earlier.starts)
       ∙ ap (λ (l : List EventValue). after_events (get_or v.starts p no_state) l) (earlier.events p n few) in
-      truth_at expression (get_or w.starts p no_state) (get_or w.events p []) n true
+      truth_there expression (get_or w.starts p no_state) (get_or w.events p []) n true
       (omega (arith, new, events_numbered P w p other inside))
       ∙ ap (holds expression) same
-      ∙ sym (truth_at expression (get_or v.starts p no_state) (get_or v.events p []) n true few)
+      ∙ sym (truth_there expression (get_or v.starts p no_state) (get_or v.events p []) n true few)
 
   same_false : (p n : ℕ) (conjuncts : List Conjunct) → AllByRecursion (IsHere v) conjuncts → n ≤ place_at v.state p → n ≤ place_at w.state p
       → is_false_in (scan_of w conjuncts) p n ≡ is_false_in (scan_of v conjuncts) p n

@@ -1,5 +1,5 @@
 -- A detector's search, as its candidates go on.
-use Rattle.std.proofs.Common.{◌≡◌, ◌≢◌, ℕ, suc, ◌+◌, ◌<◌, ◌≤◌, min, List, [], ◌∷◌, ◌++◌, length, map, get_or, set, sum, replicate, refl, sym, ap, ◌∙◌, subst, arith}
+use Rattle.std.proofs.Common.{◌≡◌, ◌≢◌, ℕ, suc, ◌+◌, ◌<◌, ◌≤◌, min, List, [], ◌∷◌, ◌++◌, length, map, get_or, set, sum, refl, sym, ap, ◌∙◌, subst, arith}
 use Rattle.std.proofs.lemmas.List.{length-replicate, length_push, get_or-set_same, get_or-set_other}
 use Rattle.std.proofs.lemmas.List.Sums.{sum_by-cons, sum_by-set}
 use Rattle.std.specs.List.{AllByRecursion}
@@ -12,7 +12,7 @@ use Rattle.dbg_base.specs.Histories.{History}
 use Rattle.dbg_base.specs.Cuts.{IsAtMost}
 use Rattle.dbg_base.specs.ModelStates.{place_at, history_of}
 use Rattle.dbg_base.specs.Predicates.{Conjunct}
-use Rattle.dbg_base.specs.Eliminations.{reach_from, IsSoundFrom, IsSound, zeros, reach}
+use Rattle.dbg_base.specs.Eliminations.{reach_from, IsSoundFrom, IsSound, reach}
 use Rattle.dbg_base.proofs.Searching.{reach_size, within_reach, few_steps, most_sum}
 use Rattle.causal_world.specs.Scenes.{Scene, IsWorldOf}
 use Rattle.causal_world.specs.Worlds.{IsSomeWorld}
@@ -21,7 +21,7 @@ use Rattle.causal_world.proofs.Looking.{row_is_clock}
 use Rattle.causal_world.proofs.Owns.{own_part}
 use Rattle.least_cut.specs.Watches.{TruthLine, WatchRoom}
 use Rattle.least_cut.specs.Searches.{IsStep, IsTrailFrom, PassesPart, none_of, steps_up_to}
-use Rattle.least_cut.specs.Detectors.{DetectorState, conjuncts_of, lines_of, HasTruthRoom, HasRoomUpTo, IsSearchOf, GoesOn, AreWatchesOf}
+use Rattle.least_cut.specs.Detectors.{DetectorState, conjuncts_of, lines_of, HasTruthRoom, IsSearchOf, GoesOn, AreWatchesOf}
 use Rattle.least_cut.proofs.Meanings.{processes_counted, choices_placed, same_start, same_steps, trail_sound}
 use Rattle.least_cut.proofs.Telling.{all_here, lines_same}
 use Rattle.least_cut.proofs.Trails.{reach_push, trail_push, step_raises}

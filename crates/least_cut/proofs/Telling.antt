@@ -1,5 +1,5 @@
 -- What a detector of a world tells of the cuts of its history.
-use Rattle.std.proofs.Common.{◌≡◌, ◌≢◌, ℕ, zero, suc, ◌+◌, ◌<◌, ◌≤◌, Bool, true, false, not, ◌&&◌, ◌||◌, ◌==◌, List, [], ◌∷◌, length}
+use Rattle.std.proofs.Common.{◌≡◌, ◌≢◌, ℕ, zero, suc, ◌<◌, ◌≤◌, Bool, true, false, ◌&&◌, ◌||◌, ◌==◌, List, [], ◌∷◌, length}
 use Rattle.std.proofs.Common.{◌⊎◌, inl, inr, get_or, set, map, replicate, refl, sym, ap, ◌∙◌, subst, ⊎_elim, arith, nat_le, if◌then◌else◌}
 use Rattle.std.specs.List.{AllByRecursion, list_any}
 use Rattle.std.proofs.lemmas.Bool.{cases_lt, eq-eqb, eqb-true, le-leb, lt-leb, leb-true}
@@ -12,17 +12,17 @@ use Rattle.dbg_base.specs.declared.said.Head.{Head}
 use Rattle.dbg_base.specs.declared.said.Head.TheVariants.{At, Past}
 use Rattle.dbg_base.specs.Trees.{Program}
 use Rattle.dbg_base.specs.Histories.{History}
-use Rattle.dbg_base.specs.ModelStates.{place_at, history_of}
+use Rattle.dbg_base.specs.ModelStates.{history_of}
 use Rattle.dbg_base.specs.Predicates.{Conjunct, IsLeast, NoCut}
 use Rattle.dbg_base.specs.Frontiers.{choices_at, IsSettled, IsFrontier, head_at, heads_of}
 use Rattle.dbg_base.specs.Eliminations.{is_ruled_out, IsCaused, eliminated, reach_from, IsSoundFrom, IsSound, zeros, reach}
 use Rattle.dbg_base.proofs.Searching.{reach_size, within_reach, no_cut, is_frontier, is_least}
 use Rattle.causal_world.specs.Scenes.{Scene, IsWorldOf}
-use Rattle.least_cut.specs.Watches.{TruthLine, WatchState, WatchRoom, conjunct_in, truth_line, scan_of}
+use Rattle.least_cut.specs.Watches.{TruthLine, WatchRoom, conjunct_in, truth_line, scan_of}
 use Rattle.least_cut.specs.Searches.{IsTrailFrom, none_of, IsSettledAt}
 use Rattle.least_cut.specs.Detectors.{DetectorState, conjuncts_of, lines_of, AreWatchesOf, IsDetectorOf, is_past_in}
 use Rattle.least_cut.specs.Detectors.{TellsFrontier, told_head}
-use Rattle.least_cut.proofs.Meanings.{IsHere, processes_counted, choices_placed, same_start, has_clocks, truths_placed, neither}
+use Rattle.least_cut.proofs.Meanings.{IsHere, choices_placed, same_start, has_clocks, truths_placed, neither}
 use Rattle.least_cut.proofs.Meanings.{trail_sound, settled_all}
 
 -- Truth values and heads.

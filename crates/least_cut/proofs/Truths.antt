@@ -1,7 +1,7 @@
 -- Where a conjunct is true along the events of a process, and what is kept of it as events are made and taken back.
-use Rattle.std.proofs.Common.{◌≡◌, ℕ, zero, suc, ◌+◌, ◌-◌, ◌<◌, ◌≤◌, ℤ, ◌⊎◌, Bool, true, List, [], ◌∷◌, ◌++◌, length, get_or, set, take, Some, None}
-use Rattle.std.proofs.Common.{refl, sym, ap, ◌∙◌, subst, ⊎_elim, arith, take_all, Option, map, add-one}
-use Rattle.std.specs.Prelude.{◌&&◌, ◌==◌, not, nat_le, slice_get, sum}
+use Rattle.std.proofs.Common.{◌≡◌, ℕ, zero, suc, ◌+◌, ◌-◌, ◌<◌, ◌≤◌, ℤ, Bool, true, List, [], ◌∷◌, ◌++◌, length, get_or, set, take, Some, None}
+use Rattle.std.proofs.Common.{refl, sym, ap, ◌∙◌, subst, ⊎_elim, arith, take_all, Option, map}
+use Rattle.std.specs.Prelude.{◌&&◌, ◌==◌, not, nat_le, slice_get}
 use Rattle.std.proofs.lemmas.List.{length-set, map_push, take_more, length-take-le}
 use Rattle.std.proofs.lemmas.List.Sums.{sum-map, sum_by_more}
 use Rattle.std.proofs.lemmas.Option.{slice_get_cases}
@@ -21,7 +21,6 @@ use Rattle.event_rows.specs.Truths.{truths_along}
 use Rattle.event_rows.proofs.Pasts.{past_more, truths_more}
 use Rattle.causal_world.specs.Scenes.{Scene, IsEarlier}
 use Rattle.causal_world.specs.Worlds.{IsSomeWorld}
-use Rattle.causal_world.proofs.Earlier.{events_less}
 use Rattle.causal_world.proofs.Looking.{kinds_placed}
 use Rattle.causal_world.proofs.Remembered.{events_numbered}
 use Rattle.least_cut.specs.Watches.{TruthLine, TruthsState, WatchState, conjunct_in, truth_line, scan_of, IsWatchOf, IsAdvanced, AreAlong}

@@ -281,7 +281,10 @@ impl Detector {
         ensures conjuncts { conjuncts_of self.new ≡ conjuncts_of self.old }
     {
         self.watch(world, pid);
-        if self.candidate(pid) == world.place(pid) && self.settle(world, pid) {
+        if self.candidate(pid) != world.place(pid) {
+            return;
+        }
+        if self.settle(world, pid) {
             self.run(world);
         }
     }

@@ -1,8 +1,8 @@
-use Rattle.std.proofs.Common.{◌≡◌, ◌≢◌, ℕ, ◌<◌, ◌≤◌, length, refl, sym, ap, subst, ◌∙◌, arith, false}
+use Rattle.std.proofs.Common.{◌≢◌, ◌<◌, length, refl, sym, ◌∙◌, arith}
 use Rattle.std.proofs.lemmas.Bool.{eqb-false}
 use Rattle.least_cut.specs.Watches.{WatchRoom, IsWatchOf, WasWatchOf}
 use Rattle.least_cut.specs.Detectors.{HasTruthRoom}
-use Rattle.least_cut.proofs.Each.{Became, became_more, at_turn}
+use Rattle.least_cut.proofs.Each.{became_more, at_turn}
 use Rattle.least_cut.proofs.Watched.{IsWatchedAgain, all_watched}
 use Rattle.least_cut.proofs.detector.watch_at.Goals as goal
 use Rattle.least_cut.proofs.detector.watch_at.Goals.{then-eq, else-eq}

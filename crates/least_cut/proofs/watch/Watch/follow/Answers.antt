@@ -1,4 +1,4 @@
-use Rattle.std.proofs.Common.{◌≡◌, ℕ, ◌+◌, ◌<◌, ◌≤◌, length, take, sym, ap, ◌∙◌, arith}
+use Rattle.std.proofs.Common.{◌≡◌, ◌+◌, length, take, ap, ◌∙◌, arith}
 use Rattle.dbg_base.specs.LocalStates.{LocalState}
 use Rattle.least_cut.specs.Watches.{TruthLine, WatchState, WatchRoom}
 use Rattle.least_cut.specs.declared.watch.Watch.TheInside.{Inside}
