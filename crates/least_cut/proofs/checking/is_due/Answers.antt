@@ -1,4 +1,4 @@
-use Rattle.std.proofs.Common.{◌≡◌, ℕ, ◌<◌, ◌≤◌, Bool, true, false, length, sym, ap, ◌∙◌, subst}
+use Rattle.std.proofs.Common.{ℕ, ◌≤◌, sym, ◌∙◌, subst}
 use Rattle.std.proofs.lemmas.Bool.{leb-true, ltb-true, le-ltb, eqb-true}
 use Rattle.least_cut.proofs.Checked.{of_tally, due_more, never_both}
 use Rattle.least_cut.proofs.checking.is_due.Goals as goal

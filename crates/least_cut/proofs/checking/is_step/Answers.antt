@@ -1,4 +1,4 @@
-use Rattle.std.proofs.Common.{◌≡◌, ℕ, ◌<◌, ◌≤◌, Bool, true, false, length, IsTrue, sym, ap, ◌∙◌, subst}
+use Rattle.std.proofs.Common.{ℕ, ◌≤◌, IsTrue, sym, ◌∙◌, subst}
 use Rattle.std.proofs.lemmas.Bool.{le-leb, leb-true, lt-ltb, le-ltb, eq-eqb, eqb-true}
 use Rattle.least_cut.specs.Searches.{IsStep}
 use Rattle.least_cut.proofs.Checked.{of_tally, to_tally, never_both}
