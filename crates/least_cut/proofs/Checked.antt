@@ -43,12 +43,13 @@ pub due_more : (w : Scene) (lines : List TruthLine) (tuple : List ℕ) (p from t
     → cause ≡ Passed q n → q.0 < length w.state.places → n ≤ get_or tuple q.0 0 → n ≤ place_at w.state q.0
     → part ≡ get_or (row_at w.clocks q.0 n) p 0 → part ≡ to
     → IsTrue (nat_lt from to) ↔ IsDue w lines tuple p from to cause
-due_more w lines tuple p from to part cause q n is here most has part_is same =
-    (λ (more : IsTrue (nat_lt from to)).
-    subst (λ (x : Cause). IsDue w lines tuple p from to x) (sym is) (here, most, has, sym part_is ∙ same, ltb-true from to more),
-    λ (due : IsDue w lines tuple p from to cause).
-    let passed = subst (λ (x : Cause). IsDue w lines tuple p from to x) is due in
-    lt-ltb from to passed.4)
+due_more w lines tuple p from to part cause q n is here most has part_is same = (
+  λ (more : IsTrue (nat_lt from to)).
+      subst (λ (x : Cause). IsDue w lines tuple p from to x) (sym is) (here, most, has, sym part_is ∙ same, ltb-true from to more),
+  λ (due : IsDue w lines tuple p from to cause).
+      let passed = subst (λ (x : Cause). IsDue w lines tuple p from to x) is due in
+      lt-ltb from to passed.4,
+)
 
 -- A trail, step by step.
 

@@ -33,16 +33,17 @@ loop-step-init c =
 pub returns-then-not-is_step-clause-sound : goal.returns-then-not-is_step-clause-sound
 returns-then-not-is_step-clause-sound c P of =
     let w = c.args.world.now in
-    let conjuncts = map conjunct_of c.args.conjuncts.now in
-    (λ (none : IsTrue false). cc,
-    λ (sound : IsSound P (history_of w.state) conjuncts c.args.steps.now).
-    absurd (never_both c.is_step.result
-    (c.is_step.ensures.1
-    (subst (λ (l : List TruthLine). IsStep w l c.loop-step.candidates (get_or c.args.steps.now c.loop-step.step-index nothing))
-    (sym c.in_ok-scan.ensures.scan)
-    (sound_step w conjuncts c.requires c.args.steps.now P of sound c.loop-step.step-index nothing c.loop-step.candidates
-    c.loop-step-test.true c.loop-step.invariant.reached)))
-    c.if-not-is_step.true))
+    let conjuncts = map conjunct_of c.args.conjuncts.now in (
+      λ (none : IsTrue false). cc,
+      λ (sound : IsSound P (history_of w.state) conjuncts c.args.steps.now).
+          absurd (never_both c.is_step.result
+          (c.is_step.ensures.1
+          (subst (λ (l : List TruthLine). IsStep w l c.loop-step.candidates (get_or c.args.steps.now c.loop-step.step-index nothing))
+          (sym c.in_ok-scan.ensures.scan)
+          (sound_step w conjuncts c.requires c.args.steps.now P of sound c.loop-step.step-index nothing c.loop-step.candidates
+          c.loop-step-test.true c.loop-step.invariant.reached)))
+          c.if-not-is_step.true),
+    )
 
 pub set-requires : goal.set-requires
 set-requires c =
@@ -71,10 +72,12 @@ loop-step-preserved c =
 pub returns-clause-sound : goal.returns-clause-sound
 returns-clause-sound c P of =
     let w = c.args.world.now in
-    let conjuncts = map conjunct_of c.args.conjuncts.now in
-    (λ (yes_it : IsTrue true).
-    whole_sound w conjuncts c.requires c.args.steps.now c.loop-step.step-index c.loop-step-test.false c.loop-step.invariant.trail P of,
-    λ (sound : IsSound P (history_of w.state) conjuncts c.args.steps.now). refl)
+    let conjuncts = map conjunct_of c.args.conjuncts.now in (
+      λ (yes_it : IsTrue true).
+          whole_sound w conjuncts c.requires c.args.steps.now c.loop-step.step-index c.loop-step-test.false
+          c.loop-step.invariant.trail P of,
+      λ (sound : IsSound P (history_of w.state) conjuncts c.args.steps.now). refl,
+    )
 
 pub returns-clause-above : goal.returns-clause-above
 returns-clause-above c sound P of cut satisfies =
