@@ -80,17 +80,32 @@ module _ {A : Type 0} (R : A → A → Type 0) where
   }
 
   -- where this place stays
-  pub became_same : (old new : List A) (i : ℕ) → Became R old new i → ((x : A) → i < length new → R (get_or new i x) (get_or new i x))
+  pub became_same : (old new : List A) (i : ℕ) (x : A) → Became R old new i → x ≡ get_or new i x → i < length new → R x x
       → Became R old new (i + 1)
-  became_same old new i is r = record {
+  became_same old new i x is here lt r = record {
     len = is.len;
-    each = λ k x less within.
+    each = λ k z less within.
         ⊎_elim
         (λ (same : i ≡ k).
-        let there : i < length new = omega (arith, is.len) in
-        subst (λ (j : ℕ). R (get_or old j x) (get_or new j x)) same
-        (subst (λ (a : A). R a (get_or new i x)) (is.others i x (omega arith)) (r x there)))
-        (λ (apart : i ≢ k). is.each k x (omega (arith, apart)) within)
+        let at_new : x ≡ get_or new i z = here ∙ get_or_default new i x z lt in
+        subst (λ (j : ℕ). R (get_or old j z) (get_or new j z)) same
+        (subst (λ (a : A). R a (get_or new i z)) (at_new ∙ is.others i z (omega arith)) (subst (λ (b : A). R x b) at_new r)))
+        (λ (apart : i ≢ k). is.each k z (omega (arith, apart)) within)
         (cases_eq i k);
-    others = λ k x le. is.others k x (omega arith);
+    others = λ k z le. is.others k z (omega arith);
   }
+
+  -- what held of all at first holds of the one whose turn it is
+  pub at_turn : (P : A → Type 0) (old new : List A) (i : ℕ) (x : A) → Became R old new i → AllByRecursion P old → x ≡ get_or new i x
+      → i < length new → P x
+  at_turn P old new i x is all here lt =
+      subst P (sym (here ∙ is.others i x (omega arith))) (all_at P old i x all (omega (arith, lt, is.len)))
+
+-- the same by a relation that says less
+pub became_less : {A : Type 0} (R S : A → A → Type 0) → ((a b : A) → R a b → S a b) → (old new : List A) (i : ℕ) → Became R old new i
+    → Became S old new i
+became_less R S less old new i is = record {
+  len = is.len;
+  each = λ k x lt within. less (get_or old k x) (get_or new k x) (is.each k x lt within);
+  others = is.others;
+}

@@ -1,5 +1,8 @@
 pub mod Each
 pub mod Truths
+pub mod Watched
+pub mod Following
+pub mod Dropping
 pub mod Meanings
 pub mod Telling
 pub mod Trails

@@ -147,7 +147,8 @@ module _ (v w : Scene) (watch : WatchState) (is : IsWatchOf v watch) where
   truths_counted =
       ap (λ (l : TruthLine). length l.truths) is.line ∙ length_truths conjunct.expression (start v conjunct) (own v conjunct)
 
-  same_start : AreAlong v w → start v conjunct ≡ start w conjunct
+  -- both begin with the same local state
+  pub same_start : AreAlong v w → start v conjunct ≡ start w conjunct
   same_start along =
       ⊎_elim (λ (e : IsEarlier v w). ap (λ (l : List LocalState). get_or l conjunct.process no_state) e.starts)
       (λ (e : IsEarlier w v). sym (ap (λ (l : List LocalState). get_or l conjunct.process no_state) e.starts)) along

@@ -89,15 +89,15 @@ fn steps_up_to(counts: &[u32]) -> Option<usize>
     Some(steps)
 }
 
-// The watches of this process get room for the truths of so many events.
-fn reserve_at(watches: &mut Vec<Watch>, pid: Pid, events: u32) -> Result<(), AllocError>
+// The watches of this process get room for the truths of so many local states.
+fn reserve_at(watches: &mut Vec<Watch>, pid: Pid, states: usize) -> Result<(), AllocError>
     ensures each { AreRoomier watches.old.items watches.new.items }
-    ensures ok { OnOk result (AllByRecursion (λ watch. watch.state.line.process ≡ pid.0 → events + 1 ≤ watch.room) watches.new.items) }
+    ensures ok { OnOk result (AllByRecursion (λ watch. watch.state.line.process ≡ pid.0 → states ≤ watch.room) watches.new.items) }
 {
     for i in 0..watches.len() {
         let watch = &mut watches[i];
         if watch.pid() == pid {
-            watch.reserve_to(events)?;
+            watch.reserve_to(states)?;
         }
     }
     Ok(())
@@ -111,7 +111,7 @@ fn reserve_each(watches: &mut Vec<Watch>, cut: &Cut) -> Result<(), AllocError>
     for i in 0..watches.len() {
         let watch = &mut watches[i];
         let events = cut.count(watch.pid());
-        watch.reserve_to(events)?;
+        watch.reserve_to(events as usize + 1)?;
     }
     Ok(())
 }
@@ -211,7 +211,7 @@ impl Detector {
         ensures ok { OnOk result (HasRoomUpTo self.old world.now.state.places → model.steps_up_to (one_more world.now pid.0) ≤ steps
             → HasRoomUpTo self.new (one_more world.now pid.0)) }
     {
-        reserve_at(&mut self.watches, pid, world.place(pid).saturating_add(1))?;
+        reserve_at(&mut self.watches, pid, world.place(pid) as usize + 2)?;
         self.trail.reserve(steps.saturating_sub(self.trail.len()))
     }
 

@@ -72,14 +72,14 @@ impl Watch {
         self.truths.is_false(pid, n)
     }
 
-    /// Makes room for the truths of so many events of the process. No room is lost, and nothing changes that is seen, also where it is
-    /// refused.
-    pub(crate) fn reserve_to(&mut self, events: u32) -> Result<(), AllocError>
+    /// Makes room for the truths of so many local states of the process. No room is lost, and nothing changes that is seen, also where
+    /// it is refused.
+    pub(crate) fn reserve_to(&mut self, states: usize) -> Result<(), AllocError>
         ensures state { self.new.state ≡ self.old.state }
         ensures grows { self.old.room ≤ self.new.room }
-        ensures ok { OnOk result (events + 1 ≤ self.new.room) }
+        ensures ok { OnOk result (states ≤ self.new.room) }
     {
-        self.truths.reserve_to(events as usize + 1)
+        self.truths.reserve_to(states)
     }
 
     // The next event of the process is there.

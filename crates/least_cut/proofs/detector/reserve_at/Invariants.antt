@@ -1,0 +1,6 @@
+use Rattle.least_cut.proofs.Each.{Became}
+use Rattle.least_cut.proofs.Watched.{HasRoomAt}
+use Rattle.least_cut.proofs.detector.reserve_at.Given as goal
+
+abbrev pub invariant-loop-i : goal.invariant-loop-i
+invariant-loop-i l = Became (HasRoomAt l.pid.0 l.states) l.fn.watches.items l.watches.items l.i

@@ -1,0 +1,6 @@
+use Rattle.least_cut.proofs.Each.{Became}
+use Rattle.least_cut.proofs.Watched.{HasRoomFor}
+use Rattle.least_cut.proofs.detector.reserve_each.Given as goal
+
+abbrev pub invariant-loop-i : goal.invariant-loop-i
+invariant-loop-i l = Became (HasRoomFor l.cut) l.fn.watches.items l.watches.items l.i
