@@ -60,7 +60,7 @@ module _ (v : Scene) (old : DetectorState) (steps : List Elimination) (step : El
   back : (new : List ℕ) → new ≡ set old.candidates step.pid.0 step.from → new ≡ before
   back new now =
       now ∙ ap (λ (l : List ℕ). set l step.pid.0 step.from) were ∙ set-set before step.pid.0 step.to step.from
-      ∙ ap (set before step.pid.0) split.1.from ∙ set-get_or before step.pid.0
+      ∙ ap (set before step.pid.0) split.1.from ∙ set-get_or before step.pid.0 0
 
   module _ (new : DetectorState) (watches : new.watches ≡ old.watches) (room : new.trail_room ≡ old.trail_room) (rest : new.trail ≡ steps)
       (now : new.candidates ≡ set old.candidates step.pid.0 step.from) where

@@ -89,9 +89,10 @@ module _ (P : Program) (w : Scene) (of : IsWorldOf P w) where
 
   -- each local state that is there has a clock
   pub has_clocks : HasClocks P H
-  has_clocks q n here le =
-      (row_at w.clocks q n,
-      row_is_clock P w q n of (omega (arith, here, processes_counted)) (omega (arith, le, choices_placed q)))
+  has_clocks q n here le = (
+    row_at w.clocks q n,
+    row_is_clock P w q n of (omega (arith, here, processes_counted)) (omega (arith, le, choices_placed q)),
+  )
 
   there : (p : ℕ) → p < length w.state.places → p < length P
   there p here = omega (arith, here, of.state.places)
@@ -133,12 +134,13 @@ module _ (P : Program) (w : Scene) (of : IsWorldOf P w) where
     due_caused : (tuple : List ℕ) (p from to : ℕ) (cause : Cause) → from ≤ place_at w.state p → IsDue w lines tuple p from to cause
         → IsCaused P H conjuncts tuple p from to cause
     due_caused tuple p from to FalseAt within due = (sym (ruled_same p from conjuncts here within) ∙ due.0, due.1)
-    due_caused tuple p from to (Passed q n) within due =
-        (omega (arith, due.0, processes_counted),
-        due.1,
-        omega (arith, due.2, choices_placed q.0),
-        record { clock = row_at w.clocks q.0 n; is = row_is_clock P w q.0 n of due.0 due.2; part = due.3 },
-        due.4)
+    due_caused tuple p from to (Passed q n) within due = (
+      omega (arith, due.0, processes_counted),
+      due.1,
+      omega (arith, due.2, choices_placed q.0),
+      record { clock = row_at w.clocks q.0 n; is = row_is_clock P w q.0 n of due.0 due.2; part = due.3 },
+      due.4,
+    )
 
     caused_due : (tuple : List ℕ) (p from to : ℕ) (cause : Cause) → from ≤ place_at w.state p
         → IsCaused P H conjuncts tuple p from to cause → IsDue w lines tuple p from to cause
@@ -146,10 +148,13 @@ module _ (P : Program) (w : Scene) (of : IsWorldOf P w) where
     caused_due tuple p from to (Passed q n) within caused =
         let q_here : q.0 < length w.state.places = omega (arith, caused.0, processes_counted) in
         let has : n ≤ place_at w.state q.0 = omega (arith, caused.2, choices_placed q.0) in
-        let part = caused.3 in
-        (q_here, caused.1, has,
-        same_part P H q.0 n p (row_at w.clocks q.0 n) part.clock (row_is_clock P w q.0 n of q_here has) part.is ∙ part.part,
-        caused.4)
+        let part = caused.3 in (
+          q_here,
+          caused.1,
+          has,
+          same_part P H q.0 n p (row_at w.clocks q.0 n) part.clock (row_is_clock P w q.0 n of q_here has) part.is ∙ part.part,
+          caused.4,
+        )
 
     -- a trail is a sound list of eliminations
     pub trail_sound : (tuple : List ℕ) (steps : List Elimination) → IsTrailFrom w lines tuple steps
@@ -157,13 +162,15 @@ module _ (P : Program) (w : Scene) (of : IsWorldOf P w) where
     trail_sound tuple [] trail = tt
     trail_sound tuple (step ∷ steps) trail =
         let s = trail.0 in
-        let p = step.pid.0 in
-        (record {
-          here = (let is = s.here in omega (arith, is, processes_counted));
-          from = s.from;
-          within = (let is = s.within in omega (arith, is, choices_placed p));
-          caused = due_caused tuple p step.from step.to step.cause s.within s.due;
-        }, trail_sound (eliminated tuple step) steps trail.1)
+        let p = step.pid.0 in (
+          record {
+            here = (let is = s.here in omega (arith, is, processes_counted));
+            from = s.from;
+            within = (let is = s.within in omega (arith, is, choices_placed p));
+            caused = due_caused tuple p step.from step.to step.cause s.within s.due;
+          },
+          trail_sound (eliminated tuple step) steps trail.1,
+        )
 
     -- and the other way around
     pub sound_trail : (tuple : List ℕ) (steps : List Elimination) → IsSoundFrom P H conjuncts tuple steps
@@ -172,13 +179,15 @@ module _ (P : Program) (w : Scene) (of : IsWorldOf P w) where
     sound_trail tuple (step ∷ steps) sound =
         let s = sound.0 in
         let p = step.pid.0 in
-        let within : step.from ≤ place_at w.state p = (let is = s.within in omega (arith, is, choices_placed p)) in
-        (record {
-          here = (let is = s.here in omega (arith, is, processes_counted));
-          from = s.from;
-          within = within;
-          due = caused_due tuple p step.from step.to step.cause within s.caused;
-        }, sound_trail (eliminated tuple step) steps sound.1)
+        let within : step.from ≤ place_at w.state p = (let is = s.within in omega (arith, is, choices_placed p)) in (
+          record {
+            here = (let is = s.here in omega (arith, is, processes_counted));
+            from = s.from;
+            within = within;
+            due = caused_due tuple p step.from step.to step.cause within s.caused;
+          },
+          sound_trail (eliminated tuple step) steps sound.1,
+        )
 
     -- where no conjunct of a process that is not past is false
     all_true : (tuple : List ℕ) (all : List Conjunct) → AllByRecursion (IsHere w) all
@@ -190,15 +199,17 @@ module _ (P : Program) (w : Scene) (of : IsWorldOf P w) where
     all_true tuple (conjunct ∷ all) all_here none =
         let rest = λ (p : ℕ) (is : p < length w.state.places) (le : get_or tuple p 0 ≤ place_at w.state p).
         (neither ((conjunct.process == p) && not (get_or (truth_line w conjunct).truths (get_or tuple p 0) true))
-        (is_false_in (scan_of w all) p (get_or tuple p 0)) (none p is le)).1 in
-        (λ few.
-        let p = conjunct.process in
-        let n : ℕ = get_or tuple p 0 in
-        let le : n ≤ place_at w.state p = omega (arith, few, choices_placed p) in
-        sym (truths conjunct n true all_here.0 le)
-        ∙ true_where (p == p) (get_or (truth_line w conjunct).truths n true) (eq-eqb p p refl)
-        (neither ((p == p) && not (get_or (truth_line w conjunct).truths n true))
-        (is_false_in (scan_of w all) p n) (none p all_here.0 le)).0, all_true tuple all all_here.1 rest)
+        (is_false_in (scan_of w all) p (get_or tuple p 0)) (none p is le)).1 in (
+          λ few.
+              let p = conjunct.process in
+              let n : ℕ = get_or tuple p 0 in
+              let le : n ≤ place_at w.state p = omega (arith, few, choices_placed p) in
+              sym (truths conjunct n true all_here.0 le)
+              ∙ true_where (p == p) (get_or (truth_line w conjunct).truths n true) (eq-eqb p p refl)
+              (neither ((p == p) && not (get_or (truth_line w conjunct).truths n true))
+              (is_false_in (scan_of w all) p n) (none p all_here.0 le)).0,
+          all_true tuple all all_here.1 rest,
+        )
 
     -- where nothing is left to rule out in the world, nothing is in its history
     pub settled_all : (tuple : List ℕ) → length tuple ≡ length H → ((p : ℕ) → get_or tuple p 0 ≤ choices_at H p + 1)

@@ -1,4 +1,4 @@
-use Rattle.std.proofs.Common.{◌≡◌, ◌≢◌, ℕ, Bool, true, false, ◌&&◌, ◌==◌, List, length, nat_le, map, sym, ap, subst, ◌∙◌, if◌then◌else◌}
+use Rattle.std.proofs.Common.{◌≡◌, ℕ, Bool, true, false, List, map, sym, ap, subst, ◌∙◌, if◌then◌else◌}
 use Rattle.dbg_base.specs.declared.said.Head.TheVariants.{At, Past}
 use Rattle.least_cut.specs.Watches.{WatchRoom}
 use Rattle.least_cut.specs.Detectors.{DetectorState, lines_of}
@@ -11,7 +11,8 @@ use Rattle.least_cut.proofs.detector.Detector.head.Goals.{else-pid-p-via-then-pi
 pub returns-then-is_past : goal.returns-then-is_past
 returns-then-is_past c =
     ap (λ (past : Bool). if past then Past else At c.args.n)
-    (found (λ (watch : WatchRoom). watch.state.line) (is_past_at c.args.p c.args.n) c.deref-watch-items.result.now (lines_of c.args.self.now)
+    (found (λ (watch : WatchRoom). watch.state.line) (is_past_at c.args.p c.args.n) c.deref-watch-items.result.now
+    (lines_of c.args.self.now)
     (ap (λ (l : List WatchRoom). map (λ (watch : WatchRoom). watch.state.line) l) c.deref-watch-items.ensures.value
     ∙ ap (λ (d : DetectorState). lines_of d) c.self.view_is)
     c.loop-watch.watch-index c.watch-item.result c.watch-item.is c.loop-watch-test.true
@@ -24,7 +25,7 @@ loop-watch-preserved c =
     let fails : is_past_at c.args.p c.args.n line ≡ false =
     elim c.else-pid-p.branch [
       | else-pid-p-via-then-pid-p+else-is_past w ↦
-        subst (λ (p : ℕ). is_past_at p c.args.n line ≡ false) w.if-pid-p.true (sym w.is_past.ensures ∙ w.if-is_past.false)
+          subst (λ (p : ℕ). is_past_at p c.args.n line ≡ false) w.if-pid-p.true (sym w.is_past.ensures ∙ w.if-is_past.false)
       | else-pid-p-via-else-pid-p w ↦ other_line line c.pid-pid.result.0 c.args.p c.args.n c.pid-pid.ensures w.if-pid-p.false
     ] in
     none_more (λ (watch : WatchRoom). watch.state.line) (is_past_at c.args.p c.args.n) c.deref-watch-items.result.now

@@ -1,10 +1,32 @@
+use Rattle.std.proofs.Common.{◌≡◌, ℕ, ◌+◌, ◌≤◌, refl, sym, ap, subst, ◌∙◌, arith}
+use Rattle.std.specs.List.{AllByRecursion}
+use Rattle.std.specs.Vec.{vec_len, vec_capacity}
+use Rattle.std.proofs.lemmas.Result.{on_ok_weaker}
+use Rattle.dbg_base.specs.ModelStates.{place_at}
+use Rattle.least_cut.specs.Watches.{WatchRoom}
+use Rattle.least_cut.specs.Detectors.{DetectorState, HasTruthRoom, HasRoomUpTo, one_more}
+use Rattle.least_cut.specs.Searches.{steps_up_to}
+use Rattle.least_cut.proofs.Watched.{same_but_room, one_more_room}
 use Rattle.least_cut.proofs.detector.Detector.reserve.Goals as goal
 
 pub returns-in_err-reserve_at-clause-same : goal.returns-in_err-reserve_at-clause-same
-returns-in_err-reserve_at-clause-same c = ?
+returns-in_err-reserve_at-clause-same c =
+    rw (← c.self.view_is) (same_but_room _ _ c.reserve_at.ensures.each refl refl (omega arith))
 
 pub returns-clause-same : goal.returns-clause-same
-returns-clause-same c = ?
+returns-clause-same c =
+    rw (← c.self.view_is) (same_but_room _ _ c.reserve_at.ensures.each refl c.reserve.ensures.items (omega (arith, c.reserve.ensures.capacity)))
 
 pub returns-clause-ok : goal.returns-clause-ok
-returns-clause-ok c = ?
+returns-clause-ok c =
+    let w = c.args.world.now in
+    on_ok_weaker c.reserve.result
+    (λ (more : vec_len c.reserve.new.self + c.saturating_sub.result ≤ vec_capacity c.reserve.new.self)
+    (had : HasRoomUpTo c.args.self.now w.state.places) (few : steps_up_to (one_more w c.args.pid.0) ≤ c.args.steps). record {
+      truths = one_more_room w c.args.pid.0 c.self.inside.watches.items c.reserve_at.new.watches.items c.reserve_at.ensures.each
+          (subst (λ (n : ℕ). AllByRecursion (λ (watch : WatchRoom). watch.state.line.process ≡ c.args.pid.0 → n + 2 ≤ watch.room)
+          c.reserve_at.new.watches.items) c.place.ensures c.in_ok-reserve_at.ensures.ok)
+          (subst (λ (d : DetectorState). AllByRecursion (HasTruthRoom w.state.places) d.watches) (sym c.self.view_is) had.truths);
+      trail = omega (arith, more, few, c.saturating_sub.ensures, c.len.ensures, c.reserve.ensures.len);
+    })
+    c.reserve.ensures.ok

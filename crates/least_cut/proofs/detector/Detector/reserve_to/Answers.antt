@@ -1,10 +1,11 @@
+use Rattle.std.proofs.Common.{refl, arith}
+use Rattle.least_cut.proofs.Watched.{same_but_room}
 use Rattle.least_cut.proofs.detector.Detector.reserve_to.Goals as goal
 
 pub returns-in_err-reserve_each-clause-same : goal.returns-in_err-reserve_each-clause-same
-returns-in_err-reserve_each-clause-same c = ?
+returns-in_err-reserve_each-clause-same c =
+    rw (← c.self.view_is) (same_but_room _ _ c.reserve_each.ensures.each refl refl (omega arith))
 
 pub returns-clause-same : goal.returns-clause-same
-returns-clause-same c = ?
-
-pub returns-clause-ok : goal.returns-clause-ok
-returns-clause-ok c = ?
+returns-clause-same c =
+    rw (← c.self.view_is) (same_but_room _ _ c.reserve_each.ensures.each refl c.reserve.ensures.items (omega (arith, c.reserve.ensures.capacity)))
