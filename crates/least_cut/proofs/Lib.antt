@@ -3,3 +3,4 @@ pub mod Each
 pub mod Watched
 pub mod Following
 pub mod Dropping
+pub mod Pairing
