@@ -1,5 +1,5 @@
 -- A list that is gone through place by place: what is looked for in it, and what each place became.
-use Rattle.std.proofs.Common.{◌≡◌, ℕ, zero, suc, ◌+◌, ◌<◌, ◌≤◌, Bool, true, false, List, [], ◌∷◌, length, get_or, set, map, take}
+use Rattle.std.proofs.Common.{◌≡◌, ℕ, zero, suc, ◌+◌, ◌<◌, ◌≤◌, Bool, true, false, List, [], ◌∷◌, ◌++◌, length, get_or, set, map, take}
 use Rattle.std.proofs.Common.{◌≢◌, refl, sym, ap, ◌∙◌, subst, ⊎_elim, arith, take_all}
 use Rattle.std.specs.Prelude.{◌||◌}
 use Rattle.std.specs.List.{list_any, AllByRecursion}
@@ -109,3 +109,8 @@ became_less R S less old new i is = record {
   each = λ k x lt within. less (get_or old k x) (get_or new k x) (is.each k x lt within);
   others = is.others;
 }
+
+-- one more of which it holds
+pub all_push : {A : Type 0} (P : A → Type 0) (xs : List A) (x : A) → AllByRecursion P xs → P x → AllByRecursion P (xs ++ x ∷ [])
+all_push P [] x all holds = (holds, tt)
+all_push P (y ∷ xs) x all holds = (all.0, all_push P xs x all.1 holds)

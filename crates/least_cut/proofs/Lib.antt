@@ -3,6 +3,7 @@ pub mod Truths
 pub mod Watched
 pub mod Following
 pub mod Dropping
+pub mod Pairing
 pub mod Meanings
 pub mod Telling
 pub mod Trails

@@ -1,5 +1,5 @@
 -- What contracts see of a detector, and what it is of a world.
-use Rattle.std.specs.Prelude.{◌≡◌, ℕ, ◌+◌, ◌-◌, ◌<◌, ◌≤◌, ◌⊎◌, ◌&&◌, ◌==◌, Bool, List, [], length, map, take, nat_le, slice_index}
+use Rattle.std.specs.Prelude.{◌≡◌, ℕ, ◌+◌, ◌<◌, ◌≤◌, ◌⊎◌, ◌&&◌, ◌==◌, Bool, List, [], length, map, take, nat_le, slice_index}
 use Rattle.std.specs.Prelude.{if◌then◌else◌, slice_index_or, slice_set}
 use Rattle.std.specs.List.{AllByRecursion, list_any}
 use Rattle.dbg_base.specs.declared.elimination.Elimination.{Elimination}

@@ -1,5 +1,10 @@
-use Rattle.std.proofs.Common.{◌≡◌}
+use Rattle.std.proofs.Common.{◌≡◌, length}
+use Rattle.least_cut.proofs.Pairing.{ArePaired}
 use Rattle.least_cut.proofs.detector.watches_of.Given as goal
 
 abbrev pub invariant-loop-conjunct : goal.invariant-loop-conjunct
-invariant-loop-conjunct l = ?
+invariant-loop-conjunct l = record {
+  paired : ArePaired l.world l.fn.conjuncts l.watches.items l.conjunct-iterator.a.rest.items l.conjunct-iterator.b.rest.items;
+  first : l.conjunct-iterator.a.rest.len ≡ length l.conjunct-iterator.a.rest.items;
+  second : l.conjunct-iterator.b.rest.len ≡ length l.conjunct-iterator.b.rest.items;
+}
