@@ -1,6 +1,5 @@
-use Rattle.std.proofs.Common.{◌≡◌, ◌<◌, List, ◌++◌, ◌∷◌, [], length, set, refl, sym, ap, ◌∙◌, arith}
+use Rattle.std.proofs.Common.{◌≡◌, ◌++◌, ◌∷◌, [], length, set, refl, sym, ap, ◌∙◌, arith}
 use Rattle.std.specs.Vec.{vec_capacity}
-use Rattle.dbg_base.specs.declared.elimination.Elimination.{Elimination}
 use Rattle.least_cut.specs.Detectors.{DetectorState}
 use Rattle.least_cut.proofs.Dropping.{has_candidate, dropped, goes_back}
 use Rattle.least_cut.proofs.detector.Detector.drop_to.Goals as goal

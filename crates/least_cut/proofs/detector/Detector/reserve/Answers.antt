@@ -1,8 +1,7 @@
-use Rattle.std.proofs.Common.{◌≡◌, ℕ, ◌+◌, ◌≤◌, refl, sym, ap, subst, ◌∙◌, arith}
+use Rattle.std.proofs.Common.{◌≡◌, ℕ, ◌+◌, ◌≤◌, refl, sym, subst, arith}
 use Rattle.std.specs.List.{AllByRecursion}
 use Rattle.std.specs.Vec.{vec_len, vec_capacity}
 use Rattle.std.proofs.lemmas.Result.{on_ok_weaker}
-use Rattle.dbg_base.specs.ModelStates.{place_at}
 use Rattle.least_cut.specs.Watches.{WatchRoom}
 use Rattle.least_cut.specs.Detectors.{DetectorState, HasTruthRoom, HasRoomUpTo, one_more}
 use Rattle.least_cut.specs.Searches.{steps_up_to}
