@@ -74,7 +74,8 @@ module _ {A : Type 0} (R : A → A → Type 0) where
         (subst (λ (b : A). R x b)
         (sym (ap (λ (j : ℕ). get_or (set new j y) k z) same ∙ get_or-set_same new k y z there)) r))
         (λ (apart : i ≢ k).
-        subst (λ (b : A). R (get_or old k z) b) (sym (get_or-set_other new i k y z (λ e. apart (sym e)))) (is.each k z (omega (arith, apart)) within))
+        subst (λ (b : A). R (get_or old k z) b) (sym (get_or-set_other new i k y z (λ e. apart (sym e))))
+        (is.each k z (omega (arith, apart)) within))
         (cases_eq i k);
     others = λ k z le. get_or-set_other new i k y z (omega arith) ∙ is.others k z (omega arith);
   }

@@ -1,7 +1,8 @@
 -- Where a conjunct is true along the events of a process, and what is kept of it as events are made and taken back.
-use Rattle.std.proofs.Common.{◌≡◌, ℕ, zero, suc, ◌+◌, ◌-◌, ◌<◌, ◌≤◌, ℤ, ◌⊎◌, Bool, true, List, [], ◌∷◌, ◌++◌, length, get_or, set, take, Some, None}
-use Rattle.std.proofs.Common.{refl, sym, ap, ◌∙◌, subst, ⊎_elim, arith, take_all, Option, map, add-one}
-use Rattle.std.specs.Prelude.{◌&&◌, ◌==◌, not, nat_le, slice_get, sum}
+use Rattle.std.proofs.Common.{◌≡◌, ℕ, zero, suc, ◌+◌, ◌-◌, ◌<◌, ◌≤◌, ℤ, ◌⊎◌, Bool, true, List, [], ◌∷◌, ◌++◌, length, get_or, set, take}
+use Rattle.std.proofs.Common.{Some, None}
+use Rattle.std.proofs.Common.{refl, sym, ap, ◌∙◌, subst, ⊎_elim, arith, take_all, Option, map}
+use Rattle.std.specs.Prelude.{◌&&◌, ◌==◌, not, nat_le, slice_get}
 use Rattle.std.proofs.lemmas.List.{length-set, map_push, take_more, length-take-le}
 use Rattle.std.proofs.lemmas.List.Sums.{sum-map, sum_by_more}
 use Rattle.std.proofs.lemmas.Option.{slice_get_cases}
@@ -21,7 +22,6 @@ use Rattle.event_rows.specs.Truths.{truths_along}
 use Rattle.event_rows.proofs.Pasts.{past_more, truths_more}
 use Rattle.causal_world.specs.Scenes.{Scene, IsEarlier}
 use Rattle.causal_world.specs.Worlds.{IsSomeWorld}
-use Rattle.causal_world.proofs.Earlier.{events_less}
 use Rattle.causal_world.proofs.Looking.{kinds_placed}
 use Rattle.causal_world.proofs.Remembered.{events_numbered}
 use Rattle.least_cut.specs.Watches.{TruthLine, TruthsState, WatchState, conjunct_in, truth_line, scan_of, IsWatchOf, IsAdvanced, AreAlong}
@@ -106,7 +106,8 @@ pub alike_after : (state : LocalState) (events : List EventValue) → AreAlike (
 alike_after state [] = record { values = refl; sent = refl; got = refl }
 alike_after state (event ∷ events) =
     let rest = alike_after (after_event event state) events in
-    let one = alike_counted event.exchange (record state { values = set_all state.values (map (λ s. (s.variable, s.new)) event.settings) }) in
+    let one = alike_counted event.exchange
+    (record state { values = set_all state.values (map (λ s. (s.variable, s.new)) event.settings) }) in
     record {
       values = rest.values ∙ one.values ∙ length_set_all state.values (map (λ s. (s.variable, s.new)) event.settings);
       sent = rest.sent ∙ one.sent;
@@ -198,7 +199,8 @@ module _ (v w : Scene) (watch : WatchState) (is : IsWatchOf v watch) where
       ∙ ap (λ (l : List EventValue). length l + 1) whole in
       let last : k ≡ length (take states watch.line.truths) - 1 = omega arith in
       subst (λ (s : WatchState). IsWatchTo w conjunct s (length s.line.truths - 1)) (sym shape)
-      (subst (λ (n : ℕ). IsWatchTo w conjunct (record watch { line = record watch.line { truths = take states watch.line.truths }; env = env }) n) last
+      (subst (λ (n : ℕ). IsWatchTo w conjunct
+      (record watch { line = record watch.line { truths = take states watch.line.truths }; env = env }) n) last
       (record { of = refl; within = omega arith; truths = truths; env = is_env }))
 
 module _ (w : Scene) (conjunct : Conjunct) (old : WatchState) (is : IsWatchTo w conjunct old (length old.line.truths - 1)) where
@@ -218,7 +220,8 @@ module _ (w : Scene) (conjunct : Conjunct) (old : WatchState) (is : IsWatchTo w 
       let there = truths_within in
       let process : old.line.process ≡ conjunct.process = ap (λ (c : Conjunct). c.process) is.of in
       ⊎_elim
-      (λ (found : (x : EventValue) × (m < length (own w conjunct)) × (slice_get (own w conjunct) m ≡ Some x) × (get_or (own w conjunct) m x ≡ x)).
+      (λ (found : (x : EventValue) × (m < length (own w conjunct)) × (slice_get (own w conjunct) m ≡ Some x)
+      × (get_or (own w conjunct) m x ≡ x)).
       let event = found.0 in
       let next : new.env ≡ past_of (start w conjunct) (own w conjunct) (m + 1) =
       step.env
@@ -259,7 +262,8 @@ module _ (w : Scene) (conjunct : Conjunct) (old : WatchState) (is : IsWatchTo w 
       record {
         here = subst (λ (p : ℕ). p < length w.state.places) (sym process) here;
         line = ap (λ (l : List Bool). record { process = old.line.process; truths = l })
-            (own_is.truths ∙ ap (λ (n : ℕ). truths_along (tree_of old.expr) (start w (conjunct_in old)) (take n (own w (conjunct_in old)))) count
+            (own_is.truths
+            ∙ ap (λ (n : ℕ). truths_along (tree_of old.expr) (start w (conjunct_in old)) (take n (own w (conjunct_in old)))) count
             ∙ ap (truths_along (tree_of old.expr) (start w (conjunct_in old))) (take_all k (own w (conjunct_in old)) (omega arith)));
         env = own_is.env ∙ ap (past_of (start w (conjunct_in old)) (own w (conjunct_in old))) count;
       }

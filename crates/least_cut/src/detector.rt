@@ -68,11 +68,7 @@ fn watches_of(
     ensures conjuncts { IfOk result (λ watches. map (λ watch. conjunct_in watch.state) watches.items ≡ map conjunct_of conjuncts) }
 {
     let mut watches = Vec::new(alloc);
-    for (conjunct, truths) in conjuncts
-        .into_items()
-        .into_iter()
-        .zip(scan.into_lines())
-    {
+    for (conjunct, truths) in conjuncts.into_items().into_iter().zip(scan.into_lines()) {
         watches.push(Watch::new(conjunct, truths, world)?)?;
     }
     Ok(watches)

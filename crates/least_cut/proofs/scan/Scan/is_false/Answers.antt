@@ -1,4 +1,4 @@
-use Rattle.std.proofs.Common.{ℕ, List, map, sym, ap, ◌∙◌}
+use Rattle.std.proofs.Common.{List, map, sym, ap, ◌∙◌}
 use Rattle.least_cut.specs.Watches.{TruthsState}
 use Rattle.least_cut.proofs.Each.{found, none_more, none_left}
 use Rattle.least_cut.proofs.Truths.{is_false_at}

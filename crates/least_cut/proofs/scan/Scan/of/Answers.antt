@@ -2,7 +2,6 @@ use Rattle.std.proofs.Common.{List, map, ap, ◌∙◌, take_all}
 use Rattle.dbg_base.specs.declared.call.Conjunct.{Conjunct}
 use Rattle.dbg_base.specs.Calls.{conjunct_of}
 use Rattle.least_cut.specs.Watches.{scan_of}
-use Rattle.least_cut.proofs.Truths.{scanned_more}
 use Rattle.least_cut.proofs.scan.Scan.of.Goals as goal
 
 pub returns : goal.returns
