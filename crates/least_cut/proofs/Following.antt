@@ -14,10 +14,6 @@ module _ (w : Scene) (old : WatchState) (some : IsSomeWorld w) (was : WasWatchOf
   here : old.line.process < length w.state.places
   here = omega (arith, was.2.here, same_places was.0 w was.1 some was.3)
 
-  -- the process is there
-  pub is_here : p < length w.state.places
-  is_here = omega (arith, here, same)
-
   counted : length (get_or w.events old.line.process []) ≡ place
   counted = events_placed w old.line.process some here ∙ ap (place_at w.state) (sym same) ∙ sym placed
 
