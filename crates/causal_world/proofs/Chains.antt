@@ -109,7 +109,7 @@ pub record IsFront (H F : History) : Type 0 where
   pub size : length F ≡ length H
   pub lines : (q : ℕ) → (more : List ℕ) × (get_or H q [] ≡ get_or F q [] ++ more)
 
-front_without : (H : History) (p : ℕ) → 0 < length (get_or H p []) → IsFront H (without_last H p)
+pub front_without : (H : History) (p : ℕ) → 0 < length (get_or H p []) → IsFront H (without_last H p)
 front_without H p some =
     let B : History = without_last H p in
     let within = within_without H p some in
@@ -124,7 +124,7 @@ front_without H p some =
           (cases_eq p q);
     }
 
-front_both : (H F G : History) → IsFront H F → IsFront F G → IsFront H G
+pub front_both : (H F G : History) → IsFront H F → IsFront F G → IsFront H G
 front_both H F G a b = record {
   size = b.size ∙ a.size;
   lines = λ q.
@@ -145,7 +145,7 @@ front_after P H (p ∷ undos) permitted =
 abbrev pub cut_of : History → List ℕ
 cut_of F = map (λ (line : List ℕ). length line) F
 
-count_at : (F : History) (q : ℕ) → get_or (cut_of F) q 0 ≡ length (get_or F q [])
+pub count_at : (F : History) (q : ℕ) → get_or (cut_of F) q 0 ≡ length (get_or F q [])
 count_at [] q = refl
 count_at (line ∷ F) zero = refl
 count_at (line ∷ F) (suc q) = count_at F q

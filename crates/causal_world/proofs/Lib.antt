@@ -35,6 +35,7 @@ pub mod ClockRows
 pub mod KindsOf
 pub mod Pasts
 pub mod RollingBack
+pub mod Owns
 pub mod Looking
 pub mod Behind
 pub mod Reversing

@@ -34,7 +34,7 @@ set_below (n ∷ tuple) zero to (suc q) bound new old = old
 set_below (n ∷ tuple) (suc p) to zero bound new old = old
 set_below (n ∷ tuple) (suc p) to (suc q) bound new old = set_below tuple p to q bound (λ e. new (ap (λ (x : ℕ). suc x) e)) old
 
-none_at : (n p : ℕ) → let zero_row : List ℕ = replicate n 0 in ◌≡◌ {A = ℕ} (get_or zero_row p 0) 0
+pub none_at : (n p : ℕ) → let zero_row : List ℕ = replicate n 0 in ◌≡◌ {A = ℕ} (get_or zero_row p 0) 0
 none_at zero p = refl
 none_at (suc n) zero = refl
 none_at (suc n) (suc p) = none_at n p
@@ -206,7 +206,7 @@ reach_sum P H conjuncts tuple (step ∷ steps) sound size =
     sum_by-set (λ x. x) tuple step.pid.0 step.to 0 (omega arith) in
     omega arith
 
-most_sum : (tuple : List ℕ) (H : History) → length tuple ≡ length H → ((p : ℕ) → get_or tuple p 0 ≤ choices_at H p + 1)
+pub most_sum : (tuple : List ℕ) (H : History) → length tuple ≡ length H → ((p : ℕ) → get_or tuple p 0 ≤ choices_at H p + 1)
     → sum tuple ≤ most_steps H
 most_sum [] [] size within = omega arith
 most_sum [] (choices ∷ H) size within = omega arith

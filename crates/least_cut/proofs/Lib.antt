@@ -1,6 +1,13 @@
-pub mod Truths
 pub mod Each
+pub mod Truths
 pub mod Watched
 pub mod Following
 pub mod Dropping
 pub mod Pairing
+pub mod Meanings
+pub mod Telling
+pub mod Trails
+pub mod Steps
+pub mod Moving
+pub mod Growing
+pub mod Checked

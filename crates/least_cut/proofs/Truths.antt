@@ -1,11 +1,9 @@
 -- Where a conjunct is true along the events of a process, and what is kept of it as events are made and taken back.
-use Rattle.std.proofs.Common.{◌≡◌, ℕ, zero, suc, ◌+◌, ◌-◌, ◌<◌, ◌≤◌, ℤ, ◌⊎◌, Bool, true, List, [], ◌∷◌, ◌++◌, length, get_or, set, take}
-use Rattle.std.proofs.Common.{Some, None}
+use Rattle.std.proofs.Common.{◌≡◌, ℕ, zero, suc, ◌+◌, ◌-◌, ◌<◌, ◌≤◌, ℤ, Bool, true, List, [], ◌∷◌, ◌++◌, length, get_or, set, take, Some, None}
 use Rattle.std.proofs.Common.{refl, sym, ap, ◌∙◌, subst, ⊎_elim, arith, take_all, Option, map}
 use Rattle.std.specs.Prelude.{◌&&◌, ◌==◌, not, nat_le, slice_get}
 use Rattle.std.proofs.lemmas.List.{length-set, length-take-le}
 use Rattle.std.proofs.lemmas.Option.{slice_get_cases}
-use Rattle.dbg_base.specs.declared.call.Conjunct as code
 use Rattle.dbg_base.specs.Trees.{Tree, tree_of}
 use Rattle.dbg_base.specs.LocalStates.{LocalState, no_state}
 use Rattle.dbg_base.specs.Firing.{set_all}

@@ -1,6 +1,6 @@
 -- What contracts see of a detector, and what it is of a world.
-use Rattle.std.specs.Prelude.{◌≡◌, ℕ, ◌+◌, ◌-◌, ◌<◌, ◌≤◌, ◌⊎◌, ◌&&◌, ◌==◌, Bool, List, [], length, map, take, nat_le, slice_index}
-use Rattle.std.specs.Prelude.{slice_index_or, slice_set}
+use Rattle.std.specs.Prelude.{◌≡◌, ℕ, ◌+◌, ◌<◌, ◌≤◌, ◌⊎◌, ◌&&◌, ◌==◌, Bool, List, [], length, map, take, nat_le, slice_index}
+use Rattle.std.specs.Prelude.{if◌then◌else◌, slice_index_or, slice_set}
 use Rattle.std.specs.List.{AllByRecursion, list_any}
 use Rattle.dbg_base.specs.declared.elimination.Elimination.{Elimination}
 use Rattle.dbg_base.specs.Trees.{Program}
@@ -10,10 +10,11 @@ use Rattle.dbg_base.specs.Reversal.{without_last}
 use Rattle.dbg_base.specs.ModelStates.{place_at, history_of}
 use Rattle.dbg_base.specs.Predicates.{Conjunct}
 use Rattle.dbg_base.specs.declared.said.Head.{Head}
+use Rattle.dbg_base.specs.declared.said.Head.TheVariants.{At, Past}
 use Rattle.dbg_base.specs.Frontiers.{IsFrontier, heads_of}
 use Rattle.dbg_base.specs.Eliminations.{reach_from}
 use Rattle.causal_world.specs.Scenes.{Scene, IsWorldOf}
-use Rattle.least_cut.specs.Watches.{TruthLine, WatchState, WatchRoom, conjunct_in, IsWatchOf, WasWatchOf}
+use Rattle.least_cut.specs.Watches.{TruthLine, WatchState, WatchRoom, conjunct_in, IsWatchOf}
 use Rattle.least_cut.specs.Searches.{IsTrailFrom, IsSettledAt, none_of, steps_up_to}
 
 -- its conjuncts as they are watched, a candidate for each process, and the eliminations that led to them; and how many of these there
@@ -79,6 +80,10 @@ pub record GoesOn (w : Scene) (old new : DetectorState) : Type 0 where
 -- No process that is named by a conjunct has as many events as these, as far as it is known.
 abbrev pub is_past_in : List TruthLine → ℕ → ℕ → Bool
 is_past_in lines p n = list_any (λ line. (line.process == p) && nat_le (length line.truths) n) lines
+
+-- a component as it is told where so much is known
+abbrev pub told_head : List TruthLine → ℕ → ℕ → Head
+told_head lines p n = if is_past_in lines p n then Past else At n
 
 -- What is known of the conjuncts is that of the world, and all else stayed.
 pub record Watches (w : Scene) (old new : DetectorState) : Type 0 where

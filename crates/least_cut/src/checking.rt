@@ -23,7 +23,12 @@ fn is_due(world: &World, scan: &Scan, candidates: &Cut, step: &Elimination) -> b
     requires { IsSomeWorld world.now }
     ensures { IsTrue result ↔ IsDue world.now scan.now candidates.now step.now.pid.0 step.now.from step.now.to step.now.cause }
 {
-    let Elimination { pid, from, to, cause } = *step;
+    let Elimination {
+        pid,
+        from,
+        to,
+        cause,
+    } = *step;
     match cause {
         Cause::FalseAt => scan.is_false(pid, from) && from.checked_add(1) == Some(to),
         Cause::Passed(by, event) => {

@@ -17,7 +17,7 @@ ghost use Rattle.least_cut.specs.Searches as model;
 ghost use Rattle.least_cut.specs.Searches.{is_false_in};
 ghost use Rattle.least_cut.specs.Detectors.{conjuncts_of, lines_of, is_past_in, one_more, AreWatchesOf, HasTruthRoom, HasRoomUpTo};
 ghost use Rattle.least_cut.specs.Detectors.{IsSearchOf, IsDetectorOf, IsGrown, IsShrunk, IsMoved, IsSameButRoom, DropsTo, IsLimit};
-ghost use Rattle.least_cut.specs.Detectors.{Watches, TellsFrontier, AreRoomier, AreWatched};
+ghost use Rattle.least_cut.specs.Detectors.{Watches, TellsFrontier, AreRoomier, AreWatched, told_head};
 
 mod search;
 
@@ -277,7 +277,10 @@ impl Detector {
         ensures conjuncts { conjuncts_of self.new ≡ conjuncts_of self.old }
     {
         self.watch(world, pid);
-        if self.candidate(pid) == world.place(pid) && self.settle(world, pid) {
+        if self.candidate(pid) != world.place(pid) {
+            return;
+        }
+        if self.settle(world, pid) {
             self.run(world);
         }
     }
@@ -324,6 +327,19 @@ impl Detector {
         Some(&self.candidates)
     }
 
+    // The component of a process as it is told: this count, or that it is past.
+    fn head(&self, p: usize, n: u32) -> Head
+        ensures { result ≡ told_head (lines_of self.now) p n }
+    {
+        for watch in &self.watches {
+            let pid = watch.pid();
+            if pid.0 as usize == p && watch.is_past(pid, n) {
+                return Head::Past;
+            }
+        }
+        Head::At(n)
+    }
+
     /// The frontier: for each process its candidate, or that it is past. It is refused only as `Memory`, where that runs out.
     pub fn frontier(&self, alloc: Global) -> Result<Sequence<Head>, Refusal>
         ensures frontier { IfOk result (λ heads. (w : Scene) (P : tree.Program) → IsDetectorOf w self.now → IsWorldOf P w
@@ -332,12 +348,7 @@ impl Detector {
     {
         let mut heads = Vec::new(alloc);
         for (p, count) in self.candidates.counts().iter().enumerate() {
-            let head = if self.is_past(Pid(p as u32), *count) {
-                Head::Past
-            } else {
-                Head::At(*count)
-            };
-            heads.push(head)?;
+            heads.push(self.head(p, *count))?;
         }
         Ok(Sequence::new(heads))
     }

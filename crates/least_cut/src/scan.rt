@@ -1,7 +1,8 @@
 //! Where conjuncts are true.
 
-ghost use Rattle.std.specs.Prelude.{◌≡◌, ◌<◌, ◌≤◌, ◌++◌, ◌∷◌, [], true, not, ◌&&◌, ◌==◌, length, map, take, IfOk, OnOk};
+ghost use Rattle.std.specs.Prelude.{◌≡◌, ◌<◌, ◌≤◌, ◌++◌, ◌∷◌, [], true, not, ◌&&◌, ◌==◌, length, map, take, IfOk, IfErr, OnOk};
 ghost use Rattle.std.specs.Prelude.{slice_index_or};
+ghost use Rattle.dbg_base.specs.declared.refusal.Refusal.TheVariants.{Memory};
 ghost use Rattle.dbg_base.specs.Calls.{conjunct_of};
 ghost use Rattle.least_cut.specs.Watches.{truth_line, scan_of};
 ghost use Rattle.least_cut.specs.Searches.{is_false_in};
@@ -34,7 +35,8 @@ impl Model for Truths {
 impl Truths {
     // Where the conjunct is true in the world. It is refused only as `Memory`, where that runs out.
     fn of(alloc: Global, world: &World, conjunct: &Conjunct) -> Result<Truths, Refusal>
-        ensures { IfOk result (λ made. made.line ≡ truth_line world.now (conjunct_of conjunct.now)) }
+        ensures line { IfOk result (λ made. made.line ≡ truth_line world.now (conjunct_of conjunct.now)) }
+        ensures refuses { IfErr result (λ refusal. refusal ≡ Memory) }
     {
         let truths = world.rows().truths(alloc, conjunct.pid, &conjunct.expr)?;
         Ok(Truths {
@@ -116,7 +118,8 @@ impl Scan {
     /// Evaluates each conjunct in each local state of its process, which is there. One that faults is not true. It is refused only as
     /// `Memory`, where that runs out.
     pub fn of(alloc: Global, world: &World, conjuncts: &[Conjunct]) -> Result<Scan, Refusal>
-        ensures { IfOk result (λ scan. scan ≡ scan_of world.now (map conjunct_of conjuncts.now)) }
+        ensures scan { IfOk result (λ scan. scan ≡ scan_of world.now (map conjunct_of conjuncts.now)) }
+        ensures refuses { IfErr result (λ refusal. refusal ≡ Memory) }
     {
         let mut lines = Vec::new(alloc);
         for conjunct in conjuncts {
