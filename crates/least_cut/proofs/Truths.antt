@@ -1,6 +1,6 @@
 -- Where a conjunct is true along the events of a process, and what is kept of it as events are made and taken back.
-use Rattle.std.proofs.Common.{◌≡◌, ℕ, zero, suc, ◌+◌, ◌-◌, ◌<◌, ◌≤◌, ℤ, Bool, true, List, [], ◌∷◌, ◌++◌, length, get_or, set, take, Some, None}
-use Rattle.std.proofs.Common.{refl, sym, ap, ◌∙◌, subst, ⊎_elim, arith, take_all, Option, map}
+use Rattle.std.proofs.Common.{◌≡◌, ℕ, zero, suc, ◌+◌, ◌-◌, ◌<◌, ◌≤◌, ℤ, Bool, true, List, [], ◌∷◌, ◌++◌, length, get_or, set, take}
+use Rattle.std.proofs.Common.{refl, sym, ap, ◌∙◌, subst, ⊎_elim, arith, take_all, Option, Some, None, map}
 use Rattle.std.specs.Prelude.{◌&&◌, ◌==◌, not, nat_le, slice_get}
 use Rattle.std.proofs.lemmas.List.{length-set, length-take-le}
 use Rattle.std.proofs.lemmas.Option.{slice_get_cases}

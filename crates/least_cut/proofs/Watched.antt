@@ -9,7 +9,8 @@ use Rattle.dbg_base.specs.ModelStates.{place_at}
 use Rattle.causal_world.specs.Scenes.{Scene}
 use Rattle.causal_world.specs.Worlds.{IsSomeWorld}
 use Rattle.least_cut.specs.Watches.{WatchRoom, WatchState, conjunct_in, IsWatchOf}
-use Rattle.least_cut.specs.Detectors.{DetectorState, HasTruthRoom, AreRoomier, AreWatched, AreWatchesOf, IsSameButRoom, is_past_in, one_more}
+use Rattle.least_cut.specs.Detectors.{DetectorState, HasTruthRoom, AreRoomier, AreWatched, AreWatchesOf, IsSameButRoom, is_past_in}
+use Rattle.least_cut.specs.Detectors.{one_more}
 use Rattle.least_cut.proofs.Each.{Became, same_map, all_at, all_from}
 use Rattle.least_cut.proofs.Truths.{truths_counted, events_placed}
 
