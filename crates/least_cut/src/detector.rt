@@ -69,11 +69,7 @@ fn watches_of(
     ensures refuses { IfErr result (λ refusal. refusal ≡ Memory) }
 {
     let mut watches = Vec::new(alloc);
-    for (conjunct, truths) in conjuncts
-        .into_items()
-        .into_iter()
-        .zip(scan.into_lines())
-    {
+    for (conjunct, truths) in conjuncts.into_items().into_iter().zip(scan.into_lines()) {
         watches.push(Watch::new(conjunct, truths, world)?)?;
     }
     Ok(watches)

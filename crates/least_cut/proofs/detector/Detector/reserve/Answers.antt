@@ -14,7 +14,8 @@ returns-in_err-reserve_at-clause-same c =
 
 pub returns-clause-same : goal.returns-clause-same
 returns-clause-same c =
-    rw (← c.self.view_is) (same_but_room _ _ c.reserve_at.ensures.each refl c.reserve.ensures.items (omega (arith, c.reserve.ensures.capacity)))
+    rw (← c.self.view_is) (same_but_room _ _ c.reserve_at.ensures.each refl c.reserve.ensures.items
+    (omega (arith, c.reserve.ensures.capacity)))
 
 pub returns-clause-ok : goal.returns-clause-ok
 returns-clause-ok c =
