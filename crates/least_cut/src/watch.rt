@@ -45,7 +45,6 @@ impl Watch {
         requires line { truths.line ≡ truth_line world.now (conjunct_of conjunct) }
         ensures of { IfOk result (λ watch. IsWatchOf world.now watch.state) }
         ensures conjunct { IfOk result (λ watch. conjunct_in watch.state ≡ conjunct_of conjunct) }
-        ensures room { IfOk result (λ watch. length watch.state.line.truths ≤ watch.room) }
         ensures refuses { IfErr result (λ refusal. refusal ≡ Memory) }
     {
         let Conjunct { pid, expr } = conjunct;
