@@ -1,5 +1,6 @@
 -- The own component of a clock.
-use Rattle.std.proofs.Common.{◌≡◌, ◌≢◌, ℕ, zero, suc, ◌-◌, ◌<◌, ◌≤◌, List, [], ◌∷◌, length, get_or, take, replicate, refl, sym, ap, ◌∙◌, arith, ⊎_elim, subst}
+use Rattle.std.proofs.Common.{◌≡◌, ◌≢◌, ℕ, zero, suc, ◌-◌, ◌<◌, ◌≤◌, List, [], ◌∷◌, length, get_or, take, replicate}
+use Rattle.std.proofs.Common.{refl, sym, ap, ◌∙◌, arith, ⊎_elim, subst}
 use Rattle.std.proofs.lemmas.Bool.{cases_eq, cases_lt}
 use Rattle.std.proofs.lemmas.List.{length-replicate, get_or-set_same, get_or-set_other, length-take-le}
 use Rattle.dbg_base.specs.Trees.{Program}
@@ -77,5 +78,5 @@ own_part P H q n cut all is inside =
     let stop = stops P H q n led.undos all led.permitted inside (let size = ap (λ (l : List ℕ). length l) left in omega (arith, size)) in
     let reaches = is.reaches in
     let least = is.least (cut_of stop.history) (front_consistent P H stop.history stop.possible stop.front)
-        (omega (arith, count_at stop.history q, stop.count)) q in
+    (omega (arith, count_at stop.history q, stop.count)) q in
     omega (arith, reaches, least, count_at stop.history q, stop.count)

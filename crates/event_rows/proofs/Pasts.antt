@@ -41,7 +41,6 @@ module _ (start : LocalState) (events : List EventValue) where
       ∙ one_truth_more tree start (take i events) event
       ∙ ap (λ (s : LocalState). truths_along tree start (take i events) ++ holds tree s ∷ []) (sym (past_more i event lt here))
 
-
 put_back_last : (settings : List Setting) (s : Setting) (values : List ℤ)
     → put_back values (settings ++ s ∷ []) ≡ put_back (set values s.variable s.old) settings
 put_back_last [] s values = refl

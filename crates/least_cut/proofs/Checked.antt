@@ -6,7 +6,7 @@ use Rattle.std.proofs.lemmas.Bool.{ltb-true, lt-ltb}
 use Rattle.std.proofs.lemmas.List.{take_more}
 use Rattle.dbg_base.specs.declared.elimination.Elimination.{Elimination}
 use Rattle.dbg_base.specs.declared.elimination.Cause.{Cause}
-use Rattle.dbg_base.specs.declared.elimination.Cause.TheVariants.{FalseAt, Passed}
+use Rattle.dbg_base.specs.declared.elimination.Cause.TheVariants.{Passed}
 use Rattle.dbg_base.specs.declared.ids.Pid.{Pid}
 use Rattle.dbg_base.specs.Eliminations.{eliminated, reach_from, IsSoundFrom, IsSound}
 use Rattle.dbg_base.specs.ModelStates.{place_at, history_of}

@@ -17,7 +17,8 @@ use Rattle.causal_world.proofs.Earlier.{earlier_world}
 use Rattle.causal_world.proofs.Remembered.{events_numbered}
 use Rattle.least_cut.specs.Watches.{TruthLine, WatchState, WatchRoom, conjunct_in, scan_of, IsWatchOf, AreAlong}
 use Rattle.least_cut.specs.Searches.{IsSettledAt}
-use Rattle.least_cut.specs.Detectors.{DetectorState, conjuncts_of, lines_of, AreWatchesOf, HasRoomUpTo, IsSearchOf, IsDetectorOf, GoesOn, DropsTo, Watches, IsLimit}
+use Rattle.least_cut.specs.Detectors.{DetectorState, conjuncts_of, lines_of, AreWatchesOf, HasRoomUpTo, IsSearchOf}
+use Rattle.least_cut.specs.Detectors.{IsDetectorOf, GoesOn, DropsTo, Watches, IsLimit}
 use Rattle.least_cut.specs.Detectors.{WasOf}
 use Rattle.least_cut.proofs.Meanings.{IsHere, choices_placed}
 use Rattle.least_cut.proofs.Telling.{all_here, lines_same}
@@ -134,7 +135,10 @@ others_kept v w p kept (watch ∷ watches) all = (kept watch.state all.0, others
 pub limit_less : (v w : Scene) (p m n : ℕ) → m ≤ n → IsLimit v w p n → IsLimit v w p m
 limit_less v w p m n le limit = record {
   most = (let most = limit.most in omega (arith, most, le));
-  kept = ⊎_elim (λ (few : n ≤ place_at w.state p). inl (omega (arith, few, le))) (λ (kept : place_at v.state p ≤ place_at w.state p). inr kept)
+  kept =
+      ⊎_elim
+      (λ (few : n ≤ place_at w.state p). inl (omega (arith, few, le)))
+      (λ (kept : place_at v.state p ≤ place_at w.state p). inr kept)
       limit.kept;
 }
 
@@ -219,7 +223,8 @@ module _ (P : Program) (v w : Scene) (p : ℕ) (d new : DetectorState) (was : Wa
 -- A process has lost its last event.
 
 module _ (P : Program) (v w : Scene) (p limit : ℕ) (d dropped new : DetectorState) (was : WasOf P v d w)
-    (one : history_of w.state ≡ without_last (history_of v.state) p) (limits : IsLimit v w p limit) (drops : DropsTo p limit d dropped) where
+    (one : history_of w.state ≡ without_last (history_of v.state) p) (limits : IsLimit v w p limit)
+    (drops : DropsTo p limit d dropped) where
   left : IsSearchOf v dropped
   left = drops.search v was.detector.search
 

@@ -37,14 +37,16 @@ use Rattle.least_cut.specs.Detectors.{Begins}
 -- The local states that both worlds have.
 
 module _ (P : Program) (v w : Scene) (of : IsWorldOf P v) (other : IsWorldOf P w) (earlier : IsEarlier v w) where
-  same_truth : (conjunct : Conjunct) (n : ℕ) → IsHere v conjunct → n ≤ place_at v.state conjunct.process → n ≤ place_at w.state conjunct.process
+  same_truth : (conjunct : Conjunct) (n : ℕ) → IsHere v conjunct → n ≤ place_at v.state conjunct.process
+      → n ≤ place_at w.state conjunct.process
       → get_or (truth_line w conjunct).truths n true ≡ get_or (truth_line v conjunct).truths n true
   same_truth conjunct n here old new =
       let p = conjunct.process in
       let expression = conjunct.expression in
       let inside : p < length P = omega (arith, here, of.state.places) in
       let few : n ≤ length (get_or v.events p []) = omega (arith, old, events_numbered P v p of inside) in
-      let same : past_of (get_or w.starts p no_state) (get_or w.events p []) n ≡ past_of (get_or v.starts p no_state) (get_or v.events p []) n =
+      let same : past_of (get_or w.starts p no_state) (get_or w.events p []) n
+      ≡ past_of (get_or v.starts p no_state) (get_or v.events p []) n =
       ap (λ (l : List LocalState). past_of (get_or l p no_state) (get_or w.events p []) n) (sym earlier.starts)
       ∙ ap (λ (l : List EventValue). after_events (get_or v.starts p no_state) l) (earlier.events p n few) in
       truth_there expression (get_or w.starts p no_state) (get_or w.events p []) n true
@@ -69,10 +71,10 @@ module _ (P : Program) (v w : Scene) (of : IsWorldOf P v) (other : IsWorldOf P w
     processes = of.state.places ∙ sym other.state.places;
     truths = λ p n old new. same_false p n conjuncts here old new;
     rows = λ p n there old new. earlier.clocks p n (
-      let few : p < length v.kinds = omega (arith, there, kinds_placed v (P, of), of.state.places, other.state.places) in
-      let size = of.clocks.sizes p few in
-      let counted = events_counted P v p of in
-      omega (arith, old, size, counted));
+        let few : p < length v.kinds = omega (arith, there, kinds_placed v (P, of), of.state.places, other.state.places) in
+        let size = of.clocks.sizes p few in
+        let counted = events_counted P v p of in
+        omega (arith, old, size, counted));
   }
 
 agree_back : (v w : Scene) (before after : List TruthLine) → Agree v w before after → Agree w v after before
@@ -88,7 +90,8 @@ pub agree_along : (P : Program) (v w : Scene) (conjuncts : List Conjunct) → Is
 agree_along P v w conjuncts of other here there along =
     ⊎_elim
     (λ (earlier : IsEarlier v w). agree_earlier P v w of other earlier conjuncts here)
-    (λ (later : IsEarlier w v). agree_back w v (scan_of w conjuncts) (scan_of v conjuncts) (agree_earlier P w v other of later conjuncts there))
+    (λ (later : IsEarlier w v). agree_back w v (scan_of w conjuncts) (scan_of v conjuncts)
+    (agree_earlier P w v other of later conjuncts there))
     along
 
 -- Room.
@@ -103,17 +106,19 @@ rooms_kept places (watch ∷ new) (was ∷ old) conjuncts rooms all =
     let process : watch.state.line.process ≡ was.state.line.process =
     ap (λ (l : List Conjunct). (get_or l 0 (conjunct_in watch.state)).process) conjuncts in
     let room : watch.room ≡ was.room = ap (λ (l : List ℕ). get_or l 0 watch.room) rooms in
-    let enough = all.0 in
-    (let own : HasTruthRoom places watch = omega (arith, enough, room, ap (λ (p : ℕ). get_or places p 0) process) in own,
-    rooms_kept places new old (ap (λ (l : List Conjunct). drop 1 l) conjuncts) (ap (λ (l : List ℕ). drop 1 l) rooms) all.1)
+    let enough = all.0 in (
+      let own : HasTruthRoom places watch = omega (arith, enough, room, ap (λ (p : ℕ). get_or places p 0) process) in own,
+      rooms_kept places new old (ap (λ (l : List Conjunct). drop 1 l) conjuncts) (ap (λ (l : List ℕ). drop 1 l) rooms) all.1,
+    )
 
 less_truths : (less places : List ℕ) (watches : List WatchRoom) → ((p : ℕ) → get_or less p 0 ≤ get_or places p 0)
     → AllByRecursion (HasTruthRoom places) watches → AllByRecursion (HasTruthRoom less) watches
 less_truths less places [] most all = tt
-less_truths less places (watch ∷ watches) most all =
-    (let le = most watch.state.line.process in let enough = all.0 in
-    let own : HasTruthRoom less watch = omega (arith, le, enough) in own,
-    less_truths less places watches most all.1)
+less_truths less places (watch ∷ watches) most all = (
+  let le = most watch.state.line.process in let enough = all.0 in
+      let own : HasTruthRoom less watch = omega (arith, le, enough) in own,
+  less_truths less places watches most all.1,
+)
 
 less_steps : (less places : List ℕ) → length less ≡ length places → ((p : ℕ) → get_or less p 0 ≤ get_or places p 0)
     → steps_up_to less ≤ steps_up_to places

@@ -1,5 +1,6 @@
 -- A detector's search, as its candidates go on.
-use Rattle.std.proofs.Common.{◌≡◌, ◌≢◌, ℕ, suc, ◌+◌, ◌<◌, ◌≤◌, min, List, [], ◌∷◌, ◌++◌, length, map, get_or, set, sum, refl, sym, ap, ◌∙◌, subst, arith}
+use Rattle.std.proofs.Common.{◌≡◌, ◌≢◌, ℕ, suc, ◌+◌, ◌<◌, ◌≤◌, min, List, [], ◌∷◌, ◌++◌, length, map, get_or, set, sum}
+use Rattle.std.proofs.Common.{refl, sym, ap, ◌∙◌, subst, arith}
 use Rattle.std.proofs.lemmas.List.{length-replicate, length_push, get_or-set_same, get_or-set_other}
 use Rattle.std.proofs.lemmas.List.Sums.{sum_by-cons, sum_by-set}
 use Rattle.std.specs.List.{AllByRecursion}
@@ -64,14 +65,14 @@ module _ (w : Scene) (d : DetectorState) (some : IsSomeWorld w) (is : IsSearchOf
   pub candidates_sum : sum d.candidates ≤ steps_up_to w.state.places
   candidates_sum =
       let most = most_sum d.candidates H (candidates_sized w d is ∙ sym (processes_counted P w of))
-          (λ p. (let le = candidates_within p in omega (arith, le, choices_placed P w of p))) in
+      (λ p. (let le = candidates_within p in omega (arith, le, choices_placed P w of p))) in
       omega (arith, most, same_steps P w of)
 
   -- there is room for a step more
   pub has_room : (step : Elimination) → IsStep w (lines_of d) d.candidates step → length d.trail < d.trail_room
   has_room step may =
       let more = trail_push w (lines_of d) (none_of w) d.trail step is.sound
-          (subst (λ (tuple : List ℕ). IsStep w (lines_of d) tuple step) (sym is.reached) may) in
+      (subst (λ (tuple : List ℕ). IsStep w (lines_of d) tuple step) (sym is.reached) may) in
       let few = few_steps P H all (d.trail ++ step ∷ []) (sound_of (d.trail ++ step ∷ []) more) in
       let room = is.room.trail in
       omega (arith, few, same_steps P w of, room, length_push d.trail step)
@@ -97,7 +98,7 @@ pub steps_on : (w : Scene) (old new : DetectorState) (step : Elimination) → Is
 steps_on w old new step is may watches candidates trail room =
     let lines : lines_of new ≡ lines_of old = ap (λ (l : List WatchRoom). map (λ watch. watch.state.line) l) watches in
     let more = trail_push w (lines_of old) (none_of w) old.trail step is.sound
-        (subst (λ (tuple : List ℕ). IsStep w (lines_of old) tuple step) (sym is.reached) may) in
+    (subst (λ (tuple : List ℕ). IsStep w (lines_of old) tuple step) (sym is.reached) may) in
     record {
       search = record {
         watches = subst (AreWatchesOf w) (sym watches) is.watches;
@@ -164,10 +165,10 @@ module _ (w : Scene) (d : DetectorState) (some : IsSomeWorld w) (q p : Pid) (eve
   passes_part new size set_is =
       let apart : q.0 ≢ p.0 =
       λ same.
-          let own = row_own w some q.0 event here inside in
-          let mine : to ≡ event = part ∙ ap (λ (x : ℕ). get_or (row_at w.clocks q.0 event) x 0) (sym same) ∙ own in
-          let component : from ≡ get_or d.candidates q.0 0 = was ∙ ap (λ (x : ℕ). get_or d.candidates x 0) (sym same) in
-          omega (arith, mine, component, is, more) in
+      let own = row_own w some q.0 event here inside in
+      let mine : to ≡ event = part ∙ ap (λ (x : ℕ). get_or (row_at w.clocks q.0 event) x 0) (sym same) ∙ own in
+      let component : from ≡ get_or d.candidates q.0 0 = was ∙ ap (λ (x : ℕ). get_or d.candidates x 0) (sym same) in
+      omega (arith, mine, component, is, more) in
       record {
         part =
             let at_p : get_or new p.0 0 ≡ to =

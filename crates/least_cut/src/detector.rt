@@ -75,7 +75,7 @@ fn watches_of(
     Ok(watches)
 }
 
-/// The most eliminations that there can be where the processes have so many events, or None where that is no number.
+// The most eliminations that there can be where the processes have so many events, or None where that is no number.
 fn steps_up_to(counts: &[u32]) -> Option<usize>
     ensures { IfSome result (λ steps. steps ≡ model.steps_up_to counts.now) }
 {

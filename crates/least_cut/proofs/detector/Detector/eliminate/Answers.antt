@@ -12,7 +12,7 @@ set-requires c =
 pub push_reserved-requires : goal.push_reserved-requires
 push_reserved-requires c =
     let room = rw (← c.self.view_is) at
-        (has_room c.args.world.now c.args.self.now c.requires.world c.requires.search c.args.step c.requires.step) in
+    (has_room c.args.world.now c.args.self.now c.requires.world c.requires.search c.args.step c.requires.step) in
     (search rules)
 
 pub returns-clause-on : goal.returns-clause-on

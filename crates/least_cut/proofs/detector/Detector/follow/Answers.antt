@@ -2,12 +2,11 @@ use Rattle.std.proofs.Common.{◌≡◌, ◌≢◌, ℕ, ◌<◌, ◌≤◌, Lis
 use Rattle.std.specs.List.{AllByRecursion}
 use Rattle.std.proofs.lemmas.Bool.{cases_eq, cases_lt}
 use Rattle.cut_core.specs.declared.kind.Kind.{Kind}
-use Rattle.causal_world.specs.Scenes.{Scene}
 use Rattle.causal_world.proofs.Looking.{kinds_placed}
 use Rattle.dbg_base.specs.Predicates.{Conjunct}
 use Rattle.least_cut.specs.Watches.{WatchRoom, conjunct_in}
 use Rattle.least_cut.specs.Searches.{steps_up_to}
-use Rattle.least_cut.specs.Detectors.{AreWatchesOf, HasTruthRoom, HasRoomUpTo, IsSearchOf, IsLimit}
+use Rattle.least_cut.specs.Detectors.{HasTruthRoom, IsSearchOf, IsLimit}
 use Rattle.least_cut.proofs.Steps.{candidates_sized}
 use Rattle.least_cut.proofs.Moving.{along_of, limit_past, moved_search, were_watches}
 use Rattle.least_cut.proofs.Growing.{limit_less}

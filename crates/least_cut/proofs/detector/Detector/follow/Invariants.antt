@@ -1,5 +1,4 @@
 use Rattle.std.proofs.Common.{◌≡◌, ℕ, ◌<◌, slice_index}
-use Rattle.dbg_base.specs.Cuts.{IsAtMost}
 use Rattle.causal_world.specs.Scenes.{Scene}
 use Rattle.causal_world.specs.Worlds.{IsSomeWorld}
 use Rattle.least_cut.specs.Detectors.{IsSearchOf, IsLimit}

@@ -12,7 +12,7 @@ pub run-requires-clause-search : goal.run-requires-clause-search
 run-requires-clause-search c =
     let w = c.args.world.now in
     let counted = c.processes.ensures ∙ ap (λ (l : List (List Kind)). length l) c.tally-tally.ensures.kinds
-        ∙ kinds_placed w c.tally-tally.ensures.world in
+    ∙ kinds_placed w c.tally-tally.ensures.world in
     let none : c.in_ok-vec.field-0.items ≡ replicate c.processes.result 0 = search rules in
     search_begins w _ c.reserve_to.new.self c.tally-tally.ensures.world c.in_ok-watches.ensures.of
     (c.new-candidates.ensures ∙ none ∙ ap (λ (n : ℕ). replicate n 0) counted) c.new.ensures.items

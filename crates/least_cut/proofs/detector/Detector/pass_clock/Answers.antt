@@ -39,7 +39,8 @@ loop-p-preserved c =
     let q = c.args.pid.0 in
     let new = c.pass_part.new.self.candidates in
     let clock : ℕ → List ℕ = λ n. row_at w.clocks q (min n (place_at w.state q)) in
-    let least : sum c.args.self.now.candidates ≤ sum c.loop-p.self.candidates = on_sum w c.args.self.now c.loop-p.self c.requires.search before.on in
+    let least : sum c.args.self.now.candidates ≤ sum c.loop-p.self.candidates =
+    on_sum w c.args.self.now c.loop-p.self c.requires.search before.on in
     let on = c.pass_part.ensures.on in
     let rest : sum c.loop-p.self.candidates ≤ sum new = on_sum w c.loop-p.self c.pass_part.new.self before.on.search on in
     record {

@@ -7,7 +7,8 @@ use Rattle.least_cut.proofs.detector.Detector.shrink.Goals as goal
 pub watch-requires-clause-was : goal.watch-requires-clause-was
 watch-requires-clause-was c =
     let g = c.requires.shrunk in
-    were_watches g.1 c.args.world.now c.drop_to.new.self.watches (g.0, g.2.of) (inr (one_earlier g.0 c.args.world.now g.1 c.args.pid.0 g.2.now g.2.of g.3))
+    were_watches g.1 c.args.world.now c.drop_to.new.self.watches (g.0, g.2.of)
+    (inr (one_earlier g.0 c.args.world.now g.1 c.args.pid.0 g.2.now g.2.of g.3))
     (subst (AreWatchesOf g.1) (sym c.drop_to.ensures.watches) g.2.detector.search.watches)
 
 pub watch-requires-clause-others : goal.watch-requires-clause-others
