@@ -6,3 +6,4 @@ mod Rows
 mod OrderRows
 pub mod Counted
 pub mod Searching
+mod SearchRows

@@ -45,7 +45,7 @@ consumer = record {
   } ∷ [];
 }
 
-abbrev system : Program
+abbrev pub system : Program
 system = counter ∷ consumer ∷ []
 
 -- a process with these values that knows of no other one
@@ -88,7 +88,7 @@ counter_enabled : lowest_enabled system (start_of system) 0 ≡ Some 0
 counter_enabled = refl
 
 -- the play of two counts and one receive
-abbrev two_and_one : List (List ℕ)
+abbrev pub two_and_one : List (List ℕ)
 two_and_one = (0 ∷ 0 ∷ []) ∷ (0 ∷ []) ∷ []
 
 plays_two_and_one : play system two_and_one ≡ record {
