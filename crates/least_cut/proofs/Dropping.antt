@@ -1,5 +1,6 @@
 -- The last elimination of a search is dropped.
-use Rattle.std.proofs.Common.{◌≡◌, ◌≢◌, ℕ, ◌+◌, ◌<◌, ◌≤◌, List, [], ◌∷◌, ◌++◌, length, get_or, set, refl, sym, ap, ◌∙◌, subst, ⊎_elim, arith}
+use Rattle.std.proofs.Common.{◌≡◌, ◌≢◌, ℕ, ◌+◌, ◌<◌, ◌≤◌, List, [], ◌∷◌, ◌++◌, length, get_or, set, refl, sym, ap, ◌∙◌, subst, ⊎_elim}
+use Rattle.std.proofs.Common.{arith}
 use Rattle.std.proofs.lemmas.Bool.{cases_eq}
 use Rattle.std.proofs.lemmas.List.{length-set, length-replicate, get_or-set_same, get_or-set_other, set-set, set-get_or}
 use Rattle.dbg_base.specs.declared.elimination.Elimination.{Elimination}
@@ -10,7 +11,7 @@ use Rattle.dbg_base.specs.Eliminations.{eliminated, reach_from}
 use Rattle.causal_world.specs.Scenes.{Scene}
 use Rattle.least_cut.specs.Watches.{WatchRoom, TruthLine}
 use Rattle.least_cut.specs.Searches.{IsDue, IsStep, IsTrailFrom, none_of}
-use Rattle.least_cut.specs.Detectors.{DetectorState, HasTruthRoom, HasRoomUpTo, IsSearchOf, AreWatchesOf, lines_of}
+use Rattle.least_cut.specs.Detectors.{DetectorState, HasTruthRoom, IsSearchOf, AreWatchesOf, lines_of}
 use Rattle.std.specs.List.{AllByRecursion}
 use Rattle.std.specs.Prelude.{map}
 
@@ -32,7 +33,8 @@ trail_last w lines tuple (first ∷ steps) step sound =
     ((sound.0, rest.0), rest.1)
 
 -- a step goes up
-step_up : (w : Scene) (lines : List TruthLine) (tuple : List ℕ) (p from to : ℕ) (cause : Cause) → IsDue w lines tuple p from to cause → from ≤ to
+step_up : (w : Scene) (lines : List TruthLine) (tuple : List ℕ) (p from to : ℕ) (cause : Cause)
+    → IsDue w lines tuple p from to cause → from ≤ to
 step_up w lines tuple p from to FalseAt due = omega (arith, due.1)
 step_up w lines tuple p from to (Passed q n) due = omega (arith, due.4)
 

@@ -57,9 +57,6 @@ pub record Became {A : Type 0} (R : A → A → Type 0) (old new : List A) (i : 
   pub others : (k : ℕ) (x : A) → i ≤ k → get_or new k x ≡ get_or old k x
 
 module _ {A : Type 0} (R : A → A → Type 0) where
-  pub became_none : (old : List A) → Became R old old 0
-  became_none old = record { len = refl; each = λ k x lt. absurd (omega arith); others = λ k x le. refl }
-
   -- one place more
   pub became_more : (old new : List A) (i : ℕ) (x y : A) → Became R old new i → x ≡ get_or new i x → i < length new
       → R x y → Became R old (set new i y) (i + 1)
@@ -74,25 +71,10 @@ module _ {A : Type 0} (R : A → A → Type 0) where
         (subst (λ (b : A). R x b)
         (sym (ap (λ (j : ℕ). get_or (set new j y) k z) same ∙ get_or-set_same new k y z there)) r))
         (λ (apart : i ≢ k).
-        subst (λ (b : A). R (get_or old k z) b) (sym (get_or-set_other new i k y z (λ e. apart (sym e)))) (is.each k z (omega (arith, apart)) within))
+        subst (λ (b : A). R (get_or old k z) b) (sym (get_or-set_other new i k y z (λ e. apart (sym e))))
+        (is.each k z (omega (arith, apart)) within))
         (cases_eq i k);
     others = λ k z le. get_or-set_other new i k y z (omega arith) ∙ is.others k z (omega arith);
-  }
-
-  -- where this place stays
-  pub became_same : (old new : List A) (i : ℕ) (x : A) → Became R old new i → x ≡ get_or new i x → i < length new → R x x
-      → Became R old new (i + 1)
-  became_same old new i x is here lt r = record {
-    len = is.len;
-    each = λ k z less within.
-        ⊎_elim
-        (λ (same : i ≡ k).
-        let at_new : x ≡ get_or new i z = here ∙ get_or_default new i x z lt in
-        subst (λ (j : ℕ). R (get_or old j z) (get_or new j z)) same
-        (subst (λ (a : A). R a (get_or new i z)) (at_new ∙ is.others i z (omega arith)) (subst (λ (b : A). R x b) at_new r)))
-        (λ (apart : i ≢ k). is.each k z (omega (arith, apart)) within)
-        (cases_eq i k);
-    others = λ k z le. is.others k z (omega arith);
   }
 
   -- what held of all at first holds of the one whose turn it is

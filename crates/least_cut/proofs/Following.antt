@@ -6,16 +6,13 @@ use Rattle.event_rows.specs.Events.{past_of}
 use Rattle.causal_world.specs.Scenes.{Scene}
 use Rattle.causal_world.specs.Worlds.{IsSomeWorld}
 use Rattle.least_cut.specs.Watches.{WatchState, conjunct_in, IsWatchOf, IsAdvanced, WasWatchOf}
-use Rattle.least_cut.proofs.Truths.{AreAlike, IsWatchTo, alike_after, events_placed, same_places, same_start, kept_to, cut_to, watched_more, watched_all}
+use Rattle.least_cut.proofs.Truths.{AreAlike, IsWatchTo, alike_after, events_placed, same_places, same_start, kept_to, cut_to}
+use Rattle.least_cut.proofs.Truths.{watched_more, watched_all}
 
 module _ (w : Scene) (old : WatchState) (some : IsSomeWorld w) (was : WasWatchOf old w) (p place : ℕ) (same : p ≡ old.line.process)
     (placed : place ≡ place_at w.state p) where
   here : old.line.process < length w.state.places
   here = omega (arith, was.2.here, same_places was.0 w was.1 some was.3)
-
-  -- the process is there
-  pub is_here : p < length w.state.places
-  is_here = omega (arith, here, same)
 
   counted : length (get_or w.events old.line.process []) ≡ place
   counted = events_placed w old.line.process some here ∙ ap (place_at w.state) (sym same) ∙ sym placed

@@ -20,11 +20,19 @@ use Rattle.causal_world.proofs.Remembered.{events_numbered}
 use Rattle.least_cut.specs.Watches.{TruthLine, WatchRoom, conjunct_in, truth_line, scan_of, AreAlong, WasWatchOf}
 use Rattle.least_cut.specs.Searches.{is_false_in, IsTrailFrom, none_of, steps_up_to}
 use Rattle.least_cut.specs.Detectors.{DetectorState, conjuncts_of, lines_of, AreWatchesOf, HasTruthRoom, HasRoomUpTo, IsSearchOf}
-use Rattle.least_cut.specs.Detectors.{Watches, IsLimit}
+use Rattle.cut_core.specs.declared.kind.Kind.{Kind}
+use Rattle.cut_core.specs.ConsistentCuts.{places}
+use Rattle.least_cut.specs.Detectors.{Watches, IsSameButRoom, IsLimit}
 use Rattle.least_cut.proofs.Truths.{truth_there}
 use Rattle.least_cut.proofs.Meanings.{IsHere, same_there}
 use Rattle.least_cut.proofs.Telling.{all_here, lines_same}
 use Rattle.least_cut.proofs.Trails.{Agree, trail_moved}
+use Rattle.std.proofs.Common.{◌⊎◌, inl, inr}
+use Rattle.causal_world.proofs.Earlier.{earlier_world}
+use Rattle.dbg_base.specs.ModelStates.{history_of}
+use Rattle.std.proofs.lemmas.List.{get_or_past, length-map, get_or-map, ext_get_or}
+use Rattle.least_cut.specs.Watches.{WatchState, IsWatchOf}
+use Rattle.least_cut.specs.Detectors.{Begins}
 
 -- The local states that both worlds have.
 
@@ -165,3 +173,58 @@ pub were_watches : (v w : Scene) (watches : List WatchRoom) → IsSomeWorld v �
     → AllByRecursion (λ (watch : WatchRoom). WasWatchOf watch.state w) watches
 were_watches v w [] some along all = tt
 were_watches v w (watch ∷ watches) some along all = ((v, some, all.0, along), were_watches v w watches some along all.1)
+
+-- two worlds of one program, of which the history of the one begins with that of the other
+pub along_of : (P : Program) (v w : Scene) → IsWorldOf P v → IsWorldOf P w
+    → Begins (history_of v.state) (history_of w.state) ⊎ Begins (history_of w.state) (history_of v.state) → AreAlong v w
+along_of P v w of other begins =
+    ⊎_elim
+    (λ (more : Begins (history_of v.state) (history_of w.state)). inl (earlier_world P v w of other (λ p. sym (more.1 p))))
+    (λ (less : Begins (history_of w.state) (history_of v.state)). inr (earlier_world P w v other of (λ p. sym (less.1 p))))
+    begins
+
+-- where a process is not there, its component is within each limit
+pub limit_past : (v w : Scene) (tuple : List ℕ) (q : ℕ) → length tuple ≤ q → IsLimit v w q (get_or tuple q 0)
+limit_past v w tuple q past =
+    let none : get_or tuple q 0 ≡ 0 = get_or_past tuple q 0 past in
+    record { most = omega (arith, none); kept = inl (omega (arith, none)) }
+
+-- what is kept of conjuncts that are seen as the same
+states_kept : (w : Scene) (new old : List WatchRoom)
+    → map (λ (watch : WatchRoom). watch.state) new ≡ map (λ (watch : WatchRoom). watch.state) old → AreWatchesOf w old → AreWatchesOf w new
+states_kept w [] old same all = tt
+states_kept w (watch ∷ new) [] same all = cc
+states_kept w (watch ∷ new) (was ∷ old) same all =
+    let state : was.state ≡ watch.state = ap (λ (l : List WatchState). get_or l 0 watch.state) (sym same) in
+    (subst (IsWatchOf w) state all.0, states_kept w new old (ap (λ (l : List WatchState). drop 1 l) same) all.1)
+
+-- and the conjuncts themselves
+pub conjuncts_kept : (new old : List WatchRoom)
+    → map (λ (watch : WatchRoom). watch.state) new ≡ map (λ (watch : WatchRoom). watch.state) old
+    → map (λ (watch : WatchRoom). conjunct_in watch.state) new ≡ map (λ (watch : WatchRoom). conjunct_in watch.state) old
+conjuncts_kept [] [] same = refl
+conjuncts_kept [] (was ∷ old) same = cc
+conjuncts_kept (watch ∷ new) [] same = cc
+conjuncts_kept (watch ∷ new) (was ∷ old) same =
+    let state : watch.state ≡ was.state = ap (λ (l : List WatchState). get_or l 0 watch.state) same in
+    let rest = conjuncts_kept new old (ap (λ (l : List WatchState). drop 1 l) same) in
+    λ i. conjunct_in (state i) ∷ rest i
+
+-- the cut of all events
+all_events : (w : Scene) → IsSomeWorld w → places w.kinds ≡ w.state.places
+all_events w some =
+    let size : length (places w.kinds) ≡ length w.kinds = length-map w.kinds (λ (l : List Kind). length l) in
+    ext_get_or 0 (places w.kinds) w.state.places (size ∙ kinds_placed w some)
+    (λ q here. get_or-map (λ (l : List Kind). length l) w.kinds q [] 0 (omega (arith, here, size)) ∙ events_counted some.0 w q some.1)
+
+-- the search begins
+pub search_begins : (w : Scene) (start d : DetectorState) → IsSomeWorld w → AreWatchesOf w start.watches → start.candidates ≡ none_of w
+    → start.trail ≡ [] → IsSameButRoom start d → HasRoomUpTo d (places w.kinds) → IsSearchOf w d
+search_begins w start d some watches candidates trail same room =
+    let none : d.trail ≡ [] = same.trail ∙ trail in
+    record {
+      watches = states_kept w d.watches start.watches same.states watches;
+      sound = subst (λ (steps : List Elimination). IsTrailFrom w (lines_of d) (none_of w) steps) (sym none) tt;
+      reached = ap (reach_from (none_of w)) none ∙ sym candidates ∙ sym same.candidates;
+      room = subst (HasRoomUpTo d) (all_events w some) room;
+    }

@@ -1,5 +1,5 @@
 -- Conjuncts that are paired one by one with where they are true, and watched.
-use Rattle.std.proofs.Common.{◌≡◌, ℕ, ◌<◌, ◌⊎◌, List, [], ◌∷◌, ◌++◌, length, get_or, map, drop, refl, sym, ap, ◌∙◌, subst, ⊎_elim}
+use Rattle.std.proofs.Common.{◌≡◌, ◌<◌, ◌⊎◌, List, [], ◌∷◌, ◌++◌, length, get_or, map, drop, refl, sym, ap, ◌∙◌, subst, ⊎_elim}
 use Rattle.std.proofs.Common.{append_assoc, append-nil, arith}
 use Rattle.std.specs.List.{AllByRecursion}
 use Rattle.std.proofs.lemmas.List.{map_push, length-map}
@@ -41,7 +41,8 @@ module _ (w : Scene) (conjuncts : List code.Conjunct) (watched : List WatchRoom)
       ∙ length-map (map conjunct_of left) (truth_line w) ∙ length-map left conjunct_of in
       let empty : length left ≡ 0 = ⊎_elim (λ e. e) (λ e. sym same ∙ e) none in
       sym (append-nil (map (λ (watch : WatchRoom). conjunct_in watch.state) watched))
-      ∙ ap (λ (l : List code.Conjunct). map (λ (watch : WatchRoom). conjunct_in watch.state) watched ++ map conjunct_of l) (sym (nothing left empty))
+      ∙ ap (λ (l : List code.Conjunct). map (λ (watch : WatchRoom). conjunct_in watch.state) watched ++ map conjunct_of l)
+      (sym (nothing left empty))
       ∙ is.conjuncts
     where
       nothing : (l : List code.Conjunct) → length l ≡ 0 → l ≡ []
@@ -57,7 +58,8 @@ module _ (w : Scene) (conjuncts : List code.Conjunct) (watched : List WatchRoom)
 
     all_here : AllByRecursion (λ conjunct. conjunct.process < length w.state.places) (map conjunct_of (x ∷ others))
     all_here =
-        subst (λ (l : List code.Conjunct). AllByRecursion (λ conjunct. conjunct.process < length w.state.places) (map conjunct_of l)) first is.here
+        subst (λ (l : List code.Conjunct). AllByRecursion (λ conjunct. conjunct.process < length w.state.places) (map conjunct_of l))
+        first is.here
 
     -- the next one is there
     pub next_here : x.pid.0 < length w.state.places

@@ -1,17 +1,14 @@
 -- Where a conjunct is true along the events of a process, and what is kept of it as events are made and taken back.
-use Rattle.std.proofs.Common.{◌≡◌, ℕ, zero, suc, ◌+◌, ◌-◌, ◌<◌, ◌≤◌, ℤ, Bool, true, List, [], ◌∷◌, ◌++◌, length, get_or, set, take, Some, None}
-use Rattle.std.proofs.Common.{refl, sym, ap, ◌∙◌, subst, ⊎_elim, arith, take_all, Option, map}
+use Rattle.std.proofs.Common.{◌≡◌, ℕ, zero, suc, ◌+◌, ◌-◌, ◌<◌, ◌≤◌, ℤ, Bool, true, List, [], ◌∷◌, ◌++◌, length, get_or, set, take}
+use Rattle.std.proofs.Common.{refl, sym, ap, ◌∙◌, subst, ⊎_elim, arith, take_all, Option, Some, None, map}
 use Rattle.std.specs.Prelude.{◌&&◌, ◌==◌, not, nat_le, slice_get}
-use Rattle.std.proofs.lemmas.List.{length-set, map_push, take_more, length-take-le}
-use Rattle.std.proofs.lemmas.List.Sums.{sum-map, sum_by_more}
+use Rattle.std.proofs.lemmas.List.{length-set, length-take-le}
 use Rattle.std.proofs.lemmas.Option.{slice_get_cases}
-use Rattle.dbg_base.specs.declared.call.Conjunct as code
 use Rattle.dbg_base.specs.Trees.{Tree, tree_of}
 use Rattle.dbg_base.specs.LocalStates.{LocalState, no_state}
 use Rattle.dbg_base.specs.Firing.{set_all}
 use Rattle.dbg_base.specs.ModelStates.{place_at}
 use Rattle.dbg_base.specs.Predicates.{Conjunct, holds}
-use Rattle.dbg_base.specs.Calls.{conjunct_of}
 use Rattle.event_rows.specs.declared.exchange.Exchange.{Exchange}
 use Rattle.event_rows.specs.declared.exchange.Exchange.TheVariants.{Nothing, Sent, Took}
 use Rattle.event_rows.specs.Exchanges.{counted_to}
@@ -23,8 +20,7 @@ use Rattle.causal_world.specs.Scenes.{Scene, IsEarlier}
 use Rattle.causal_world.specs.Worlds.{IsSomeWorld}
 use Rattle.causal_world.proofs.Looking.{kinds_placed}
 use Rattle.causal_world.proofs.Remembered.{events_numbered}
-use Rattle.least_cut.specs.Watches.{TruthLine, TruthsState, WatchState, conjunct_in, truth_line, scan_of, IsWatchOf, IsAdvanced, AreAlong}
-use Rattle.least_cut.specs.Searches.{steps_up_to}
+use Rattle.least_cut.specs.Watches.{TruthLine, WatchState, conjunct_in, IsWatchOf, IsAdvanced, AreAlong}
 
 -- what is looked for in one line
 abbrev pub is_false_at : ℕ → ℕ → TruthLine → Bool
@@ -65,27 +61,6 @@ truth_there tree start [] (suc n) d le = absurd (omega arith)
 truth_there tree start (event ∷ events) zero d le = refl
 truth_there tree start (event ∷ events) (suc n) d le = truth_there tree (after_event event start) events n d (omega arith)
 
--- one conjunct more that is scanned
-pub scanned_more : (w : Scene) (conjuncts : List code.Conjunct) (i : ℕ) (conjunct : code.Conjunct) (lines : List TruthsState)
-    (more : TruthsState) → map (λ (t : TruthsState). t.line) lines ≡ scan_of w (map conjunct_of (take i conjuncts)) → i < length conjuncts
-    → conjunct ≡ get_or conjuncts i conjunct → more.line ≡ truth_line w (conjunct_of conjunct)
-    → map (λ (t : TruthsState). t.line) (lines ++ more ∷ []) ≡ scan_of w (map conjunct_of (take (i + 1) conjuncts))
-scanned_more w conjuncts i conjunct lines more so_far lt here is =
-    map_push (λ (t : TruthsState). t.line) lines more
-    ∙ ap (λ (l : List TruthLine). l ++ more.line ∷ []) so_far
-    ∙ ap (λ (t : TruthLine). scan_of w (map conjunct_of (take i conjuncts)) ++ t ∷ []) is
-    ∙ sym (ap (λ (l : List code.Conjunct). scan_of w (map conjunct_of l))
-    (take_more conjuncts i conjunct lt ∙ ap (λ (x : code.Conjunct). take i conjuncts ++ x ∷ []) (sym here))
-    ∙ ap (scan_of w) (map_push conjunct_of (take i conjuncts) conjunct)
-    ∙ map_push (truth_line w) (map conjunct_of (take i conjuncts)) (conjunct_of conjunct))
-
--- one place more
-pub steps_more : (places : List ℕ) (i : ℕ) → i < length places
-    → steps_up_to (take (i + 1) places) ≡ steps_up_to (take i places) + (get_or places i 0 + 1)
-steps_more places i lt =
-    sum-map (λ (n : ℕ). n + 1) (take (i + 1) places) ∙ sum_by_more (λ (n : ℕ). n + 1) places i 0 lt
-    ∙ ap (λ (n : ℕ). n + (get_or places i 0 + 1)) (sym (sum-map (λ (n : ℕ). n + 1) (take i places)))
-
 -- The lists of a local state keep their lengths.
 pub record AreAlike (a b : LocalState) : Type 0 where
   pub values : length a.values ≡ length b.values
@@ -105,7 +80,8 @@ pub alike_after : (state : LocalState) (events : List EventValue) → AreAlike (
 alike_after state [] = record { values = refl; sent = refl; got = refl }
 alike_after state (event ∷ events) =
     let rest = alike_after (after_event event state) events in
-    let one = alike_counted event.exchange (record state { values = set_all state.values (map (λ s. (s.variable, s.new)) event.settings) }) in
+    let one = alike_counted event.exchange
+    (record state { values = set_all state.values (map (λ s. (s.variable, s.new)) event.settings) }) in
     record {
       values = rest.values ∙ one.values ∙ length_set_all state.values (map (λ s. (s.variable, s.new)) event.settings);
       sent = rest.sent ∙ one.sent;
@@ -197,7 +173,8 @@ module _ (v w : Scene) (watch : WatchState) (is : IsWatchOf v watch) where
       ∙ ap (λ (l : List EventValue). length l + 1) whole in
       let last : k ≡ length (take states watch.line.truths) - 1 = omega arith in
       subst (λ (s : WatchState). IsWatchTo w conjunct s (length s.line.truths - 1)) (sym shape)
-      (subst (λ (n : ℕ). IsWatchTo w conjunct (record watch { line = record watch.line { truths = take states watch.line.truths }; env = env }) n) last
+      (subst (λ (n : ℕ). IsWatchTo w conjunct
+      (record watch { line = record watch.line { truths = take states watch.line.truths }; env = env }) n) last
       (record { of = refl; within = omega arith; truths = truths; env = is_env }))
 
 module _ (w : Scene) (conjunct : Conjunct) (old : WatchState) (is : IsWatchTo w conjunct old (length old.line.truths - 1)) where
@@ -217,7 +194,8 @@ module _ (w : Scene) (conjunct : Conjunct) (old : WatchState) (is : IsWatchTo w 
       let there = truths_within in
       let process : old.line.process ≡ conjunct.process = ap (λ (c : Conjunct). c.process) is.of in
       ⊎_elim
-      (λ (found : (x : EventValue) × (m < length (own w conjunct)) × (slice_get (own w conjunct) m ≡ Some x) × (get_or (own w conjunct) m x ≡ x)).
+      (λ (found : (x : EventValue) × (m < length (own w conjunct)) × (slice_get (own w conjunct) m ≡ Some x)
+      × (get_or (own w conjunct) m x ≡ x)).
       let event = found.0 in
       let next : new.env ≡ past_of (start w conjunct) (own w conjunct) (m + 1) =
       step.env
@@ -258,7 +236,8 @@ module _ (w : Scene) (conjunct : Conjunct) (old : WatchState) (is : IsWatchTo w 
       record {
         here = subst (λ (p : ℕ). p < length w.state.places) (sym process) here;
         line = ap (λ (l : List Bool). record { process = old.line.process; truths = l })
-            (own_is.truths ∙ ap (λ (n : ℕ). truths_along (tree_of old.expr) (start w (conjunct_in old)) (take n (own w (conjunct_in old)))) count
+            (own_is.truths
+            ∙ ap (λ (n : ℕ). truths_along (tree_of old.expr) (start w (conjunct_in old)) (take n (own w (conjunct_in old)))) count
             ∙ ap (truths_along (tree_of old.expr) (start w (conjunct_in old))) (take_all k (own w (conjunct_in old)) (omega arith)));
         env = own_is.env ∙ ap (past_of (start w (conjunct_in old)) (own w (conjunct_in old))) count;
       }

@@ -9,7 +9,8 @@ use Rattle.dbg_base.specs.ModelStates.{place_at}
 use Rattle.causal_world.specs.Scenes.{Scene}
 use Rattle.causal_world.specs.Worlds.{IsSomeWorld}
 use Rattle.least_cut.specs.Watches.{WatchRoom, WatchState, conjunct_in, IsWatchOf}
-use Rattle.least_cut.specs.Detectors.{DetectorState, HasTruthRoom, AreRoomier, AreWatched, AreWatchesOf, IsSameButRoom, is_past_in, one_more}
+use Rattle.least_cut.specs.Detectors.{DetectorState, HasTruthRoom, AreRoomier, AreWatched, AreWatchesOf, IsSameButRoom, is_past_in}
+use Rattle.least_cut.specs.Detectors.{one_more}
 use Rattle.least_cut.proofs.Each.{Became, same_map, all_at, all_from}
 use Rattle.least_cut.proofs.Truths.{truths_counted, events_placed}
 
@@ -35,7 +36,8 @@ pub record HasRoomFor (places : List ℕ) (old new : WatchRoom) : Type 0 where
   pub room : HasTruthRoom places new
 
 -- all watches follow
-pub all_watched : (w : Scene) (old new : List WatchRoom) (i : ℕ) → length old ≤ i → Became (IsWatchedAgain w) old new i → AreWatched w old new
+pub all_watched : (w : Scene) (old new : List WatchRoom) (i : ℕ) → length old ≤ i → Became (IsWatchedAgain w) old new i
+    → AreWatched w old new
 all_watched w old new i all is = record {
   watches = all_from (λ watch. IsWatchOf w watch.state) new
       (λ k x lt. (let r = is.each k x (omega (arith, lt, is.len)) (omega (arith, lt, is.len)) in r.is));

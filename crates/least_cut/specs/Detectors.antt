@@ -144,7 +144,9 @@ IsShrunk d p w =
 
 -- the second history begins with the first one, process by process
 abbrev pub Begins : History → History → Type 0
-Begins H more = (length H ≡ length more) × ((p : ℕ) → take (length (slice_index_or H p [])) (slice_index_or more p []) ≡ slice_index_or H p [])
+Begins H more =
+    (length H ≡ length more)
+    × ((p : ℕ) → take (length (slice_index_or H p [])) (slice_index_or more p []) ≡ slice_index_or H p [])
 
 -- Events were made since, or taken back.
 abbrev pub IsMoved : DetectorState → Scene → Type 0

@@ -66,13 +66,10 @@ fn watches_of(
     requires scan { scan ≡ scan_of world.now (map conjunct_of conjuncts) }
     ensures of { IfOk result (λ watches. AreWatchesOf world.now watches.items) }
     ensures conjuncts { IfOk result (λ watches. map (λ watch. conjunct_in watch.state) watches.items ≡ map conjunct_of conjuncts) }
+    ensures refuses { IfErr result (λ refusal. refusal ≡ Memory) }
 {
     let mut watches = Vec::new(alloc);
-    for (conjunct, truths) in conjuncts
-        .into_items()
-        .into_iter()
-        .zip(scan.into_lines())
-    {
+    for (conjunct, truths) in conjuncts.into_items().into_iter().zip(scan.into_lines()) {
         watches.push(Watch::new(conjunct, truths, world)?)?;
     }
     Ok(watches)

@@ -1,7 +1,8 @@
 //! A conjunct that is watched as its process makes events and takes them back.
 
-ghost use Rattle.std.specs.Prelude.{◌≡◌, ◌<◌, ◌≤◌, ◌+◌, ◌&&◌, ◌==◌, not, true, length, IfOk, OnOk, nat_le, slice_index_or};
+ghost use Rattle.std.specs.Prelude.{◌≡◌, ◌<◌, ◌≤◌, ◌+◌, ◌&&◌, ◌==◌, not, true, length, IfOk, IfErr, OnOk, nat_le, slice_index_or};
 ghost use Rattle.dbg_base.specs.Calls.{conjunct_of};
+ghost use Rattle.dbg_base.specs.declared.refusal.Refusal.TheVariants.{Memory};
 ghost use Rattle.dbg_base.specs.ModelStates.{place_at};
 ghost use Rattle.causal_world.specs.Worlds.{IsSomeWorld};
 ghost use Rattle.least_cut.specs.Watches.{conjunct_in, truth_line, IsWatchOf, IsAdvanced, WasWatchOf};
@@ -45,6 +46,7 @@ impl Watch {
         ensures of { IfOk result (λ watch. IsWatchOf world.now watch.state) }
         ensures conjunct { IfOk result (λ watch. conjunct_in watch.state ≡ conjunct_of conjunct) }
         ensures room { IfOk result (λ watch. length watch.state.line.truths ≤ watch.room) }
+        ensures refuses { IfErr result (λ refusal. refusal ≡ Memory) }
     {
         let Conjunct { pid, expr } = conjunct;
         let env = world.env(pid).copy()?;

@@ -1,4 +1,4 @@
-use Rattle.std.proofs.Common.{ℕ, ◌+◌, ◌<◌, length, refl, sym, ◌∙◌, arith}
+use Rattle.std.proofs.Common.{◌+◌, ◌<◌, length, refl, sym, ◌∙◌, arith}
 use Rattle.std.proofs.lemmas.Bool.{eqb-false}
 use Rattle.least_cut.proofs.Each.{became_more, became_less}
 use Rattle.least_cut.proofs.Watched.{IsRoomier, HasRoomAt, roomier, all_room_at}

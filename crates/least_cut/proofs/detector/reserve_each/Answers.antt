@@ -1,4 +1,4 @@
-use Rattle.std.proofs.Common.{◌≡◌, ℕ, ◌+◌, ◌<◌, ◌≤◌, get_or, length, ap, sym, ◌∙◌, arith}
+use Rattle.std.proofs.Common.{◌≡◌, ℕ, ◌+◌, get_or, ap, sym, ◌∙◌, arith}
 use Rattle.least_cut.specs.Watches.{WatchState}
 use Rattle.least_cut.proofs.Each.{became_more, became_less}
 use Rattle.least_cut.proofs.Watched.{IsRoomier, HasRoomFor, roomier, all_room_for}

@@ -4,4 +4,5 @@ use Rattle.least_cut.proofs.detector.steps_up_to.Goals as goal
 
 pub returns : goal.returns
 returns c =
-    c.loop-count.invariant ∙ ap (λ (l : List ℕ). steps_up_to l) (take_all c.loop-count.count-index c.args.counts.now c.loop-count-test.false)
+    c.loop-count.invariant ∙ ap (λ (l : List ℕ). steps_up_to l)
+    (take_all c.loop-count.count-index c.args.counts.now c.loop-count-test.false)

@@ -24,16 +24,18 @@ loop-i-preserved c =
     let here : c.loop-i.i < length c.loop-i.watches.items =
     omega (arith, c.loop-i-test.true, c.loop-i.invariant.len, c.args.watches.now.ok.0, c.len-i-end.ensures) in
     elim c.if-eq.branch [
-      | then-eq x ↦ rw x.watches-is (became_more (IsWatchedAgain c.args.world.now) c.args.watches.now.items c.loop-i.watches.items c.loop-i.i
+      | then-eq x ↦ rw x.watches-is (became_more (IsWatchedAgain c.args.world.now) c.args.watches.now.items
+          c.loop-i.watches.items c.loop-i.i
           c.index_mut-watch.result.now x.follow.new.self c.loop-i.invariant c.index_mut-watch.ensures.value here
           (record { is = x.follow.ensures.of; conjunct = x.follow.ensures.conjunct; room = x.follow.ensures.room }))
-      | else-eq x ↦ rw x.watches-is (became_more (IsWatchedAgain c.args.world.now) c.args.watches.now.items c.loop-i.watches.items c.loop-i.i
+      | else-eq x ↦ rw x.watches-is (became_more (IsWatchedAgain c.args.world.now) c.args.watches.now.items
+          c.loop-i.watches.items c.loop-i.i
           c.index_mut-watch.result.now c.index_mut-watch.result.now c.loop-i.invariant c.index_mut-watch.ensures.value here
           (record {
             is = at_turn (IsWatchedAgain c.args.world.now)
                 (λ (watch : WatchRoom). watch.state.line.process ≢ c.args.pid.0 → IsWatchOf c.args.world.now watch.state)
                 c.args.watches.now.items c.loop-i.watches.items c.loop-i.i c.index_mut-watch.result.now c.loop-i.invariant c.requires.others
-                c.index_mut-watch.ensures.value here 
+                c.index_mut-watch.ensures.value here
                 (λ same. eqb-false c.pid.result.0 c.args.pid.0 (sym c.eq.ensures ∙ x.if-eq.false) (c.pid.ensures ∙ same));
             conjunct = refl;
             room = refl;

@@ -1,4 +1,4 @@
-use Rattle.std.proofs.Common.{ℕ, ◌<◌, length, arith}
+use Rattle.std.proofs.Common.{arith}
 use Rattle.least_cut.specs.Watches.{WatchRoom, WasWatchOf}
 use Rattle.least_cut.specs.Detectors.{HasTruthRoom}
 use Rattle.least_cut.proofs.Each.{became_more, at_turn}

@@ -1,4 +1,3 @@
-use Rattle.std.proofs.Common.{◌≡◌}
 use Rattle.least_cut.proofs.Each.{Became}
 use Rattle.least_cut.proofs.Watched.{IsWatchedAgain}
 use Rattle.least_cut.proofs.detector.watch_each.Given as goal

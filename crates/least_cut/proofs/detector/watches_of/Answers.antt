@@ -1,4 +1,4 @@
-use Rattle.std.proofs.Common.{◌≡◌, ℕ, ◌+◌, List, ◌∷◌, length, map, sym, ap, subst, ◌∙◌, inl, inr, arith}
+use Rattle.std.proofs.Common.{◌≡◌, List, length, map, sym, ap, subst, ◌∙◌, inl, inr, arith}
 use Rattle.std.specs.Vec.{vec_len}
 use Rattle.dbg_base.specs.declared.call.Conjunct.{Conjunct}
 use Rattle.least_cut.specs.Watches.{TruthsState, WatchRoom}

@@ -1,6 +1,5 @@
-use Rattle.std.proofs.Common.{◌≡◌, ◌<◌, List, ◌++◌, ◌∷◌, [], length, set, refl, sym, ap, ◌∙◌, arith}
+use Rattle.std.proofs.Common.{◌≡◌, ◌++◌, ◌∷◌, [], length, set, refl, sym, ap, ◌∙◌, arith}
 use Rattle.std.specs.Vec.{vec_capacity}
-use Rattle.dbg_base.specs.declared.elimination.Elimination.{Elimination}
 use Rattle.least_cut.specs.Detectors.{DetectorState}
 use Rattle.least_cut.proofs.Dropping.{has_candidate, dropped, goes_back}
 use Rattle.least_cut.proofs.detector.Detector.drop_to.Goals as goal
@@ -31,9 +30,11 @@ loop-pid-preserved c =
     record {
       watches = watches ∙ c.loop-pid.invariant.watches;
       trail_room = room ∙ c.loop-pid.invariant.trail_room;
-      search = λ v is. dropped v c.loop-pid.self c.pop.new.self.items step (c.loop-pid.invariant.search v is) trail new watches room refl now;
+      search = λ v is. dropped v c.loop-pid.self c.pop.new.self.items step (c.loop-pid.invariant.search v is) trail new watches room
+          refl now;
       most = λ v is q.
-          let back = goes_back v c.loop-pid.self c.pop.new.self.items step (c.loop-pid.invariant.search v is) trail new watches room refl now q in
+          let back = goes_back v c.loop-pid.self c.pop.new.self.items step (c.loop-pid.invariant.search v is) trail new
+          watches room refl now q in
           let most = c.loop-pid.invariant.most v is q in
           omega (arith, back, most);
     }

@@ -7,7 +7,8 @@ use Rattle.least_cut.proofs.detector.Detector.is_false.Goals as goal
 
 pub returns-then-is_false : goal.returns-then-is_false
 returns-then-is_false c =
-    found (λ (watch : WatchRoom). watch.state.line) (is_false_at c.args.pid.0 c.args.n) c.deref-watch-items.result.now (lines_of c.args.self.now)
+    found (λ (watch : WatchRoom). watch.state.line) (is_false_at c.args.pid.0 c.args.n) c.deref-watch-items.result.now
+    (lines_of c.args.self.now)
     (ap (λ (l : List WatchRoom). map (λ (watch : WatchRoom). watch.state.line) l) c.deref-watch-items.ensures.value
     ∙ ap (λ (d : DetectorState). lines_of d) c.self.view_is)
     c.loop-watch.watch-index c.watch-item.result c.watch-item.is c.loop-watch-test.true (sym c.is_false.ensures ∙ c.if-is_false.true)

@@ -7,7 +7,8 @@ use Rattle.least_cut.proofs.detector.Detector.is_past.Goals as goal
 
 pub returns-then-is_past : goal.returns-then-is_past
 returns-then-is_past c =
-    found (λ (watch : WatchRoom). watch.state.line) (is_past_at c.args.pid.0 c.args.n) c.deref-watch-items.result.now (lines_of c.args.self.now)
+    found (λ (watch : WatchRoom). watch.state.line) (is_past_at c.args.pid.0 c.args.n) c.deref-watch-items.result.now
+    (lines_of c.args.self.now)
     (ap (λ (l : List WatchRoom). map (λ (watch : WatchRoom). watch.state.line) l) c.deref-watch-items.ensures.value
     ∙ ap (λ (d : DetectorState). lines_of d) c.self.view_is)
     c.loop-watch.watch-index c.watch-item.result c.watch-item.is c.loop-watch-test.true (sym c.is_past.ensures ∙ c.if-is_past.true)

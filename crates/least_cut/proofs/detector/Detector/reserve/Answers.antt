@@ -1,8 +1,7 @@
-use Rattle.std.proofs.Common.{◌≡◌, ℕ, ◌+◌, ◌≤◌, refl, sym, ap, subst, ◌∙◌, arith}
+use Rattle.std.proofs.Common.{◌≡◌, ℕ, ◌+◌, ◌≤◌, refl, sym, subst, arith}
 use Rattle.std.specs.List.{AllByRecursion}
 use Rattle.std.specs.Vec.{vec_len, vec_capacity}
 use Rattle.std.proofs.lemmas.Result.{on_ok_weaker}
-use Rattle.dbg_base.specs.ModelStates.{place_at}
 use Rattle.least_cut.specs.Watches.{WatchRoom}
 use Rattle.least_cut.specs.Detectors.{DetectorState, HasTruthRoom, HasRoomUpTo, one_more}
 use Rattle.least_cut.specs.Searches.{steps_up_to}
@@ -15,7 +14,8 @@ returns-in_err-reserve_at-clause-same c =
 
 pub returns-clause-same : goal.returns-clause-same
 returns-clause-same c =
-    rw (← c.self.view_is) (same_but_room _ _ c.reserve_at.ensures.each refl c.reserve.ensures.items (omega (arith, c.reserve.ensures.capacity)))
+    rw (← c.self.view_is) (same_but_room _ _ c.reserve_at.ensures.each refl c.reserve.ensures.items
+    (omega (arith, c.reserve.ensures.capacity)))
 
 pub returns-clause-ok : goal.returns-clause-ok
 returns-clause-ok c =

@@ -36,29 +36,29 @@ loop-self-init c =
     c.len.ensures ∙ ap (λ (r : WatchRoom). length r.state.line.truths) c.self.view_is in
     elim c.if-len-states.branch [
       | then-len-states x ↦ record {
-          watched = cut c.args.world.now old c.requires.world c.requires.was c.pid-pid.result.0 c.place.result process c.place.ensures
-              x.env.result.now (state_in c.if-len-states.self-inside) x.env.ensures.past (omega (arith, known, x.if-len-states.true))
-              (ap (λ (i : Inside). state_in i) x.self-inside-is
-              ∙ ap (λ (l : TruthLine). record { line = l; expr = c.self.inside.expr; env = x.assign.new.self }) x.truncate.ensures.line
-              ∙ ap (λ (e : LocalState). record {
-                line = record c.self.inside.truths.line { truths = take (c.place.result + 1) c.self.inside.truths.line.truths };
-                expr = c.self.inside.expr;
-                env = e;
-              }) x.assign.ensures
-              ∙ ap (λ (r : WatchRoom). record r.state {
-                line = record r.state.line { truths = take (c.place.result + 1) r.state.line.truths };
-                env = x.env.result.now;
-              }) c.self.view_is);
-          room = ap (λ (i : Inside). i.truths.room) x.self-inside-is ∙ x.truncate.ensures.room
-              ∙ ap (λ (r : WatchRoom). r.room) c.self.view_is;
-        }
+        watched = cut c.args.world.now old c.requires.world c.requires.was c.pid-pid.result.0 c.place.result process c.place.ensures
+            x.env.result.now (state_in c.if-len-states.self-inside) x.env.ensures.past (omega (arith, known, x.if-len-states.true))
+            (ap (λ (i : Inside). state_in i) x.self-inside-is
+            ∙ ap (λ (l : TruthLine). record { line = l; expr = c.self.inside.expr; env = x.assign.new.self }) x.truncate.ensures.line
+            ∙ ap (λ (e : LocalState). record {
+              line = record c.self.inside.truths.line { truths = take (c.place.result + 1) c.self.inside.truths.line.truths };
+              expr = c.self.inside.expr;
+              env = e;
+            }) x.assign.ensures
+            ∙ ap (λ (r : WatchRoom). record r.state {
+              line = record r.state.line { truths = take (c.place.result + 1) r.state.line.truths };
+              env = x.env.result.now;
+            }) c.self.view_is);
+        room = ap (λ (i : Inside). i.truths.room) x.self-inside-is ∙ x.truncate.ensures.room
+            ∙ ap (λ (r : WatchRoom). r.room) c.self.view_is;
+      }
       | else-len-states x ↦ record {
-          watched = kept c.args.world.now old c.requires.world c.requires.was c.pid-pid.result.0 c.place.result process c.place.ensures
-              (state_in c.if-len-states.self-inside)
-              (ap (λ (i : Inside). state_in i) x.self-inside-is ∙ ap (λ (r : WatchRoom). r.state) c.self.view_is)
-              (omega (arith, known, x.if-len-states.false));
-          room = ap (λ (i : Inside). i.truths.room) x.self-inside-is ∙ ap (λ (r : WatchRoom). r.room) c.self.view_is;
-        }
+        watched = kept c.args.world.now old c.requires.world c.requires.was c.pid-pid.result.0 c.place.result process c.place.ensures
+            (state_in c.if-len-states.self-inside)
+            (ap (λ (i : Inside). state_in i) x.self-inside-is ∙ ap (λ (r : WatchRoom). r.state) c.self.view_is)
+            (omega (arith, known, x.if-len-states.false));
+        room = ap (λ (i : Inside). i.truths.room) x.self-inside-is ∙ ap (λ (r : WatchRoom). r.room) c.self.view_is;
+      }
     ]
 
 pub loop-self-preserved : goal.loop-self-preserved

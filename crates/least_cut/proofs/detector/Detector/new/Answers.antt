@@ -1,0 +1,27 @@
+use Rattle.std.proofs.Common.{◌≡◌, ℕ, rules, List, length, map, replicate, subst, ap, ◌∙◌}
+use Rattle.dbg_base.specs.Predicates.{Conjunct}
+use Rattle.cut_core.specs.declared.kind.Kind.{Kind}
+use Rattle.cut_core.specs.ConsistentCuts.{places}
+use Rattle.causal_world.proofs.Looking.{kinds_placed}
+use Rattle.least_cut.specs.Watches.{WatchRoom, conjunct_in}
+use Rattle.least_cut.specs.Detectors.{HasRoomUpTo}
+use Rattle.least_cut.proofs.Moving.{search_begins, conjuncts_kept}
+use Rattle.least_cut.proofs.detector.Detector.new.Goals as goal
+
+pub run-requires-clause-search : goal.run-requires-clause-search
+run-requires-clause-search c =
+    let w = c.args.world.now in
+    let counted = c.processes.ensures ∙ ap (λ (l : List (List Kind)). length l) c.tally-tally.ensures.kinds
+        ∙ kinds_placed w c.tally-tally.ensures.world in
+    let none : c.in_ok-vec.field-0.items ≡ replicate c.processes.result 0 = search rules in
+    search_begins w _ c.reserve_to.new.self c.tally-tally.ensures.world c.in_ok-watches.ensures.of
+    (c.new-candidates.ensures ∙ none ∙ ap (λ (n : ℕ). replicate n 0) counted) c.new.ensures.items
+    c.reserve_to.ensures.same
+    (subst (HasRoomUpTo c.reserve_to.new.self)
+    (c.in_ok-all_events.ensures ∙ ap (λ (l : List (List Kind)). places l) c.tally-tally.ensures.kinds) c.in_ok-reserve_to.ensures.ok)
+
+pub returns-clause-conjuncts : goal.returns-clause-conjuncts
+returns-clause-conjuncts c =
+    let seen : List WatchRoom → List Conjunct = λ l. map (λ (watch : WatchRoom). conjunct_in watch.state) l in
+    ap seen c.run.ensures.on.watches ∙ conjuncts_kept c.reserve_to.new.self.watches _ c.reserve_to.ensures.same.states
+    ∙ c.in_ok-watches.ensures.conjuncts
