@@ -2,6 +2,8 @@
 #![tactic(auto)]
 
 #[cfg(test)]
+mod breakpoints;
+#[cfg(test)]
 mod channels;
 #[cfg(test)]
 mod clocks;
@@ -9,6 +11,7 @@ mod clocks;
 mod copies;
 #[cfg(test)]
 mod cuts;
+pub mod detector_calls;
 #[cfg(test)]
 mod evaluation;
 #[cfg(test)]

@@ -1,0 +1,175 @@
+//! Calls of a world and a detector that go on and back together, each of which says what the next one requires.
+
+ghost use Rattle.std.specs.Prelude.{◌≡◌, ℕ, ◌<◌, ◌≤◌, length, map, IfOk, IfSome, OnOk};
+ghost use Rattle.std.specs.List.{AllByRecursion};
+ghost use Rattle.dbg_base.specs.Calls.{conjunct_of};
+ghost use Rattle.proc_lang.specs.Programs.{program_of};
+ghost use Rattle.causal_world.specs.Scenes.{IsWorldOf};
+ghost use Rattle.least_cut.specs.Searches as model;
+ghost use Rattle.least_cut.specs.Detectors.{IsDetectorOf, HasRoomUpTo, one_more};
+
+use causal_world::World;
+use dbg_base::{Choice, Conjunct, Elimination, Pid, Refusal, Sequence};
+use least_cut::{Detector, Scan, check_why};
+use proc_lang::{Program, parse_predicate};
+use std::alloc::Global;
+
+/// The conjunct of the process that the text says.
+pub fn conjunct(
+    alloc: Global,
+    program: &Program,
+    pid: Pid,
+    text: &str,
+) -> Result<Conjunct, Refusal> {
+    if pid.0 >= program.processes() {
+        return Err(Refusal::UnknownProcess);
+    }
+    match parse_predicate(alloc, program, pid, text.as_bytes()) {
+        Ok(expr) => Ok(Conjunct { pid, expr }),
+        Err(_) => Err(Refusal::BadPredicate),
+    }
+}
+
+// Refuses conjuncts of processes that the program does not have.
+fn known(program: &Program, conjuncts: &[Conjunct]) -> Result<(), Refusal>
+    ensures { OnOk result (AllByRecursion (λ conjunct. conjunct.process < length (program_of program.now))
+        (map conjunct_of conjuncts.now)) }
+{
+    for conjunct in conjuncts {
+        if conjunct.pid.0 >= program.processes() {
+            return Err(Refusal::UnknownProcess);
+        }
+    }
+    Ok(())
+}
+
+/// The detector of these conjuncts in the world.
+pub fn detector(
+    alloc: Global,
+    program: &Program,
+    world: &World,
+    conjuncts: Sequence<Conjunct>,
+) -> Result<Detector, Refusal>
+    requires { IsWorldOf (program_of program.now) world.now }
+    ensures { IfOk result (λ made. IsDetectorOf world.now made) }
+{
+    known(program, conjuncts.items())?;
+    let scan = Scan::of(alloc, world, conjuncts.items())?;
+    Detector::new(alloc, conjuncts, scan, world)
+}
+
+/// Whether the list of eliminations is sound for the conjuncts.
+pub fn checked(
+    alloc: Global,
+    program: &Program,
+    world: &World,
+    conjuncts: &[Conjunct],
+    steps: &[Elimination],
+) -> Result<bool, Refusal>
+    requires { IsWorldOf (program_of program.now) world.now }
+{
+    known(program, conjuncts)?;
+    check_why(alloc, world, conjuncts, steps)
+}
+
+// The most eliminations that there can be with these counts of events.
+fn steps_up_to(counts: &[u32]) -> Option<usize>
+    ensures { IfSome result (λ steps. steps ≡ model.steps_up_to counts.now) }
+{
+    let mut steps: usize = 0;
+    for count in counts {
+        steps = steps.checked_add(*count as usize + 1)?;
+    }
+    Some(steps)
+}
+
+// Makes room for one event more of the process.
+fn reserve(
+    world: &World,
+    detector: &mut Detector,
+    alloc: Global,
+    program: &Program,
+    pid: Pid,
+) -> Result<(), Refusal>
+    requires of { IsWorldOf (program_of program.now) world.now }
+    requires detector { IsDetectorOf world.now detector.old }
+    requires process { pid.0 < length (program_of program.now) }
+    ensures of { IsDetectorOf world.now detector.new }
+    ensures room { OnOk result (HasRoomUpTo detector.new (one_more world.now pid.0)) }
+{
+    let mut places = world.tally().all_events(alloc)?;
+    places.set(pid, world.place(pid) + 1);
+    let steps = steps_up_to(places.counts()).ok_or(Refusal::Memory)?;
+    detector.reserve(world, pid, steps)?;
+    Ok(())
+}
+
+/// The process makes this command.
+pub fn step(
+    world: &mut World,
+    detector: &mut Detector,
+    alloc: Global,
+    program: &Program,
+    pid: Pid,
+    choice: Choice,
+) -> Result<(), Refusal>
+    requires of { IsWorldOf (program_of program.now) world.old }
+    requires detector { IsDetectorOf world.old detector.old }
+    ensures of { IsWorldOf (program_of program.now) world.new }
+    ensures detector { IsDetectorOf world.new detector.new }
+{
+    if pid.0 >= program.processes() {
+        return Err(Refusal::UnknownProcess);
+    }
+    reserve(world, detector, alloc, program, pid)?;
+    world.step(alloc, program, pid, choice)?;
+    detector.grow(pid, world);
+    Ok(())
+}
+
+/// The last event of the process is taken back.
+pub fn undo(
+    world: &mut World,
+    detector: &mut Detector,
+    alloc: Global,
+    program: &Program,
+    pid: Pid,
+) -> Result<(), Refusal>
+    requires of { IsWorldOf (program_of program.now) world.old }
+    requires detector { IsDetectorOf world.old detector.old }
+    ensures of { IsWorldOf (program_of program.now) world.new }
+    ensures detector { IsDetectorOf world.new detector.new }
+{
+    if pid.0 >= program.processes() {
+        return Err(Refusal::UnknownProcess);
+    }
+    world.undo(alloc, pid)?;
+    detector.shrink(pid, world);
+    Ok(())
+}
+
+/// The process goes back to this count of events, and the others no further than they must.
+pub fn rollback(
+    world: &mut World,
+    detector: &mut Detector,
+    alloc: Global,
+    program: &Program,
+    pid: Pid,
+    n: u32,
+) -> Result<(), Refusal>
+    requires of { IsWorldOf (program_of program.now) world.old }
+    requires detector { IsDetectorOf world.old detector.old }
+    ensures of { IsWorldOf (program_of program.now) world.new }
+    ensures detector { IsDetectorOf world.new detector.new }
+{
+    if pid.0 >= program.processes() {
+        return Err(Refusal::UnknownProcess);
+    }
+    if n > world.place(pid) {
+        return Err(Refusal::BadPlace);
+    }
+    let cut = world.rollback_cut(alloc, pid, n)?;
+    world.roll_to(alloc, &cut)?;
+    detector.follow(world);
+    Ok(())
+}
