@@ -1,0 +1,135 @@
+-- A detector that goes on and back with its world: what its calls require.
+use Rattle.std.proofs.Common.{◌≡◌, ℕ, ◌+◌, ◌<◌, ◌≤◌, List, [], ◌∷◌, ◌++◌, length, map, get_or, take, drop}
+use Rattle.std.proofs.Common.{refl, sym, ap, ◌∙◌, subst, inr, arith}
+use Rattle.std.proofs.lemmas.List.{get_or-set_same, get_or-map, ext_get_or, length-map, length-take-le, take-take, take_more}
+use Rattle.std.specs.List.{AllByRecursion}
+use Rattle.dbg_base.specs.declared.call.Conjunct as given
+use Rattle.dbg_base.specs.declared.elimination.Elimination.{Elimination}
+use Rattle.dbg_base.specs.Trees.{Program}
+use Rattle.dbg_base.specs.Calls.{conjunct_of}
+use Rattle.dbg_base.specs.Predicates.{Conjunct}
+use Rattle.dbg_base.specs.Histories.{History}
+use Rattle.dbg_base.specs.Reversal.{without_last}
+use Rattle.dbg_base.specs.Eliminations.{reach_from}
+use Rattle.dbg_base.specs.ModelStates.{ModelState, line_of, place_at, history_of, after_choice, after_undo, after_rollback}
+use Rattle.cut_core.specs.declared.kind.Kind.{Kind}
+use Rattle.cut_core.specs.ConsistentCuts.{IsConsistentCut, places}
+use Rattle.causal_world.specs.Scenes.{Scene, IsWorldOf}
+use Rattle.causal_world.proofs.Back.{history_without}
+use Rattle.causal_world.proofs.Calls.{events_counted}
+use Rattle.causal_world.proofs.LineStates.{length_cut, cut_at, history_choice}
+use Rattle.causal_world.proofs.Looking.{kinds_placed}
+use Rattle.causal_world.proofs.Unfiring.{without_with}
+use Rattle.least_cut.specs.Watches.{TruthLine, WatchState, WatchRoom, IsWatchOf}
+use Rattle.least_cut.specs.Searches.{IsTrailFrom, IsSettledAt, none_of}
+use Rattle.least_cut.specs.Detectors.{DetectorState, lines_of, AreWatchesOf, HasRoomUpTo, IsDetectorOf, IsSameButRoom, IsGrown, IsShrunk}
+use Rattle.least_cut.specs.Detectors.{IsMoved, Begins, one_more}
+use Rattle.least_cut.proofs.Moving.{room_less}
+
+-- one more conjunct of which it holds
+pub all_more : (Q : Conjunct → Type 0) (xs : List given.Conjunct) (i : ℕ) (x : given.Conjunct) → x ≡ get_or xs i x → i < length xs
+    → Q (conjunct_of x) → AllByRecursion Q (map conjunct_of (take i xs)) → AllByRecursion Q (map conjunct_of (take (i + 1) xs))
+all_more Q xs i x here lt holds all =
+    subst (λ (l : List given.Conjunct). AllByRecursion Q (map conjunct_of l))
+    (sym (take_more xs i x lt ∙ ap (λ (y : given.Conjunct). take i xs ++ y ∷ []) (sym here)))
+    (pushed (take i xs) all)
+  where
+    pushed : (l : List given.Conjunct) → AllByRecursion Q (map conjunct_of l) → AllByRecursion Q (map conjunct_of (l ++ x ∷ []))
+    pushed [] all = (holds, tt)
+    pushed (y ∷ l) all = (all.0, pushed l all.1)
+
+-- the cut of all events
+pub all_places : (P : Program) (w : Scene) → IsWorldOf P w → places w.kinds ≡ w.state.places
+all_places P w of =
+    let size : length (places w.kinds) ≡ length w.kinds = length-map w.kinds (λ (l : List Kind). length l) in
+    ext_get_or 0 (places w.kinds) w.state.places (size ∙ kinds_placed w (P, of))
+    (λ q here. get_or-map (λ (l : List Kind). length l) w.kinds q [] 0 (omega (arith, here, size)) ∙ events_counted P w q of)
+
+-- what is kept of conjuncts that are seen as the same
+states_kept : (w : Scene) (new old : List WatchRoom)
+    → map (λ (watch : WatchRoom). watch.state) new ≡ map (λ (watch : WatchRoom). watch.state) old → AreWatchesOf w old → AreWatchesOf w new
+states_kept w [] old same all = tt
+states_kept w (watch ∷ new) [] same all = cc
+states_kept w (watch ∷ new) (was ∷ old) same all =
+    let state : was.state ≡ watch.state = ap (λ (l : List WatchState). get_or l 0 watch.state) (sym same) in
+    (subst (IsWatchOf w) state all.0, states_kept w new old (ap (λ (l : List WatchState). drop 1 l) same) all.1)
+
+lines_kept : (new old : List WatchRoom)
+    → map (λ (watch : WatchRoom). watch.state) new ≡ map (λ (watch : WatchRoom). watch.state) old
+    → map (λ (watch : WatchRoom). watch.state.line) new ≡ map (λ (watch : WatchRoom). watch.state.line) old
+lines_kept [] [] same = refl
+lines_kept [] (was ∷ old) same = cc
+lines_kept (watch ∷ new) [] same = cc
+lines_kept (watch ∷ new) (was ∷ old) same =
+    let state : watch.state ≡ was.state = ap (λ (l : List WatchState). get_or l 0 watch.state) same in
+    let rest = lines_kept new old (ap (λ (l : List WatchState). drop 1 l) same) in
+    λ i. (state i).line ∷ rest i
+
+-- a detector stays one where it gets room
+pub roomier_detector : (w : Scene) (old new : DetectorState) → IsSameButRoom old new → IsDetectorOf w old → IsDetectorOf w new
+roomier_detector w old new same is =
+    let lines : lines_of old ≡ lines_of new = sym (lines_kept new.watches old.watches same.states) in
+    record {
+      search = record {
+        watches = states_kept w new.watches old.watches same.states is.search.watches;
+        sound = subst (λ (steps : List Elimination). IsTrailFrom w (lines_of new) (none_of w) steps) (sym same.trail)
+            (subst (λ (l : List TruthLine). IsTrailFrom w l (none_of w) old.trail) lines is.search.sound);
+        reached = ap (reach_from (none_of w)) same.trail ∙ is.search.reached ∙ sym same.candidates;
+        room = same.room w.state.places is.search.room;
+      };
+      settled = λ q here.
+          subst (λ (tuple : List ℕ). IsSettledAt w (lines_of new) tuple q) (sym same.candidates)
+          (subst (λ (l : List TruthLine). IsSettledAt w l old.candidates q) lines (is.settled q here));
+    }
+
+module _ (P : Program) (before w : Scene) (d : DetectorState) (of : IsWorldOf P before) (now : IsWorldOf P w) (is : IsDetectorOf before d) where
+  -- a process has made a choice
+  pub has_grown : (p k : ℕ) → p < length P → w.state ≡ after_choice before.state p k → IsGrown d p w
+  has_grown p k here state =
+      let there : p < length before.state.places = omega (arith, here, of.state.places) in
+      let size : p < length (history_of before.state) = omega (arith, here, length_cut before.state.lines before.state.places, of.state.lines) in
+      let place : place_at w.state p ≡ place_at before.state p + 1 =
+      ap (λ (M : ModelState). place_at M p) state
+      ∙ get_or-set_same before.state.places p (place_at before.state p + 1) 0 there in
+      let one : without_last (history_of w.state) p ≡ history_of before.state =
+      ap (λ (M : ModelState). without_last (history_of M) p) state
+      ∙ ap (λ (H : History). without_last H p) (history_choice P before.state of.state p here k)
+      ∙ without_with (history_of before.state) p k size in
+      (P, before, record { detector = is; of = of; now = now }, omega (arith, place), sym one)
+
+  pub has_grown_room : (p k : ℕ) → w.state ≡ after_choice before.state p k → HasRoomUpTo d (one_more before p)
+      → HasRoomUpTo d w.state.places
+  has_grown_room p k state room = subst (HasRoomUpTo d) (sym (ap (λ (M : ModelState). M.places) state)) room
+
+  -- it has taken its last one back
+  pub has_shrunk : (p : ℕ) → p < length P → w.state ≡ after_undo before.state p → IsShrunk d p w
+  has_shrunk p here state =
+      (P, before, record { detector = is; of = of; now = now }, ap history_of state ∙ history_without P before.state p of.state here)
+
+  module _ (cut : List ℕ) (consistent : IsConsistentCut before.kinds cut) (state : w.state ≡ after_rollback before.state cut) where
+    within : (q : ℕ) → get_or cut q 0 ≤ place_at before.state q
+    within q = let few = consistent.within q in omega (arith, few, events_counted P before q of)
+
+    -- all have gone back to the cut
+    pub has_moved : IsMoved d w
+    has_moved =
+        let M = before.state in
+        let begins : Begins (history_of (after_rollback M cut)) (history_of M) = (
+          length_cut M.lines cut ∙ sym (length_cut M.lines M.places),
+          λ q.
+              let m = get_or cut q 0 in
+              let few : m ≤ length (line_of M q) = let most = within q in let fits = of.state.within q in omega (arith, most, fits) in
+              let new = cut_at M.lines cut q in
+              let size : length (get_or (history_of (after_rollback M cut)) q []) ≡ m =
+              ap (λ (l : List ℕ). length l) new ∙ length-take-le m (line_of M q) few in
+              ap (λ (n : ℕ). take n (get_or (history_of M) q [])) size
+              ∙ ap (take m) (cut_at M.lines M.places q)
+              ∙ take-take m (place_at M q) (line_of M q) (within q) ∙ sym new,
+        ) in
+        (P, before, record { detector = is; of = of; now = now },
+        inr (subst (λ (N : ModelState). Begins (history_of N) (history_of M)) (sym state) begins))
+
+    pub has_moved_room : HasRoomUpTo d w.state.places
+    has_moved_room =
+        subst (HasRoomUpTo d) (sym (ap (λ (N : ModelState). N.places) state))
+        (room_less d cut before.state.places (consistent.sizes ∙ kinds_placed before (P, of)) within is.search.room)
