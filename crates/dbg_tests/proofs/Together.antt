@@ -82,12 +82,14 @@ roomier_detector w old new same is =
           (subst (λ (l : List TruthLine). IsSettledAt w l old.candidates q) lines (is.settled q here));
     }
 
-module _ (P : Program) (before w : Scene) (d : DetectorState) (of : IsWorldOf P before) (now : IsWorldOf P w) (is : IsDetectorOf before d) where
+module _ (P : Program) (before w : Scene) (d : DetectorState) (of : IsWorldOf P before) (now : IsWorldOf P w)
+    (is : IsDetectorOf before d) where
   -- a process has made a choice
   pub has_grown : (p k : ℕ) → p < length P → w.state ≡ after_choice before.state p k → IsGrown d p w
   has_grown p k here state =
       let there : p < length before.state.places = omega (arith, here, of.state.places) in
-      let size : p < length (history_of before.state) = omega (arith, here, length_cut before.state.lines before.state.places, of.state.lines) in
+      let size : p < length (history_of before.state) =
+      omega (arith, here, length_cut before.state.lines before.state.places, of.state.lines) in
       let place : place_at w.state p ≡ place_at before.state p + 1 =
       ap (λ (M : ModelState). place_at M p) state
       ∙ get_or-set_same before.state.places p (place_at before.state p + 1) 0 there in
