@@ -127,9 +127,12 @@ module _ (P : Program) (before w : Scene) (d : DetectorState) (of : IsWorldOf P 
               ap (λ (n : ℕ). take n (get_or (history_of M) q [])) size
               ∙ ap (take m) (cut_at M.lines M.places q)
               ∙ take-take m (place_at M q) (line_of M q) (within q) ∙ sym new,
-        ) in
-        (P, before, record { detector = is; of = of; now = now },
-        inr (subst (λ (N : ModelState). Begins (history_of N) (history_of M)) (sym state) begins))
+        ) in (
+          P,
+          before,
+          record { detector = is; of = of; now = now },
+          inr (subst (λ (N : ModelState). Begins (history_of N) (history_of M)) (sym state) begins),
+        )
 
     pub has_moved_room : HasRoomUpTo d w.state.places
     has_moved_room =
