@@ -1,1 +1,1 @@
-pub mod Together
+pub mod Fronts

@@ -1,16 +1,15 @@
 //! Calls of a world and a detector that go on and back together, each of which says what the next one requires.
 
-ghost use Rattle.std.specs.Prelude.{◌≡◌, ℕ, ◌<◌, ◌≤◌, length, map, IfOk, IfSome, OnOk};
+ghost use Rattle.std.specs.Prelude.{◌≡◌, ℕ, ◌<◌, ◌≤◌, length, map, IfOk, OnOk};
 ghost use Rattle.std.specs.List.{AllByRecursion};
 ghost use Rattle.dbg_base.specs.Calls.{conjunct_of};
 ghost use Rattle.proc_lang.specs.Programs.{program_of};
 ghost use Rattle.causal_world.specs.Scenes.{IsWorldOf};
-ghost use Rattle.least_cut.specs.Searches as model;
 ghost use Rattle.least_cut.specs.Detectors.{IsDetectorOf, HasRoomUpTo, one_more};
 
 use causal_world::World;
 use dbg_base::{Choice, Conjunct, Elimination, Pid, Refusal, Sequence};
-use least_cut::{Detector, Scan, check_why};
+use least_cut::{Detector, Scan, check_why, steps_up_to};
 use proc_lang::{Program, parse_predicate};
 use std::alloc::Global;
 
@@ -70,17 +69,6 @@ pub fn checked(
 {
     known(program, conjuncts)?;
     check_why(alloc, world, conjuncts, steps)
-}
-
-// The most eliminations that there can be with these counts of events.
-fn steps_up_to(counts: &[u32]) -> Option<usize>
-    ensures { IfSome result (λ steps. steps ≡ model.steps_up_to counts.now) }
-{
-    let mut steps: usize = 0;
-    for count in counts {
-        steps = steps.checked_add(*count as usize + 1)?;
-    }
-    Some(steps)
 }
 
 // Makes room for one event more of the process.

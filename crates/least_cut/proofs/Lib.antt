@@ -11,3 +11,4 @@ pub mod Steps
 pub mod Moving
 pub mod Growing
 pub mod Checked
+pub mod Callers

@@ -195,7 +195,7 @@ limit_past v w tuple q past =
     record { most = omega (arith, none); kept = inl (omega (arith, none)) }
 
 -- what is kept of conjuncts that are seen as the same
-states_kept : (w : Scene) (new old : List WatchRoom)
+pub states_kept : (w : Scene) (new old : List WatchRoom)
     → map (λ (watch : WatchRoom). watch.state) new ≡ map (λ (watch : WatchRoom). watch.state) old → AreWatchesOf w old → AreWatchesOf w new
 states_kept w [] old same all = tt
 states_kept w (watch ∷ new) [] same all = cc
@@ -216,7 +216,7 @@ conjuncts_kept (watch ∷ new) (was ∷ old) same =
     λ i. conjunct_in (state i) ∷ rest i
 
 -- the cut of all events
-all_events : (w : Scene) → IsSomeWorld w → places w.kinds ≡ w.state.places
+pub all_events : (w : Scene) → IsSomeWorld w → places w.kinds ≡ w.state.places
 all_events w some =
     let size : length (places w.kinds) ≡ length w.kinds = length-map w.kinds (λ (l : List Kind). length l) in
     ext_get_or 0 (places w.kinds) w.state.places (size ∙ kinds_placed w some)

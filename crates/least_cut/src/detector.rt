@@ -75,8 +75,9 @@ fn watches_of(
     Ok(watches)
 }
 
-// The most eliminations that there can be where the processes have so many events, or None where that is no number.
-fn steps_up_to(counts: &[u32]) -> Option<usize>
+/// The most eliminations that there can be where the processes have so many events, one for each and one for each process; or None
+/// where that is past the largest number. It takes no memory.
+pub fn steps_up_to(counts: &[u32]) -> Option<usize>
     ensures { IfSome result (λ steps. steps ≡ model.steps_up_to counts.now) }
 {
     let mut steps: usize = 0;

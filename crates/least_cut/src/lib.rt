@@ -9,5 +9,5 @@ mod watch;
 
 pub use checking::check_why;
 pub use dbg_base::{Cause, Elimination};
-pub use detector::Detector;
+pub use detector::{Detector, steps_up_to};
 pub use scan::Scan;

@@ -4,7 +4,7 @@ use Rattle.dbg_base.specs.declared.call.Conjunct as given
 use Rattle.dbg_base.specs.Calls.{conjunct_of}
 use Rattle.dbg_base.specs.Predicates.{Conjunct}
 use Rattle.proc_lang.specs.Programs.{program_of}
-use Rattle.dbg_tests.proofs.Together.{all_more}
+use Rattle.dbg_tests.proofs.Fronts.{all_more}
 use Rattle.dbg_tests.proofs.detector_calls.known.Goals as goal
 
 pub loop-conjunct-preserved : goal.loop-conjunct-preserved

@@ -4,7 +4,8 @@ use Rattle.cut_core.specs.declared.kind.Kind.{Kind}
 use Rattle.cut_core.specs.ConsistentCuts.{places}
 use Rattle.least_cut.specs.Searches.{steps_up_to}
 use Rattle.least_cut.specs.Detectors.{one_more}
-use Rattle.dbg_tests.proofs.Together.{all_places, roomier_detector}
+use Rattle.least_cut.proofs.Callers.{roomier_detector}
+use Rattle.least_cut.proofs.Moving.{all_events}
 use Rattle.dbg_tests.proofs.detector_calls.reserve.Goals as goal
 
 pub set-requires : goal.set-requires
@@ -12,7 +13,7 @@ set-requires c =
     let P = program_of c.args.program.now in
     let w = c.args.world.now in
     let whole : c.in_ok-places.places ≡ w.state.places =
-    c.in_ok-places.ensures ∙ ap (λ (l : List (List Kind)). places l) c.tally.ensures.kinds ∙ all_places P w c.requires.of in
+    c.in_ok-places.ensures ∙ ap (λ (l : List (List Kind)). places l) c.tally.ensures.kinds ∙ all_events w (P, c.requires.of) in
     omega (arith, ap (λ (l : List ℕ). length l) whole, c.requires.process, c.requires.of.state.places)
 
 pub returns-in_err-reserve-clause-of : goal.returns-in_err-reserve-clause-of
@@ -29,7 +30,7 @@ returns-clause-room c =
     let w = c.args.world.now in
     let p : ℕ = c.args.pid.0 in
     let whole : c.in_ok-places.places ≡ w.state.places =
-    c.in_ok-places.ensures ∙ ap (λ (l : List (List Kind)). places l) c.tally.ensures.kinds ∙ all_places P w c.requires.of in
+    c.in_ok-places.ensures ∙ ap (λ (l : List (List Kind)). places l) c.tally.ensures.kinds ∙ all_events w (P, c.requires.of) in
     let more : c.set.new.self ≡ one_more w p = c.set.ensures ∙ (λ i. set (whole i) p (c.place.ensures i + 1)) in
     let counted : c.in_ok-steps.steps ≡ steps_up_to c.counts.result.now = search rules in
     let steps : c.in_ok-steps.steps ≡ steps_up_to (one_more w p) =

@@ -1,5 +1,5 @@
 use Rattle.proc_lang.specs.Programs.{program_of}
-use Rattle.dbg_tests.proofs.Together.{has_moved, has_moved_room}
+use Rattle.least_cut.proofs.Callers.{has_moved, has_moved_room}
 use Rattle.dbg_tests.proofs.detector_calls.rollback.Goals as goal
 
 pub follow-requires-clause-moved : goal.follow-requires-clause-moved

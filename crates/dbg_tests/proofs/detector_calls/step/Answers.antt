@@ -1,6 +1,6 @@
 use Rattle.std.proofs.Common.{arith}
 use Rattle.proc_lang.specs.Programs.{program_of}
-use Rattle.dbg_tests.proofs.Together.{has_grown}
+use Rattle.least_cut.proofs.Callers.{has_grown}
 use Rattle.dbg_tests.proofs.detector_calls.step.Goals as goal
 
 pub grow-requires-clause-grown : goal.grow-requires-clause-grown

@@ -1,6 +1,6 @@
 use Rattle.std.proofs.Common.{arith}
 use Rattle.proc_lang.specs.Programs.{program_of}
-use Rattle.dbg_tests.proofs.Together.{has_shrunk}
+use Rattle.least_cut.proofs.Callers.{has_shrunk}
 use Rattle.dbg_tests.proofs.detector_calls.undo.Goals as goal
 
 pub shrink-requires : goal.shrink-requires

@@ -1,58 +1,24 @@
--- A detector that goes on and back with its world: what its calls require.
-use Rattle.std.proofs.Common.{◌≡◌, ℕ, ◌+◌, ◌<◌, ◌≤◌, List, [], ◌∷◌, ◌++◌, length, map, get_or, take, drop}
-use Rattle.std.proofs.Common.{refl, sym, ap, ◌∙◌, subst, inr, arith}
-use Rattle.std.proofs.lemmas.List.{get_or-set_same, get_or-map, ext_get_or, length-map, length-take-le, take-take, take_more}
-use Rattle.std.specs.List.{AllByRecursion}
-use Rattle.dbg_base.specs.declared.call.Conjunct as given
+-- What the calls of a detector require, from what the calls of its world say.
+use Rattle.std.proofs.Common.{◌≡◌, ℕ, ◌+◌, ◌<◌, ◌≤◌, List, [], ◌∷◌, length, map, get_or, take, drop, refl, sym, ap, ◌∙◌, subst, inr, arith}
+use Rattle.std.proofs.lemmas.List.{get_or-set_same, length-take-le, take-take}
 use Rattle.dbg_base.specs.declared.elimination.Elimination.{Elimination}
 use Rattle.dbg_base.specs.Trees.{Program}
-use Rattle.dbg_base.specs.Calls.{conjunct_of}
-use Rattle.dbg_base.specs.Predicates.{Conjunct}
 use Rattle.dbg_base.specs.Histories.{History}
 use Rattle.dbg_base.specs.Reversal.{without_last}
 use Rattle.dbg_base.specs.Eliminations.{reach_from}
 use Rattle.dbg_base.specs.ModelStates.{ModelState, line_of, place_at, history_of, after_choice, after_undo, after_rollback}
-use Rattle.cut_core.specs.declared.kind.Kind.{Kind}
-use Rattle.cut_core.specs.ConsistentCuts.{IsConsistentCut, places}
+use Rattle.cut_core.specs.ConsistentCuts.{IsConsistentCut}
 use Rattle.causal_world.specs.Scenes.{Scene, IsWorldOf}
 use Rattle.causal_world.proofs.Back.{history_without}
 use Rattle.causal_world.proofs.Calls.{events_counted}
 use Rattle.causal_world.proofs.LineStates.{length_cut, cut_at, history_choice}
 use Rattle.causal_world.proofs.Looking.{kinds_placed}
 use Rattle.causal_world.proofs.Unfiring.{without_with}
-use Rattle.least_cut.specs.Watches.{TruthLine, WatchState, WatchRoom, IsWatchOf}
+use Rattle.least_cut.specs.Watches.{TruthLine, WatchState, WatchRoom}
 use Rattle.least_cut.specs.Searches.{IsTrailFrom, IsSettledAt, none_of}
-use Rattle.least_cut.specs.Detectors.{DetectorState, lines_of, AreWatchesOf, HasRoomUpTo, IsDetectorOf, IsSameButRoom, IsGrown, IsShrunk}
+use Rattle.least_cut.specs.Detectors.{DetectorState, lines_of, HasRoomUpTo, IsDetectorOf, IsSameButRoom, IsGrown, IsShrunk}
 use Rattle.least_cut.specs.Detectors.{IsMoved, Begins, one_more}
-use Rattle.least_cut.proofs.Moving.{room_less}
-
--- one more conjunct of which it holds
-pub all_more : (Q : Conjunct → Type 0) (xs : List given.Conjunct) (i : ℕ) (x : given.Conjunct) → x ≡ get_or xs i x → i < length xs
-    → Q (conjunct_of x) → AllByRecursion Q (map conjunct_of (take i xs)) → AllByRecursion Q (map conjunct_of (take (i + 1) xs))
-all_more Q xs i x here lt holds all =
-    subst (λ (l : List given.Conjunct). AllByRecursion Q (map conjunct_of l))
-    (sym (take_more xs i x lt ∙ ap (λ (y : given.Conjunct). take i xs ++ y ∷ []) (sym here)))
-    (pushed (take i xs) all)
-  where
-    pushed : (l : List given.Conjunct) → AllByRecursion Q (map conjunct_of l) → AllByRecursion Q (map conjunct_of (l ++ x ∷ []))
-    pushed [] all = (holds, tt)
-    pushed (y ∷ l) all = (all.0, pushed l all.1)
-
--- the cut of all events
-pub all_places : (P : Program) (w : Scene) → IsWorldOf P w → places w.kinds ≡ w.state.places
-all_places P w of =
-    let size : length (places w.kinds) ≡ length w.kinds = length-map w.kinds (λ (l : List Kind). length l) in
-    ext_get_or 0 (places w.kinds) w.state.places (size ∙ kinds_placed w (P, of))
-    (λ q here. get_or-map (λ (l : List Kind). length l) w.kinds q [] 0 (omega (arith, here, size)) ∙ events_counted P w q of)
-
--- what is kept of conjuncts that are seen as the same
-states_kept : (w : Scene) (new old : List WatchRoom)
-    → map (λ (watch : WatchRoom). watch.state) new ≡ map (λ (watch : WatchRoom). watch.state) old → AreWatchesOf w old → AreWatchesOf w new
-states_kept w [] old same all = tt
-states_kept w (watch ∷ new) [] same all = cc
-states_kept w (watch ∷ new) (was ∷ old) same all =
-    let state : was.state ≡ watch.state = ap (λ (l : List WatchState). get_or l 0 watch.state) (sym same) in
-    (subst (IsWatchOf w) state all.0, states_kept w new old (ap (λ (l : List WatchState). drop 1 l) same) all.1)
+use Rattle.least_cut.proofs.Moving.{room_less, states_kept}
 
 lines_kept : (new old : List WatchRoom)
     → map (λ (watch : WatchRoom). watch.state) new ≡ map (λ (watch : WatchRoom). watch.state) old
