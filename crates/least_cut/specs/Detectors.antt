@@ -77,7 +77,7 @@ pub record GoesOn (w : Scene) (old new : DetectorState) : Type 0 where
   pub trail_room : new.trail_room ≡ old.trail_room
   pub most : IsAtMost old.candidates new.candidates
 
--- No process that is named by a conjunct has as many events as these, as far as it is known.
+-- Process p is named by a conjunct, and has fewer events than these, as far as it is known.
 abbrev pub is_past_in : List TruthLine → ℕ → ℕ → Bool
 is_past_in lines p n = list_any (λ line. (line.process == p) && nat_le (length line.truths) n) lines
 
