@@ -2,8 +2,6 @@
 #![tactic(auto)]
 
 #[cfg(test)]
-mod breakpoints;
-#[cfg(test)]
 mod channels;
 #[cfg(test)]
 mod clocks;
