@@ -6,7 +6,7 @@ use Rattle.std.proofs.lemmas.Bool.{cases_eq, cases_lt, eq-eqb, ne_eqb}
 use Rattle.std.proofs.lemmas.List.Sums.{sum_by-cons, sum_by_push}
 use Rattle.std.specs.Prelude.{slice_get}
 use Rattle.dbg_base.specs.Trees.{Program}
-use Rattle.dbg_base.specs.ModelStates.{line_of, place_at, after_redo}
+use Rattle.dbg_base.specs.SystemStates.{line_of, place_at, after_redo}
 use Rattle.fifo_grid.specs.Grids.{GridState, room_at}
 use Rattle.event_rows.specs.declared.exchange.Exchange.{Exchange}
 use Rattle.event_rows.specs.declared.exchange.Exchange.TheVariants.{Nothing, Sent, Took}

@@ -11,7 +11,7 @@ use Rattle.dbg_base.specs.Firing.{fire, effect_of}
 use Rattle.dbg_base.specs.Histories.{History, IsPossible, play}
 use Rattle.dbg_base.specs.Orders.{Event, order_from, order, with_last, choices_of}
 use Rattle.dbg_base.specs.Reversal.{without_back, without_last, MayUndo}
-use Rattle.dbg_base.specs.ModelStates.{ModelState, line_of, place_at, history_of, last_choice, after_undo, IsStateOf}
+use Rattle.dbg_base.specs.SystemStates.{SystemState, line_of, place_at, history_of, last_choice, after_undo, IsStateOf}
 use Rattle.fifo_grid.specs.Grids.{messages_at}
 use Rattle.fifo_grid.proofs.Restored.{unpushed_back, unpopped_front}
 use Rattle.event_rows.specs.declared.exchange.Exchange.{Exchange}
@@ -146,7 +146,7 @@ order_is n H (e ∷ E) size order =
     ∙ ap (set H p) (sym order.1) ∙ set-get_or H p []
 
 -- The history without the last event of a process is that of the state behind an undo.
-pub history_without : (P : Program) (M : ModelState) (p : ℕ) → IsStateOf P M → p < length P
+pub history_without : (P : Program) (M : SystemState) (p : ℕ) → IsStateOf P M → p < length P
     → history_of (after_undo M p) ≡ without_last (history_of M) p
 history_without P M p is here =
     let n = place_at M p in

@@ -9,7 +9,7 @@ use Rattle.dbg_base.specs.LocalStates.{LocalState}
 use Rattle.dbg_base.specs.Configurations.{Configuration, state_in}
 use Rattle.dbg_base.specs.Firing.{Effect, effect_of}
 use Rattle.dbg_base.specs.Histories.{History}
-use Rattle.dbg_base.specs.ModelStates.{history_of, after_undo}
+use Rattle.dbg_base.specs.SystemStates.{history_of, after_undo}
 use Rattle.dbg_base.specs.Reversal.{without_back}
 use Rattle.cut_core.specs.declared.kind.Kind.{Kind}
 use Rattle.cut_core.specs.Kinds.{gets_from}

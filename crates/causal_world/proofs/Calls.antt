@@ -7,7 +7,7 @@ use Rattle.std.proofs.lemmas.List.{length-map, length-take-le}
 use Rattle.dbg_base.specs.declared.limits.TheConstants.{EVENTS}
 use Rattle.dbg_base.specs.Trees.{Program}
 use Rattle.dbg_base.specs.LocalStates.{LocalState}
-use Rattle.dbg_base.specs.ModelStates.{ModelState, line_of, place_at, history_of, after_choice, after_redo}
+use Rattle.dbg_base.specs.SystemStates.{SystemState, line_of, place_at, history_of, after_choice, after_redo}
 use Rattle.event_rows.specs.declared.exchange.Exchange.{Exchange}
 use Rattle.event_rows.specs.EventValues.{EventValue}
 use Rattle.causal_world.specs.Scenes.{Scene, scene, IsWorldOf, made, unmade, with_done}
@@ -92,7 +92,7 @@ module _ (P : Program) (w : Scene) (p k : ℕ) (event : EventValue) (clocks : Li
       (state_redo P w.state of.state p makes.here k next) (history_redo P w.state of.state p makes.here k next) timed
 
 -- scenes by their parts
-pub same_scene : (state : ModelState) (states : List LocalState) (channels : List (List (List ℤ))) (past : PastState) (w : Scene)
+pub same_scene : (state : SystemState) (states : List LocalState) (channels : List (List (List ℤ))) (past : PastState) (w : Scene)
     → state ≡ w.state → states ≡ w.standing.states → channels ≡ w.standing.channels → past.starts ≡ w.starts → past.events ≡ w.events
     → past.kinds ≡ w.kinds → past.clocks ≡ w.clocks → scene state states channels past ≡ w
 same_scene state states channels past w a b c d e f g =
@@ -106,7 +106,7 @@ same_scene state states channels past w a b c d e f g =
     }
 
 -- the clocks of a world that is made are those of its events
-timed_by : (w new : Scene) (p : ℕ) (event : EventValue) (state : ModelState) → new ≡ made w p event state new.clocks
+timed_by : (w new : Scene) (p : ℕ) (event : EventValue) (state : SystemState) → new ≡ made w p event state new.clocks
     → AreClocksOf new.kinds new.clocks → AreClocksOf (with_kind w.kinds p (kind_done event.exchange)) new.clocks
 timed_by w new p event state same timed =
     subst (λ (kinds : List (List Kind)). AreClocksOf kinds new.clocks) (ap (λ (s : Scene). s.kinds) same) timed

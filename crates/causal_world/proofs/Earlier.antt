@@ -9,7 +9,7 @@ use Rattle.dbg_base.specs.Configurations.{Configuration}
 use Rattle.dbg_base.specs.Histories.{History, IsPossible, play}
 use Rattle.dbg_base.specs.Orders.{with_last}
 use Rattle.dbg_base.specs.Cuts.{IsConsistent}
-use Rattle.dbg_base.specs.ModelStates.{history_of, after_undo}
+use Rattle.dbg_base.specs.SystemStates.{history_of, after_undo}
 use Rattle.dbg_base.specs.Reversal.{without_back, without_last, MayUndo}
 use Rattle.cut_core.specs.declared.kind.Kind.{Kind}
 use Rattle.cut_core.specs.ConsistentCuts.{places}

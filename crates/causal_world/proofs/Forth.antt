@@ -9,7 +9,7 @@ use Rattle.dbg_base.specs.Configurations.{Configuration, start_of}
 use Rattle.dbg_base.specs.Firing.{fire}
 use Rattle.dbg_base.specs.Histories.{History}
 use Rattle.dbg_base.specs.Orders.{Event, order_from, order, with_first, with_last, choices_of}
-use Rattle.dbg_base.specs.ModelStates.{ModelState, opening_state, line_of, cut_lines, history_of, IsStateOf}
+use Rattle.dbg_base.specs.SystemStates.{SystemState, opening_state, line_of, cut_lines, history_of, IsStateOf}
 use Rattle.event_rows.specs.EventValues.{EventValue}
 use Rattle.causal_world.specs.Scenes.{Scene, event_at, with_event, events_from, events_of, IsWorldOf, with_done, made}
 use Rattle.cut_core.specs.declared.kind.Kind.{Kind}
@@ -77,7 +77,7 @@ events_more P c d b events (f ∷ E) e legal fires =
     (sym (events_step P c first.0 events f E first.1))
 
 -- The world goes on where a choice fires.
-pub goes_on : (P : Program) (w : Scene) (p k : ℕ) (event : EventValue) (state : ModelState) (clocks : List (List (List ℕ)))
+pub goes_on : (P : Program) (w : Scene) (p k : ℕ) (event : EventValue) (state : SystemState) (clocks : List (List (List ℕ)))
     (d : Configuration) → IsWorldOf P w → fire P w.standing p k ≡ Ok d → event_at P w.standing p k ≡ Some event
     → d ≡ with_done w.standing p event → IsStateOf P state → history_of state ≡ with_last (history_of w.state) p k
     → AreClocksOf (with_kind w.kinds p (kind_done event.exchange)) clocks → IsWorldOf P (made w p event state clocks)

@@ -9,8 +9,8 @@ use Rattle.dbg_base.specs.Acts.{CannotUndo}
 use Rattle.dbg_base.specs.Trees.{Program}
 use Rattle.dbg_base.specs.Histories.{History, IsPossible, play}
 use Rattle.dbg_base.specs.Orders.{with_last}
-use Rattle.dbg_base.specs.ModelStates.{ModelState, line_of, place_at, history_of, redo_line, after_choice, after_redo, after_undo}
-use Rattle.dbg_base.specs.ModelStates.{IsStateOf}
+use Rattle.dbg_base.specs.SystemStates.{SystemState, line_of, place_at, history_of, redo_line, after_choice, after_redo, after_undo}
+use Rattle.dbg_base.specs.SystemStates.{IsStateOf}
 use Rattle.dbg_base.specs.Reversal.{MayUndo, without_last}
 use Rattle.event_rows.specs.EventValues.{EventValue}
 use Rattle.causal_world.specs.Pasts.{kinds_of}
@@ -35,7 +35,7 @@ may_last P H B p k same here possible = record {
   rest = subst (IsPossible P) (sym (ap (λ (X : History). without_last X p) same ∙ without_with B p k here)) possible;
 }
 
-there : (P : Program) (M : ModelState) (p : ℕ) → IsStateOf P M → p < length P → p < length (history_of M)
+there : (P : Program) (M : SystemState) (p : ℕ) → IsStateOf P M → p < length P → p < length (history_of M)
 there P M p is here = omega (arith, here, length_cut M.lines M.places, is.lines)
 
 module _ (P : Program) (p : ℕ) (cutoff : List ℕ) (w : Scene) (s : IsStepped P p cutoff w) where
@@ -71,7 +71,7 @@ memory_alone P w p refusal of may why =
 
 -- The places go back.
 
-place_back : (M : ModelState) (p : ℕ) → p < length M.places → after_undo (after_redo M p) p ≡ M
+place_back : (M : SystemState) (p : ℕ) → p < length M.places → after_undo (after_redo M p) p ≡ M
 place_back M p here =
     let n = place_at M p in
     let higher : get_or (set M.places p (n + 1)) p 0 ≡ n + 1 = get_or-set_same M.places p (n + 1) 0 here in
@@ -83,7 +83,7 @@ place_back M p here =
 pub redo_back : (P : Program) (p : ℕ) (w new : Scene) (event : EventValue) (r : IsRedone P p w) → TakesOut w p event new → new ≡ r.before
 redo_back P p w new event r took =
     same_world P new r.before (subst (IsWorldOf P) (sym took.left) (took.may P r.now).1) r.of
-    (ap (λ (s : Scene). s.state) took.left ∙ ap (λ (M : ModelState). after_undo M p) r.state
+    (ap (λ (s : Scene). s.state) took.left ∙ ap (λ (M : SystemState). after_undo M p) r.state
     ∙ place_back r.before.state p (let here = r.here in omega (arith, here, r.of.state.places)))
 
 -- a line cut at its place, with a choice, and cut there again, with what was cut off
@@ -92,7 +92,7 @@ line_back n k line within =
     ap (λ (l : List ℕ). l ++ drop n line) (take_at (take n line) (k ∷ []) n (length-take-le n line within))
     ∙ take-append-drop n line
 
-restored_back : (M : ModelState) (p k : ℕ) → p < length M.lines → p < length M.places → place_at M p ≤ length (line_of M p)
+restored_back : (M : SystemState) (p k : ℕ) → p < length M.lines → p < length M.places → place_at M p ≤ length (line_of M p)
     → restored (after_choice M p k) p (redo_line M p) ≡ M
 restored_back M p k has_line has_place within =
     let n = place_at M p in
@@ -112,7 +112,7 @@ restored_back M p k has_line has_place within =
     λ i. record { lines = lines i; places = places i }
 
 -- another state with the same history
-restate : (P : Program) (w : Scene) (M : ModelState) → IsWorldOf P w → IsStateOf P M → history_of M ≡ history_of w.state
+restate : (P : Program) (w : Scene) (M : SystemState) → IsWorldOf P w → IsStateOf P M → history_of M ≡ history_of w.state
     → IsWorldOf P (record w { state = M })
 restate P w M of is same = record {
   state = is;
@@ -133,7 +133,7 @@ pub step_back : (P : Program) (p : ℕ) (cutoff : List ℕ) (w new : Scene) (eve
 step_back P p cutoff w new event s was shorter same =
     let B = s.before.state in
     let state : restored w.state p cutoff ≡ B =
-    ap (λ (M : ModelState). restored M p cutoff) s.state ∙ ap (restored (after_choice B p s.choice) p) s.cut
+    ap (λ (M : SystemState). restored M p cutoff) s.state ∙ ap (restored (after_choice B p s.choice) p) s.cut
     ∙ restored_back B p s.choice (let here = s.here in omega (arith, here, s.of.state.lines))
     (let here = s.here in omega (arith, here, s.of.state.places)) (s.of.state.within p) in
     let history : history_of (restored w.state p cutoff) ≡ history_of (after_undo w.state p) =

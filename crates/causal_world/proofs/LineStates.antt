@@ -10,8 +10,8 @@ use Rattle.dbg_base.specs.declared.limits.TheConstants.{EVENTS}
 use Rattle.dbg_base.specs.Trees.{Program, process_of}
 use Rattle.dbg_base.specs.Histories.{History}
 use Rattle.dbg_base.specs.Orders.{with_last}
-use Rattle.dbg_base.specs.ModelStates.{ModelState, line_of, place_at, cut_lines, history_of, choice_before, last_choice, after_choice}
-use Rattle.dbg_base.specs.ModelStates.{after_redo, after_undo, IsStateOf}
+use Rattle.dbg_base.specs.SystemStates.{SystemState, line_of, place_at, cut_lines, history_of, choice_before, last_choice, after_choice}
+use Rattle.dbg_base.specs.SystemStates.{after_redo, after_undo, IsStateOf}
 
 -- Histories.
 
@@ -42,14 +42,14 @@ cut_set (l ∷ lines) (m ∷ places) (suc p) line n lt =
     ap (λ (H : History). take m l ∷ H) (cut_set lines places p line n (omega arith))
 
 -- the state with another line and place of one process
-abbrev pub changed : ModelState → ℕ → List ℕ → ℕ → ModelState
+abbrev pub changed : SystemState → ℕ → List ℕ → ℕ → SystemState
 changed M p line n = record { lines = set M.lines p line; places = set M.places p n }
 
 -- the choices of a line are those of commands
 abbrev pub AreCommands : Program → ℕ → List ℕ → Type 0
 AreCommands P p line = (n k : ℕ) → slice_get line n ≡ Some k → k < length (process_of P p).commands
 
-module _ (P : Program) (M : ModelState) (is : IsStateOf P M) (p : ℕ) (here : p < length P) where
+module _ (P : Program) (M : SystemState) (is : IsStateOf P M) (p : ℕ) (here : p < length P) where
   pub has_line : p < length M.lines
   has_line = omega (arith, is.lines)
 

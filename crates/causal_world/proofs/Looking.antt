@@ -3,7 +3,7 @@ use Rattle.std.proofs.Common.{◌≡◌, ℕ, ◌<◌, ◌≤◌, List, [], leng
 use Rattle.std.proofs.lemmas.List.{length-map, length-set, length-take-le, get_or-map, ext_get_or}
 use Rattle.dbg_base.specs.Trees.{Program}
 use Rattle.dbg_base.specs.Histories.{History}
-use Rattle.dbg_base.specs.ModelStates.{ModelState, place_at, line_of, history_of, IsStateOf}
+use Rattle.dbg_base.specs.SystemStates.{SystemState, place_at, line_of, history_of, IsStateOf}
 use Rattle.dbg_base.specs.Cuts.{IsAtMost}
 use Rattle.dbg_base.specs.Clocks.{IsClock}
 use Rattle.dbg_base.specs.Reversal.{IsRollback}
@@ -45,7 +45,7 @@ same_part P H p n q one other a b =
     omega (arith, below, above)
 
 -- the places are the numbers of events
-lengths : (P : Program) (M : ModelState) → IsStateOf P M → map (λ (l : List ℕ). length l) (history_of M) ≡ M.places
+lengths : (P : Program) (M : SystemState) → IsStateOf P M → map (λ (l : List ℕ). length l) (history_of M) ≡ M.places
 lengths P M is =
     let size : length (history_of M) ≡ length M.places = length_cut M.lines M.places ∙ is.lines ∙ sym is.places in
     ext_get_or 0 (map (λ (l : List ℕ). length l) (history_of M)) M.places

@@ -10,7 +10,7 @@ use Rattle.dbg_base.specs.Configurations.{Configuration, start_of, state_in}
 use Rattle.dbg_base.specs.Firing.{fire}
 use Rattle.dbg_base.specs.Histories.{History, local_state, progress_of}
 use Rattle.dbg_base.specs.Orders.{Event, order_from, states_from, states_of, with_state_of}
-use Rattle.dbg_base.specs.ModelStates.{place_at, history_of}
+use Rattle.dbg_base.specs.SystemStates.{place_at, history_of}
 use Rattle.event_rows.specs.EventValues.{EventValue}
 use Rattle.event_rows.specs.Events.{after_event, after_events, past_of}
 use Rattle.event_rows.proofs.Pasts.{after_one_more}

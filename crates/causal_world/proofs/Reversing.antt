@@ -9,7 +9,7 @@ use Rattle.dbg_base.specs.declared.refusal.Refusal.TheVariants.{NothingToUndo, C
 use Rattle.dbg_base.specs.Acts.{CannotUndo}
 use Rattle.dbg_base.specs.Trees.{Program}
 use Rattle.dbg_base.specs.Configurations.{Configuration}
-use Rattle.dbg_base.specs.ModelStates.{history_of, place_at, line_of, after_rollback}
+use Rattle.dbg_base.specs.SystemStates.{history_of, place_at, line_of, after_rollback}
 use Rattle.dbg_base.specs.Reversal.{MayUndo, without_back}
 use Rattle.cut_core.specs.declared.kind.Kind.{Kind}
 use Rattle.cut_core.specs.Kinds.{gets_from}

@@ -8,7 +8,7 @@ use Rattle.dbg_base.specs.Configurations.{Configuration, start_of}
 use Rattle.dbg_base.specs.Firing.{fire}
 use Rattle.dbg_base.specs.Histories.{History, IsPossible, play}
 use Rattle.dbg_base.specs.Orders.{with_last}
-use Rattle.dbg_base.specs.ModelStates.{ModelState, line_of, place_at, history_of, choice_before, after_undo, after_redo}
+use Rattle.dbg_base.specs.SystemStates.{SystemState, line_of, place_at, history_of, choice_before, after_undo, after_redo}
 use Rattle.event_rows.specs.EventValues.{EventValue}
 use Rattle.cut_core.specs.declared.kind.Kind.{Kind}
 use Rattle.causal_world.specs.Pasts.{kind_done, with_kind, kinds_of, AreClocksOf}
@@ -116,7 +116,7 @@ remade P w p event of was before =
     placed zero line k e = cc
     placed (suc m) line k e = (m, refl, omega arith, e)
 
-    again : (M : ModelState) (p : ℕ) → p < length M.places → (m : ℕ) → place_at M p ≡ suc m → after_redo (after_undo M p) p ≡ M
+    again : (M : SystemState) (p : ℕ) → p < length M.places → (m : ℕ) → place_at M p ≡ suc m → after_redo (after_undo M p) p ≡ M
     again M p here m is =
         let n = place_at M p in
         let lower : get_or (set M.places p (n - 1)) p 0 ≡ n - 1 = get_or-set_same M.places p (n - 1) 0 here in

@@ -3,7 +3,7 @@ use Rattle.std.specs.Prelude.{◌≡◌, ℕ, ◌<◌, List, [], ◌∷◌, leng
 use Rattle.dbg_base.specs.Trees.{Program}
 use Rattle.dbg_base.specs.Reversal.{MayUndo}
 use Rattle.dbg_base.specs.LocalStates.{LocalState}
-use Rattle.dbg_base.specs.ModelStates.{ModelState, line_of, place_at, history_of, after_choice, after_redo, redo_line}
+use Rattle.dbg_base.specs.SystemStates.{SystemState, line_of, place_at, history_of, after_choice, after_redo, redo_line}
 use Rattle.fifo_grid.specs.Grids.{GridState}
 use Rattle.event_rows.specs.declared.exchange.Exchange.{Exchange}
 use Rattle.event_rows.specs.EventValues.{EventValue}
@@ -47,7 +47,7 @@ pub record CanTakeBack (w : Scene) (grid : GridState) (p : ℕ) : Type 0 where
 
 -- the same where the lines and places stand elsewhere
 abbrev pub CanTakeFrom : List LocalState → GridState → PastState → ℕ → Type 0
-CanTakeFrom states grid past p = (state : ModelState) × CanTakeBack (scene state states grid.channels past) grid p
+CanTakeFrom states grid past p = (state : SystemState) × CanTakeBack (scene state states grid.channels past) grid p
 
 -- process p is behind the cut, and its last event may be taken back
 abbrev pub IsNextBack : Scene → List ℕ → ℕ → Type 0

@@ -10,7 +10,7 @@ use Rattle.dbg_base.specs.Firing.{Effect, effect_of, fire}
 use Rattle.dbg_base.specs.Histories.{IsPossible}
 use Rattle.dbg_base.specs.Orders.{Event, order, choices_of}
 use Rattle.dbg_base.specs.Reversal.{without_back}
-use Rattle.dbg_base.specs.ModelStates.{ModelState, line_of, place_at, history_of, configuration_of, after_undo, IsStateOf}
+use Rattle.dbg_base.specs.SystemStates.{SystemState, line_of, place_at, history_of, configuration_of, after_undo, IsStateOf}
 use Rattle.fifo_grid.specs.Grids.{messages_at, with_messages}
 use Rattle.event_rows.specs.declared.exchange.Exchange.{Exchange}
 use Rattle.event_rows.specs.declared.exchange.Exchange.TheVariants.{Nothing, Sent, Took}
@@ -23,14 +23,14 @@ use Rattle.causal_world.specs.Pasts.{PastState, AreClocksOf, kinds_of, kind_done
 -- lines and places, local states and channels, and for each process its start, its events, what they did to messages, and the clocks
 -- before and behind them
 pub record Scene : Type 0 where
-  pub state : ModelState
+  pub state : SystemState
   pub standing : Configuration
   pub starts : List LocalState
   pub events : List (List EventValue)
   pub kinds : List (List Kind)
   pub clocks : List (List (List ℕ))
 
-abbrev pub scene : ModelState → List LocalState → List (List (List ℤ)) → PastState → Scene
+abbrev pub scene : SystemState → List LocalState → List (List (List ℤ)) → PastState → Scene
 scene state states channels past = record {
   state = state;
   standing = record { states = states; channels = channels };
@@ -143,14 +143,14 @@ with_undone c p event = record {
 }
 
 -- the place of process p moves back, and these choices follow
-abbrev pub restored : ModelState → ℕ → List ℕ → ModelState
+abbrev pub restored : SystemState → ℕ → List ℕ → SystemState
 restored M p choices = record {
   lines = slice_set M.lines p (take (place_at M p - 1) (line_of M p) ++ choices);
   places = slice_set M.places p (place_at M p - 1);
 }
 
 -- process p has made this event, which leaves this state and these clocks
-abbrev pub made : Scene → ℕ → EventValue → ModelState → List (List (List ℕ)) → Scene
+abbrev pub made : Scene → ℕ → EventValue → SystemState → List (List (List ℕ)) → Scene
 made w p event state clocks = record w {
   state = state;
   standing = with_done w.standing p event;

@@ -2,7 +2,7 @@
 
 ghost use Rattle.std.specs.Prelude.{◌≡◌, ◌<◌, ◌++◌, ◌∷◌, [], length, map, take, drop, replicate, IfOk, OnOk, OnErr, slice_get};
 ghost use Rattle.dbg_base.specs.declared.limits.TheConstants.{EVENTS};
-ghost use Rattle.dbg_base.specs.ModelStates.{line_of, place_at, redo_line, last_choice, after_choice, after_redo, after_undo};
+ghost use Rattle.dbg_base.specs.SystemStates.{line_of, place_at, redo_line, last_choice, after_choice, after_redo, after_undo};
 ghost use Rattle.causal_world.specs.Scenes.{restored};
 
 use dbg_base::{Choice, Pid};
@@ -18,9 +18,9 @@ pub(crate) struct Lines {
 
 impl Model for Lines {
     ghost use Rattle.std.specs.Prelude.{map};
-    ghost use Rattle.dbg_base.specs.ModelStates.{ModelState};
+    ghost use Rattle.dbg_base.specs.SystemStates.{SystemState};
 
-    ghost Value = { ModelState };
+    ghost Value = { SystemState };
 
     ghost view = { λ l. record { lines = map (λ line. line.items) l.lines.items; places = l.places.items } };
 }

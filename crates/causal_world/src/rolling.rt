@@ -4,7 +4,7 @@ ghost use Rattle.std.specs.Prelude.{◌≡◌, ℕ, ◌+◌, ◌<◌, ◌≤◌,
 ghost use Rattle.std.specs.Prelude.{slice_index, slice_index_or, IsTrue, false};
 ghost use Rattle.std.specs.Vec.{vec_len, vec_capacity};
 ghost use Rattle.dbg_base.specs.Trees as tree;
-ghost use Rattle.dbg_base.specs.ModelStates.{ModelState, history_of, place_at, after_undo, after_rollback};
+ghost use Rattle.dbg_base.specs.SystemStates.{SystemState, history_of, place_at, after_undo, after_rollback};
 ghost use Rattle.dbg_base.specs.Reversal.{MayUndo};
 ghost use Rattle.cut_core.specs.Tallies.{got_by};
 ghost use Rattle.cut_core.specs.ConsistentCuts.{IsConsistentCut, places};
@@ -101,7 +101,7 @@ pub(crate) fn take_back(
 ) -> Option<Event>
     requires { CanTakeFrom envs.old.items grid.old past.old pid.0 }
     ensures was { result ≡ last_of past.old.events pid.0 }
-    ensures left { IfSome result (λ event. (state : ModelState) → scene (after_undo state pid.0) envs.new.items grid.new.channels past.new
+    ensures left { IfSome result (λ event. (state : SystemState) → scene (after_undo state pid.0) envs.new.items grid.new.channels past.new
         ≡ unmade (scene state envs.old.items grid.old.channels past.old) pid.0 event) }
     ensures ways { IfSome result (λ event. (i j : ℕ)
         → room_at grid.old.room i j ≤ room_at grid.new.room i j + puts_before pid.0 event.exchange i j) }

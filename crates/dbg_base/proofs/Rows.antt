@@ -11,8 +11,8 @@ use Rattle.dbg_base.specs.Evaluation.{Num, Tru, evaluate}
 use Rattle.dbg_base.specs.Configurations.{start_of, values_of, channel_of}
 use Rattle.dbg_base.specs.Firing.{fire, effect_of}
 use Rattle.dbg_base.specs.Histories.{play, local_state, progress_of}
-use Rattle.dbg_base.specs.ModelStates.{ModelState, opening_state, configuration_of, line_of, redo_line, after_choice, after_undo}
-use Rattle.dbg_base.specs.ModelStates.{after_rollback}
+use Rattle.dbg_base.specs.SystemStates.{SystemState, opening_state, configuration_of, line_of, redo_line, after_choice, after_undo}
+use Rattle.dbg_base.specs.SystemStates.{after_rollback}
 use Rattle.dbg_base.specs.Calls.{Give, Step, Next, Rollback, Ask, Vars, Chan, Clock}
 use Rattle.dbg_base.specs.WellFormed.{is_well_formed}
 use Rattle.dbg_base.specs.Acts.{lowest_enabled, step_choice, next_choice, redo_choice}
@@ -124,7 +124,7 @@ nothing_to_redo : redo_choice system (opening_state system) 0 ≡ Err NothingToR
 nothing_to_redo = refl
 
 -- two counts and one receive, and the receive taken back: its message is the front of the channel again, and can be taken again
-abbrev received : ModelState
+abbrev received : SystemState
 received = record { lines = two_and_one; places = 2 ∷ 1 ∷ [] }
 
 undone : after_undo received 1 ≡ record { lines = two_and_one; places = 2 ∷ 0 ∷ [] }

@@ -2,7 +2,7 @@
 use Rattle.std.specs.Prelude.{◌≡◌, ◌≢◌, ℕ, ◌≤◌, List, [], length, slice_index, slice_index_or}
 use Rattle.dbg_base.specs.Trees.{Program}
 use Rattle.dbg_base.specs.Histories.{History}
-use Rattle.dbg_base.specs.ModelStates.{cut_lines}
+use Rattle.dbg_base.specs.SystemStates.{cut_lines}
 use Rattle.dbg_base.specs.Counts.{sent, got}
 
 -- A cut has one count for each process, at most as large as its number of choices. It is consistent where no process has received

@@ -11,11 +11,12 @@ pub mod Copies
 pub mod Firing
 pub mod Histories
 pub mod Orders
-pub mod ModelStates
+pub mod SystemStates
 pub mod Counts
 pub mod Cuts
 pub mod Clocks
 pub mod Predicates
+pub mod Breakpoints
 pub mod Frontiers
 pub mod Eliminations
 pub mod Reversal

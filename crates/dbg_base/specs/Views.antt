@@ -12,7 +12,7 @@ use Rattle.dbg_base.specs.Configurations.{values_of, channel_of}
 use Rattle.dbg_base.specs.Calls.{Query, Vars, Chan, Clock, Place, Can}
 use Rattle.dbg_base.specs.Clocks.{IsClock}
 use Rattle.dbg_base.specs.Reversal.{MayUndo}
-use Rattle.dbg_base.specs.ModelStates.{ModelState, line_of, place_at, history_of, configuration_of}
+use Rattle.dbg_base.specs.SystemStates.{SystemState, line_of, place_at, history_of, configuration_of}
 use Rattle.dbg_base.specs.Acts.{CannotUndo}
 
 -- the answer to a question about a process, where there is one
@@ -20,23 +20,23 @@ abbrev pub about : Program → ℕ → Answer → Said
 about P p told = if nat_lt p (length P) then Answered told else Refused UnknownProcess
 
 -- the clock of process p where it stands is told
-pub record TellsClock (P : Program) (M : ModelState) (p : ℕ) (said : Said) : Type 0 where
+pub record TellsClock (P : Program) (M : SystemState) (p : ℕ) (said : Said) : Type 0 where
   pub cut : List ℕ
   pub is : IsClock P (history_of M) p (place_at M p) cut
   pub told : said ≡ Answered (Counts cut)
 
 -- why the last event may not be undone
-pub record TellsWhy (P : Program) (M : ModelState) (p : ℕ) (said : Said) : Type 0 where
+pub record TellsWhy (P : Program) (M : SystemState) (p : ℕ) (said : Said) : Type 0 where
   pub refusal : Refusal
   pub why : CannotUndo P M p refusal
   pub told : said ≡ Answered (CanUndo (Err refusal))
 
 -- it is told that the last event of process p may be undone, or why not
-abbrev pub TellsUndo : Program → ModelState → ℕ → Said → Type 0
+abbrev pub TellsUndo : Program → SystemState → ℕ → Said → Type 0
 TellsUndo P M p said = (MayUndo P (history_of M) p × (said ≡ Answered (CanUndo (Ok tt)))) ⊎ TellsWhy P M p said
 
 -- the query was answered so
-abbrev pub Answers : Program → ModelState → Query → Said → Type 0
+abbrev pub Answers : Program → SystemState → Query → Said → Type 0
 Answers P M (Vars p) said = said ≡ about P p (Values (values_of (configuration_of P M) p))
 Answers P M (Chan i j) said =
     said ≡ (if nat_lt i (length P) && nat_lt j (length P) then Answered (Messages (channel_of (configuration_of P M) i j))

@@ -7,7 +7,7 @@ use Rattle.dbg_base.specs.declared.limits.TheConstants.{INPUT_BYTES}
 use Rattle.dbg_base.specs.declared.fault.ProgFault.{ProgFault}
 use Rattle.dbg_base.specs.Trees.{Program}
 use Rattle.dbg_base.specs.Checks.{Reads, IsFault}
-use Rattle.dbg_base.specs.ModelStates.{opening_state}
+use Rattle.dbg_base.specs.SystemStates.{opening_state}
 use Rattle.dbg_base.specs.Shell.{Parts, lines_of, parts_of, read_lines, lines_within, is_too_long, AnswersLines, AnswersParts, TextOfParts}
 use Rattle.dbg_base.specs.Shell.{WholeText, fault_text, too_long_text, no_end_line_text}
 use Rattle.dbg_shell.specs.declared.framing.Span.{Span}

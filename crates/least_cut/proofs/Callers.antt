@@ -6,7 +6,7 @@ use Rattle.dbg_base.specs.Trees.{Program}
 use Rattle.dbg_base.specs.Histories.{History}
 use Rattle.dbg_base.specs.Reversal.{without_last}
 use Rattle.dbg_base.specs.Eliminations.{reach_from}
-use Rattle.dbg_base.specs.ModelStates.{ModelState, line_of, place_at, history_of, after_choice, after_undo, after_rollback}
+use Rattle.dbg_base.specs.SystemStates.{SystemState, line_of, place_at, history_of, after_choice, after_undo, after_rollback}
 use Rattle.cut_core.specs.ConsistentCuts.{IsConsistentCut}
 use Rattle.causal_world.specs.Scenes.{Scene, IsWorldOf}
 use Rattle.causal_world.proofs.Back.{history_without}
@@ -57,17 +57,17 @@ module _ (P : Program) (before w : Scene) (d : DetectorState) (of : IsWorldOf P 
       let size : p < length (history_of before.state) =
       omega (arith, here, length_cut before.state.lines before.state.places, of.state.lines) in
       let place : place_at w.state p ≡ place_at before.state p + 1 =
-      ap (λ (M : ModelState). place_at M p) state
+      ap (λ (M : SystemState). place_at M p) state
       ∙ get_or-set_same before.state.places p (place_at before.state p + 1) 0 there in
       let one : without_last (history_of w.state) p ≡ history_of before.state =
-      ap (λ (M : ModelState). without_last (history_of M) p) state
+      ap (λ (M : SystemState). without_last (history_of M) p) state
       ∙ ap (λ (H : History). without_last H p) (history_choice P before.state of.state p here k)
       ∙ without_with (history_of before.state) p k size in
       (P, before, record { detector = is; of = of; now = now }, omega (arith, place), sym one)
 
   pub has_grown_room : (p k : ℕ) → w.state ≡ after_choice before.state p k → HasRoomUpTo d (one_more before p)
       → HasRoomUpTo d w.state.places
-  has_grown_room p k state room = subst (HasRoomUpTo d) (sym (ap (λ (M : ModelState). M.places) state)) room
+  has_grown_room p k state room = subst (HasRoomUpTo d) (sym (ap (λ (M : SystemState). M.places) state)) room
 
   -- it has taken its last one back
   pub has_shrunk : (p : ℕ) → p < length P → w.state ≡ after_undo before.state p → IsShrunk d p w
@@ -97,10 +97,10 @@ module _ (P : Program) (before w : Scene) (d : DetectorState) (of : IsWorldOf P 
           P,
           before,
           record { detector = is; of = of; now = now },
-          inr (subst (λ (N : ModelState). Begins (history_of N) (history_of M)) (sym state) begins),
+          inr (subst (λ (N : SystemState). Begins (history_of N) (history_of M)) (sym state) begins),
         )
 
     pub has_moved_room : HasRoomUpTo d w.state.places
     has_moved_room =
-        subst (HasRoomUpTo d) (sym (ap (λ (N : ModelState). N.places) state))
+        subst (HasRoomUpTo d) (sym (ap (λ (N : SystemState). N.places) state))
         (room_less d cut before.state.places (consistent.sizes ∙ kinds_placed before (P, of)) within is.search.room)

@@ -9,7 +9,7 @@ use Rattle.dbg_base.specs.declared.elimination.Cause.{Cause}
 use Rattle.dbg_base.specs.declared.elimination.Cause.TheVariants.{Passed}
 use Rattle.dbg_base.specs.declared.ids.Pid.{Pid}
 use Rattle.dbg_base.specs.Eliminations.{eliminated, reach_from, IsSoundFrom, IsSound}
-use Rattle.dbg_base.specs.ModelStates.{place_at, history_of}
+use Rattle.dbg_base.specs.SystemStates.{place_at, history_of}
 use Rattle.dbg_base.specs.Trees.{Program}
 use Rattle.dbg_base.specs.Predicates.{Conjunct}
 use Rattle.cut_core.specs.declared.kind.Kind.{Kind}

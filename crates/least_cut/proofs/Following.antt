@@ -1,7 +1,7 @@
 -- What was known of a conjunct in a world, as the events of another one are gone through.
 use Rattle.std.proofs.Common.{◌≡◌, ℕ, ◌+◌, ◌-◌, ◌<◌, ◌≤◌, [], length, get_or, take, sym, ap, ◌∙◌, subst, arith}
 use Rattle.dbg_base.specs.LocalStates.{LocalState, no_state}
-use Rattle.dbg_base.specs.ModelStates.{place_at}
+use Rattle.dbg_base.specs.SystemStates.{place_at}
 use Rattle.event_rows.specs.Events.{past_of}
 use Rattle.causal_world.specs.Scenes.{Scene}
 use Rattle.causal_world.specs.Worlds.{IsSomeWorld}

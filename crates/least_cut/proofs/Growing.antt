@@ -9,7 +9,7 @@ use Rattle.dbg_base.specs.LocalStates.{no_state}
 use Rattle.dbg_base.specs.Histories.{History}
 use Rattle.dbg_base.specs.Frontiers.{choices_at}
 use Rattle.dbg_base.specs.Reversal.{without_last, without_back}
-use Rattle.dbg_base.specs.ModelStates.{place_at, history_of}
+use Rattle.dbg_base.specs.SystemStates.{place_at, history_of}
 use Rattle.event_rows.specs.Events.{past_of}
 use Rattle.event_rows.specs.Truths.{truths_along}
 use Rattle.causal_world.specs.Scenes.{Scene, IsWorldOf, IsEarlier}

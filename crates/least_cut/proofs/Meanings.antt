@@ -11,7 +11,7 @@ use Rattle.dbg_base.specs.declared.elimination.Cause.TheVariants.{FalseAt, Passe
 use Rattle.dbg_base.specs.Trees.{Program}
 use Rattle.dbg_base.specs.LocalStates.{no_state}
 use Rattle.dbg_base.specs.Histories.{History}
-use Rattle.dbg_base.specs.ModelStates.{place_at, history_of}
+use Rattle.dbg_base.specs.SystemStates.{place_at, history_of}
 use Rattle.dbg_base.specs.Clocks.{IsClock}
 use Rattle.dbg_base.specs.Predicates.{Conjunct, holds, is_true}
 use Rattle.dbg_base.specs.Frontiers.{choices_at, IsSettled}

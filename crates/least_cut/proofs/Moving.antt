@@ -9,7 +9,7 @@ use Rattle.dbg_base.specs.Eliminations.{reach_from}
 use Rattle.dbg_base.specs.Trees.{Program}
 use Rattle.dbg_base.specs.LocalStates.{LocalState, no_state}
 use Rattle.dbg_base.specs.Predicates.{Conjunct, holds}
-use Rattle.dbg_base.specs.ModelStates.{place_at}
+use Rattle.dbg_base.specs.SystemStates.{place_at}
 use Rattle.event_rows.specs.EventValues.{EventValue}
 use Rattle.event_rows.specs.Events.{after_events, past_of}
 use Rattle.causal_world.specs.Scenes.{Scene, IsWorldOf, IsEarlier}
@@ -29,7 +29,7 @@ use Rattle.least_cut.proofs.Telling.{all_here, lines_same}
 use Rattle.least_cut.proofs.Trails.{Agree, trail_moved}
 use Rattle.std.proofs.Common.{◌⊎◌, inl, inr}
 use Rattle.causal_world.proofs.Earlier.{earlier_world}
-use Rattle.dbg_base.specs.ModelStates.{history_of}
+use Rattle.dbg_base.specs.SystemStates.{history_of}
 use Rattle.std.proofs.lemmas.List.{get_or_past, length-map, get_or-map, ext_get_or}
 use Rattle.least_cut.specs.Watches.{WatchState, IsWatchOf}
 use Rattle.least_cut.specs.Detectors.{Begins}

@@ -11,7 +11,7 @@ use Rattle.dbg_base.specs.Clocks.{IsClock}
 use Rattle.dbg_base.specs.Trees.{Program}
 use Rattle.dbg_base.specs.Histories.{History}
 use Rattle.dbg_base.specs.Cuts.{IsAtMost}
-use Rattle.dbg_base.specs.ModelStates.{place_at, history_of}
+use Rattle.dbg_base.specs.SystemStates.{place_at, history_of}
 use Rattle.dbg_base.specs.Predicates.{Conjunct}
 use Rattle.dbg_base.specs.Eliminations.{reach_from, IsSoundFrom, IsSound, reach}
 use Rattle.dbg_base.proofs.Searching.{reach_size, within_reach, few_steps, most_sum}

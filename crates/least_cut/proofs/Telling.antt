@@ -12,7 +12,7 @@ use Rattle.dbg_base.specs.declared.said.Head.{Head}
 use Rattle.dbg_base.specs.declared.said.Head.TheVariants.{At, Past}
 use Rattle.dbg_base.specs.Trees.{Program}
 use Rattle.dbg_base.specs.Histories.{History}
-use Rattle.dbg_base.specs.ModelStates.{history_of}
+use Rattle.dbg_base.specs.SystemStates.{history_of}
 use Rattle.dbg_base.specs.Predicates.{Conjunct, IsLeast, NoCut}
 use Rattle.dbg_base.specs.Frontiers.{choices_at, IsSettled, IsFrontier, head_at, heads_of}
 use Rattle.dbg_base.specs.Eliminations.{is_ruled_out, IsCaused, eliminated, reach_from, IsSoundFrom, IsSound, zeros, reach}

@@ -8,7 +8,7 @@ use Rattle.dbg_base.specs.declared.elimination.Elimination.{Elimination}
 use Rattle.dbg_base.specs.declared.elimination.Cause.{Cause}
 use Rattle.dbg_base.specs.declared.elimination.Cause.TheVariants.{FalseAt, Passed}
 use Rattle.dbg_base.specs.Cuts.{IsAtMost}
-use Rattle.dbg_base.specs.ModelStates.{place_at}
+use Rattle.dbg_base.specs.SystemStates.{place_at}
 use Rattle.dbg_base.specs.Eliminations.{eliminated, reach_from}
 use Rattle.causal_world.specs.Scenes.{Scene}
 use Rattle.causal_world.specs.Pasts.{row_at}

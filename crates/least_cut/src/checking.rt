@@ -8,7 +8,7 @@ ghost use Rattle.dbg_base.specs.Calls.{conjunct_of};
 ghost use Rattle.dbg_base.specs.Cuts.{IsAtMost};
 ghost use Rattle.dbg_base.specs.Predicates.{Satisfies};
 ghost use Rattle.dbg_base.specs.Eliminations.{IsSound, reach, most_steps};
-ghost use Rattle.dbg_base.specs.ModelStates.{history_of};
+ghost use Rattle.dbg_base.specs.SystemStates.{history_of};
 ghost use Rattle.causal_world.specs.Scenes.{IsWorldOf};
 ghost use Rattle.causal_world.specs.Worlds.{IsSomeWorld};
 ghost use Rattle.least_cut.specs.Searches.{IsDue, IsStep};

@@ -8,7 +8,7 @@ ghost use Rattle.dbg_base.specs.Calls.{conjunct_of};
 ghost use Rattle.dbg_base.specs.Predicates.{IsLeast, NoCut};
 ghost use Rattle.dbg_base.specs.Frontiers.{IsFrontier};
 ghost use Rattle.dbg_base.specs.Eliminations.{IsSound, reach};
-ghost use Rattle.dbg_base.specs.ModelStates.{place_at, history_of};
+ghost use Rattle.dbg_base.specs.SystemStates.{place_at, history_of};
 ghost use Rattle.causal_world.specs.Scenes.{Scene, IsWorldOf};
 ghost use Rattle.least_cut.specs.Watches.{conjunct_in, scan_of, IsWatchOf, WasWatchOf};
 ghost use Rattle.dbg_base.specs.declared.refusal.Refusal.TheVariants.{Memory};

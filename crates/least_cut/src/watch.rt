@@ -3,7 +3,7 @@
 ghost use Rattle.std.specs.Prelude.{◌≡◌, ◌<◌, ◌≤◌, ◌+◌, ◌&&◌, ◌==◌, not, true, length, IfOk, IfErr, OnOk, nat_le, slice_index_or};
 ghost use Rattle.dbg_base.specs.Calls.{conjunct_of};
 ghost use Rattle.dbg_base.specs.declared.refusal.Refusal.TheVariants.{Memory};
-ghost use Rattle.dbg_base.specs.ModelStates.{place_at};
+ghost use Rattle.dbg_base.specs.SystemStates.{place_at};
 ghost use Rattle.causal_world.specs.Worlds.{IsSomeWorld};
 ghost use Rattle.least_cut.specs.Watches.{conjunct_in, truth_line, IsWatchOf, IsAdvanced, WasWatchOf};
 

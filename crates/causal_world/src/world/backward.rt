@@ -3,7 +3,7 @@
 ghost use Rattle.std.specs.Prelude.{◌≡◌, ◌⊎◌, IfOk, IfErr, OnOk, OnErr, Ok};
 ghost use Rattle.dbg_base.specs.declared.refusal.Refusal.TheVariants.{Memory};
 ghost use Rattle.dbg_base.specs.Trees as tree;
-ghost use Rattle.dbg_base.specs.ModelStates.{history_of, after_undo, after_rollback};
+ghost use Rattle.dbg_base.specs.SystemStates.{history_of, after_undo, after_rollback};
 ghost use Rattle.dbg_base.specs.Acts.{CannotUndo};
 ghost use Rattle.dbg_base.specs.Reversal.{MayUndo};
 ghost use Rattle.cut_core.specs.ConsistentCuts.{IsConsistentCut};

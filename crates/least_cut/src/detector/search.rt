@@ -2,7 +2,7 @@
 
 ghost use Rattle.std.specs.Prelude.{◌≡◌, ◌≢◌, ℕ, ◌<◌, ◌≤◌, length, min, sum, IsTrue, false, slice_index, slice_set};
 ghost use Rattle.dbg_base.specs.Cuts.{IsAtMost};
-ghost use Rattle.dbg_base.specs.ModelStates.{place_at};
+ghost use Rattle.dbg_base.specs.SystemStates.{place_at};
 ghost use Rattle.causal_world.specs.Worlds.{IsSomeWorld};
 ghost use Rattle.causal_world.specs.Pasts.{row_at};
 ghost use Rattle.least_cut.specs.Searches.{IsStep, IsSettledAt, PassesPart, is_false_in};

@@ -2,7 +2,7 @@ use Rattle.std.proofs.Common.{◌≡◌, ℕ, ◌<◌, inr, true, false, List, g
 use Rattle.std.specs.Result.{is_ok}
 use Rattle.dbg_base.specs.declared.refusal.Refusal.{Refusal}
 use Rattle.dbg_base.specs.Trees.{Program}
-use Rattle.dbg_base.specs.ModelStates.{history_of, place_at}
+use Rattle.dbg_base.specs.SystemStates.{history_of, place_at}
 use Rattle.dbg_base.specs.Reversal.{MayUndo}
 use Rattle.event_rows.specs.declared.exchange.Exchange.{Exchange}
 use Rattle.causal_world.specs.Scenes.{Scene, IsWorldOf}

@@ -1,6 +1,6 @@
 use Rattle.std.proofs.Common.{◌≡◌, List, sum, Some, refl, subst, sym, ap, ◌∙◌, arith}
 use Rattle.dbg_base.specs.LocalStates.{LocalState}
-use Rattle.dbg_base.specs.ModelStates.{ModelState}
+use Rattle.dbg_base.specs.SystemStates.{SystemState}
 use Rattle.causal_world.specs.Scenes.{Scene, scene, unmade}
 use Rattle.causal_world.specs.Worlds.{IsSomeWorld, last_event}
 use Rattle.causal_world.specs.Rollings.{IsNextBack}
@@ -46,7 +46,7 @@ left : (c : After-retreat) → scene c.retreat.new.self c.take_back.new.envs.ite
     ≡ unmade (scene c.loop-pid.lines c.loop-pid.envs.items c.loop-pid.grid.channels c.loop-pid.past) c.in-Some.pid.0
     c.in-Some-take_back.event
 left c =
-    ap (λ (state : ModelState). scene state c.take_back.new.envs.items c.take_back.new.grid.channels c.take_back.new.past) c.retreat.ensures
+    ap (λ (state : SystemState). scene state c.take_back.new.envs.items c.take_back.new.grid.channels c.take_back.new.past) c.retreat.ensures
     ∙ c.in-Some-take_back.ensures.left c.loop-pid.lines
 
 pub loop-pid-smaller : goal.loop-pid-smaller

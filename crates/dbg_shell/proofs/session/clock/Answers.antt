@@ -1,6 +1,6 @@
 use Rattle.std.proofs.Common.{ℕ, subst}
 use Rattle.dbg_base.specs.Clocks.{IsClock}
-use Rattle.dbg_base.specs.ModelStates.{history_of}
+use Rattle.dbg_base.specs.SystemStates.{history_of}
 use Rattle.proc_lang.specs.Programs.{program_of}
 use Rattle.dbg_shell.proofs.Told.{tells_clock}
 use Rattle.dbg_shell.proofs.session.clock.Goals as goal

@@ -4,7 +4,7 @@ use Rattle.std.proofs.lemmas.List.{length-replicate, length-set}
 use Rattle.dbg_base.specs.declared.elimination.Elimination.{Elimination}
 use Rattle.dbg_base.specs.declared.elimination.Cause.TheVariants.{FalseAt}
 use Rattle.dbg_base.specs.Calls.{conjunct_of}
-use Rattle.dbg_base.specs.ModelStates.{history_of}
+use Rattle.dbg_base.specs.SystemStates.{history_of}
 use Rattle.dbg_base.specs.Eliminations.{IsSound}
 use Rattle.dbg_base.proofs.Searching.{sound_above, few_steps}
 use Rattle.causal_world.proofs.Looking.{kinds_placed}

@@ -2,7 +2,7 @@ use Rattle.std.proofs.Common.{◌≡◌, ℕ, ◌-◌, ◌<◌, List, [], ◌++�
 use Rattle.std.specs.Prelude.{slice_set}
 use Rattle.std.specs.declared.alloc.Global.{Global}
 use Rattle.std.proofs.lemmas.List.{get_or_read, length-map}
-use Rattle.dbg_base.specs.ModelStates.{ModelState}
+use Rattle.dbg_base.specs.SystemStates.{SystemState}
 use Rattle.dbg_base.proofs.Places.{changed_at, kept_at}
 use Rattle.causal_world.proofs.Results.{on_err}
 use Rattle.causal_world.proofs.lines.Lines.restore.Goals as goal
@@ -12,7 +12,7 @@ returns-in_err-replace_end-clause-kept c =
     let s = c.self.inside in
     let p : ℕ = c.args.pid.0 in
     let lt : p < length s.lines.items = simp length-map at (rw (← c.self.view_is) at c.requires.line) in
-    let to : List (List ℕ) → ModelState = λ lines. record { lines = lines; places = s.places.items } in
+    let to : List (List ℕ) → SystemState = λ lines. record { lines = lines; places = s.places.items } in
     on_err c.from_residual.result (ap to (kept_at (λ (line : Vec ℕ Global). line.items) s.lines.items p c.index_mut.result.now
     (sym c.index_mut.ensures.value) lt c.replace_end.new.line c.in_err-replace_end.ensures.kept) ∙ c.self.view_is)
 

@@ -1,5 +1,5 @@
 use Rattle.std.proofs.Common.{◌≡◌, sym, ap, ◌∙◌, subst}
-use Rattle.dbg_base.specs.ModelStates.{history_of}
+use Rattle.dbg_base.specs.SystemStates.{history_of}
 use Rattle.dbg_base.specs.Clocks.{IsClock}
 use Rattle.causal_world.specs.Scenes.{Scene}
 use Rattle.causal_world.specs.Pasts.{row_at}

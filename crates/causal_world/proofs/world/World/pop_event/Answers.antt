@@ -1,5 +1,5 @@
 use Rattle.std.proofs.Common.{◌≡◌, ℤ, List, Some, subst, sym, ap, ◌∙◌}
-use Rattle.dbg_base.specs.ModelStates.{ModelState}
+use Rattle.dbg_base.specs.SystemStates.{SystemState}
 use Rattle.causal_world.specs.Scenes.{Scene, scene, IsWorldOf, unmade}
 use Rattle.causal_world.specs.Worlds.{last_event}
 use Rattle.causal_world.specs.Rollings.{CanTakeBack, TakesOut}
@@ -30,7 +30,7 @@ took c =
     record {
       was = was;
       may = may_take c.args.self.now p event c.in_ok-exchange.ensures was;
-      left = ap (λ (state : ModelState). scene state c.take_back.new.envs.items c.take_back.new.grid.channels c.take_back.new.past)
+      left = ap (λ (state : SystemState). scene state c.take_back.new.envs.items c.take_back.new.grid.channels c.take_back.new.past)
           c.retreat.ensures ∙ c.in-Some.ensures.left inside.lines ∙ ap (λ (w : Scene). unmade w p event) same;
     }
 

@@ -1,5 +1,5 @@
 use Rattle.std.proofs.Common.{◌≡◌, ℕ, List, true, map, sym, ap, subst, ◌∙◌}
-use Rattle.dbg_base.specs.ModelStates.{history_of}
+use Rattle.dbg_base.specs.SystemStates.{history_of}
 use Rattle.dbg_base.specs.Predicates.{IsLeast}
 use Rattle.least_cut.specs.Watches.{WatchRoom}
 use Rattle.least_cut.specs.Detectors.{DetectorState, conjuncts_of, lines_of, is_past_in}

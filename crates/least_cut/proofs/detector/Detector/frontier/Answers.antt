@@ -3,7 +3,7 @@ use Rattle.std.proofs.lemmas.Bool.{cases_lt}
 use Rattle.std.proofs.lemmas.List.{length_push, get_or_push, get_or_append_left}
 use Rattle.dbg_base.specs.declared.said.Head.{Head}
 use Rattle.dbg_base.specs.declared.said.Head.TheVariants.{Past}
-use Rattle.dbg_base.specs.ModelStates.{history_of}
+use Rattle.dbg_base.specs.SystemStates.{history_of}
 use Rattle.least_cut.specs.Detectors.{conjuncts_of, lines_of, TellsFrontier, told_head}
 use Rattle.least_cut.proofs.Telling.{told_heads}
 use Rattle.least_cut.proofs.detector.Detector.frontier.Goals as goal

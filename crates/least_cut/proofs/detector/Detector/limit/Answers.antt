@@ -1,5 +1,5 @@
 use Rattle.std.proofs.Common.{◌+◌, ◌≤◌, inr, sym, ◌∙◌, arith}
-use Rattle.dbg_base.specs.ModelStates.{place_at}
+use Rattle.dbg_base.specs.SystemStates.{place_at}
 use Rattle.least_cut.proofs.Watched.{past_within}
 use Rattle.least_cut.proofs.detector.Detector.limit.Goals as goal
 

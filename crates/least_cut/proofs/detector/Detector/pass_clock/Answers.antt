@@ -1,7 +1,7 @@
 use Rattle.std.proofs.Common.{◌≡◌, ℕ, ◌<◌, ◌≤◌, min, sum, List, length, get_or, sym, refl, ap, ◌∙◌, subst, arith, ⊎_elim}
 use Rattle.std.proofs.lemmas.Bool.{cases_lt}
 use Rattle.std.proofs.lemmas.List.{get_or_past}
-use Rattle.dbg_base.specs.ModelStates.{place_at}
+use Rattle.dbg_base.specs.SystemStates.{place_at}
 use Rattle.cut_core.specs.declared.kind.Kind.{Kind}
 use Rattle.causal_world.specs.Pasts.{row_at}
 use Rattle.causal_world.proofs.Looking.{kinds_placed}

@@ -1,5 +1,5 @@
 use Rattle.std.proofs.Common.{◌≡◌, ℕ, ◌<◌, ◌≤◌, min, sum, false, IsTrue, slice_index}
-use Rattle.dbg_base.specs.ModelStates.{place_at}
+use Rattle.dbg_base.specs.SystemStates.{place_at}
 use Rattle.causal_world.specs.Pasts.{row_at}
 use Rattle.least_cut.specs.Detectors.{GoesOn}
 use Rattle.least_cut.proofs.detector.Detector.pass_clock.Given as goal

@@ -1,6 +1,6 @@
 use Rattle.std.proofs.Common.{◌≡◌, List, sym, subst}
 use Rattle.dbg_base.specs.declared.elimination.Elimination.{Elimination}
-use Rattle.dbg_base.specs.ModelStates.{history_of}
+use Rattle.dbg_base.specs.SystemStates.{history_of}
 use Rattle.dbg_base.specs.Eliminations.{IsSound, reach}
 use Rattle.dbg_base.specs.Frontiers.{IsFrontier}
 use Rattle.least_cut.specs.Detectors.{conjuncts_of}

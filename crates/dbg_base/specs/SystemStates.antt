@@ -8,18 +8,18 @@ use Rattle.dbg_base.specs.Histories.{History, play}
 
 -- For each process its line of choices and its place in it: the choices before the place are its events, and those from the place
 -- on are its redo line.
-pub record ModelState : Type 0 where
+pub record SystemState : Type 0 where
   pub lines : List (List ℕ)
   pub places : List ℕ
 
 -- empty lines
-abbrev pub opening_state : Program → ModelState
+abbrev pub opening_state : Program → SystemState
 opening_state P = record { lines = replicate (length P) []; places = replicate (length P) 0 }
 
-abbrev pub line_of : ModelState → ℕ → List ℕ
+abbrev pub line_of : SystemState → ℕ → List ℕ
 line_of M p = slice_index_or M.lines p []
 
-abbrev pub place_at : ModelState → ℕ → ℕ
+abbrev pub place_at : SystemState → ℕ → ℕ
 place_at M p = slice_index M.places p
 
 -- each line cut at its place
@@ -29,22 +29,22 @@ cut_lines (line ∷ lines) [] = [] ∷ cut_lines lines []
 cut_lines (line ∷ lines) (place ∷ places) = take place line ∷ cut_lines lines places
 
 -- the events that remain
-abbrev pub history_of : ModelState → History
+abbrev pub history_of : SystemState → History
 history_of M = cut_lines M.lines M.places
 
 -- where the system stands
-abbrev pub configuration_of : Program → ModelState → Configuration
+abbrev pub configuration_of : Program → SystemState → Configuration
 configuration_of P M = play P (history_of M)
 
 -- process p made choice k: its line is cut at its place, the choice is appended, and the place moves on by one
-abbrev pub after_choice : ModelState → ℕ → ℕ → ModelState
+abbrev pub after_choice : SystemState → ℕ → ℕ → SystemState
 after_choice M p k = record M {
   lines = slice_set M.lines p (take (place_at M p) (line_of M p) ++ k ∷ []);
   places = slice_set M.places p (place_at M p + 1);
 }
 
 -- the choices that can be made again, the next one first
-abbrev pub redo_line : ModelState → ℕ → List ℕ
+abbrev pub redo_line : SystemState → ℕ → List ℕ
 redo_line M p = drop (place_at M p) (line_of M p)
 
 -- the choice of process p's last event
@@ -52,23 +52,23 @@ abbrev pub choice_before : ℕ → List ℕ → Option ℕ
 choice_before zero line = None
 choice_before (suc n) line = slice_get line n
 
-abbrev pub last_choice : ModelState → ℕ → Option ℕ
+abbrev pub last_choice : SystemState → ℕ → Option ℕ
 last_choice M p = choice_before (place_at M p) (line_of M p)
 
 -- process p made the choice at its place again: the line stays
-abbrev pub after_redo : ModelState → ℕ → ModelState
+abbrev pub after_redo : SystemState → ℕ → SystemState
 after_redo M p = record M { places = slice_set M.places p (place_at M p + 1) }
 
 -- process p's last event was taken back: the line stays
-abbrev pub after_undo : ModelState → ℕ → ModelState
+abbrev pub after_undo : SystemState → ℕ → SystemState
 after_undo M p = record M { places = slice_set M.places p (place_at M p - 1) }
 
 -- the events behind this cut were taken back: the lines stay
-abbrev pub after_rollback : ModelState → List ℕ → ModelState
+abbrev pub after_rollback : SystemState → List ℕ → SystemState
 after_rollback M cut = record M { places = cut }
 
 -- M is a state of this program: a line and a place for each process, the place in the line, and the choices those of commands
-pub record IsStateOf (P : Program) (M : ModelState) : Type 0 where
+pub record IsStateOf (P : Program) (M : SystemState) : Type 0 where
   pub lines : length M.lines ≡ length P
   pub places : length M.places ≡ length P
   pub within : (p : ℕ) → place_at M p ≤ length (line_of M p)
@@ -76,5 +76,5 @@ pub record IsStateOf (P : Program) (M : ModelState) : Type 0 where
   pub commands : (p n k : ℕ) → slice_get (line_of M p) n ≡ Some k → k < length (process_of P p).commands
 
 -- the breakpoint that halts the session, if one does: none can be set yet
-abbrev pub halted_of : Program → ModelState → Option (List ℕ)
+abbrev pub halted_of : Program → SystemState → Option (List ℕ)
 halted_of P M = None

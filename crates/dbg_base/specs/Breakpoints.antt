@@ -1,0 +1,41 @@
+-- Breakpoints: predicates by name, in the order in which they were set, and which of them halts a session.
+use Rattle.std.specs.Prelude.{◌≡◌, ℕ, Bool, List, [], ◌∷◌, Option, Some, None, if◌then◌else◌, ◌⊎◌}
+use Rattle.std.specs.Bool.{MatchBool}
+use Rattle.std.specs.Str.{bytes_eq}
+use Rattle.dbg_base.specs.Trees.{Program}
+use Rattle.dbg_base.specs.Histories.{History}
+use Rattle.dbg_base.specs.Predicates.{Conjunct, IsLeast, NoCut}
+
+-- a name, a predicate, and whether it halts the session where a cut satisfies the predicate
+pub record Breakpoint : Type 0 where
+  pub name : List ℕ
+  pub conjuncts : List Conjunct
+  pub armed : Bool
+
+-- the breakpoint of this name
+abbrev pub named : List ℕ → List Breakpoint → Option Breakpoint
+named name [] = None
+named name (b ∷ breakpoints) = if bytes_eq b.name name then Some b else named name breakpoints
+
+-- all others
+abbrev pub without : List ℕ → List Breakpoint → List Breakpoint
+without name [] = []
+without name (b ∷ breakpoints) = if bytes_eq b.name name then breakpoints else b ∷ without name breakpoints
+
+-- the breakpoint of this name has this mark
+abbrev pub with_mark : List ℕ → Bool → List Breakpoint → List Breakpoint
+with_mark name armed [] = []
+with_mark name armed (b ∷ breakpoints) =
+    if bytes_eq b.name name then record b { armed = armed } ∷ breakpoints else b ∷ with_mark name armed breakpoints
+
+-- some cut satisfies the breakpoint's predicate, of which this one is the least
+abbrev pub HasCut : Program → History → Breakpoint → Type 0
+HasCut P H b = (cut : List ℕ) × IsLeast P H b.conjuncts cut
+
+-- The breakpoint that halts the session: the first armed one that has a cut, or none.
+abbrev pub IsHaltedBy : Program → History → List Breakpoint → Option (List ℕ) → Type 0
+IsHaltedBy P H [] halted = halted ≡ None
+IsHaltedBy P H (b ∷ breakpoints) halted =
+    MatchBool b.armed
+    ((HasCut P H b × (halted ≡ Some b.name)) ⊎ (NoCut P H b.conjuncts × IsHaltedBy P H breakpoints halted))
+    (IsHaltedBy P H breakpoints halted)
