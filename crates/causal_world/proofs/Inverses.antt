@@ -5,7 +5,7 @@ use Rattle.std.proofs.Common.{⊎_elim, arith, take-append-drop}
 use Rattle.std.proofs.lemmas.List.{set-set, set-get_or, get_or-set_same, length-take-le, length_push, take_at}
 use Rattle.dbg_base.specs.declared.refusal.Refusal.{Refusal}
 use Rattle.dbg_base.specs.declared.refusal.Refusal.TheVariants.{NothingToUndo, Consequence, Memory}
-use Rattle.dbg_base.specs.Acts.{CannotUndo}
+use Rattle.dbg_base.specs.Choices.{CannotUndo}
 use Rattle.dbg_base.specs.Trees.{Program}
 use Rattle.dbg_base.specs.Histories.{History, IsPossible, play}
 use Rattle.dbg_base.specs.Orders.{with_last}

@@ -5,7 +5,7 @@ use Rattle.std.specs.Prelude.{slice_get}
 use Rattle.dbg_base.specs.Trees.{Program, Command, process_of}
 use Rattle.dbg_base.specs.Configurations.{Configuration}
 use Rattle.dbg_base.specs.Firing.{fire_command, fire_if, fire}
-use Rattle.dbg_base.specs.Acts.{fires_first, lowest_from, lowest_enabled}
+use Rattle.dbg_base.specs.Choices.{fires_first, lowest_from, lowest_enabled}
 use Rattle.dbg_base.specs.declared.refusal.Refusal.{Refusal}
 
 drop_there : {A : Type 0} (xs : List A) (k : ℕ) → k < length xs → (x : A) × (slice_get xs k ≡ Some x) × (drop k xs ≡ x ∷ drop (suc k) xs)

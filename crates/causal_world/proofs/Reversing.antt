@@ -6,7 +6,7 @@ use Rattle.std.proofs.lemmas.List.{length-map, length-set, length-take-le, get_o
 use Rattle.std.specs.Prelude.{if◌then◌else◌}
 use Rattle.dbg_base.specs.declared.refusal.Refusal.{Refusal}
 use Rattle.dbg_base.specs.declared.refusal.Refusal.TheVariants.{NothingToUndo, Consequence}
-use Rattle.dbg_base.specs.Acts.{CannotUndo}
+use Rattle.dbg_base.specs.Choices.{CannotUndo}
 use Rattle.dbg_base.specs.Trees.{Program}
 use Rattle.dbg_base.specs.Configurations.{Configuration}
 use Rattle.dbg_base.specs.SystemStates.{history_of, place_at, line_of, after_rollback}

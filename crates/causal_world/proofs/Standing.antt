@@ -16,7 +16,7 @@ use Rattle.dbg_base.specs.Histories.{History, IsPossible, play}
 use Rattle.dbg_base.specs.Orders.{Event, order_from, with_first, with_last, choices_of, target_of, target_in}
 use Rattle.dbg_base.specs.Reversal.{MayUndo}
 use Rattle.dbg_base.specs.SystemStates.{line_of, place_at, history_of, choice_before, last_choice, after_undo}
-use Rattle.dbg_base.specs.Acts.{IsNeeded, last_target}
+use Rattle.dbg_base.specs.Choices.{IsNeeded, last_target}
 use Rattle.event_rows.specs.declared.exchange.Exchange.{Exchange}
 use Rattle.event_rows.specs.declared.exchange.Exchange.TheVariants.{Nothing, Sent, Took}
 use Rattle.event_rows.specs.EventValues.{EventValue}

@@ -7,7 +7,7 @@ use Rattle.dbg_base.specs.Trees.{Action, Receives, Command, Program, process_of}
 use Rattle.dbg_base.specs.LocalStates.{LocalState}
 use Rattle.dbg_base.specs.Configurations.{Configuration, channel_of}
 use Rattle.dbg_base.specs.Firing.{effect_of, fire}
-use Rattle.dbg_base.specs.Acts.{lowest_enabled}
+use Rattle.dbg_base.specs.Choices.{lowest_enabled}
 use Rattle.event_rows.specs.EventValues.{EventValue}
 use Rattle.causal_world.specs.Scenes.{event_of, event_at, with_done}
 

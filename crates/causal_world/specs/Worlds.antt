@@ -6,7 +6,7 @@ use Rattle.dbg_base.specs.Trees.{Program, process_of}
 use Rattle.dbg_base.specs.Firing.{fire}
 use Rattle.dbg_base.specs.SystemStates.{history_of}
 use Rattle.dbg_base.specs.Reversal.{MayUndo}
-use Rattle.dbg_base.specs.Acts.{CannotUndo}
+use Rattle.dbg_base.specs.Choices.{CannotUndo}
 use Rattle.dbg_base.specs.declared.ids.Pid.{Pid}
 use Rattle.fifo_grid.specs.Grids.{messages_at}
 use Rattle.event_rows.specs.declared.exchange.Exchange.{Exchange}

@@ -10,7 +10,7 @@ ghost use Rattle.dbg_base.specs.Configurations.{start_of, values_of, channel_of}
 ghost use Rattle.dbg_base.specs.SystemStates.{opening_state, line_of, place_at, redo_line, history_of, last_choice};
 ghost use Rattle.dbg_base.specs.SystemStates.{after_choice, after_redo, after_undo, after_rollback};
 ghost use Rattle.dbg_base.specs.Clocks.{IsClock};
-ghost use Rattle.dbg_base.specs.Acts.{step_choice, next_choice, redo_choice, CannotUndo};
+ghost use Rattle.dbg_base.specs.Choices.{step_choice, next_choice, redo_choice, CannotUndo};
 ghost use Rattle.dbg_base.specs.Reversal.{MayUndo, IsRollback};
 ghost use Rattle.cut_core.specs.ConsistentCuts.{IsConsistentCut};
 ghost use Rattle.proc_lang.specs.Programs.{program_of};

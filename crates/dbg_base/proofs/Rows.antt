@@ -15,7 +15,7 @@ use Rattle.dbg_base.specs.SystemStates.{SystemState, opening_state, configuratio
 use Rattle.dbg_base.specs.SystemStates.{after_rollback}
 use Rattle.dbg_base.specs.Calls.{Give, Step, Next, Rollback, Ask, Vars, Chan, Clock}
 use Rattle.dbg_base.specs.WellFormed.{is_well_formed}
-use Rattle.dbg_base.specs.Acts.{lowest_enabled, step_choice, next_choice, redo_choice}
+use Rattle.dbg_base.specs.Choices.{lowest_enabled, step_choice, next_choice, redo_choice}
 use Rattle.dbg_base.specs.CommandLines.{parsed_line}
 use Rattle.dbg_base.specs.Shell.{parts_of, read_lines}
 

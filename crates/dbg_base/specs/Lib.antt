@@ -21,6 +21,7 @@ pub mod Frontiers
 pub mod Eliminations
 pub mod Reversal
 pub mod Calls
+pub mod Choices
 pub mod Acts
 pub mod Views
 pub mod Tokens

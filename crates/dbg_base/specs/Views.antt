@@ -13,7 +13,7 @@ use Rattle.dbg_base.specs.Calls.{Query, Vars, Chan, Clock, Place, Can}
 use Rattle.dbg_base.specs.Clocks.{IsClock}
 use Rattle.dbg_base.specs.Reversal.{MayUndo}
 use Rattle.dbg_base.specs.SystemStates.{SystemState, line_of, place_at, history_of, configuration_of}
-use Rattle.dbg_base.specs.Acts.{CannotUndo}
+use Rattle.dbg_base.specs.Choices.{CannotUndo}
 
 -- the answer to a question about a process, where there is one
 abbrev pub about : Program → ℕ → Answer → Said

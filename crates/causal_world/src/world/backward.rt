@@ -4,7 +4,7 @@ ghost use Rattle.std.specs.Prelude.{◌≡◌, ◌⊎◌, IfOk, IfErr, OnOk, OnE
 ghost use Rattle.dbg_base.specs.declared.refusal.Refusal.TheVariants.{Memory};
 ghost use Rattle.dbg_base.specs.Trees as tree;
 ghost use Rattle.dbg_base.specs.SystemStates.{history_of, after_undo, after_rollback};
-ghost use Rattle.dbg_base.specs.Acts.{CannotUndo};
+ghost use Rattle.dbg_base.specs.Choices.{CannotUndo};
 ghost use Rattle.dbg_base.specs.Reversal.{MayUndo};
 ghost use Rattle.cut_core.specs.ConsistentCuts.{IsConsistentCut};
 ghost use Rattle.causal_world.specs.Scenes.{IsWorldOf};
