@@ -3,6 +3,7 @@ pub mod WellFormedTrees
 pub mod FirstFaults
 pub mod Places
 mod Rows
+mod LineRows
 mod OrderRows
 pub mod Counted
 pub mod Searching

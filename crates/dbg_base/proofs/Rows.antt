@@ -3,7 +3,7 @@ use Rattle.std.proofs.Common.{◌≡◌, ℕ, ℤ, pos, negsuc, List, [], ◌∷
 use Rattle.std.specs.Prelude.{codes}
 use Rattle.dbg_base.specs.declared.expr.Direction.TheVariants.{Sent, Got}
 use Rattle.dbg_base.specs.declared.expr.Operator.TheVariants.{Add, Subtract, Divide, Remainder, Less, Greater, Or, Equal}
-use Rattle.dbg_base.specs.declared.refusal.Refusal.TheVariants.{GuardFalse, ChannelEmpty, UnknownProcess, UnknownChoice, BadLine}
+use Rattle.dbg_base.specs.declared.refusal.Refusal.TheVariants.{GuardFalse, ChannelEmpty, UnknownChoice}
 use Rattle.dbg_base.specs.declared.refusal.Refusal.TheVariants.{NothingToRedo}
 use Rattle.dbg_base.specs.Trees.{Number, Variable, Truth, Count, Binary, Local, Sends, Receives, Command, Process, Program}
 use Rattle.dbg_base.specs.LocalStates.{LocalState}
@@ -13,10 +13,8 @@ use Rattle.dbg_base.specs.Firing.{fire, effect_of}
 use Rattle.dbg_base.specs.Histories.{play, local_state, progress_of}
 use Rattle.dbg_base.specs.SystemStates.{SystemState, opening_state, configuration_of, line_of, redo_line, after_choice, after_undo}
 use Rattle.dbg_base.specs.SystemStates.{after_rollback}
-use Rattle.dbg_base.specs.Calls.{Give, Step, Next, Rollback, Ask, Vars, Chan, Clock}
 use Rattle.dbg_base.specs.WellFormed.{is_well_formed}
 use Rattle.dbg_base.specs.Choices.{lowest_enabled, step_choice, next_choice, redo_choice}
-use Rattle.dbg_base.specs.CommandLines.{parsed_line}
 use Rattle.dbg_base.specs.Shell.{parts_of, read_lines}
 
 abbrev counter : Process
@@ -221,56 +219,6 @@ system_is_well_formed = refl
 
 twice_is_not : is_well_formed (counter ∷ counter ∷ []) ≡ false
 twice_is_not = refl
-
--- command lines
-reads_next : parsed_line system (codes "1 next a") ≡ Ok (Some (record { seat = 1; call = Give (Next 0) }))
-reads_next = refl
-
-reads_vars : parsed_line system (codes "  16 vars b ") ≡ Ok (Some (record { seat = 16; call = Ask (Vars 1) }))
-reads_vars = refl
-
-unknown_process : parsed_line system (codes "1 next d") ≡ Err UnknownProcess
-unknown_process = refl
-
-no_seat : parsed_line system (codes "01x next a") ≡ Err BadLine
-no_seat = refl
-
-seat_too_large : parsed_line system (codes "17 next a") ≡ Err BadLine
-seat_too_large = refl
-
--- the shape of the whole line comes before the names in it
-unknown_word : parsed_line system (codes "1 jump d") ≡ Err BadLine
-unknown_word = refl
-
-one_word_too_many : parsed_line system (codes "1 next d a") ≡ Err BadLine
-one_word_too_many = refl
-
-reads_step : parsed_line system (codes "2 step b 1") ≡ Ok (Some (record { seat = 2; call = Give (Step 1 1) }))
-reads_step = refl
-
-reads_clock : parsed_line system (codes "1 clock b") ≡ Ok (Some (record { seat = 1; call = Ask (Clock 1) }))
-reads_clock = refl
-
-reads_rollback : parsed_line system (codes "2 rollback b 0") ≡ Ok (Some (record { seat = 2; call = Give (Rollback 1 0) }))
-reads_rollback = refl
-
-reads_chan : parsed_line system (codes "1 chan a b") ≡ Ok (Some (record { seat = 1; call = Ask (Chan 0 1) }))
-reads_chan = refl
-
-no_receiver : parsed_line system (codes "1 chan a d") ≡ Err UnknownProcess
-no_receiver = refl
-
-no_number : parsed_line system (codes "1 step d x") ≡ Err BadLine
-no_number = refl
-
-no_place : parsed_line system (codes "1 rollback d x") ≡ Err BadLine
-no_place = refl
-
-no_process_to_roll_back : parsed_line system (codes "1 rollback d 0") ≡ Err UnknownProcess
-no_process_to_roll_back = refl
-
-blank_line : parsed_line system (codes "   ") ≡ Ok None
-blank_line = refl
 
 -- a carriage return before a line end is dropped, and a last line needs no end
 input_in_parts : parts_of (read_lines (codes "p" ++ 10 ∷ codes "%%" ++ 13 ∷ 10 ∷ codes "1 next a" ++ 10 ∷ codes "1 v")) ≡ Some (record {

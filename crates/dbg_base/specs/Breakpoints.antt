@@ -1,7 +1,10 @@
 -- Breakpoints: predicates by name, in the order in which they were set, and which of them halts a session.
-use Rattle.std.specs.Prelude.{◌≡◌, ℕ, Bool, List, [], ◌∷◌, Option, Some, None, if◌then◌else◌, ◌⊎◌}
+use Rattle.std.specs.Prelude.{◌≡◌, ℕ, Bool, List, [], ◌∷◌, length, Option, Some, None, is_some, nat_lt, if◌then◌else◌, ◌⊎◌}
 use Rattle.std.specs.Bool.{MatchBool}
 use Rattle.std.specs.Str.{bytes_eq}
+use Rattle.dbg_base.specs.declared.refusal.Refusal.{Refusal}
+use Rattle.dbg_base.specs.declared.refusal.Refusal.TheVariants.{BreakTaken, BreaksFull}
+use Rattle.dbg_base.specs.declared.limits.TheConstants.{BREAKPOINTS}
 use Rattle.dbg_base.specs.Trees.{Program}
 use Rattle.dbg_base.specs.Histories.{History}
 use Rattle.dbg_base.specs.Predicates.{Conjunct, IsLeast, NoCut}
@@ -15,18 +18,24 @@ pub record Breakpoint : Type 0 where
 -- the breakpoint of this name
 abbrev pub named : List ℕ → List Breakpoint → Option Breakpoint
 named name [] = None
-named name (b ∷ breakpoints) = if bytes_eq b.name name then Some b else named name breakpoints
+named name (b ∷ breakpoints) = if bytes_eq name b.name then Some b else named name breakpoints
 
 -- all others
 abbrev pub without : List ℕ → List Breakpoint → List Breakpoint
 without name [] = []
-without name (b ∷ breakpoints) = if bytes_eq b.name name then breakpoints else b ∷ without name breakpoints
+without name (b ∷ breakpoints) = if bytes_eq name b.name then breakpoints else b ∷ without name breakpoints
 
 -- the breakpoint of this name has this mark
 abbrev pub with_mark : List ℕ → Bool → List Breakpoint → List Breakpoint
 with_mark name armed [] = []
 with_mark name armed (b ∷ breakpoints) =
-    if bytes_eq b.name name then record b { armed = armed } ∷ breakpoints else b ∷ with_mark name armed breakpoints
+    if bytes_eq name b.name then record b { armed = armed } ∷ breakpoints else b ∷ with_mark name armed breakpoints
+
+-- why no further breakpoint of this name may be set, if it may not
+abbrev pub name_refusal : List ℕ → List Breakpoint → Option Refusal
+name_refusal name breakpoints =
+    if is_some (named name breakpoints) then Some BreakTaken
+    else (if nat_lt (length breakpoints) BREAKPOINTS then None else Some BreaksFull)
 
 -- some cut satisfies the breakpoint's predicate, of which this one is the least
 abbrev pub HasCut : Program → History → Breakpoint → Type 0

@@ -1,7 +1,5 @@
--- Calls: what a seat can ask of a session, by the numbers of processes and without the places in memory that calls of the code have. A
--- word that no line has yet has no case here.
-use Rattle.std.specs.Prelude.{ℕ, Option, Some, None}
-use Rattle.std.specs.Option.{option_map}
+-- Calls: what a seat can ask of a session, by the numbers of processes and without the places in memory that calls of the code have.
+use Rattle.std.specs.Prelude.{ℕ, List, Option, Some, None, map}
 use Rattle.dbg_base.specs.declared.call.Plan as plan
 use Rattle.dbg_base.specs.declared.call.Plan.TheVariants as plans
 use Rattle.dbg_base.specs.declared.call.Query as query
@@ -19,6 +17,11 @@ pub data Plan : Type 0 where
   Undo : (process : ℕ) → Plan
   Redo : (process : ℕ) → Plan
   Rollback : (process place : ℕ) → Plan
+  Goto : (name : List ℕ) → Plan
+  Break : (name : List ℕ) (conjuncts : List Conjunct) → Plan
+  Clear : (name : List ℕ) → Plan
+  Arm : (name : List ℕ) → Plan
+  Pass : (name : List ℕ) → Plan
 
 -- a question, which changes nothing
 pub data Query : Type 0 where
@@ -27,37 +30,46 @@ pub data Query : Type 0 where
   Clock : (process : ℕ) → Query
   Place : (process : ℕ) → Query
   Can : (process : ℕ) → Query
+  CutOf : (name : List ℕ) → Query
+  Why : (name : List ℕ) → Query
+  Breaks : Query
 
 pub data Call : Type 0 where
   Give : (plan : Plan) → Call
   Ask : (query : Query) → Call
 
--- the plan of the code as the model's, and none for one that no line gives yet
-abbrev pub plan_of : plan.Plan → Option Plan
-plan_of (plans.Step pid choice) = Some (Step pid.0 choice.0)
-plan_of (plans.Next pid) = Some (Next pid.0)
-plan_of (plans.Undo pid) = Some (Undo pid.0)
-plan_of (plans.Redo pid) = Some (Redo pid.0)
-plan_of (plans.Rollback pid place) = Some (Rollback pid.0 place)
-plan_of given = None
-
--- the same for a query
-abbrev pub query_of : query.Query → Option Query
-query_of (queries.Vars pid) = Some (Vars pid.0)
-query_of (queries.Chan source target) = Some (Chan source.0 target.0)
-query_of (queries.Clock pid) = Some (Clock pid.0)
-query_of (queries.Place pid) = Some (Place pid.0)
-query_of (queries.Can pid) = Some (Can pid.0)
-query_of asked = None
-
--- the same for a call
-abbrev pub call_of : call.Call → Option Call
-call_of (calls.Give given) = option_map Give (plan_of given)
-call_of (calls.Ask asked) = option_map Ask (query_of asked)
-call_of calls.Back = None
-
 abbrev pub conjunct_of : conjunct.Conjunct → Conjunct
 conjunct_of given = record { process = given.pid.0; expression = tree_of given.expr }
+
+-- the plan of the code as the model's
+abbrev pub plan_of : plan.Plan → Plan
+plan_of (plans.Step pid choice) = Step pid.0 choice.0
+plan_of (plans.Next pid) = Next pid.0
+plan_of (plans.Undo pid) = Undo pid.0
+plan_of (plans.Redo pid) = Redo pid.0
+plan_of (plans.Rollback pid place) = Rollback pid.0 place
+plan_of (plans.Goto name) = Goto name
+plan_of (plans.Break name conjuncts) = Break name (map conjunct_of conjuncts)
+plan_of (plans.Clear name) = Clear name
+plan_of (plans.Arm name) = Arm name
+plan_of (plans.Pass name) = Pass name
+
+-- the same for a query
+abbrev pub query_of : query.Query → Query
+query_of (queries.Vars pid) = Vars pid.0
+query_of (queries.Chan source target) = Chan source.0 target.0
+query_of (queries.Clock pid) = Clock pid.0
+query_of (queries.Place pid) = Place pid.0
+query_of (queries.Can pid) = Can pid.0
+query_of (queries.CutOf name) = CutOf name
+query_of (queries.Why name) = Why name
+query_of queries.Breaks = Breaks
+
+-- the same for a call, and none for one that no line gives yet
+abbrev pub call_of : call.Call → Option Call
+call_of (calls.Give given) = Some (Give (plan_of given))
+call_of (calls.Ask asked) = Some (Ask (query_of asked))
+call_of calls.Back = None
 
 -- the query that a call of the code asks, if it asks one
 abbrev pub asked_query : call.Call → Option query.Query
@@ -71,6 +83,9 @@ query_told (Chan i j) = queries.Chan (record { 0 = i }) (record { 0 = j })
 query_told (Clock p) = queries.Clock (record { 0 = p })
 query_told (Place p) = queries.Place (record { 0 = p })
 query_told (Can p) = queries.Can (record { 0 = p })
+query_told (CutOf name) = queries.CutOf name
+query_told (Why name) = queries.Why name
+query_told Breaks = queries.Breaks
 
 -- the query of a call that asks
 abbrev pub asked_by : Call → Option query.Query

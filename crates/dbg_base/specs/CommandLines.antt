@@ -1,14 +1,15 @@
 -- Command lines: what a line asks for, or why it is refused.
-use Rattle.std.specs.Prelude.{ℕ, Bool, ◌&&◌, ◌||◌, ◌==◌, List, [], ◌∷◌, length, Option, Some, None, ok_or, Result, Ok, Err, nat_le, nat_lt}
+use Rattle.std.specs.Prelude.{ℕ, zero, suc, ◌+◌, ◌-◌, Bool, true, ◌&&◌, ◌||◌, ◌==◌, List, [], ◌∷◌, length, drop, Option, Some, None, ok_or, Result, Ok, Err, nat_le, nat_lt}
 use Rattle.std.specs.Prelude.{codes, if◌then◌else◌}
-use Rattle.std.specs.Option.{option_and_then}
+use Rattle.std.specs.Option.{option_map, option_and_then}
 use Rattle.std.specs.Str.{bytes_eq}
 use Rattle.std.specs.Str.Parse.{digits_value}
 use Rattle.dbg_base.specs.declared.refusal.Refusal.{Refusal}
 use Rattle.dbg_base.specs.declared.refusal.Refusal.TheVariants.{UnknownProcess, BadLine}
 use Rattle.dbg_base.specs.declared.limits.TheConstants.{LINE_BYTES, NAME_BYTES, SEATS}
 use Rattle.dbg_base.specs.Names.{place_of}
-use Rattle.dbg_base.specs.Calls.{Call, Give, Step, Next, Undo, Redo, Rollback, Ask, Vars, Chan, Clock, Place, Can}
+use Rattle.dbg_base.specs.Calls.{Call, Give, Step, Next, Undo, Redo, Rollback, Goto, Clear, Arm, Pass}
+use Rattle.dbg_base.specs.Calls.{Ask, Vars, Chan, Clock, Place, Can, CutOf, Why, Breaks}
 use Rattle.dbg_base.specs.Trees.{Program, names_of}
 use Rattle.dbg_base.specs.Tokens.{is_word, is_numeral}
 
@@ -73,6 +74,22 @@ process_call word process =
     else (if bytes_eq word (codes "can") then map_ok (λ p. Ask (Can p)) process
     else Err BadLine))))))
 
+-- the call of a word that is about a breakpoint
+abbrev pub break_call : List ℕ → List ℕ → Option Call
+break_call word name =
+    if bytes_eq word (codes "goto") then Some (Give (Goto name))
+    else (if bytes_eq word (codes "clear") then Some (Give (Clear name))
+    else (if bytes_eq word (codes "arm") then Some (Give (Arm name))
+    else (if bytes_eq word (codes "pass") then Some (Give (Pass name))
+    else (if bytes_eq word (codes "cut") then Some (Ask (CutOf name))
+    else (if bytes_eq word (codes "why") then Some (Ask (Why name))
+    else None)))))
+
+-- the call of a word with one name, of a breakpoint or of a process
+abbrev pub named_call : Program → List ℕ → List ℕ → Option Call → Result Call Refusal
+named_call P word name (Some call) = Ok call
+named_call P word name None = process_call word (named_process P name)
+
 -- goes on with a name, and a word that is none makes the line a bad one
 abbrev pub with_name : Option (List ℕ) → (List ℕ → Result Call Refusal) → Result Call Refusal
 with_name None go = Err BadLine
@@ -111,7 +128,8 @@ pair_call P word first second =
 
 -- The call of a command word and its arguments. The shape of all of them comes first, and then what they name.
 abbrev pub call_of_words : Program → List (List ℕ) → Result Call Refusal
-call_of_words P (word ∷ process ∷ []) = with_name (name_word process) (λ name. process_call word (named_process P name))
+call_of_words P (word ∷ []) = if bytes_eq word (codes "breaks") then Ok (Ask Breaks) else Err BadLine
+call_of_words P (word ∷ argument ∷ []) = with_name (name_word argument) (λ name. named_call P word name (break_call word name))
 call_of_words P (word ∷ first ∷ second ∷ []) = with_name (name_word first) (λ name. pair_call P word name second)
 call_of_words P words = Err BadLine
 
@@ -130,7 +148,75 @@ abbrev pub line_of_words : Program → List (List ℕ) → Result (Option Reques
 line_of_words P [] = Ok None
 line_of_words P (seat ∷ words) = by_seat (seat_word seat) (call_of_words P words)
 
--- What a line asks for, nothing for a blank one, or why the line is refused. The line is without its line end, and may
--- have a carriage return at its end, which its length counts.
-abbrev pub parsed_line : Program → List ℕ → Result (Option Request) Refusal
-parsed_line P line = if nat_lt LINE_BYTES (length line) then Err BadLine else line_of_words P (words_of (without_return line))
+-- A line that sets a breakpoint: the bytes of a predicate count, blanks and all.
+
+-- the bytes without the blanks at their front
+abbrev pub without_blanks : List ℕ → List ℕ
+without_blanks [] = []
+without_blanks (b ∷ bytes) = if is_blank b then without_blanks bytes else b ∷ bytes
+
+-- the bytes up to a blank
+abbrev pub word_front : List ℕ → List ℕ
+word_front [] = []
+word_front (b ∷ bytes) = if is_blank b then [] else b ∷ word_front bytes
+
+-- the first word, which may be empty, and the bytes behind it
+abbrev pub next_word : List ℕ → List ℕ
+next_word bytes = word_front (without_blanks bytes)
+
+abbrev pub after_word : List ℕ → List ℕ
+after_word bytes = drop (length (next_word bytes)) (without_blanks bytes)
+
+-- The bytes up to the parenthesis that closes all that are open, so many of them; all bytes where none does.
+abbrev pub closed_front : ℕ → List ℕ → List ℕ
+closed_front depth [] = []
+closed_front depth (b ∷ bytes) =
+    if b == 40 then b ∷ closed_front (depth + 1) bytes
+    else (if b == 41 then (if nat_le depth 1 then b ∷ [] else b ∷ closed_front (depth - 1) bytes)
+    else b ∷ closed_front depth bytes)
+
+-- the text of a predicate at the front of these bytes
+abbrev pub predicate_front : List ℕ → List ℕ
+predicate_front [] = []
+predicate_front (b ∷ bytes) = if b == 40 then closed_front 0 (b ∷ bytes) else word_front (b ∷ bytes)
+
+-- nothing, or a blank first
+abbrev pub is_apart : List ℕ → Bool
+is_apart [] = true
+is_apart (b ∷ bytes) = is_blank b
+
+-- a process by its name, and the text of its predicate
+abbrev pub Part : Type 0
+Part = List ℕ × List ℕ
+
+abbrev pub with_part : Part → Option (List Part) → Option (List Part)
+with_part part parts = option_map (λ others. part ∷ others) parts
+
+-- the part whose process has this name, if it has one, and whose text is not empty, and then what the bytes behind it have
+abbrev pub part_then : Option (List ℕ) → List ℕ → List ℕ → (List ℕ → Option (List Part)) → Option (List Part)
+part_then None text rest next = None
+part_then (Some name) [] rest next = None
+part_then (Some name) (b ∷ text) rest next = if is_apart rest then with_part (name, b ∷ text) (next rest) else None
+
+-- the same, where the text stands at the front of these bytes
+abbrev pub part_at : Option (List ℕ) → List ℕ → (List ℕ → Option (List Part)) → Option (List Part)
+part_at name bytes next = part_then name (predicate_front bytes) (drop (length (predicate_front bytes)) bytes) next
+
+-- the processes and predicates of these bytes, at most so many, or nothing where they have no such form
+abbrev pub parts_within : ℕ → List ℕ → Option (List Part)
+parts_within zero bytes = None
+parts_within (suc n) bytes =
+    if nat_le (length (next_word bytes)) 0 then Some []
+    else part_at (name_word (next_word bytes)) (without_blanks (after_word bytes)) (parts_within n)
+
+-- a line that sets a breakpoint: its seat, its name, and at least one process with a predicate
+pub record BreakLine : Type 0 where
+  pub seat : ℕ
+  pub name : List ℕ
+  pub first : Part
+  pub others : List Part
+
+abbrev pub break_line_of : Option ℕ → Option (List ℕ) → Option (List Part) → Option BreakLine
+break_line_of (Some seat) (Some name) (Some (first ∷ others)) =
+    Some (record { seat = seat; name = name; first = first; others = others })
+break_line_of seat name parts = None

@@ -17,6 +17,7 @@ pub mod Cuts
 pub mod Clocks
 pub mod Predicates
 pub mod Breakpoints
+pub mod ModelStates
 pub mod Frontiers
 pub mod Eliminations
 pub mod Reversal
@@ -28,5 +29,6 @@ pub mod Tokens
 pub mod Grammar
 pub mod Checks
 pub mod CommandLines
+pub mod Requests
 pub mod Replies
 pub mod Shell

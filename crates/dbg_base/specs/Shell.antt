@@ -13,10 +13,11 @@ use Rattle.dbg_base.specs.declared.fault.ProgFault.{ProgFault}
 use Rattle.dbg_base.specs.Faults.{kind_number}
 use Rattle.dbg_base.specs.Checks.{Reads, IsFault}
 use Rattle.dbg_base.specs.Calls.{Call, Give, Ask, asked_by}
-use Rattle.dbg_base.specs.SystemStates.{SystemState, opening_state}
+use Rattle.dbg_base.specs.ModelStates.{ModelState, opening}
 use Rattle.dbg_base.specs.Acts.{Refuses, Acts}
 use Rattle.dbg_base.specs.Views.{Answers}
-use Rattle.dbg_base.specs.CommandLines.{Request, without_return, parsed_line}
+use Rattle.dbg_base.specs.CommandLines.{Request, without_return}
+use Rattle.dbg_base.specs.Requests.{Asks}
 use Rattle.dbg_base.specs.Replies.{joined, reply_text, refusal_text}
 
 -- The whole lines of some bytes, without their line ends, and the bytes behind the last line end.
@@ -84,29 +85,34 @@ abbrev pub as_line : List ℕ → List ℕ
 as_line text = text ++ 10 ∷ []
 
 -- A seat's call was made at M, was answered so, and left M'. What is said may depend on the seat.
-abbrev pub Says : Program → ℕ → Call → SystemState → Said → SystemState → Type 0
+abbrev pub Says : Program → ℕ → Call → ModelState → Said → ModelState → Type 0
 Says P seat (Give plan) M said M' = Acts P plan M said M'
 Says P seat (Ask query) M said M' = Answers P M query said × (M' ≡ M)
 
 -- a call was answered at M, or refused for want of memory, which changes nothing
-abbrev pub SaysOrRefuses : Program → ℕ → Call → SystemState → Said → SystemState → Type 0
+abbrev pub SaysOrRefuses : Program → ℕ → Call → ModelState → Said → ModelState → Type 0
 SaysOrRefuses P seat call M said M' = Says P seat call M said M' ⊎ Refuses Memory M said M'
 
 -- what is written for a line at M, and the state that it leaves
-abbrev pub AnswersParsed : Program → Result (Option Request) Refusal → SystemState → List ℕ → SystemState → Type 0
+abbrev pub AnswersParsed : Program → Result (Option Request) Refusal → ModelState → List ℕ → ModelState → Type 0
 AnswersParsed P (Err refusal) M out M' = (out ≡ as_line (refusal_text P refusal)) × (M' ≡ M)
 AnswersParsed P (Ok None) M out M' = (out ≡ []) × (M' ≡ M)
 AnswersParsed P (Ok (Some request)) M out M' =
     (said : Said) × SaysOrRefuses P request.seat request.call M said M' × (out ≡ as_line (reply_text P (asked_by request.call) said))
 
-abbrev pub AnswersLine : Program → List ℕ → SystemState → List ℕ → SystemState → Type 0
-AnswersLine P line M out M' = AnswersParsed P (parsed_line P line) M out M'
+-- the line asks for this, or it is refused for want of memory
+abbrev pub AsksOrRefuses : Program → List ℕ → Result (Option Request) Refusal → Type 0
+AsksOrRefuses P line asked = Asks P line asked ⊎ (asked ≡ Err Memory)
+
+abbrev pub AnswersLine : Program → List ℕ → ModelState → List ℕ → ModelState → Type 0
+AnswersLine P line M out M' =
+    (asked : Result (Option Request) Refusal) × AsksOrRefuses P line asked × AnswersParsed P asked M out M'
 
 -- what is written for these lines from M on, and the state after them
-abbrev pub AnswersLines : Program → List (List ℕ) → SystemState → List ℕ → SystemState → Type 0
+abbrev pub AnswersLines : Program → List (List ℕ) → ModelState → List ℕ → ModelState → Type 0
 AnswersLines P [] M out M' = (out ≡ []) × (M' ≡ M)
 AnswersLines P (line ∷ lines) M out M' =
-    (first others : List ℕ) × (between : SystemState) × AnswersLine P line M first between
+    (first others : List ℕ) × (between : ModelState) × AnswersLine P line M first between
     × AnswersLines P lines between others M' × (out ≡ first ++ others)
 
 abbrev pub too_long_text : List ℕ
@@ -131,8 +137,8 @@ fault_text fault = as_line (joined (codes "program refused" ∷ decimal (kind_nu
 -- the program was read, and each line behind it was answered in turn
 abbrev pub AnswersCommands : List ℕ → Parts → List ℕ → Type 0
 AnswersCommands input parts out =
-    (P : Program) × Reads parts.program P × (replies : List ℕ) × (M : SystemState)
-    × AnswersLines P parts.commands (opening_state P) replies M × (out ≡ replies ++ end_text input)
+    (P : Program) × Reads parts.program P × (replies : List ℕ) × (M : ModelState)
+    × AnswersLines P parts.commands (opening P) replies M × (out ≡ replies ++ end_text input)
 
 -- the program was refused, and nothing else is written
 abbrev pub RefusesProgram : Parts → List ℕ → Type 0
@@ -146,7 +152,7 @@ TextOfParts input (Some parts) out = AnswersCommands input parts out ⊎ Refuses
 abbrev pub AnswersParts : Option Parts → List ℕ → Type 0
 AnswersParts None out = out ≡ []
 AnswersParts (Some parts) out =
-    (P : Program) × Reads parts.program P × (M : SystemState) × AnswersLines P parts.commands (opening_state P) out M
+    (P : Program) × Reads parts.program P × (M : ModelState) × AnswersLines P parts.commands (opening P) out M
 
 -- what is written where no more of the input can be read than these bytes: the replies to the whole lines among them
 abbrev pub WholeText : List ℕ → List ℕ → Type 0

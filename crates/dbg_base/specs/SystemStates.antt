@@ -1,4 +1,4 @@
--- What a session is, apart from the code that keeps it.
+-- How a system came to stand where it does: what each process has done, and what it may do again.
 use Rattle.std.specs.Prelude.{◌≡◌, ℕ, zero, suc, ◌+◌, ◌-◌, ◌<◌, ◌≤◌, List, [], ◌∷◌, ◌++◌, length, replicate, take, drop, Option, Some, None}
 use Rattle.std.specs.Prelude.{slice_get, slice_index, slice_index_or, slice_set}
 use Rattle.dbg_base.specs.declared.limits.TheConstants.{EVENTS}
@@ -74,7 +74,3 @@ pub record IsStateOf (P : Program) (M : SystemState) : Type 0 where
   pub within : (p : ℕ) → place_at M p ≤ length (line_of M p)
   pub few : (p : ℕ) → length (line_of M p) ≤ EVENTS
   pub commands : (p n k : ℕ) → slice_get (line_of M p) n ≡ Some k → k < length (process_of P p).commands
-
--- the breakpoint that halts the session, if one does: none can be set yet
-abbrev pub halted_of : Program → SystemState → Option (List ℕ)
-halted_of P M = None
