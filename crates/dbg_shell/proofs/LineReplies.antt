@@ -9,7 +9,7 @@ use Rattle.dbg_base.specs.declared.said.Said.TheVariants.{Refused}
 use Rattle.dbg_base.specs.declared.refusal.Refusal.{Refusal}
 use Rattle.dbg_base.specs.declared.refusal.Refusal.TheVariants.{Memory}
 use Rattle.dbg_base.specs.Trees.{Program}
-use Rattle.dbg_base.specs.SystemStates.{SystemState, opening_state}
+use Rattle.dbg_base.specs.ModelStates.{ModelState, opening}
 use Rattle.dbg_base.specs.Calls.{asked_by}
 use Rattle.dbg_base.specs.CommandLines.{Request, parsed_line}
 use Rattle.dbg_base.specs.Replies.{reply_text, refusal_text}
@@ -29,34 +29,34 @@ use Rattle.dbg_shell.proofs.UnderWay.{goes_on, none_left}
 use Rattle.dbg_shell.proofs.Writing.{front_then, front_longer}
 
 -- Some lines were answered, and what answers the lines from here on completes the answers to all of them.
-pub record Answered (P : Program) (whole : List ℕ) (from at : ℕ) (M : SystemState) (old new : Option (List ℕ)) : Type 0 where
+pub record Answered (P : Program) (whole : List ℕ) (from at : ℕ) (M : ModelState) (old new : Option (List ℕ)) : Type 0 where
   pub text : List ℕ
   pub written : Appends old new text
-  pub goes_on : (others : List ℕ) (last : SystemState) → AnswersLines P (lines_from at whole) M others last
-      → AnswersLines P (lines_from from whole) (opening_state P) (text ++ others) last
+  pub goes_on : (others : List ℕ) (last : ModelState) → AnswersLines P (lines_from at whole) M others last
+      → AnswersLines P (lines_from from whole) (opening P) (text ++ others) last
 
-pub answered_begins : (P : Program) (whole : List ℕ) (from : ℕ) (M : SystemState) (a : Option (List ℕ)) → M ≡ opening_state P
+pub answered_begins : (P : Program) (whole : List ℕ) (from : ℕ) (M : ModelState) (a : Option (List ℕ)) → M ≡ opening P
     → Answered P whole from from M a a
 answered_begins P whole from M a e = record {
   text = [];
   written = Appends-nil a;
-  goes_on = λ others last answers. subst (λ (M : SystemState). AnswersLines P (lines_from from whole) M others last) e answers;
+  goes_on = λ others last answers. subst (λ (M : ModelState). AnswersLines P (lines_from from whole) M others last) e answers;
 }
 
-answered_on : (P : Program) (whole line : List ℕ) (from at new : ℕ) (M next : SystemState) (a b c : Option (List ℕ)) (text : List ℕ)
+answered_on : (P : Program) (whole line : List ℕ) (from at new : ℕ) (M next : ModelState) (a b c : Option (List ℕ)) (text : List ℕ)
     → Answered P whole from at M a b → lines_from at whole ≡ line ∷ lines_from new whole → AnswersLine P line M text next → Appends b c text
     → Answered P whole from new next a c
 answered_on P whole line from at new M next a b c text answered here answers written = record {
   text = answered.text ++ text;
   written = Appends-trans a b c answered.text text answered.written written;
   goes_on = λ others last more.
-      subst (λ (t : List ℕ). AnswersLines P (lines_from from whole) (opening_state P) t last) (sym (append_assoc answered.text text others))
+      subst (λ (t : List ℕ). AnswersLines P (lines_from from whole) (opening P) t last) (sym (append_assoc answered.text text others))
       (answered.goes_on (text ++ others) last (subst (λ (lines : List (List ℕ)). AnswersLines P lines M (text ++ others) last) (sym here)
       (text, others, next, answers, more, refl)));
 }
 
 -- no line is left, and this is told at the end
-replies_end : (P : Program) (whole : List ℕ) (from at : ℕ) (M : SystemState) (a b : Option (List ℕ)) (text : List ℕ)
+replies_end : (P : Program) (whole : List ℕ) (from at : ℕ) (M : ModelState) (a b : Option (List ℕ)) (text : List ℕ)
     (answered : Answered P whole from at M a b)
     → lines_from at whole ≡ [] → text ≡ end_text whole → RepliesTo P (lines_from from whole) whole (answered.text ++ text)
 replies_end P whole from at M a b text answered none same = (
@@ -66,7 +66,7 @@ replies_end P whole from at M a b text answered none same = (
   ap (λ (t : List ℕ). answered.text ++ t) same ∙ ap (λ (t : List ℕ). t ++ end_text whole) (sym (append-nil answered.text)),
 )
 
-answered_ends : (P : Program) (whole : List ℕ) (from at : ℕ) (M : SystemState) (a b c : Option (List ℕ)) (text : List ℕ)
+answered_ends : (P : Program) (whole : List ℕ) (from at : ℕ) (M : ModelState) (a b c : Option (List ℕ)) (text : List ℕ)
     → Answered P whole from at M a b
     → lines_from at whole ≡ [] → Appends b c text → text ≡ end_text whole → WritesSome a c (RepliesTo P (lines_from from whole) whole)
 answered_ends P whole from at M a b c text answered none written same = (
@@ -77,14 +77,14 @@ answered_ends P whole from at M a b c text answered none written same = (
 )
 
 -- a line has some answer
-some_answer : (P : Program) (r : Result (Option Request) Refusal) (M : SystemState)
-    → (out : List ℕ) × (M' : SystemState) × AnswersParsed P r M out M'
+some_answer : (P : Program) (r : Result (Option Request) Refusal) (M : ModelState)
+    → (out : List ℕ) × (M' : ModelState) × AnswersParsed P r M out M'
 some_answer P (Err refusal) M = (as_line (refusal_text P refusal), M, (refl, refl))
 some_answer P (Ok None) M = ([], M, (refl, refl))
 some_answer P (Ok (Some request)) M =
     (as_line (reply_text P (asked_by request.call) (Refused Memory)), M, (Refused Memory, inr (refl, refl), refl))
 
-some_answers : (P : Program) (lines : List (List ℕ)) (M : SystemState) → (out : List ℕ) × (M' : SystemState) × AnswersLines P lines M out M'
+some_answers : (P : Program) (lines : List (List ℕ)) (M : ModelState) → (out : List ℕ) × (M' : ModelState) × AnswersLines P lines M out M'
 some_answers P [] M = ([], M, (refl, refl))
 some_answers P (line ∷ lines) M =
     let first = some_answer P (parsed_line P line) M in
@@ -95,13 +95,13 @@ regrouped : (x y z w : List ℕ) → x ++ y ++ (z ++ w) ≡ x ++ (y ++ z) ++ w
 regrouped x y z w = append_assoc x y (z ++ w) ∙ ap (λ (t : List ℕ). x ++ t) (sym (append_assoc y z w)) ∙ sym (append_assoc x (y ++ z) w)
 
 -- a line's answer was not written whole
-answered_stops : (P : Program) (whole line : List ℕ) (from at new : ℕ) (M next : SystemState) (a b c : Option (List ℕ)) (text : List ℕ)
+answered_stops : (P : Program) (whole line : List ℕ) (from at new : ℕ) (M next : ModelState) (a b c : Option (List ℕ)) (text : List ℕ)
     → Answered P whole from at M a b → lines_from at whole ≡ line ∷ lines_from new whole → AnswersLine P line M text next
     → AppendsFront b c text
     → WritesFront a c (RepliesTo P (lines_from from whole) whole)
 answered_stops P whole line from at new M next a b c text answered here answers front =
     let more = some_answers P (lines_from new whole) next in
-    let all : AnswersLines P (lines_from from whole) (opening_state P) (answered.text ++ (text ++ more.0)) more.1 =
+    let all : AnswersLines P (lines_from from whole) (opening P) (answered.text ++ (text ++ more.0)) more.1 =
     answered.goes_on (text ++ more.0) more.1 (subst (λ (lines : List (List ℕ)). AnswersLines P lines M (text ++ more.0) more.1) (sym here)
     (text, more.0, next, answers, more.2, refl)) in
     let longer = front_longer a c (answered.text ++ text) (more.0 ++ end_text whole)
@@ -112,18 +112,18 @@ answered_stops P whole line from at new M next a b c text answered here answers 
     )
 
 -- The lines were answered so far, whatever the input may be.
-abbrev pub AnsweredAny : Program → List ℕ → Bool → ℕ → ℕ → SystemState → Option (List ℕ) → Option (List ℕ) → Type 0
+abbrev pub AnsweredAny : Program → List ℕ → Bool → ℕ → ℕ → ModelState → Option (List ℕ) → Option (List ℕ) → Type 0
 AnsweredAny P bytes ended from at M old new = (input : List ℕ) → MayBe bytes ended input → Answered P input from at M old new
 
-pub any_answered : (P : Program) (bytes : List ℕ) (ended : Bool) (from : ℕ) (M : SystemState) (a : Option (List ℕ)) → M ≡ opening_state P
+pub any_answered : (P : Program) (bytes : List ℕ) (ended : Bool) (from : ℕ) (M : ModelState) (a : Option (List ℕ)) → M ≡ opening P
     → AnsweredAny P bytes ended from from M a a
 any_answered P bytes ended from M a e input may = answered_begins P input from M a e
 
-module _ (P : Program) (before : List ℕ) (was : Bool) (bytes : List ℕ) (ended : Bool) (from at new : ℕ) (next : Next) (M : SystemState)
+module _ (P : Program) (before : List ℕ) (was : Bool) (bytes : List ℕ) (ended : Bool) (from at new : ℕ) (next : Next) (M : ModelState)
     (old mid : Option (List ℕ))
     (answered : AnsweredAny P before was from at M old mid) (narrows : Narrows before was bytes ended)
     (told : TellsAny bytes ended at new next) where
-  module _ (line : List ℕ) (span : Span) (M' : SystemState) (out : Option (List ℕ)) (is : next ≡ nexts.Line span)
+  module _ (line : List ℕ) (span : Span) (M' : ModelState) (out : Option (List ℕ)) (is : next ≡ nexts.Line span)
       (seen : span.from ≤ span.to → span.to ≤ length bytes → line ≡ slice_range bytes span.from span.to) where
     line_here : (input : List ℕ) → MayBe bytes ended input → lines_from at input ≡ line ∷ lines_from new input
     line_here input may =
@@ -179,7 +179,7 @@ module _ (P : Program) (before : List ℕ) (was : Bool) (bytes : List ℕ) (ende
       )
 
 -- where no more can be read, the whole lines were answered
-pub any_breaks : (P : Program) (before : List ℕ) (was : Bool) (bytes : List ℕ) (ended : Bool) (from at : ℕ) (M : SystemState)
+pub any_breaks : (P : Program) (before : List ℕ) (was : Bool) (bytes : List ℕ) (ended : Bool) (from at : ℕ) (M : ModelState)
     (old mid : Option (List ℕ))
     (r : Result Served ServeFault) → AnsweredAny P before was from at M old mid → Narrows before was bytes ended → from ≤ at
     → IsUnderWay bytes ended at
@@ -190,7 +190,7 @@ any_breaks P before was bytes ended from at M old mid (Err fault) answered narro
     let on = goes_on bytes ended at way in
     let so_far : Answered P on.input from at M old mid = answered on.input (narrows on.input on.may) in
     let held : at ≤ length bytes = way.begun in
-    let all : AnswersLines P (lines_from from on.input) (opening_state P) (so_far.text ++ []) M =
+    let all : AnswersLines P (lines_from from on.input) (opening P) (so_far.text ++ []) M =
     so_far.goes_on [] M (subst (λ (lines : List (List ℕ)). AnswersLines P lines M [] M) (sym (none_left bytes ended at way))
     (refl, refl)) in
     record {
@@ -201,8 +201,8 @@ any_breaks P before was bytes ended from at M old mid (Err fault) answered narro
         so_far.text,
         (
           M,
-          subst (λ (lines : List (List ℕ)). AnswersLines P lines (opening_state P) so_far.text M) (on.whole from (omega arith))
-              (subst (λ (t : List ℕ). AnswersLines P (lines_from from on.input) (opening_state P) t M) (append-nil so_far.text) all),
+          subst (λ (lines : List (List ℕ)). AnswersLines P lines (opening P) so_far.text M) (on.whole from (omega arith))
+              (subst (λ (t : List ℕ). AnswersLines P (lines_from from on.input) (opening P) t M) (append-nil so_far.text) all),
         ),
         so_far.written,
       );

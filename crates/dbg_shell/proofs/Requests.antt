@@ -11,7 +11,7 @@ use Rattle.dbg_base.specs.Calls.{Plan, Query, Call, Give, Ask, plan_of, query_of
 use Rattle.dbg_base.specs.CommandLines.{Request, map_ok, parsed_line}
 use Rattle.dbg_base.specs.declared.said.Said.{Said}
 use Rattle.dbg_base.specs.Trees.{Program}
-use Rattle.dbg_base.specs.SystemStates.{SystemState}
+use Rattle.dbg_base.specs.ModelStates.{ModelState}
 use Rattle.dbg_base.specs.Replies.{reply_text, refusal_text}
 use Rattle.dbg_base.specs.Shell.{as_line, SaysOrRefuses, AnswersParsed}
 use Rattle.dbg_shell.specs.declared.outcome.ServeFault.{ServeFault}
@@ -71,7 +71,7 @@ asks_same (calls.Give plan) known e = nothing_asked (plan_of plan) known e
 asks_same (calls.Ask asked) known e = told_so asked (query_of asked) known (told asked) e
 asks_same calls.Back known e = cc
 
-module _ (P : Program) (bytes : List ℕ) (M M' : SystemState) where
+module _ (P : Program) (bytes : List ℕ) (M M' : ModelState) where
   -- the answer to a call was written, or a front of it
   pub answers_call : {A : Type 0} (seat : ℕ) (given : call.Call) (said : Said) (old new : Option (List ℕ)) (r : Result A ServeFault)
       → Ok (Some (seat, call_of given)) ≡ map_ok (option_map requested) (parsed_line P bytes)
@@ -90,7 +90,7 @@ module _ (P : Program) (bytes : List ℕ) (M M' : SystemState) where
       }
 
 -- a refusal was written, or a front of it
-pub answers_refusal : {A : Type 0} (P : Program) (bytes : List ℕ) (M : SystemState) (refusal : Refusal) (old new : Option (List ℕ))
+pub answers_refusal : {A : Type 0} (P : Program) (bytes : List ℕ) (M : ModelState) (refusal : Refusal) (old new : Option (List ℕ))
     (r : Result A ServeFault) → Err refusal ≡ map_ok (option_map requested) (parsed_line P bytes)
     → Writes old new r (as_line (refusal_text P refusal)) → WritesAnswer P bytes M old r new M
 answers_refusal P bytes M refusal old new r parsed wrote = record {
