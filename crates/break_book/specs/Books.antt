@@ -1,0 +1,101 @@
+-- What contracts see of a list of breakpoints, and what it is of a world.
+use Rattle.std.specs.Prelude.{◌≡◌, ℕ, zero, suc, Bool, true, false, List, [], ◌∷◌, map, position, Option, Some, None}
+use Rattle.std.specs.Prelude.{if◌then◌else◌, ◌⊎◌}
+use Rattle.std.specs.Bool.{MatchBool}
+use Rattle.std.specs.List.{AllByRecursion, IsDistinct}
+use Rattle.std.specs.Str.{bytes_eq}
+use Rattle.dbg_base.specs.declared.refusal.Refusal.{Refusal}
+use Rattle.dbg_base.specs.declared.refusal.Refusal.TheVariants as refusals
+use Rattle.dbg_base.specs.Trees.{Program}
+use Rattle.dbg_base.specs.Histories.{History}
+use Rattle.dbg_base.specs.Predicates.{Conjunct, IsLeast, NoCut}
+use Rattle.dbg_base.specs.Breakpoints.{Breakpoint, HasCut}
+use Rattle.causal_world.specs.Scenes.{Scene}
+use Rattle.least_cut.specs.Detectors.{DetectorState, conjuncts_of, IsDetectorOf, HasRoomUpTo, IsGrown, IsShrunk, IsMoved}
+
+-- what is kept of a breakpoint beside its name
+pub record Kept : Type 0 where
+  pub armed : Bool
+  pub detector : DetectorState
+
+abbrev pub Entry : Type 0
+Entry = List ℕ × Kept
+
+abbrev pub breakpoint_of : Entry → Breakpoint
+breakpoint_of entry = record { name = entry.0; conjuncts = conjuncts_of entry.1.detector; armed = entry.1.armed }
+
+abbrev pub breakpoints_of : List Entry → List Breakpoint
+breakpoints_of book = map breakpoint_of book
+
+-- a breakpoint as it is set
+abbrev pub new_breakpoint : List ℕ → List Conjunct → Breakpoint
+new_breakpoint name conjuncts = record { name = name; conjuncts = conjuncts; armed = true }
+
+-- no two breakpoints have one name
+abbrev pub HasDistinctNames : List Entry → Type 0
+HasDistinctNames book = IsDistinct bytes_eq (map (λ entry. entry.0) book)
+
+-- each detector is that of the world
+abbrev pub AreDetectorsOf : Scene → List Entry → Type 0
+AreDetectorsOf w book = AllByRecursion (λ entry. IsDetectorOf w entry.1.detector) book
+
+-- with these places they need no memory
+abbrev pub HaveRoomUpTo : List Entry → List ℕ → Type 0
+HaveRoomUpTo book places = AllByRecursion (λ entry. HasRoomUpTo entry.1.detector places) book
+
+-- the process has made an event since they were detectors of a world
+abbrev pub AreGrown : List Entry → ℕ → Scene → Type 0
+AreGrown book p w = AllByRecursion (λ entry. IsGrown entry.1.detector p w) book
+
+-- it has lost its last one since
+abbrev pub AreShrunk : List Entry → ℕ → Scene → Type 0
+AreShrunk book p w = AllByRecursion (λ entry. IsShrunk entry.1.detector p w) book
+
+-- events were made since, or taken back
+abbrev pub AreMoved : List Entry → Scene → Type 0
+AreMoved book w = AllByRecursion (λ entry. IsMoved entry.1.detector w) book
+
+-- the same breakpoints, with detectors that are so of each world of which they were, and no less room
+pub record AreRoomier (old new : List Entry) : Type 0 where
+  pub same : breakpoints_of new ≡ breakpoints_of old
+  pub detectors : (w : Scene) → AreDetectorsOf w old → AreDetectorsOf w new
+
+-- the same breakpoints, with detectors of the world
+pub record AreFollowed (w : Scene) (old new : List Entry) : Type 0 where
+  pub same : breakpoints_of new ≡ breakpoints_of old
+  pub detectors : AreDetectorsOf w new
+
+-- where the breakpoint of this name stands, from 0
+abbrev pub position_of : List ℕ → List Entry → Option ℕ
+position_of name book = position (bytes_eq name) (map (λ entry. entry.0) book)
+
+-- the breakpoint at this position has this mark
+abbrev pub marked_at : ℕ → Bool → List Entry → List Entry
+marked_at position armed [] = []
+marked_at zero armed (entry ∷ book) = (entry.0, record entry.1 { armed = armed }) ∷ book
+marked_at (suc position) armed (entry ∷ book) = entry ∷ marked_at position armed book
+
+-- it is armed and has a cut
+abbrev pub Halts : Program → History → Kept → Type 0
+Halts P H kept =
+    (kept.armed ≡ true) × (cut : List ℕ) × IsLeast P H (conjuncts_of kept.detector) cut
+
+-- it is not armed, or has no cut
+abbrev pub HaltsNot : Program → History → Kept → Type 0
+HaltsNot P H kept = (kept.armed ≡ false) ⊎ NoCut P H (conjuncts_of kept.detector)
+
+-- why the breakpoint that was looked for is not armed, if it is not
+abbrev pub arm_refusal : Option Breakpoint → Option Refusal
+arm_refusal None = Some refusals.UnknownBreak
+arm_refusal (Some b) = if b.armed then Some refusals.AlreadyArmed else None
+
+-- the breakpoint that was looked for is there, armed, and has a cut
+abbrev pub MayPass : Program → History → Option Breakpoint → Type 0
+MayPass P H None = ⊥
+MayPass P H (Some b) = (b.armed ≡ true) × HasCut P H b
+
+-- it is not there, not armed, or has no cut
+abbrev pub CannotPass : Program → History → Option Breakpoint → Refusal → Type 0
+CannotPass P H None refusal = refusal ≡ refusals.UnknownBreak
+CannotPass P H (Some b) refusal =
+    MatchBool b.armed (NoCut P H b.conjuncts × (refusal ≡ refusals.NoCut)) (refusal ≡ refusals.NotArmed)

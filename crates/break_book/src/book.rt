@@ -1,0 +1,252 @@
+//! The list of breakpoints.
+
+ghost use Rattle.std.specs.Prelude.{◌≡◌, ◌<◌, ◌≤◌, ◌⊎◌, ◌++◌, ◌∷◌, [], length, map, insert, None, Some, true, false, slice_get};
+ghost use Rattle.std.specs.Prelude.{IfOk, IfErr, IfSome, OnOk, OnErr, MatchOption};
+ghost use Rattle.std.specs.List.{AllByRecursion};
+ghost use Rattle.dbg_base.specs.declared.refusal.Refusal.TheVariants.{Memory, UnknownBreak};
+ghost use Rattle.dbg_base.specs.declared.limits.TheConstants.{BREAKPOINTS};
+ghost use Rattle.dbg_base.specs.Trees as tree;
+ghost use Rattle.dbg_base.specs.Calls.{conjunct_of};
+ghost use Rattle.dbg_base.specs.Breakpoints.{named, without, with_mark, name_refusal, IsHaltedBy};
+ghost use Rattle.dbg_base.specs.SystemStates.{history_of};
+ghost use Rattle.dbg_base.specs.Views.{mark_of};
+ghost use Rattle.causal_world.specs.Scenes.{Scene, IsWorldOf};
+ghost use Rattle.least_cut.specs.Watches.{scan_of};
+ghost use Rattle.least_cut.specs.Detectors.{IsDetectorOf, one_more};
+ghost use Rattle.dbg_base.specs.Breakpoints as model;
+ghost use Rattle.break_book.specs.Books.{breakpoint_of, breakpoints_of, new_breakpoint, AreDetectorsOf, HasDistinctNames, position_of};
+ghost use Rattle.break_book.specs.Books.{marked_at, arm_refusal, MayPass, CannotPass};
+
+mod following;
+
+use crate::breakpoint::Breakpoint;
+use causal_world::World;
+use dbg_base::limits::BREAKPOINTS;
+use dbg_base::{Conjunct, Name, Refusal, Sequence};
+use indexmap::IndexMap;
+use least_cut::{Detector, Scan};
+use std::alloc::Global;
+use std::marker::Model;
+
+/// The breakpoints of a session, at most 64, by name and in the order in which they were set. It belongs to a world, which its detectors
+/// follow as events are made and taken back. Contracts see it as the list of names with what is kept of each.
+#[derive(Debug, Drop)]
+pub struct Book {
+    breaks: IndexMap<Name, Breakpoint>,
+}
+
+impl Model for Book {
+    ghost use Rattle.std.specs.Prelude.{List, ◌≤◌, length};
+    ghost use Rattle.dbg_base.specs.declared.limits.TheConstants.{BREAKPOINTS};
+    ghost use Rattle.dbg_base.specs.contracts.expr.Expr.{the_row};
+    ghost use Rattle.std.specs.Coded.{codes};
+    ghost use Rattle.break_book.specs.Books.{Entry};
+
+    ghost Value = { List Entry };
+
+    ghost coded = { Prim.hlevel (codes, the_row.coded) };
+
+    ghost view = { λ book. book.breaks.entries };
+
+    ghost invariant = { λ book. length book.breaks.entries ≤ BREAKPOINTS };
+}
+
+impl Book {
+    /// No breakpoint. It takes no memory.
+    pub fn new(alloc: Global) -> Book
+        ensures { result ≡ [] }
+    {
+        Book {
+            breaks: IndexMap::new(alloc),
+        }
+    }
+
+    /// Whether a further breakpoint of this name may be set: it is refused as `BreakTaken` where there is one of this name, and else as
+    /// `BreaksFull` where there are 64. It takes no memory.
+    pub fn may_set(&self, name: Name) -> Result<(), Refusal>
+        ensures may { OnOk result (name_refusal name (breakpoints_of self.now) ≡ None) }
+        ensures refuses { IfErr result (λ refusal. name_refusal name (breakpoints_of self.now) ≡ Some refusal) }
+    {
+        if self.breaks.contains_key(&name) {
+            return Err(Refusal::BreakTaken);
+        }
+        if self.breaks.len() >= BREAKPOINTS {
+            return Err(Refusal::BreaksFull);
+        }
+        Ok(())
+    }
+
+    /// Sets an armed breakpoint behind all others: of these conjuncts, at least one, of processes of the world, where they are true as
+    /// the scan says. It is refused, and changes nothing, as `may_set`, or as `Memory`, where that runs out.
+    pub fn set(
+        &mut self,
+        alloc: Global,
+        name: Name,
+        conjuncts: Sequence<Conjunct>,
+        scan: Scan,
+        world: &World,
+    ) -> Result<(), Refusal>
+        requires of { AreDetectorsOf world.now self.old }
+        requires here { AllByRecursion (λ conjunct. conjunct.process < length world.now.state.places) (map conjunct_of conjuncts) }
+        requires scan { scan ≡ scan_of world.now (map conjunct_of conjuncts) }
+        ensures of { AreDetectorsOf world.now self.new }
+        ensures sets { OnOk result ((name_refusal name (breakpoints_of self.old) ≡ None)
+            × (breakpoints_of self.new ≡ breakpoints_of self.old ++ new_breakpoint name (map conjunct_of conjuncts) ∷ [])) }
+        ensures refuses { IfErr result (λ refusal. (name_refusal name (breakpoints_of self.old) ≡ Some refusal) ⊎ (refusal ≡ Memory)) }
+        ensures kept { OnErr result (self.new ≡ self.old) }
+    {
+        self.may_set(name)?;
+        let detector = Detector::new(alloc, conjuncts, scan, world)?;
+        let breakpoint = Breakpoint {
+            armed: true,
+            detector,
+        };
+        self.breaks
+            .insert(name, breakpoint)
+            .map_err(|_| Refusal::Memory)?;
+        Ok(())
+    }
+
+    /// Takes the breakpoint of this name out, and hands it out with its position, from 0. It is refused, and changes nothing, as
+    /// `UnknownBreak` where there is none. It takes no memory.
+    pub fn clear(&mut self, name: Name) -> Result<(usize, Breakpoint), Refusal>
+        ensures clears { IfOk result (λ taken. (named name (breakpoints_of self.old) ≡ Some (breakpoint_of (name, taken.1)))
+            × (breakpoints_of self.new ≡ without name (breakpoints_of self.old))) }
+        ensures position { IfOk result (λ taken. (taken.0 ≤ length self.new) × (self.old ≡ insert self.new taken.0 (name, taken.1))) }
+        ensures refuses { IfErr result (λ refusal. (named name (breakpoints_of self.old) ≡ None) × (refusal ≡ UnknownBreak)) }
+        ensures kept { OnErr result (self.new ≡ self.old) }
+        ensures of { (w : Scene) → AreDetectorsOf w self.old → AreDetectorsOf w self.new }
+    {
+        let (position, _, breakpoint) = self
+            .breaks
+            .shift_remove_full(&name)
+            .ok_or(Refusal::UnknownBreak)?;
+        Ok((position, breakpoint))
+    }
+
+    /// Puts a breakpoint back that `clear` handed out: at its position, with its mark and its cut. Where memory runs out it is handed
+    /// back, and nothing changes.
+    pub fn restore_at(
+        &mut self,
+        position: usize,
+        name: Name,
+        breakpoint: Breakpoint,
+    ) -> Result<(), (Refusal, Breakpoint)>
+        requires position { position ≤ length self.old }
+        requires few { length self.old < BREAKPOINTS }
+        requires name { named name (breakpoints_of self.old) ≡ None }
+        ensures restores { OnOk result (self.new ≡ insert self.old position (name, breakpoint)) }
+        ensures refuses { IfErr result (λ refused. (refused.0 ≡ Memory) × (refused.1 ≡ breakpoint)) }
+        ensures kept { OnErr result (self.new ≡ self.old) }
+        ensures of { (w : Scene) → AreDetectorsOf w self.old → IsDetectorOf w breakpoint.detector → AreDetectorsOf w self.new }
+    {
+        match self.breaks.insert_before(position, name, breakpoint) {
+            Ok(_) => Ok(()),
+            Err(failed) => Err((Refusal::Memory, failed.value.1)),
+        }
+    }
+
+    /// Arms the breakpoint of this name. It is refused, and changes nothing, as `UnknownBreak` where there is none, and as
+    /// `AlreadyArmed` where it is armed. It takes no memory.
+    pub fn arm(&mut self, name: Name) -> Result<(), Refusal>
+        ensures arms { OnOk result ((arm_refusal (named name (breakpoints_of self.old)) ≡ None)
+            × (breakpoints_of self.new ≡ with_mark name true (breakpoints_of self.old))) }
+        ensures refuses { IfErr result (λ refusal. arm_refusal (named name (breakpoints_of self.old)) ≡ Some refusal) }
+        ensures kept { OnErr result (self.new ≡ self.old) }
+        ensures of { (w : Scene) → AreDetectorsOf w self.old → AreDetectorsOf w self.new }
+    {
+        let position = self.position(name).ok_or(Refusal::UnknownBreak)?;
+        if self.breaks[position].armed {
+            return Err(Refusal::AlreadyArmed);
+        }
+        self.mark(position, true);
+        Ok(())
+    }
+
+    /// The armed breakpoint of this name no longer halts the session in which it has a cut. It is refused, and changes nothing, as
+    /// `UnknownBreak` where there is none, `NotArmed` where it is not armed, and `NoCut` where it has no cut. It takes no memory.
+    pub fn pass(&mut self, name: Name) -> Result<(), Refusal>
+        ensures passes { OnOk result ((breakpoints_of self.new ≡ with_mark name false (breakpoints_of self.old))
+            × ((w : Scene) (P : tree.Program) → AreDetectorsOf w self.old → IsWorldOf P w
+            → MayPass P (history_of w.state) (named name (breakpoints_of self.old)))) }
+        ensures refuses { IfErr result (λ refusal. (w : Scene) (P : tree.Program) → AreDetectorsOf w self.old → IsWorldOf P w
+            → CannotPass P (history_of w.state) (named name (breakpoints_of self.old)) refusal) }
+        ensures kept { OnErr result (self.new ≡ self.old) }
+        ensures of { (w : Scene) → AreDetectorsOf w self.old → AreDetectorsOf w self.new }
+    {
+        let position = self.position(name).ok_or(Refusal::UnknownBreak)?;
+        let breakpoint = &self.breaks[position];
+        if !breakpoint.armed {
+            return Err(Refusal::NotArmed);
+        }
+        if breakpoint.detector.cut().is_none() {
+            return Err(Refusal::NoCut);
+        }
+        self.mark(position, false);
+        Ok(())
+    }
+
+    /// The breakpoint of this name is no longer armed, whether or not it has a cut. It takes no memory.
+    pub fn disarm(&mut self, name: Name)
+        requires { (b : model.Breakpoint) × (named name (breakpoints_of self.old) ≡ Some b) }
+        ensures disarms { breakpoints_of self.new ≡ with_mark name false (breakpoints_of self.old) }
+        ensures of { (w : Scene) → AreDetectorsOf w self.old → AreDetectorsOf w self.new }
+    {
+        if let Some(position) = self.position(name) {
+            self.mark(position, false);
+        }
+    }
+
+    /// The breakpoint that halts the session: the first armed one that has a cut. It takes no memory.
+    pub fn halted(&self) -> Option<Name>
+        ensures { (w : Scene) (P : tree.Program) → AreDetectorsOf w self.now → IsWorldOf P w
+            → IsHaltedBy P (history_of w.state) (breakpoints_of self.now) result }
+    {
+        for (name, breakpoint) in self.breaks.iter() {
+            if breakpoint.halts() {
+                return Some(*name);
+            }
+        }
+        None
+    }
+
+    /// The names in order, each with its mark: is it armed. It is refused only as `Memory`, where that runs out.
+    pub fn list(&self, alloc: Global) -> Result<Sequence<(Name, bool)>, Refusal>
+        ensures marks { IfOk result (λ marks. marks ≡ map mark_of (breakpoints_of self.now)) }
+        ensures refuses { IfErr result (λ refusal. refusal ≡ Memory) }
+        ensures few { length self.now ≤ BREAKPOINTS }
+        ensures distinct { HasDistinctNames self.now }
+    {
+        let mut marks = Vec::new(alloc);
+        for (name, breakpoint) in self.breaks.iter() {
+            marks.push((*name, breakpoint.armed))?;
+        }
+        Ok(Sequence::new(marks))
+    }
+
+    /// The breakpoint of this name with its position, from 0, or None where there is none. It takes no memory.
+    pub fn find(&self, name: Name) -> Option<(usize, &Breakpoint)>
+        ensures named { MatchOption result (named name (breakpoints_of self.now) ≡ None)
+            (λ found. named name (breakpoints_of self.now) ≡ Some (breakpoint_of (name, found.1.now))) }
+        ensures position { IfSome result (λ found. slice_get self.now found.0 ≡ Some (name, found.1.now)) }
+        ensures of { IfSome result (λ found. (w : Scene) → AreDetectorsOf w self.now → IsDetectorOf w found.1.now.detector) }
+    {
+        let (position, _, breakpoint) = self.breaks.get_full(&name)?;
+        Some((position, breakpoint))
+    }
+
+    // The position of the breakpoint of this name.
+    fn position(&self, name: Name) -> Option<usize>
+        ensures { result ≡ position_of name self.now }
+    {
+        self.breaks.get_index_of(&name)
+    }
+
+    // The breakpoint at this position gets this mark.
+    fn mark(&mut self, position: usize, armed: bool)
+        requires { position < length self.old }
+        ensures { self.new ≡ marked_at position armed self.old }
+    {
+        self.breaks[position].armed = armed;
+    }
+}

@@ -1,0 +1,158 @@
+//! What the breakpoints do as events of their world are made and taken back.
+
+ghost use Rattle.std.specs.Prelude.{◌≡◌, ◌<◌, ◌≤◌, length, IfOk, IfErr, OnOk};
+ghost use Rattle.dbg_base.specs.declared.refusal.Refusal.TheVariants.{Memory};
+ghost use Rattle.causal_world.specs.Scenes.{Scene};
+ghost use Rattle.causal_world.specs.Worlds.{IsSomeWorld};
+ghost use Rattle.least_cut.specs.Searches as model;
+ghost use Rattle.least_cut.specs.Detectors.{one_more};
+ghost use Rattle.break_book.specs.Books.{breakpoints_of, AreDetectorsOf, HaveRoomUpTo, AreGrown, AreShrunk, AreMoved};
+ghost use Rattle.break_book.specs.Books.{AreRoomier, AreFollowed};
+
+use super::Book;
+use crate::breakpoint::Breakpoint;
+use causal_world::World;
+use dbg_base::{Cut, Name, Pid, Refusal};
+use indexmap::IndexMap;
+use least_cut::steps_up_to;
+use std::alloc::{AllocError, Global};
+
+// The most eliminations that there can be behind one event more of the process.
+fn steps_after(alloc: Global, world: &World, pid: Pid) -> Result<usize, Refusal>
+    requires world { IsSomeWorld world.now }
+    requires process { pid.0 < length world.now.state.places }
+    ensures steps { IfOk result (λ steps. steps ≡ model.steps_up_to (one_more world.now pid.0)) }
+    ensures refuses { IfErr result (λ refusal. refusal ≡ Memory) }
+{
+    let mut places = world.tally().all_events(alloc)?;
+    places.set(pid, world.place(pid) + 1);
+    steps_up_to(places.counts()).ok_or(Refusal::Memory)
+}
+
+// Each detector gets room for one event more of the process.
+fn reserve_each(
+    breaks: &mut IndexMap<Name, Breakpoint>,
+    world: &World,
+    pid: Pid,
+    steps: usize,
+) -> Result<(), AllocError>
+    requires of { AreDetectorsOf world.now breaks.old.entries }
+    requires steps { model.steps_up_to (one_more world.now pid.0) ≤ steps }
+    ensures same { AreRoomier breaks.old.entries breaks.new.entries }
+    ensures room { OnOk result (HaveRoomUpTo breaks.new.entries (one_more world.now pid.0)) }
+{
+    for i in 0..breaks.len() {
+        let breakpoint = &mut breaks[i];
+        breakpoint.detector.reserve(world, pid, steps)?;
+    }
+    Ok(())
+}
+
+// Each detector gets room for as many events as the cut has.
+fn reserve_each_to(breaks: &mut IndexMap<Name, Breakpoint>, cut: &Cut) -> Result<(), AllocError>
+    ensures same { AreRoomier breaks.old.entries breaks.new.entries }
+    ensures room { OnOk result (HaveRoomUpTo breaks.new.entries cut.now) }
+{
+    for i in 0..breaks.len() {
+        let breakpoint = &mut breaks[i];
+        breakpoint.detector.reserve_to(cut)?;
+    }
+    Ok(())
+}
+
+// Each detector goes on with the world, in which the process has made an event.
+fn grow_each(breaks: &mut IndexMap<Name, Breakpoint>, pid: Pid, world: &World)
+    requires grown { AreGrown breaks.old.entries pid.0 world.now }
+    requires room { HaveRoomUpTo breaks.old.entries world.now.state.places }
+    ensures { AreFollowed world.now breaks.old.entries breaks.new.entries }
+{
+    for i in 0..breaks.len() {
+        let breakpoint = &mut breaks[i];
+        breakpoint.detector.grow(pid, world);
+    }
+}
+
+// Each detector goes back with the world, in which the process has lost its last event.
+fn shrink_each(breaks: &mut IndexMap<Name, Breakpoint>, pid: Pid, world: &World)
+    requires { AreShrunk breaks.old.entries pid.0 world.now }
+    ensures { AreFollowed world.now breaks.old.entries breaks.new.entries }
+{
+    for i in 0..breaks.len() {
+        let breakpoint = &mut breaks[i];
+        breakpoint.detector.shrink(pid, world);
+    }
+}
+
+// Each detector becomes that of the world.
+fn follow_each(breaks: &mut IndexMap<Name, Breakpoint>, world: &World)
+    requires moved { AreMoved breaks.old.entries world.now }
+    requires room { HaveRoomUpTo breaks.old.entries world.now.state.places }
+    ensures { AreFollowed world.now breaks.old.entries breaks.new.entries }
+{
+    for i in 0..breaks.len() {
+        let breakpoint = &mut breaks[i];
+        breakpoint.detector.follow(world);
+    }
+}
+
+impl Book {
+    /// Makes room for one event more of the process, which is there. Nothing changes that is seen, also where it is refused, which is
+    /// only as `Memory`, where that runs out.
+    pub fn reserve(&mut self, alloc: Global, world: &World, pid: Pid) -> Result<(), Refusal>
+        requires world { IsSomeWorld world.now }
+        requires process { pid.0 < length world.now.state.places }
+        requires of { AreDetectorsOf world.now self.old }
+        ensures of { AreDetectorsOf world.now self.new }
+        ensures same { breakpoints_of self.new ≡ breakpoints_of self.old }
+        ensures room { OnOk result (HaveRoomUpTo self.new (one_more world.now pid.0)) }
+        ensures refuses { IfErr result (λ refusal. refusal ≡ Memory) }
+    {
+        if self.breaks.is_empty() {
+            return Ok(());
+        }
+        let steps = steps_after(alloc, world, pid)?;
+        reserve_each(&mut self.breaks, world, pid, steps)?;
+        Ok(())
+    }
+
+    /// Makes room for as many events as the cut has. Nothing changes that is seen, also where it is refused, which is only as `Memory`,
+    /// where that runs out.
+    pub fn reserve_to(&mut self, cut: &Cut) -> Result<(), Refusal>
+        ensures of { (w : Scene) → AreDetectorsOf w self.old → AreDetectorsOf w self.new }
+        ensures same { breakpoints_of self.new ≡ breakpoints_of self.old }
+        ensures room { OnOk result (HaveRoomUpTo self.new cut.now) }
+        ensures refuses { IfErr result (λ refusal. refusal ≡ Memory) }
+    {
+        reserve_each_to(&mut self.breaks, cut)?;
+        Ok(())
+    }
+
+    /// The detectors go on with the world, in which the process has made an event, for which there is room. It takes no memory.
+    pub fn grow(&mut self, pid: Pid, world: &World)
+        requires grown { AreGrown self.old pid.0 world.now }
+        requires room { HaveRoomUpTo self.old world.now.state.places }
+        ensures of { AreDetectorsOf world.now self.new }
+        ensures same { breakpoints_of self.new ≡ breakpoints_of self.old }
+    {
+        grow_each(&mut self.breaks, pid, world);
+    }
+
+    /// The detectors go back with the world, in which the process has lost its last event. It takes no memory.
+    pub fn shrink(&mut self, pid: Pid, world: &World)
+        requires { AreShrunk self.old pid.0 world.now }
+        ensures of { AreDetectorsOf world.now self.new }
+        ensures same { breakpoints_of self.new ≡ breakpoints_of self.old }
+    {
+        shrink_each(&mut self.breaks, pid, world);
+    }
+
+    /// The detectors become those of the world, in which events were made or taken back. It takes no memory.
+    pub fn follow(&mut self, world: &World)
+        requires moved { AreMoved self.old world.now }
+        requires room { HaveRoomUpTo self.old world.now.state.places }
+        ensures of { AreDetectorsOf world.now self.new }
+        ensures same { breakpoints_of self.new ≡ breakpoints_of self.old }
+    {
+        follow_each(&mut self.breaks, world);
+    }
+}
