@@ -30,8 +30,8 @@ impl Conjunct {
     }
 }
 
-// The same conjuncts once more.
-fn copied(conjuncts: &Sequence<Conjunct>) -> Result<Sequence<Conjunct>, Refusal>
+/// The same conjuncts once more. It is refused only as `Memory`, where that runs out.
+pub fn copy_conjuncts(conjuncts: &Sequence<Conjunct>) -> Result<Sequence<Conjunct>, Refusal>
     ensures { IsCopy result (λ made. map conjunct_of made ≡ map conjunct_of conjuncts.now) }
 {
     let mut made = Vec::new(conjuncts.allocator());
@@ -78,7 +78,7 @@ impl Plan {
             Plan::Redo(pid) => Ok(Plan::Redo(*pid)),
             Plan::Rollback(pid, place) => Ok(Plan::Rollback(*pid, *place)),
             Plan::Goto(name) => Ok(Plan::Goto(*name)),
-            Plan::Break(name, conjuncts) => Ok(Plan::Break(*name, copied(conjuncts)?)),
+            Plan::Break(name, conjuncts) => Ok(Plan::Break(*name, copy_conjuncts(conjuncts)?)),
             Plan::Clear(name) => Ok(Plan::Clear(*name)),
             Plan::Arm(name) => Ok(Plan::Arm(*name)),
             Plan::Pass(name) => Ok(Plan::Pass(*name)),

@@ -16,7 +16,7 @@ mod said;
 mod sequence;
 mod sign;
 
-pub use call::{Call, Conjunct, Plan, Query};
+pub use call::{Call, Conjunct, Plan, Query, copy_conjuncts};
 pub use elimination::{Cause, Elimination};
 pub use expr::{Direction, Expr, Operator, Sort};
 pub use fault::{FaultKind, ProgFault};

@@ -1,0 +1,1 @@
+-- What the calls of a list of breakpoints require, from what the calls of its world say.

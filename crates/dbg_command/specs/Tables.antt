@@ -1,0 +1,87 @@
+-- What contracts see of a table, what it is of a program, and what a command may do to it.
+use Rattle.std.specs.Prelude.{◌≡◌, ◌⊎◌, ℕ, ◌<◌, ◌≤◌, List, length, Option, Some, None, Result, Ok, Err}
+use Rattle.dbg_base.specs.declared.said.Done.{Done}
+use Rattle.dbg_base.specs.declared.said.Reply.{Reply}
+use Rattle.dbg_base.specs.declared.said.Said.{Said}
+use Rattle.dbg_base.specs.declared.said.Said.TheVariants.{Accepted, Refused}
+use Rattle.dbg_base.specs.declared.refusal.Refusal.{Refusal}
+use Rattle.dbg_base.specs.declared.refusal.Refusal.TheVariants.{Memory, Halted, UnknownProcess}
+use Rattle.dbg_base.specs.declared.refusal.Refusal.TheVariants as refusals
+use Rattle.dbg_base.specs.Trees.{Program}
+use Rattle.dbg_base.specs.SystemStates.{history_of}
+use Rattle.dbg_base.specs.Predicates.{IsLeast, NoCut}
+use Rattle.dbg_base.specs.Breakpoints.{Breakpoint, named}
+use Rattle.dbg_base.specs.ModelStates.{ModelState, IsHalted}
+use Rattle.dbg_base.specs.Calls.{Plan}
+use Rattle.dbg_base.specs.Acts.{Acts, Refuses}
+use Rattle.causal_world.specs.Scenes.{Scene, IsWorldOf}
+use Rattle.least_cut.specs.Detectors.{one_more}
+use Rattle.break_book.specs.Books.{Entry, breakpoints_of, AreDetectorsOf, HaveRoomUpTo}
+
+pub record TableState : Type 0 where
+  pub world : Scene
+  pub book : List Entry
+
+-- the state of the model that it stands for
+abbrev pub state_of : TableState → ModelState
+state_of t = record { system = t.world.state; breakpoints = breakpoints_of t.book }
+
+-- the world is of the program, and the detectors are of the world
+pub record IsTableOf (P : Program) (t : TableState) : Type 0 where
+  pub world : IsWorldOf P t.world
+  pub detectors : AreDetectorsOf t.world t.book
+
+-- the reply tells what was done, and which breakpoint halts the session now
+pub record Replies (P : Program) (M : ModelState) (done : Done) (reply : Reply) : Type 0 where
+  pub done : reply.done ≡ done
+  pub halted : IsHalted P M reply.halted
+
+-- the program has no such process
+pub record UnknownIn (P : Program) (p : ℕ) (refusal : Refusal) : Type 0 where
+  pub none : length P ≤ p
+  pub is : refusal ≡ UnknownProcess
+
+-- a breakpoint halts the session
+abbrev pub HaltedAt : Program → ModelState → Refusal → Type 0
+HaltedAt P M refusal = (name : List ℕ) × IsHalted P M (Some name) × (refusal ≡ Halted name)
+
+-- The process can't make an event: it is not there, a breakpoint halts the session, or memory ran out.
+abbrev pub Unready : Program → ℕ → ModelState → Refusal → Type 0
+Unready P p M refusal =
+    UnknownIn P p refusal ⊎ ((p < length P) × HaltedAt P M refusal) ⊎ (refusal ≡ Memory)
+
+-- it can: it is there, no breakpoint halts the session, and there is room for its event
+pub record IsReady (P : Program) (p : ℕ) (t : TableState) : Type 0 where
+  pub here : p < length P
+  pub goes_on : IsHalted P (state_of t) None
+  pub room : HaveRoomUpTo t.book (one_more t.world p)
+
+-- the breakpoint of this name is there, and this is its least cut
+abbrev pub HasLeast : Program → ModelState → List ℕ → List ℕ → Type 0
+HasLeast P M name cut =
+    (b : Breakpoint) × (named name M.breakpoints ≡ Some b) × IsLeast P (history_of M.system) b.conjuncts cut
+
+-- it is not there
+pub record LacksBreak (M : ModelState) (name : List ℕ) (refusal : Refusal) : Type 0 where
+  pub none : named name M.breakpoints ≡ None
+  pub is : refusal ≡ refusals.UnknownBreak
+
+-- it has no cut
+pub record HasNoCut (P : Program) (M : ModelState) (name : List ℕ) (refusal : Refusal) : Type 0 where
+  pub breakpoint : Breakpoint
+  pub there : named name M.breakpoints ≡ Some breakpoint
+  pub none : NoCut P (history_of M.system) breakpoint.conjuncts
+  pub is : refusal ≡ refusals.NoCut
+
+-- one of these, or memory ran out
+abbrev pub LacksCut : Program → ModelState → List ℕ → Refusal → Type 0
+LacksCut P M name refusal = LacksBreak M name refusal ⊎ HasNoCut P M name refusal ⊎ (refusal ≡ Memory)
+
+-- what is said where a command was accepted or refused
+abbrev pub said_of : Result Reply Refusal → Said
+said_of (Ok reply) = Accepted reply
+said_of (Err refusal) = Refused refusal
+
+-- the plan was given at M, was answered so, and left M', or memory ran out, which changes nothing
+abbrev pub ActsOrRefuses : Program → Plan → ModelState → Result Reply Refusal → ModelState → Type 0
+ActsOrRefuses P plan M result M' = Acts P plan M (said_of result) M' ⊎ Refuses Memory M (said_of result) M'

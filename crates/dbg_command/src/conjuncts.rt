@@ -1,0 +1,40 @@
+//! Which conjuncts a breakpoint may have.
+
+ghost use Rattle.std.specs.Prelude.{◌≡◌, ◌==◌, ◌<◌, [], length, map, None, Some, OnOk, IfErr};
+ghost use Rattle.std.specs.List.{list_any, AllByRecursion};
+ghost use Rattle.dbg_base.specs.Calls.{conjunct_of};
+ghost use Rattle.dbg_base.specs.Acts.{conjuncts_refusal};
+ghost use Rattle.proc_lang.specs.Programs.{program_of};
+
+use dbg_base::{Conjunct, Pid, Refusal};
+use proc_lang::{Program, fits};
+
+// Whether one of them is of this process.
+fn is_named(conjuncts: &[Conjunct], pid: Pid) -> bool
+    ensures { result ≡ list_any (λ conjunct. conjunct.process == pid.0) (map conjunct_of conjuncts.now) }
+{
+    for conjunct in conjuncts {
+        if conjunct.pid == pid {
+            return true;
+        }
+    }
+    false
+}
+
+// Refuses conjuncts from left to right: of a process that the program does not have as `UnknownProcess`, and what is no truth expression
+// of its process, or is of a process that stood before, as `BadPredicate`.
+pub(crate) fn fitting(program: &Program, conjuncts: &[Conjunct]) -> Result<(), Refusal>
+    ensures fit { OnOk result (conjuncts_refusal (program_of program.now) [] (map conjunct_of conjuncts.now) ≡ None) }
+    ensures refuses { IfErr result (λ refusal. conjuncts_refusal (program_of program.now) [] (map conjunct_of conjuncts.now)
+        ≡ Some refusal) }
+{
+    for (i, conjunct) in conjuncts.iter().enumerate() {
+        if conjunct.pid.0 >= program.processes() {
+            return Err(Refusal::UnknownProcess);
+        }
+        if !fits(program, conjunct.pid, &conjunct.expr) || is_named(&conjuncts[..i], conjunct.pid) {
+            return Err(Refusal::BadPredicate);
+        }
+    }
+    Ok(())
+}

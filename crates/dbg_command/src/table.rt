@@ -1,0 +1,131 @@
+//! The table, and which breakpoint halts it.
+
+ghost use Rattle.std.specs.Prelude.{◌≡◌, ◌<◌, length, IfOk, IfErr, OnOk, None};
+ghost use Rattle.dbg_base.specs.declared.refusal.Refusal.TheVariants.{Memory};
+ghost use Rattle.dbg_base.specs.Trees as tree;
+ghost use Rattle.dbg_base.specs.Calls.{plan_of};
+ghost use Rattle.dbg_base.specs.ModelStates.{opening, IsHalted};
+ghost use Rattle.proc_lang.specs.Programs.{program_of};
+ghost use Rattle.break_book.specs.Books.{breakpoints_of};
+ghost use Rattle.dbg_command.specs.Tables.{IsTableOf, IsReady, Unready, UnknownIn, HaltedAt, ActsOrRefuses, Replies, state_of};
+
+use break_book::Book;
+use causal_world::World;
+use dbg_base::{Done, Pid, Plan, Refusal, Reply};
+use proc_lang::Program;
+use std::alloc::Global;
+use std::marker::Model;
+
+/// A world and the breakpoints in it, whose detectors follow the world. Contracts see it as these two.
+#[derive(Debug, Drop)]
+pub struct Table {
+    pub(crate) world: World,
+    pub(crate) book: Book,
+}
+
+impl Model for Table {
+    ghost use Rattle.dbg_base.specs.contracts.expr.Expr.{the_row};
+    ghost use Rattle.std.specs.Coded.{codes};
+    ghost use Rattle.dbg_command.specs.Tables.{TableState};
+
+    ghost Value = { TableState };
+
+    ghost coded = { Prim.hlevel (codes, the_row.coded) };
+
+    ghost view = { λ table. record { world = table.world; book = table.book } };
+}
+
+// Refuses a process that the program does not have.
+pub(crate) fn known(program: &Program, pid: Pid) -> Result<(), Refusal>
+    ensures here { OnOk result (pid.0 < length (program_of program.now)) }
+    ensures none { IfErr result (UnknownIn (program_of program.now) pid.0) }
+{
+    if pid.0 < program.processes() {
+        Ok(())
+    } else {
+        Err(Refusal::UnknownProcess)
+    }
+}
+
+impl Table {
+    /// The table of a program at its start: empty lines, initial values, no message, no breakpoint. It is refused only as `Memory`,
+    /// where that runs out.
+    pub fn new(alloc: Global, program: &Program) -> Result<Table, Refusal>
+        ensures of { IfOk result (IsTableOf (program_of program.now)) }
+        ensures opens { IfOk result (λ table. state_of table ≡ opening (program_of program.now)) }
+        ensures refuses { IfErr result (λ refusal. refusal ≡ Memory) }
+    {
+        let world = World::new(alloc, program)?;
+        let book = Book::new(alloc);
+        Ok(Table { world, book })
+    }
+
+    /// The world.
+    pub fn world(&self) -> &World
+        ensures { result.now ≡ self.now.world }
+    {
+        &self.world
+    }
+
+    /// The breakpoints.
+    pub fn book(&self) -> &Book
+        ensures { result.now ≡ self.now.book }
+    {
+        &self.book
+    }
+
+    // What an accepted command is answered with.
+    pub(crate) fn reply(&self, done: Done) -> Reply
+        ensures { (P : tree.Program) → IsTableOf P self.now → Replies P (state_of self.now) done result }
+    {
+        Reply {
+            done,
+            halted: self.book.halted(),
+        }
+    }
+
+    // Refuses to go on where a breakpoint halts the session.
+    fn unhalted(&self) -> Result<(), Refusal>
+        ensures goes_on { OnOk result ((P : tree.Program) → IsTableOf P self.now → IsHalted P (state_of self.now) None) }
+        ensures refuses { IfErr result (λ refusal. (P : tree.Program) → IsTableOf P self.now → HaltedAt P (state_of self.now) refusal) }
+    {
+        match self.book.halted() {
+            Some(name) => Err(Refusal::Halted(name)),
+            None => Ok(()),
+        }
+    }
+
+    // Gets ready for an event of the process: it is there, no breakpoint halts the session, and there is room in each detector.
+    pub(crate) fn ready(&mut self, alloc: Global, program: &Program, pid: Pid) -> Result<(), Refusal>
+        requires { IsTableOf (program_of program.now) self.old }
+        ensures of { IsTableOf (program_of program.now) self.new }
+        ensures world { self.new.world ≡ self.old.world }
+        ensures breakpoints { breakpoints_of self.new.book ≡ breakpoints_of self.old.book }
+        ensures ready { OnOk result (IsReady (program_of program.now) pid.0 self.new) }
+        ensures refuses { IfErr result (Unready (program_of program.now) pid.0 (state_of self.old)) }
+    {
+        known(program, pid)?;
+        self.unhalted()?;
+        self.book.reserve(alloc, &self.world, pid)
+    }
+
+    /// Gives a command. It is refused, and changes nothing, as its kind says, or as `Memory`, where that runs out.
+    pub fn give(&mut self, alloc: Global, program: &Program, plan: &Plan) -> Result<Reply, Refusal>
+        requires { IsTableOf (program_of program.now) self.old }
+        ensures of { IsTableOf (program_of program.now) self.new }
+        ensures acts { ActsOrRefuses (program_of program.now) (plan_of plan.now) (state_of self.old) result (state_of self.new) }
+    {
+        match plan {
+            Plan::Step(pid, choice) => self.step(alloc, program, *pid, *choice),
+            Plan::Next(pid) => self.next(alloc, program, *pid),
+            Plan::Undo(pid) => self.undo(alloc, program, *pid),
+            Plan::Redo(pid) => self.redo(alloc, program, *pid),
+            Plan::Rollback(pid, n) => self.rollback(alloc, program, *pid, *n),
+            Plan::Goto(name) => self.go_to(alloc, *name),
+            Plan::Break(name, conjuncts) => self.set_break(alloc, program, *name, conjuncts),
+            Plan::Clear(name) => self.clear(*name),
+            Plan::Arm(name) => self.arm(*name),
+            Plan::Pass(name) => self.pass(*name),
+        }
+    }
+}
