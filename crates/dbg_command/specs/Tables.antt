@@ -32,8 +32,8 @@ pub record IsTableOf (P : Program) (t : TableState) : Type 0 where
   pub detectors : AreDetectorsOf t.world t.book
 
 -- the reply tells what was done, and which breakpoint halts the session now
-pub record Replies (P : Program) (M : ModelState) (done : Done) (reply : Reply) : Type 0 where
-  pub done : reply.done ≡ done
+pub record Replies (P : Program) (M : ModelState) (did : Done) (reply : Reply) : Type 0 where
+  pub done : reply.done ≡ did
   pub halted : IsHalted P M reply.halted
 
 -- the program has no such process

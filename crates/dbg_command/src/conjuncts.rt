@@ -11,14 +11,9 @@ use proc_lang::{Program, fits};
 
 // Whether one of them is of this process.
 fn is_named(conjuncts: &[Conjunct], pid: Pid) -> bool
-    ensures { result ≡ list_any (λ conjunct. conjunct.process == pid.0) (map conjunct_of conjuncts.now) }
+    ensures { result ≡ list_any (λ conjunct. conjunct.pid.0 == pid.0) conjuncts.now }
 {
-    for conjunct in conjuncts {
-        if conjunct.pid == pid {
-            return true;
-        }
-    }
-    false
+    conjuncts.iter().any(|conjunct| conjunct.pid == pid)
 }
 
 // Refuses conjuncts from left to right: of a process that the program does not have as `UnknownProcess`, and what is no truth expression
@@ -32,7 +27,10 @@ pub(crate) fn fitting(program: &Program, conjuncts: &[Conjunct]) -> Result<(), R
         if conjunct.pid.0 >= program.processes() {
             return Err(Refusal::UnknownProcess);
         }
-        if !fits(program, conjunct.pid, &conjunct.expr) || is_named(&conjuncts[..i], conjunct.pid) {
+        if !fits(program, conjunct.pid, &conjunct.expr) {
+            return Err(Refusal::BadPredicate);
+        }
+        if is_named(&conjuncts[..i], conjunct.pid) {
             return Err(Refusal::BadPredicate);
         }
     }

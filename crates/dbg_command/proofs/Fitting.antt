@@ -1,0 +1,70 @@
+-- Conjuncts that are looked at from left to right.
+use Rattle.std.proofs.Common.{◌≡◌, ℕ, suc, ◌+◌, ◌<◌, ◌≤◌, Bool, true, false, List, [], ◌∷◌, ◌++◌, length, get_or, take, drop, map}
+use Rattle.std.proofs.Common.{Some, None, refl, sym, ap, ◌∙◌, subst, arith}
+use Rattle.std.specs.Prelude.{◌==◌, ◌||◌, nat_lt}
+use Rattle.std.specs.List.{list_any}
+use Rattle.std.proofs.Common.{rules, drop_of_length-le}
+use Rattle.std.proofs.lemmas.Bool.{lt-ltb, le-ltb}
+use Rattle.std.proofs.lemmas.List.{drop_more}
+use Rattle.std.proofs.lemmas.List.Folds.{list_any_more}
+use Rattle.dbg_base.specs.declared.call.Conjunct as given
+use Rattle.dbg_base.specs.declared.expr.Sort.TheVariants as sort
+use Rattle.dbg_base.specs.declared.refusal.Refusal.TheVariants.{UnknownProcess, BadPredicate}
+use Rattle.dbg_base.specs.Trees.{Program, tree_of}
+use Rattle.dbg_base.specs.WellFormed.{is_fit, bounds_of}
+use Rattle.dbg_base.specs.Calls.{conjunct_of}
+use Rattle.dbg_base.specs.Acts.{conjuncts_refusal}
+
+-- those before this place are not refused
+pub record AreFitting (P : Program) (cs : List given.Conjunct) (i : ℕ) : Type 0 where
+  pub before : List ℕ
+  pub seen : (p : ℕ) → list_any (λ (q : ℕ). q == p) before ≡ list_any (λ (c : given.Conjunct). c.pid.0 == p) (take i cs)
+  pub rest : conjuncts_refusal P before (map conjunct_of (drop i cs)) ≡ conjuncts_refusal P [] (map conjunct_of cs)
+
+pub none_fitting : (P : Program) (cs : List given.Conjunct) → AreFitting P cs 0
+none_fitting P cs = record { before = []; seen = λ p. refl; rest = refl }
+
+or_turned : (a b : Bool) → (a || b) ≡ (b || a)
+or_turned true true = refl
+or_turned true false = refl
+or_turned false true = refl
+or_turned false false = refl
+
+module _ (P : Program) (cs : List given.Conjunct) (i : ℕ) (are : AreFitting P cs i) (x : given.Conjunct) (here : x ≡ get_or cs i x)
+    (lt : i < length cs) where
+  -- what is left, with the one whose turn it is in front
+  in_front : conjuncts_refusal P are.before (map conjunct_of (x ∷ drop (i + 1) cs)) ≡ conjuncts_refusal P [] (map conjunct_of cs)
+  in_front =
+      ap (λ (c : given.Conjunct). conjuncts_refusal P are.before (map conjunct_of (c ∷ drop (i + 1) cs))) here
+      ∙ ap (λ (l : List given.Conjunct). conjuncts_refusal P are.before (map conjunct_of l)) (sym (drop_more cs i x lt)) ∙ are.rest
+
+  pub refused_unknown : length P ≤ x.pid.0 → conjuncts_refusal P [] (map conjunct_of cs) ≡ Some UnknownProcess
+  refused_unknown none = sym in_front ∙ search (le-ltb x.pid.0 (length P) none, rules)
+
+  module _ (known : x.pid.0 < length P) where
+    pub refused_unfit : is_fit (bounds_of P x.pid.0) sort.Truth (tree_of x.expr) ≡ false
+        → conjuncts_refusal P [] (map conjunct_of cs) ≡ Some BadPredicate
+    refused_unfit unfit = sym in_front ∙ search (lt-ltb x.pid.0 (length P) known, unfit, rules)
+
+    pub refused_twice : list_any (λ (c : given.Conjunct). c.pid.0 == x.pid.0) (take i cs) ≡ true
+        → conjuncts_refusal P [] (map conjunct_of cs) ≡ Some BadPredicate
+    refused_twice twice =
+        let seen = are.seen x.pid.0 ∙ twice in sym in_front ∙ search (lt-ltb x.pid.0 (length P) known, seen, rules)
+
+    pub more_fitting : is_fit (bounds_of P x.pid.0) sort.Truth (tree_of x.expr) ≡ true
+        → list_any (λ (c : given.Conjunct). c.pid.0 == x.pid.0) (take i cs) ≡ false → AreFitting P cs (i + 1)
+    more_fitting fit once =
+        let seen = are.seen x.pid.0 ∙ once in
+        record {
+          before = x.pid.0 ∷ are.before;
+          seen = λ p.
+              ap (λ (b : Bool). (x.pid.0 == p) || b) (are.seen p) ∙ or_turned (x.pid.0 == p) _
+              ∙ ap (λ (c : given.Conjunct). list_any (λ (d : given.Conjunct). d.pid.0 == p) (take i cs) || (c.pid.0 == p)) here
+              ∙ sym (list_any_more (λ (d : given.Conjunct). d.pid.0 == p) cs i x lt);
+          rest = search (lt-ltb x.pid.0 (length P) known, seen, fit, in_front, rules);
+        }
+
+pub all_fitting : (P : Program) (cs : List given.Conjunct) (i : ℕ) → AreFitting P cs i → length cs ≤ i
+    → conjuncts_refusal P [] (map conjunct_of cs) ≡ None
+all_fitting P cs i are past =
+    sym are.rest ∙ ap (λ (l : List given.Conjunct). conjuncts_refusal P are.before (map conjunct_of l)) (drop_of_length-le cs past)
