@@ -5,15 +5,11 @@ use Rattle.std.specs.Prelude.{slice_range, IfOk, IfErr, Result, Ok, Err}
 use Rattle.std.specs.Io.KnownBytes.{Appends}
 use Rattle.std.proofs.lemmas.List.{append-nil}
 use Rattle.std.proofs.KnownBytes.{Appends-nil, Appends-trans}
-use Rattle.dbg_base.specs.declared.said.Said.TheVariants.{Refused}
-use Rattle.dbg_base.specs.declared.refusal.Refusal.{Refusal}
 use Rattle.dbg_base.specs.declared.refusal.Refusal.TheVariants.{Memory}
 use Rattle.dbg_base.specs.Trees.{Program}
 use Rattle.dbg_base.specs.ModelStates.{ModelState, opening}
-use Rattle.dbg_base.specs.Calls.{asked_by}
-use Rattle.dbg_base.specs.CommandLines.{Request, parsed_line}
-use Rattle.dbg_base.specs.Replies.{reply_text, refusal_text}
-use Rattle.dbg_base.specs.Shell.{AnswersParsed, AnswersLine, AnswersLines, as_line, is_too_long, end_text, too_long_text}
+use Rattle.dbg_base.specs.Replies.{refusal_text}
+use Rattle.dbg_base.specs.Shell.{AnswersLine, AnswersLines, as_line, is_too_long, end_text, too_long_text}
 use Rattle.dbg_shell.specs.declared.framing.Span.{Span}
 use Rattle.dbg_shell.specs.declared.framing.Next.{Next}
 use Rattle.dbg_shell.specs.declared.framing.Next.TheVariants as nexts
@@ -76,20 +72,12 @@ answered_ends P whole from at M a b c text answered none written same = (
       answered.written written,
 )
 
--- a line has some answer
-some_answer : (P : Program) (r : Result (Option Request) Refusal) (M : ModelState)
-    → (out : List ℕ) × (M' : ModelState) × AnswersParsed P r M out M'
-some_answer P (Err refusal) M = (as_line (refusal_text P refusal), M, (refl, refl))
-some_answer P (Ok None) M = ([], M, (refl, refl))
-some_answer P (Ok (Some request)) M =
-    (as_line (reply_text P (asked_by request.call) (Refused Memory)), M, (Refused Memory, inr (refl, refl), refl))
-
 some_answers : (P : Program) (lines : List (List ℕ)) (M : ModelState) → (out : List ℕ) × (M' : ModelState) × AnswersLines P lines M out M'
 some_answers P [] M = ([], M, (refl, refl))
 some_answers P (line ∷ lines) M =
-    let first = some_answer P (parsed_line P line) M in
-    let others = some_answers P lines first.1 in
-    (first.0 ++ others.0, others.1, (first.0, others.0, first.1, first.2, others.2, refl))
+    let out = as_line (refusal_text P Memory) in
+    let others = some_answers P lines M in
+    (out ++ others.0, others.1, (out, others.0, M, (Err Memory, inr refl, refl, refl), others.2, refl))
 
 regrouped : (x y z w : List ℕ) → x ++ y ++ (z ++ w) ≡ x ++ (y ++ z) ++ w
 regrouped x y z w = append_assoc x y (z ++ w) ∙ ap (λ (t : List ℕ). x ++ t) (sym (append_assoc y z w)) ∙ sym (append_assoc x (y ++ z) w)

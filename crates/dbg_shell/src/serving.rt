@@ -4,7 +4,7 @@ ghost use Rattle.std.specs.Prelude.{◌≡◌, IfOk, IfErr, IfSome};
 ghost use Rattle.std.specs.Io.KnownBytes.{Keeps};
 ghost use Rattle.dbg_base.specs.ModelStates.{opening};
 ghost use Rattle.proc_lang.specs.Programs.{program_of};
-ghost use Rattle.causal_world.specs.Scenes.{IsWorldOf};
+ghost use Rattle.dbg_command.specs.Tables.{IsTableOf, state_of};
 ghost use Rattle.dbg_shell.specs.declared.outcome.ServeFault.TheVariants.{Memory, Read, Write};
 ghost use Rattle.dbg_shell.specs.declared.outcome.Served.{Served};
 ghost use Rattle.dbg_shell.specs.Spans.{EndsWith, ReadsOn};
@@ -18,36 +18,36 @@ use crate::outcome::{ServeFault, Served};
 use crate::program_text::{TextEnd, read_program_text};
 use crate::reply::{print_refusal, print_reply};
 use crate::session::answer;
-use causal_world::World;
+use dbg_command::Table;
 use proc_lang::{ProgError, Program, parse_program};
 use std::alloc::Global;
 use std::io::{Read, Write};
 
-// The world of the program at its start.
-fn open(alloc: Global, program: &Program) -> Result<World, ServeFault>
-    ensures of { IfOk result (λ world. IsWorldOf (program_of program.now) world) }
-    ensures opens { IfOk result (λ world. world.state ≡ opening_state (program_of program.now)) }
+// The table of the program at its start.
+fn open(alloc: Global, program: &Program) -> Result<Table, ServeFault>
+    ensures of { IfOk result (IsTableOf (program_of program.now)) }
+    ensures opens { IfOk result (λ table. state_of table ≡ opening (program_of program.now)) }
     ensures memory { IfErr result (λ fault. fault ≡ Memory) }
 {
-    World::new(alloc, program).map_err(|_| ServeFault::Memory)
+    Table::new(alloc, program).map_err(|_| ServeFault::Memory)
 }
 
 // Answers one command line: what is written is handed on before the next line is asked for.
 fn serve_line<W: Write>(
     alloc: Global,
     program: &Program,
-    world: &mut World,
+    table: &mut Table,
     line: &[u8],
     writer: &mut W,
 ) -> Result<(), ServeFault>
-    requires { IsWorldOf (program_of program.now) world.old }
-    ensures of { IsWorldOf (program_of program.now) world.new }
-    ensures answers { WritesAnswer (program_of program.now) line.now world.old.state (W.contents writer.old) result
-        (W.contents writer.new) world.new.state }
+    requires { IsTableOf (program_of program.now) table.old }
+    ensures of { IsTableOf (program_of program.now) table.new }
+    ensures answers { WritesAnswer (program_of program.now) line.now (state_of table.old) (W.contents writer.old) result
+        (W.contents writer.new) (state_of table.new) }
 {
-    match parse_line(program, line) {
+    match parse_line(alloc, program, line) {
         Ok(Some(line)) => {
-            let said = answer(world, alloc, program, &line);
+            let said = answer(table, alloc, program, &line);
             let written = print_reply(program, &line.call, &said, writer);
             hand_on(written, writer)
         }
@@ -78,10 +78,10 @@ fn serve_lines<R: Read, W: Write>(
         input.old.at (W.contents writer.old) (W.contents writer.new)) }
     ensures memory { IfErr result (λ fault. fault ≡ Memory → Keeps (W.contents writer.old) (W.contents writer.new)) }
 {
-    let mut world = open(alloc, program)?;
+    let mut table = open(alloc, program)?;
     loop {
         match input.next_line(reader)? {
-            Next::Line(span) => serve_line(alloc, program, &mut world, input.line(span), writer)?,
+            Next::Line(span) => serve_line(alloc, program, &mut table, input.line(span), writer)?,
             Next::End => return Ok(Served::Done),
             Next::TooLong => return tell_too_long(writer),
         }
