@@ -1,0 +1,27 @@
+use Rattle.std.proofs.Common.{rules, ◌≡◌, ◌<◌, ◌≤◌, ◌⊎◌, ◌++◌, ◌∷◌, [], length, map, insert, None, Some, true, false, slice_get, IfOk, IfErr, IfSome, OnOk, OnErr, MatchOption, ℕ, ◌+◌, ◌-◌, ◌*◌, ◌/◌, ◌%◌, Bool, nat_eq, nat_lt, List, slice_index_or, slice_set, bit_and, bit_or, Fits, w8, w32, w64, Bor, MutBor}
+use Rattle.std.specs.List.{AllByRecursion}
+use Rattle.dbg_base.specs.declared.refusal.Refusal.TheVariants.{Memory, UnknownBreak}
+use Rattle.dbg_base.specs.declared.limits.TheConstants.{BREAKPOINTS}
+use Rattle.dbg_base.specs.Trees as tree
+use Rattle.dbg_base.specs.Breakpoints as model
+use Rattle.dbg_base.specs.Calls.{conjunct_of}
+use Rattle.dbg_base.specs.Breakpoints.{named, without, with_mark, name_refusal, IsHaltedBy}
+use Rattle.dbg_base.specs.SystemStates.{history_of}
+use Rattle.dbg_base.specs.Views.{mark_of}
+use Rattle.causal_world.specs.Scenes.{Scene, IsWorldOf}
+use Rattle.least_cut.specs.Watches.{scan_of}
+use Rattle.least_cut.specs.Detectors.{IsDetectorOf, one_more}
+use Rattle.break_book.specs.Books.{breakpoint_of, breakpoints_of, new_breakpoint, AreDetectorsOf, HasDistinctNames, position_of, marked_at, arm_refusal, MayPass, CannotPass}
+use Rattle.break_book.proofs.book.Book.list.Goals as goal
+
+-- src/book.rt:221:9
+pub loop-name-init : goal.loop-name-init
+loop-name-init c = ?
+
+-- src/book.rt:221:9
+pub loop-name-preserved : goal.loop-name-preserved
+loop-name-preserved c = ?
+
+-- src/book.rt:214:5
+pub returns-clause-marks : goal.returns-clause-marks
+returns-clause-marks c = ?
