@@ -1,23 +1,18 @@
-use Rattle.std.proofs.Common.{rules, ◌≡◌, ◌<◌, ◌≤◌, ◌⊎◌, ◌++◌, ◌∷◌, [], length, map, insert, None, Some, true, false, slice_get, IfOk, IfErr, IfSome, OnOk, OnErr, MatchOption, ℕ, ◌+◌, ◌-◌, ◌*◌, ◌/◌, ◌%◌, Bool, nat_eq, nat_lt, List, slice_index_or, slice_set, bit_and, bit_or, Fits, w8, w32, w64, Bor, MutBor}
-use Rattle.std.specs.List.{AllByRecursion}
-use Rattle.dbg_base.specs.declared.refusal.Refusal.TheVariants.{Memory, UnknownBreak}
-use Rattle.dbg_base.specs.declared.limits.TheConstants.{BREAKPOINTS}
-use Rattle.dbg_base.specs.Trees as tree
-use Rattle.dbg_base.specs.Breakpoints as model
-use Rattle.dbg_base.specs.Calls.{conjunct_of}
-use Rattle.dbg_base.specs.Breakpoints.{named, without, with_mark, name_refusal, IsHaltedBy}
-use Rattle.dbg_base.specs.SystemStates.{history_of}
-use Rattle.dbg_base.specs.Views.{mark_of}
-use Rattle.causal_world.specs.Scenes.{Scene, IsWorldOf}
-use Rattle.least_cut.specs.Watches.{scan_of}
-use Rattle.least_cut.specs.Detectors.{IsDetectorOf, one_more}
-use Rattle.break_book.specs.Books.{breakpoint_of, breakpoints_of, new_breakpoint, AreDetectorsOf, HasDistinctNames, position_of, marked_at, arm_refusal, MayPass, CannotPass}
+use Rattle.std.proofs.Common.{◌≡◌, ◌≤◌, ℕ, Some, sym, ap, ◌∙◌, arith, length}
+use Rattle.break_book.specs.Books.{marked_at}
+use Rattle.break_book.proofs.Entries.{written, length_marked}
 use Rattle.break_book.proofs.book.Book.mark.Goals as goal
 
--- src/book.rt:246:5
 pub invariant_of-self : goal.invariant_of-self
-invariant_of-self c = ?
+invariant_of-self c =
+    omega (arith, c.self.invariant, length_marked c.self.inside.breaks.entries c.args.position c.args.armed,
+    ap length (written c.self.inside.breaks.entries c.args.position
+    (record { armed = c.behind-self.inside.armed; detector = c.behind-self.inside.detector }) c.args.armed
+    (c.index_mut.ensures.value ∙ ap Some (sym c.behind-self.view_is))))
 
--- src/book.rt:246:5
 pub returns : goal.returns
-returns c = ?
+returns c =
+    written c.self.inside.breaks.entries c.args.position
+    (record { armed = c.behind-self.inside.armed; detector = c.behind-self.inside.detector }) c.args.armed
+    (c.index_mut.ensures.value ∙ ap Some (sym c.behind-self.view_is))
+    ∙ ap (marked_at c.args.position c.args.armed) c.self.view_is

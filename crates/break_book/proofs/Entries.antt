@@ -1,0 +1,216 @@
+-- The entries of a book by name and by position, and its breakpoints.
+use Rattle.std.proofs.Common.{◌≡◌, ℕ, zero, suc, ◌+◌, ◌-◌, ◌<◌, ◌≤◌, Bool, true, false, cond, List, [], ◌∷◌, ◌++◌, length, get_or, map, take}
+use Rattle.std.proofs.Common.{drop, insert, remove, Option, Some, None, Ok, Err, is_some, refl, sym, ap, ◌∙◌, subst, arith}
+use Rattle.std.specs.Prelude.{slice_get, if◌then◌else◌, position, nat_lt}
+use Rattle.std.specs.Option.{ok_or}
+use Rattle.std.specs.Map.{lookup}
+use Rattle.std.specs.Str.{bytes_eq}
+use Rattle.std.specs.List.{AllByRecursion, position_or_len}
+use Rattle.std.proofs.lemmas.Bool.{le-ltb}
+use Rattle.std.proofs.lemmas.List.Quantifiers.{position-Some}
+use Rattle.std.proofs.lemmas.Slice.Eq.{bytes_eq-Decides}
+use Rattle.dbg_base.specs.Breakpoints.{Breakpoint, named, without, with_mark}
+use Rattle.indexmap.specs.IndexMap.{insert_entry, move_index, index_before, set_value_at, shift_remove_entry}
+use Rattle.indexmap.proofs.MapLemmas.{Missing-position, absent_from_lookup, or_len-absent}
+use Rattle.break_book.specs.Books.{Kept, Entry, breakpoint_of, breakpoints_of, position_of, marked_at}
+
+abbrev names_of : List Entry → List (List ℕ)
+names_of book = map (λ (entry : Entry). entry.0) book
+
+-- what was asked for is there
+pub of_ok : {A E : Type 0} (r : Option A) (e : E) (x : A) → ok_or r e ≡ Ok x → r ≡ Some x
+of_ok None e x is = cc
+of_ok (Some y) e x is = let same : y ≡ x = cc in ap Some same
+
+pub of_err : {A E : Type 0} (r : Option A) (e f : E) → ok_or r e ≡ Err f → (r ≡ None) × (f ≡ e)
+of_err None e f is = let same : e ≡ f = cc in (refl, sym same)
+of_err (Some y) e f is = cc
+
+pub same_in : {A : Type 0} (x y : A) → Some x ≡ Some y → x ≡ y
+same_in x y is = cc
+
+module _ (name : List ℕ) where
+  -- a breakpoint is named where its entry is found
+  pub named_there : (book : List Entry) → is_some (named name (breakpoints_of book)) ≡ is_some (lookup (bytes_eq name) book)
+  named_there [] = refl
+  named_there (entry ∷ book) = by (bytes_eq name entry.0)
+    where
+      by : (b : Bool) → is_some (if b then Some (breakpoint_of entry) else named name (breakpoints_of book))
+          ≡ is_some (cond b (Some entry.1) (lookup (bytes_eq name) book))
+      by true = refl
+      by false = named_there book
+
+  none_named : (o : Option Breakpoint) → is_some o ≡ false → o ≡ None
+  none_named None no = refl
+  none_named (Some b) no = cc
+
+  pub not_named : (book : List Entry) → lookup (bytes_eq name) book ≡ None → named name (breakpoints_of book) ≡ None
+  not_named book none = none_named (named name (breakpoints_of book)) (named_there book ∙ ap is_some none)
+
+  pub not_placed : (book : List Entry) → position_of name book ≡ None → named name (breakpoints_of book) ≡ None
+  not_placed book none = not_named book (Missing-position (bytes_eq name) book none).value
+
+  nothing_found : (o : Option Kept) → is_some o ≡ false → o ≡ None
+  nothing_found None no = refl
+  nothing_found (Some b) no = cc
+
+  pub not_found : (book : List Entry) → named name (breakpoints_of book) ≡ None → lookup (bytes_eq name) book ≡ None
+  not_found book none = nothing_found (lookup (bytes_eq name) book) (sym (named_there book) ∙ ap is_some none)
+
+  -- a new name goes last
+  pub inserted : (kept : Kept) (book : List Entry) → named name (breakpoints_of book) ≡ None
+      → insert_entry bytes_eq book name kept ≡ book ++ (name, kept) ∷ []
+  inserted kept [] none = refl
+  inserted kept (entry ∷ book) none = by (bytes_eq name entry.0) none
+    where
+      by : (b : Bool) → (if b then Some (breakpoint_of entry) else named name (breakpoints_of book)) ≡ None
+          → (if b then (entry.0, kept) ∷ book else entry ∷ insert_entry bytes_eq book name kept) ≡ entry ∷ (book ++ (name, kept) ∷ [])
+      by true none = cc
+      by false none = ap (λ (l : List Entry). entry ∷ l) (inserted kept book none)
+
+  -- what holds of all holds of all others
+  pub all_left : (P : Entry → Type 0) (book : List Entry) → AllByRecursion P book
+      → AllByRecursion P (shift_remove_entry (bytes_eq name) book)
+  all_left P [] all = tt
+  all_left P (entry ∷ book) all = by (bytes_eq name entry.0)
+    where
+      by : (b : Bool) → AllByRecursion P (cond b book (entry ∷ shift_remove_entry (bytes_eq name) book))
+      by true = all.1
+      by false = (all.0, all_left P book all.1)
+
+  -- all other breakpoints are those of all other entries
+  pub left : (book : List Entry) → breakpoints_of (shift_remove_entry (bytes_eq name) book) ≡ without name (breakpoints_of book)
+  left [] = refl
+  left (entry ∷ book) = by (bytes_eq name entry.0)
+    where
+      by : (b : Bool) → breakpoints_of (cond b book (entry ∷ shift_remove_entry (bytes_eq name) book))
+          ≡ (if b then breakpoints_of book else breakpoint_of entry ∷ without name (breakpoints_of book))
+      by true = refl
+      by false = ap (λ (l : List Breakpoint). breakpoint_of entry ∷ l) (left book)
+
+  -- the entry of the name stands at this position
+  pub record Here (book : List Entry) (i : ℕ) : Type 0 where
+    pub kept : Kept
+    pub entry : slice_get book i ≡ Some (name, kept)
+    pub value : slice_get (map (λ (entry : Entry). entry.1) book) i ≡ Some kept
+    pub found : lookup (bytes_eq name) book ≡ Some kept
+    pub is : named name (breakpoints_of book) ≡ Some (breakpoint_of (name, kept))
+    pub marked : (armed : Bool) → breakpoints_of (marked_at i armed book) ≡ with_mark name armed (breakpoints_of book)
+    pub within : i < length book
+    pub place : i ≤ length (shift_remove_entry (bytes_eq name) book)
+    pub whole : book ≡ insert (shift_remove_entry (bytes_eq name) book) i (name, kept)
+
+  here_first : (entry : Entry) (book : List Entry) → bytes_eq name entry.0 ≡ true → Here (entry ∷ book) 0
+  here_first entry book same =
+      let e : name ≡ entry.0 = (bytes_eq-Decides name entry.0).0 same in
+      record {
+        kept = entry.1;
+        entry = λ i. Some (sym e i, entry.1);
+        value = refl;
+        found = ap (λ (b : Bool). cond b (Some entry.1) (lookup (bytes_eq name) book)) same;
+        is = ap (λ (b : Bool). if b then Some (breakpoint_of entry) else named name (breakpoints_of book)) same
+            ∙ (λ i. Some (breakpoint_of (sym e i, entry.1)));
+        marked = λ armed. sym (ap (λ (b : Bool).
+            if b then record { name = entry.0; conjuncts = (breakpoint_of entry).conjuncts; armed = armed } ∷ breakpoints_of book
+            else breakpoint_of entry ∷ with_mark name armed (breakpoints_of book)) same);
+        within = omega arith;
+        place = omega arith;
+        whole = (λ i. (sym e i, entry.1) ∷ book)
+            ∙ ap (λ (l : List Entry). (name, entry.1) ∷ l)
+            (sym (ap (λ (b : Bool). cond b book (entry ∷ shift_remove_entry (bytes_eq name) book)) same));
+      }
+
+  here_behind : (entry : Entry) (book : List Entry) (i : ℕ) → bytes_eq name entry.0 ≡ false → Here book i → Here (entry ∷ book) (suc i)
+  here_behind entry book i other here =
+      let rest = shift_remove_entry (bytes_eq name) book in
+      let less = here.within in
+      let fits = here.place in
+      let all : shift_remove_entry (bytes_eq name) (entry ∷ book) ≡ entry ∷ rest =
+      ap (λ (b : Bool). cond b book (entry ∷ rest)) other in
+      record {
+        kept = here.kept;
+        entry = here.entry;
+        value = here.value;
+        found = ap (λ (b : Bool). cond b (Some entry.1) (lookup (bytes_eq name) book)) other ∙ here.found;
+        is = ap (λ (b : Bool). if b then Some (breakpoint_of entry) else named name (breakpoints_of book)) other ∙ here.is;
+        marked = λ armed. ap (λ (l : List Breakpoint). breakpoint_of entry ∷ l) (here.marked armed)
+            ∙ sym (ap (λ (b : Bool).
+            if b then record { name = entry.0; conjuncts = (breakpoint_of entry).conjuncts; armed = armed } ∷ breakpoints_of book
+            else breakpoint_of entry ∷ with_mark name armed (breakpoints_of book)) other);
+        within = omega (arith, less);
+        place = omega (arith, fits, ap (λ (l : List Entry). length l) all);
+        whole = ap (λ (l : List Entry). entry ∷ l) here.whole
+            ∙ ap (λ (l : List Entry). insert l (suc i) (name, here.kept)) (sym all);
+      }
+
+  pub here : (book : List Entry) (i : ℕ) → position_of name book ≡ Some i → Here book i
+  here book i is = let at = position-Some (bytes_eq name) (names_of book) i [] is in from book i at.0 at.1 at.2
+    where
+      from : (book : List Entry) (i : ℕ) → i < length (names_of book) → bytes_eq name (get_or (names_of book) i []) ≡ true
+          → ((k : ℕ) → k < i → bytes_eq name (get_or (names_of book) k []) ≡ false) → Here book i
+      from [] i less is before = let none : i < 0 = less in absurd (omega (arith, none))
+      from (entry ∷ book) zero less is before = here_first entry book is
+      from (entry ∷ book) (suc i) less is before =
+          here_behind entry book i (before 0 (omega arith))
+          (from book i (omega (arith, less)) is (λ k lt. before (suc k) (omega (arith, lt))))
+
+-- a mark is written where the rest stays
+pub written : (book : List Entry) (i : ℕ) (kept : Kept) (armed : Bool)
+    → slice_get (map (λ (entry : Entry). entry.1) book) i ≡ Some kept
+    → set_value_at book i (record { armed = armed; detector = kept.detector }) ≡ marked_at i armed book
+written [] i kept armed at = cc
+written (entry ∷ book) zero kept armed at =
+    let same : kept ≡ entry.1 = cc in
+    λ j. (entry.0, record { armed = armed; detector = (same j).detector }) ∷ book
+written (entry ∷ book) (suc i) kept armed at = ap (λ (l : List Entry). entry ∷ l) (written book i kept armed at)
+
+pub length_marked : (book : List Entry) (i : ℕ) (armed : Bool) → length (marked_at i armed book) ≡ length book
+length_marked [] i armed = refl
+length_marked (entry ∷ book) zero armed = refl
+length_marked (entry ∷ book) (suc i) armed = ap suc (length_marked book i armed)
+
+-- what holds of all whatever the mark still does
+pub all_marked : (P : Kept → Type 0) → ((kept : Kept) (armed : Bool) → P kept → P (record { armed = armed; detector = kept.detector }))
+    → (book : List Entry) (i : ℕ) (armed : Bool) → AllByRecursion (λ entry. P entry.1) book
+    → AllByRecursion (λ entry. P entry.1) (marked_at i armed book)
+all_marked P each [] i armed all = tt
+all_marked P each (entry ∷ book) zero armed all = (each entry.1 armed all.0, all.1)
+all_marked P each (entry ∷ book) (suc i) armed all = (all.0, all_marked P each book i armed all.1)
+
+-- One more at a place.
+
+pub all_insert : (P : Entry → Type 0) (book : List Entry) (i : ℕ) (entry : Entry) → AllByRecursion P book → P entry
+    → AllByRecursion P (insert book i entry)
+all_insert P book zero entry all holds = (holds, all)
+all_insert P [] (suc i) entry all holds = (holds, tt)
+all_insert P (e ∷ book) (suc i) entry all holds = (all.0, all_insert P book i entry all.1 holds)
+
+last_there : (book : List Entry) (entry : Entry) → slice_get (book ++ entry ∷ []) (length book) ≡ Some entry
+last_there [] entry = refl
+last_there (e ∷ book) entry = last_there book entry
+
+last_off : (book : List Entry) (entry : Entry) → remove (book ++ entry ∷ []) (length book) ≡ book
+last_off [] entry = refl
+last_off (e ∷ book) entry = ap (λ (l : List Entry). e ∷ l) (last_off book entry)
+
+moved : (book : List Entry) (entry : Entry) (i : ℕ) → move_index (book ++ entry ∷ []) (length book) i ≡ insert book i entry
+moved book entry i =
+    by (slice_get (book ++ entry ∷ []) (length book)) (last_there book entry)
+    ∙ ap (λ (l : List Entry). insert l i entry) (last_off book entry)
+  where
+    by : (o : Option Entry) → o ≡ Some entry
+        → elim o [ | None ↦ book ++ entry ∷ [] | Some x ↦ insert (remove (book ++ entry ∷ []) (length book)) i x ]
+        ≡ insert (remove (book ++ entry ∷ []) (length book)) i entry
+    by None is = cc
+    by (Some x) is = let same : x ≡ entry = cc in ap (insert (remove (book ++ entry ∷ []) (length book)) i) same
+
+-- a new breakpoint goes to its place
+pub restored : (book : List Entry) (name : List ℕ) (kept : Kept) (i n : ℕ) → named name (breakpoints_of book) ≡ None → i ≤ length book
+    → n ≡ index_before (position_or_len (bytes_eq name) (names_of book)) i
+    → move_index (insert_entry bytes_eq book name kept) (position_or_len (bytes_eq name) (names_of book)) n ≡ insert book i (name, kept)
+restored book name kept i n none few at =
+    let last : position_or_len (bytes_eq name) (names_of book) ≡ length book =
+    or_len-absent (bytes_eq name) book (absent_from_lookup (bytes_eq name) book (not_found name book none)) in
+    let here : n ≡ i =
+    at ∙ ap (λ (m : ℕ). index_before m i) last ∙ ap (λ (b : Bool). if b then i - 1 else i) (le-ltb i (length book) few) in
+    (λ j. move_index (inserted name kept book none j) (last j) (here j)) ∙ moved book (name, kept) i
