@@ -2,7 +2,7 @@
 use Rattle.std.proofs.Common.{◌≡◌, ℕ, zero, suc, ◌+◌, ◌-◌, ◌<◌, ◌≤◌, Bool, true, false, cond, List, [], ◌∷◌, ◌++◌, length, get_or, map, take}
 use Rattle.std.proofs.Common.{drop, insert, remove, Option, Some, None, Ok, Err, is_some, refl, sym, ap, ◌∙◌, subst, arith}
 use Rattle.std.specs.Prelude.{slice_get, if◌then◌else◌, position, nat_lt}
-use Rattle.std.specs.Option.{ok_or}
+use Rattle.std.specs.Option.{ok_or, option_map, option_map_or}
 use Rattle.std.specs.Map.{lookup}
 use Rattle.std.specs.Str.{bytes_eq}
 use Rattle.std.specs.List.{AllByRecursion, position_or_len}
@@ -29,64 +29,64 @@ of_err (Some y) e f is = cc
 pub same_in : {A : Type 0} (x y : A) → Some x ≡ Some y → x ≡ y
 same_in x y is = cc
 
+none_in : {A : Type 0} (o : Option A) → is_some o ≡ false → o ≡ None
+none_in None is = refl
+none_in (Some x) is = cc
+
 module _ (name : List ℕ) where
   -- a breakpoint is named where its entry is found
   pub named_there : (book : List Entry) → is_some (named name (breakpoints_of book)) ≡ is_some (lookup (bytes_eq name) book)
   named_there [] = refl
-  named_there (entry ∷ book) = by (bytes_eq name entry.0)
+  named_there (entry ∷ book) = by (bytes_eq name entry.0) (named_there book)
     where
-      by : (b : Bool) → is_some (if b then Some (breakpoint_of entry) else named name (breakpoints_of book))
+      by : (b : Bool) → is_some (named name (breakpoints_of book)) ≡ is_some (lookup (bytes_eq name) book)
+          → is_some (if b then Some (breakpoint_of entry) else named name (breakpoints_of book))
           ≡ is_some (cond b (Some entry.1) (lookup (bytes_eq name) book))
-      by true = refl
-      by false = named_there book
-
-  none_named : (o : Option Breakpoint) → is_some o ≡ false → o ≡ None
-  none_named None no = refl
-  none_named (Some b) no = cc
+      by true rest = refl
+      by false rest = rest
 
   pub not_named : (book : List Entry) → lookup (bytes_eq name) book ≡ None → named name (breakpoints_of book) ≡ None
-  not_named book none = none_named (named name (breakpoints_of book)) (named_there book ∙ ap is_some none)
+  not_named book none = none_in (named name (breakpoints_of book)) (named_there book ∙ ap is_some none)
 
   pub not_placed : (book : List Entry) → position_of name book ≡ None → named name (breakpoints_of book) ≡ None
   not_placed book none = not_named book (Missing-position (bytes_eq name) book none).value
 
-  nothing_found : (o : Option Kept) → is_some o ≡ false → o ≡ None
-  nothing_found None no = refl
-  nothing_found (Some b) no = cc
-
   pub not_found : (book : List Entry) → named name (breakpoints_of book) ≡ None → lookup (bytes_eq name) book ≡ None
-  not_found book none = nothing_found (lookup (bytes_eq name) book) (sym (named_there book) ∙ ap is_some none)
+  not_found book none = none_in (lookup (bytes_eq name) book) (sym (named_there book) ∙ ap is_some none)
 
   -- a new name goes last
   pub inserted : (kept : Kept) (book : List Entry) → named name (breakpoints_of book) ≡ None
       → insert_entry bytes_eq book name kept ≡ book ++ (name, kept) ∷ []
   inserted kept [] none = refl
-  inserted kept (entry ∷ book) none = by (bytes_eq name entry.0) none
+  inserted kept (entry ∷ book) none = by (bytes_eq name entry.0) (λ rest. inserted kept book rest) none
     where
-      by : (b : Bool) → (if b then Some (breakpoint_of entry) else named name (breakpoints_of book)) ≡ None
+      by : (b : Bool) → (named name (breakpoints_of book) ≡ None → insert_entry bytes_eq book name kept ≡ book ++ (name, kept) ∷ [])
+          → (if b then Some (breakpoint_of entry) else named name (breakpoints_of book)) ≡ None
           → (if b then (entry.0, kept) ∷ book else entry ∷ insert_entry bytes_eq book name kept) ≡ entry ∷ (book ++ (name, kept) ∷ [])
-      by true none = cc
-      by false none = ap (λ (l : List Entry). entry ∷ l) (inserted kept book none)
+      by true rest none = cc
+      by false rest none = ap (λ (l : List Entry). entry ∷ l) (rest none)
 
   -- what holds of all holds of all others
   pub all_left : (P : Entry → Type 0) (book : List Entry) → AllByRecursion P book
       → AllByRecursion P (shift_remove_entry (bytes_eq name) book)
   all_left P [] all = tt
-  all_left P (entry ∷ book) all = by (bytes_eq name entry.0)
+  all_left P (entry ∷ book) all = by (bytes_eq name entry.0) (all_left P book all.1)
     where
-      by : (b : Bool) → AllByRecursion P (cond b book (entry ∷ shift_remove_entry (bytes_eq name) book))
-      by true = all.1
-      by false = (all.0, all_left P book all.1)
+      by : (b : Bool) → AllByRecursion P (shift_remove_entry (bytes_eq name) book)
+          → AllByRecursion P (cond b book (entry ∷ shift_remove_entry (bytes_eq name) book))
+      by true rest = all.1
+      by false rest = (all.0, rest)
 
   -- all other breakpoints are those of all other entries
   pub left : (book : List Entry) → breakpoints_of (shift_remove_entry (bytes_eq name) book) ≡ without name (breakpoints_of book)
   left [] = refl
-  left (entry ∷ book) = by (bytes_eq name entry.0)
+  left (entry ∷ book) = by (bytes_eq name entry.0) (left book)
     where
-      by : (b : Bool) → breakpoints_of (cond b book (entry ∷ shift_remove_entry (bytes_eq name) book))
+      by : (b : Bool) → breakpoints_of (shift_remove_entry (bytes_eq name) book) ≡ without name (breakpoints_of book)
+          → breakpoints_of (cond b book (entry ∷ shift_remove_entry (bytes_eq name) book))
           ≡ (if b then breakpoints_of book else breakpoint_of entry ∷ without name (breakpoints_of book))
-      by true = refl
-      by false = ap (λ (l : List Breakpoint). breakpoint_of entry ∷ l) (left book)
+      by true rest = refl
+      by false rest = ap (λ (l : List Breakpoint). breakpoint_of entry ∷ l) rest
 
   -- the entry of the name stands at this position
   pub record Here (book : List Entry) (i : ℕ) : Type 0 where
@@ -154,6 +154,50 @@ module _ (name : List ℕ) where
           here_behind entry book i (before 0 (omega arith))
           (from book i (omega (arith, less)) is (λ k lt. before (suc k) (omega (arith, lt))))
 
+-- the breakpoint at the position of its name
+pub named_at : (name : List ℕ) (book : List Entry) (i : ℕ) (kept : Kept) → position_of name book ≡ Some i
+    → slice_get (map (λ (entry : Entry). entry.1) book) i ≡ Some kept
+    → named name (breakpoints_of book) ≡ Some (breakpoint_of (name, kept))
+named_at name book i kept at value =
+    let spot = here name book i at in
+    spot.is ∙ ap (λ (k : Kept). Some (breakpoint_of (name, k))) (same_in spot.kept kept (sym spot.value ∙ value))
+
+pub found_at : (name : List ℕ) (book : List Entry) (i : ℕ) (kept : Kept) → position_of name book ≡ Some i
+    → lookup (bytes_eq name) book ≡ Some kept
+    → (named name (breakpoints_of book) ≡ Some (breakpoint_of (name, kept))) × (slice_get book i ≡ Some (name, kept))
+found_at name book i kept at found =
+    let spot = here name book i at in
+    let same : spot.kept ≡ kept = same_in spot.kept kept (sym spot.found ∙ found) in
+    (
+      spot.is ∙ ap (λ (k : Kept). Some (breakpoint_of (name, k))) same,
+      spot.entry ∙ ap (λ (k : Kept). Some (name, k)) same,
+    )
+
+-- what holds of all holds of the one at a position
+pub all_there : (P : Entry → Type 0) (book : List Entry) (i : ℕ) (entry : Entry) → slice_get book i ≡ Some entry → AllByRecursion P book
+    → P entry
+all_there P [] i entry at all = cc
+all_there P (e ∷ book) zero entry at all = subst P (same_in e entry at) all.0
+all_there P (e ∷ book) (suc i) entry at all = all_there P book i entry at all.1
+
+-- what a book is whose breakpoint of this name was taken out
+pub record IsCleared (name : List ℕ) (book new : List Entry) (i : ℕ) (kept : Kept) : Type 0 where
+  pub is : named name (breakpoints_of book) ≡ Some (breakpoint_of (name, kept))
+  pub left : breakpoints_of new ≡ without name (breakpoints_of book)
+  pub place : i ≤ length new
+  pub whole : book ≡ insert new i (name, kept)
+
+pub cleared : (name : List ℕ) (book new : List Entry) (i : ℕ) (key : List ℕ) (kept : Kept) (taken : Option (ℕ × List ℕ × Kept))
+    → taken ≡ Some (i, key, kept) → option_map (λ p. p.0) taken ≡ position_of name book
+    → option_map (λ p. p.2) taken ≡ lookup (bytes_eq name) book → new ≡ shift_remove_entry (bytes_eq name) book
+    → IsCleared name book new i kept
+cleared name book new i key kept taken is index value entries =
+    let spot = here name book i (sym index ∙ ap (option_map (λ p. p.0)) is) in
+    let same : spot.kept ≡ kept = same_in spot.kept kept (sym spot.found ∙ sym value ∙ ap (option_map (λ p. p.2)) is) in
+    subst (λ (l : List Entry). IsCleared name book l i kept) (sym entries)
+    (subst (IsCleared name book (shift_remove_entry (bytes_eq name) book) i) same
+    (record { is = spot.is; left = left name book; place = spot.place; whole = spot.whole }))
+
 -- a mark is written where the rest stays
 pub written : (book : List Entry) (i : ℕ) (kept : Kept) (armed : Bool)
     → slice_get (map (λ (entry : Entry). entry.1) book) i ≡ Some kept
@@ -199,7 +243,7 @@ moved book entry i =
     ∙ ap (λ (l : List Entry). insert l i entry) (last_off book entry)
   where
     by : (o : Option Entry) → o ≡ Some entry
-        → elim o [ | None ↦ book ++ entry ∷ [] | Some x ↦ insert (remove (book ++ entry ∷ []) (length book)) i x ]
+        → option_map_or (λ (x : Entry). insert (remove (book ++ entry ∷ []) (length book)) i x) o (book ++ entry ∷ [])
         ≡ insert (remove (book ++ entry ∷ []) (length book)) i entry
     by None is = cc
     by (Some x) is = let same : x ≡ entry = cc in ap (insert (remove (book ++ entry ∷ []) (length book)) i) same
@@ -212,5 +256,5 @@ restored book name kept i n none few at =
     let last : position_or_len (bytes_eq name) (names_of book) ≡ length book =
     or_len-absent (bytes_eq name) book (absent_from_lookup (bytes_eq name) book (not_found name book none)) in
     let here : n ≡ i =
-    at ∙ ap (λ (m : ℕ). index_before m i) last ∙ ap (λ (b : Bool). if b then i - 1 else i) (le-ltb i (length book) few) in
+    at ∙ ap (λ (m : ℕ). index_before m i) last ∙ ap (λ (b : Bool). if b then i - 1 else i) (le-ltb (length book) i few) in
     (λ j. move_index (inserted name kept book none j) (last j) (here j)) ∙ moved book (name, kept) i
