@@ -7,9 +7,12 @@ use Rattle.std.specs.Map.{lookup}
 use Rattle.std.specs.Str.{bytes_eq}
 use Rattle.std.specs.List.{AllByRecursion, position_or_len}
 use Rattle.std.proofs.lemmas.Bool.{le-ltb}
+use Rattle.std.proofs.lemmas.List.{length-map}
 use Rattle.std.proofs.lemmas.List.Quantifiers.{position-Some}
 use Rattle.std.proofs.lemmas.Slice.Eq.{bytes_eq-Decides}
-use Rattle.dbg_base.specs.Breakpoints.{Breakpoint, named, without, with_mark}
+use Rattle.dbg_base.specs.declared.limits.TheConstants.{BREAKPOINTS}
+use Rattle.dbg_base.specs.declared.refusal.Refusal.TheVariants.{BreakTaken, BreaksFull}
+use Rattle.dbg_base.specs.Breakpoints.{Breakpoint, named, without, with_mark, name_refusal}
 use Rattle.indexmap.specs.IndexMap.{insert_entry, move_index, index_before, set_value_at, shift_remove_entry}
 use Rattle.indexmap.proofs.MapLemmas.{Missing-position, absent_from_lookup, or_len-absent}
 use Rattle.break_book.specs.Books.{Kept, Entry, breakpoint_of, breakpoints_of, position_of, marked_at}
@@ -179,6 +182,14 @@ pub all_there : (P : Entry → Type 0) (book : List Entry) (i : ℕ) (entry : En
 all_there P [] i entry at all = cc
 all_there P (e ∷ book) zero entry at all = subst P (same_in e entry at) all.0
 all_there P (e ∷ book) (suc i) entry at all = all_there P book i entry at all.1
+
+-- why a name may not be set, by whether it is found
+pub refusal_by : (name : List ℕ) (book : List Entry) (found full : Bool) → found ≡ is_some (lookup (bytes_eq name) book)
+    → nat_lt (length book) BREAKPOINTS ≡ full
+    → name_refusal name (breakpoints_of book) ≡ (if found then Some BreakTaken else (if full then None else Some BreaksFull))
+refusal_by name book found full is size = λ i.
+    if (named_there name book ∙ sym is) i then Some BreakTaken
+    else (if (ap (λ (n : ℕ). nat_lt n BREAKPOINTS) (length-map book breakpoint_of) ∙ size) i then None else Some BreaksFull)
 
 -- what a book is whose breakpoint of this name was taken out
 pub record IsCleared (name : List ℕ) (book new : List Entry) (i : ℕ) (kept : Kept) : Type 0 where

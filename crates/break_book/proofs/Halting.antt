@@ -43,7 +43,7 @@ module _ (P : Program) (H : History) (kept : Kept) where
   halts_here name rest halts =
       let b = breakpoint_of (name, kept) in
       match_true kept.armed ((HasCut P H b × (Some name ≡ Some name)) ⊎ (NoCut P H b.conjuncts × IsHaltedBy P H rest (Some name)))
-      (IsHaltedBy P H rest (Some name)) halts.0 (inl (halts.1, refl))
+      (IsHaltedBy P H rest (Some name)) halts.0 (inl ((halts.1, halts.2), refl))
 
   pub halts_behind : (name : List ℕ) (rest : List Breakpoint) (halted : Option (List ℕ)) → HaltsNot P H kept → IsHaltedBy P H rest halted
       → IsHaltedBy P H (breakpoint_of (name, kept) ∷ rest) halted
