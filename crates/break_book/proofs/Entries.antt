@@ -2,20 +2,24 @@
 use Rattle.std.proofs.Common.{◌≡◌, ℕ, zero, suc, ◌+◌, ◌-◌, ◌<◌, ◌≤◌, Bool, true, false, cond, List, [], ◌∷◌, ◌++◌, length, get_or, map, take}
 use Rattle.std.proofs.Common.{drop, insert, remove, Option, Some, None, Ok, Err, is_some, refl, sym, ap, ◌∙◌, subst, arith}
 use Rattle.std.specs.Prelude.{slice_get, if◌then◌else◌, position, nat_lt}
+use Rattle.std.specs.Prelude.{Result, OnOk, is_ok}
 use Rattle.std.specs.Option.{ok_or, option_map, option_map_or}
 use Rattle.std.specs.Map.{lookup}
 use Rattle.std.specs.Str.{bytes_eq}
 use Rattle.std.specs.List.{AllByRecursion, position_or_len}
 use Rattle.std.proofs.lemmas.Bool.{le-ltb}
-use Rattle.std.proofs.lemmas.List.{length-map}
+use Rattle.std.proofs.lemmas.List.{length-map, map_push}
 use Rattle.std.proofs.lemmas.List.Quantifiers.{position-Some}
 use Rattle.std.proofs.lemmas.Slice.Eq.{bytes_eq-Decides}
 use Rattle.dbg_base.specs.declared.limits.TheConstants.{BREAKPOINTS}
+use Rattle.dbg_base.specs.declared.refusal.Refusal.{Refusal}
+use Rattle.dbg_base.specs.Predicates.{Conjunct}
+use Rattle.least_cut.specs.Detectors.{DetectorState, conjuncts_of}
 use Rattle.dbg_base.specs.declared.refusal.Refusal.TheVariants.{BreakTaken, BreaksFull}
 use Rattle.dbg_base.specs.Breakpoints.{Breakpoint, named, without, with_mark, name_refusal}
 use Rattle.indexmap.specs.IndexMap.{insert_entry, move_index, index_before, set_value_at, shift_remove_entry}
 use Rattle.indexmap.proofs.MapLemmas.{Missing-position, absent_from_lookup, or_len-absent}
-use Rattle.break_book.specs.Books.{Kept, Entry, breakpoint_of, breakpoints_of, position_of, marked_at}
+use Rattle.break_book.specs.Books.{Kept, Entry, breakpoint_of, breakpoints_of, new_breakpoint, position_of, marked_at}
 
 abbrev names_of : List Entry → List (List ℕ)
 names_of book = map (λ (entry : Entry). entry.0) book
@@ -182,6 +186,37 @@ pub all_there : (P : Entry → Type 0) (book : List Entry) (i : ℕ) (entry : En
 all_there P [] i entry at all = cc
 all_there P (e ∷ book) zero entry at all = subst P (same_in e entry at) all.0
 all_there P (e ∷ book) (suc i) entry at all = all_there P book i entry at all.1
+
+pub all_kept : (P : Kept → Type 0) (book : List Entry) (i : ℕ) (kept : Kept)
+    → slice_get (map (λ (entry : Entry). entry.1) book) i ≡ Some kept → AllByRecursion (λ entry. P entry.1) book → P kept
+all_kept P [] i kept at all = cc
+all_kept P (e ∷ book) zero kept at all = subst P (same_in e.1 kept at) all.0
+all_kept P (e ∷ book) (suc i) kept at all = all_kept P book i kept at all.1
+
+-- a name that may be set is not there
+free_name : (o : Option Breakpoint) (rest : Option Refusal) → (if is_some o then Some BreakTaken else rest) ≡ None → o ≡ None
+free_name None rest may = refl
+free_name (Some b) rest may = cc
+
+pub set_last : (name : List ℕ) (inside book new : List Entry) (d : DetectorState) (conjuncts : List Conjunct) → inside ≡ book
+    → name_refusal name (breakpoints_of book) ≡ None → conjuncts_of d ≡ conjuncts
+    → new ≡ insert_entry bytes_eq inside name (record { armed = true; detector = d })
+    → (new ≡ book ++ (name, record { armed = true; detector = d }) ∷ [])
+    × (breakpoints_of new ≡ breakpoints_of book ++ new_breakpoint name conjuncts ∷ [])
+set_last name inside book new d conjuncts view may same is =
+    let none : named name (breakpoints_of book) ≡ None = free_name (named name (breakpoints_of book)) _ may in
+    let last : new ≡ book ++ (name, record { armed = true; detector = d }) ∷ [] =
+    is ∙ ap (λ (l : List Entry). insert_entry bytes_eq l name (record { armed = true; detector = d })) view
+    ∙ inserted name (record { armed = true; detector = d }) book none in
+    (
+      last,
+      ap breakpoints_of last ∙ map_push breakpoint_of book (name, record { armed = true; detector = d })
+      ∙ ap (λ (l : List Conjunct). breakpoints_of book ++ new_breakpoint name l ∷ []) same,
+    )
+
+pub on_ok : {T E : Type 0} (r : Result T E) (X : Type 0) → is_ok r ≡ true → OnOk r X → X
+on_ok (Ok x) X is holds = holds
+on_ok (Err e) X is holds = cc
 
 -- why a name may not be set, by whether it is found
 pub refusal_by : (name : List ℕ) (book : List Entry) (found full : Bool) → found ≡ is_some (lookup (bytes_eq name) book)

@@ -1,5 +1,5 @@
 -- Which breakpoint halts the session.
-use Rattle.std.proofs.Common.{◌≡◌, ℕ, Bool, true, false, List, ◌∷◌, Option, Some, None, Bor, is_some, refl, sym, subst, inl, inr, ⊎_elim}
+use Rattle.std.proofs.Common.{◌≡◌, ℕ, Bool, true, false, List, ◌∷◌, Option, Some, None, Bor, is_some, not, refl, sym, subst, inl, inr, ⊎_elim}
 use Rattle.std.specs.Prelude.{MatchOption, ◌⊎◌}
 use Rattle.std.specs.Bool.{MatchBool}
 use Rattle.dbg_base.specs.Trees.{Program}
@@ -11,11 +11,11 @@ use Rattle.causal_world.specs.Scenes.{Scene, IsWorldOf}
 use Rattle.least_cut.specs.Detectors.{conjuncts_of}
 use Rattle.break_book.specs.Books.{Kept, Entry, breakpoint_of, breakpoints_of, AreDetectorsOf, Halts, HaltsNot}
 
-match_true : (b : Bool) (A B : Type 0) → b ≡ true → A → MatchBool b A B
+pub match_true : (b : Bool) (A B : Type 0) → b ≡ true → A → MatchBool b A B
 match_true true A B e a = a
 match_true false A B e a = cc
 
-match_false : (b : Bool) (A B : Type 0) → b ≡ false → B → MatchBool b A B
+pub match_false : (b : Bool) (A B : Type 0) → b ≡ false → B → MatchBool b A B
 match_false true A B e a = cc
 match_false false A B e a = a
 
@@ -30,6 +30,22 @@ when_true false A B e a = cc
 pub when_false : (b : Bool) (A B : Type 0) → b ≡ false → MatchBool b A B → B
 when_false true A B e a = cc
 when_false false A B e a = a
+
+pub not_off : (b : Bool) → not b ≡ false → b ≡ true
+not_off true e = refl
+not_off false e = cc
+
+pub is_off : (b : Bool) → not b ≡ true → b ≡ false
+is_off true e = cc
+is_off false e = refl
+
+pub when_none : {A : Type 0} (o : Option A) (N : Type 0) (S : A → Type 0) → is_some o ≡ false → MatchOption o N S → N
+when_none None N S is holds = holds
+when_none (Some x) N S is holds = cc
+
+pub when_some : {A : Type 0} (o : Option A) (N : Type 0) (S : A → Type 0) → is_some o ≡ true → MatchOption o N S → (x : A) × S x
+when_some None N S is holds = cc
+when_some (Some x) N S is holds = (x, holds)
 
 module _ (P : Program) (H : History) (kept : Kept) where
   -- an armed one does so where it has a cut
