@@ -1,5 +1,5 @@
 -- Which breakpoint halts the session.
-use Rattle.std.proofs.Common.{◌≡◌, ℕ, Bool, true, false, List, ◌∷◌, Option, Some, None, Bor, is_some, not, refl, sym, subst, inl, inr, ⊎_elim}
+use Rattle.std.proofs.Common.{◌≡◌, ℕ, Bool, true, false, List, ◌∷◌, Option, Some, None, Bor, is_some, refl, sym, subst, inl, inr, ⊎_elim}
 use Rattle.std.specs.Prelude.{MatchOption, ◌⊎◌}
 use Rattle.std.specs.Bool.{MatchBool}
 use Rattle.dbg_base.specs.Trees.{Program}
@@ -30,14 +30,6 @@ when_true false A B e a = cc
 pub when_false : (b : Bool) (A B : Type 0) → b ≡ false → MatchBool b A B → B
 when_false true A B e a = cc
 when_false false A B e a = a
-
-pub not_off : (b : Bool) → not b ≡ false → b ≡ true
-not_off true e = refl
-not_off false e = cc
-
-pub is_off : (b : Bool) → not b ≡ true → b ≡ false
-is_off true e = cc
-is_off false e = refl
 
 pub when_none : {A : Type 0} (o : Option A) (N : Type 0) (S : A → Type 0) → is_some o ≡ false → MatchOption o N S → N
 when_none None N S is holds = holds

@@ -1,8 +1,7 @@
-use Rattle.std.proofs.Common.{rules, ◌≡◌, ℕ, true, false, List, map, not, None, Some, Err, refl, sym, ap, ◌∙◌, subst}
-use Rattle.std.specs.Prelude.{slice_get, if◌then◌else◌, Option, Bool, IfErr}
-use Rattle.dbg_base.specs.declared.refusal.Refusal.{Refusal}
+use Rattle.std.proofs.Common.{rules, ◌≡◌, true, List, map, None, Some, sym, ap, ◌∙◌, subst}
+use Rattle.std.specs.Prelude.{slice_get, if◌then◌else◌, Bool}
 use Rattle.dbg_base.specs.declared.refusal.Refusal.TheVariants.{UnknownBreak, AlreadyArmed}
-use Rattle.dbg_base.specs.Breakpoints.{Breakpoint, named}
+use Rattle.dbg_base.specs.Breakpoints.{named}
 use Rattle.least_cut.specs.Detectors.{IsDetectorOf}
 use Rattle.break_book.specs.Books.{Kept, Entry, breakpoints_of, AreDetectorsOf, arm_refusal}
 use Rattle.break_book.proofs.Entries.{of_ok, of_err, not_placed, named_at, here, all_marked}

@@ -1,4 +1,4 @@
-use Rattle.std.proofs.Common.{◌≡◌, false, None, Some, sym, ap, ◌∙◌, subst}
+use Rattle.std.proofs.Common.{◌≡◌, false, None, sym, ap, ◌∙◌, subst}
 use Rattle.dbg_base.specs.Breakpoints.{named}
 use Rattle.least_cut.specs.Detectors.{IsDetectorOf}
 use Rattle.break_book.specs.Books.{Kept, breakpoints_of, AreDetectorsOf}

@@ -1,4 +1,4 @@
-use Rattle.std.proofs.Common.{◌≡◌, List, ◌∷◌, Some, None, refl, sym, subst}
+use Rattle.std.proofs.Common.{List, Some, None, refl, sym, subst}
 use Rattle.dbg_base.specs.Breakpoints.{IsHaltedBy}
 use Rattle.dbg_base.specs.SystemStates.{history_of}
 use Rattle.break_book.specs.Books.{Entry, breakpoints_of, AreDetectorsOf, Halts, HaltsNot}

@@ -1,4 +1,4 @@
-use Rattle.std.proofs.Common.{◌≡◌, ◌≤◌, ℕ, Some, sym, ap, ◌∙◌, arith, length}
+use Rattle.std.proofs.Common.{Some, sym, ap, ◌∙◌, arith, length}
 use Rattle.break_book.specs.Books.{marked_at}
 use Rattle.break_book.proofs.Entries.{written, length_marked}
 use Rattle.break_book.proofs.book.Book.mark.Goals as goal

@@ -1,10 +1,9 @@
-use Rattle.std.proofs.Common.{◌≡◌, ℕ, true, false, List, length, is_some, refl, sym, ap, ◌∙◌, arith}
-use Rattle.std.specs.Prelude.{nat_lt, if◌then◌else◌, None, Some}
+use Rattle.std.proofs.Common.{true, false, List, length, is_some, refl, sym, ap, ◌∙◌, arith}
+use Rattle.std.specs.Prelude.{nat_lt}
 use Rattle.std.specs.Map.{lookup}
 use Rattle.std.specs.Str.{bytes_eq}
 use Rattle.std.proofs.lemmas.Bool.{le-ltb, lt-ltb}
 use Rattle.dbg_base.specs.declared.limits.TheConstants.{BREAKPOINTS}
-use Rattle.dbg_base.specs.declared.refusal.Refusal.TheVariants.{BreakTaken, BreaksFull}
 use Rattle.break_book.specs.Books.{Entry}
 use Rattle.break_book.proofs.Entries.{refusal_by}
 use Rattle.break_book.proofs.book.Book.may_set.Goals as goal

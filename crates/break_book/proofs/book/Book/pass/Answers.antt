@@ -10,7 +10,7 @@ use Rattle.least_cut.specs.Detectors.{IsDetectorOf}
 use Rattle.least_cut.specs.Detectors.{conjuncts_of}
 use Rattle.break_book.specs.Books.{Kept, Entry, breakpoints_of, AreDetectorsOf, MayPass, CannotPass}
 use Rattle.break_book.proofs.Entries.{of_ok, of_err, not_placed, named_at, here, all_marked, all_kept}
-use Rattle.break_book.proofs.Halting.{match_true, match_false, not_off, is_off, when_none, when_some}
+use Rattle.break_book.proofs.Halting.{match_true, match_false, when_none, when_some}
 use Rattle.break_book.proofs.book.Book.pass.Goals as goal
 
 pub returns-in_err-position-clause-refuses : goal.returns-in_err-position-clause-refuses
@@ -32,7 +32,7 @@ returns-then-not-breakpoint-clause-refuses c = λ w P are now.
     (ap (λ (l : List Entry). slice_get (map (λ (entry : Entry). entry.1) l) c.in_ok-position.position) (sym c.self.view_is)
     ∙ c.index-breakpoint.ensures ∙ ap Some (sym c.breakpoint.view_is))))
     (match_false c.breakpoint.inside.armed (NoCut P H (conjuncts_of c.breakpoint.inside.detector) × (refusals.NotArmed ≡ refusals.NoCut))
-    (refusals.NotArmed ≡ refusals.NotArmed) (is_off c.breakpoint.inside.armed c.if-not-breakpoint.true) refl)
+    (refusals.NotArmed ≡ refusals.NotArmed) c.if-not-breakpoint.true refl)
 
 pub returns-then-is_none-clause-refuses : goal.returns-then-is_none-clause-refuses
 returns-then-is_none-clause-refuses c = λ w P are now.
@@ -42,7 +42,7 @@ returns-then-is_none-clause-refuses c = λ w P are now.
     (ap (λ (l : List Entry). slice_get (map (λ (entry : Entry). entry.1) l) c.in_ok-position.position) (sym c.self.view_is)
     ∙ c.index-breakpoint.ensures ∙ ap Some (sym c.breakpoint.view_is)) are in
     let none = when_none c.cut.result (NoCut P H (conjuncts_of c.breakpoint.inside.detector))
-    (λ cut. IsLeast P H (conjuncts_of c.breakpoint.inside.detector) cut.now) (sym c.is_none.ensures ∙ ap not c.if-is_none.true)
+    (λ cut. IsLeast P H (conjuncts_of c.breakpoint.inside.detector) cut.now) (c.is_none.ensures ∙ ap not c.if-is_none.true)
     (c.cut.ensures w P is now) in
     subst (λ (o : Option Breakpoint). CannotPass P H o refusals.NoCut) (sym (named_at c.args.name c.args.self.now c.in_ok-position.position
     (record { armed = c.breakpoint.inside.armed; detector = c.breakpoint.inside.detector })
@@ -51,7 +51,7 @@ returns-then-is_none-clause-refuses c = λ w P are now.
     (ap (λ (l : List Entry). slice_get (map (λ (entry : Entry). entry.1) l) c.in_ok-position.position) (sym c.self.view_is)
     ∙ c.index-breakpoint.ensures ∙ ap Some (sym c.breakpoint.view_is))))
     (match_true c.breakpoint.inside.armed (NoCut P H (conjuncts_of c.breakpoint.inside.detector) × (refusals.NoCut ≡ refusals.NoCut))
-    (refusals.NoCut ≡ refusals.NotArmed) (not_off c.breakpoint.inside.armed c.if-not-breakpoint.false) (none, refl))
+    (refusals.NoCut ≡ refusals.NotArmed) c.if-not-breakpoint.false (none, refl))
 
 pub returns-clause-passes : goal.returns-clause-passes
 returns-clause-passes c = (
@@ -66,7 +66,7 @@ returns-clause-passes c = (
     (ap (λ (l : List Entry). slice_get (map (λ (entry : Entry). entry.1) l) c.in_ok-position.position) (sym c.self.view_is)
     ∙ c.index-breakpoint.ensures ∙ ap Some (sym c.breakpoint.view_is)) are in
     let some = when_some c.cut.result (NoCut P H (conjuncts_of c.breakpoint.inside.detector))
-    (λ cut. IsLeast P H (conjuncts_of c.breakpoint.inside.detector) cut.now) (sym c.is_none.ensures ∙ ap not c.if-is_none.false)
+    (λ cut. IsLeast P H (conjuncts_of c.breakpoint.inside.detector) cut.now) (c.is_none.ensures ∙ ap not c.if-is_none.false)
     (c.cut.ensures w P is now) in
     subst (MayPass P H) (sym (named_at c.args.name c.args.self.now c.in_ok-position.position
     (record { armed = c.breakpoint.inside.armed; detector = c.breakpoint.inside.detector })
@@ -74,7 +74,7 @@ returns-clause-passes c = (
     (sym c.ok_or.ensures.value ∙ c.in_ok-position.was))
     (ap (λ (l : List Entry). slice_get (map (λ (entry : Entry). entry.1) l) c.in_ok-position.position) (sym c.self.view_is)
     ∙ c.index-breakpoint.ensures ∙ ap Some (sym c.breakpoint.view_is))))
-    (not_off c.breakpoint.inside.armed c.if-not-breakpoint.false, some.0.now, some.1),
+    (c.if-not-breakpoint.false, some.0.now, some.1),
 )
 
 pub returns-clause-of : goal.returns-clause-of

@@ -1,4 +1,4 @@
-use Rattle.std.proofs.Common.{◌≡◌, true, List, map, sym, ap, ◌∙◌, subst}
+use Rattle.std.proofs.Common.{true, map, sym, ap, ◌∙◌, subst}
 use Rattle.std.specs.Prelude.{is_ok}
 use Rattle.dbg_base.specs.Calls.{conjunct_of}
 use Rattle.least_cut.specs.Detectors.{IsDetectorOf}

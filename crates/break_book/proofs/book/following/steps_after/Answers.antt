@@ -1,7 +1,4 @@
-use Rattle.std.proofs.Common.{rules, ◌≡◌, ℕ, ◌+◌, List, length, map, set, ap, ◌∙◌, subst, arith}
-use Rattle.std.specs.Prelude.{IfOk}
-use Rattle.std.specs.Option.{ok_or}
-use Rattle.causal_world.specs.Scenes.{IsWorldOf}
+use Rattle.std.proofs.Common.{rules, ◌≡◌, ℕ, ◌+◌, List, length, map, set, ap, ◌∙◌, arith}
 use Rattle.least_cut.specs.Searches.{steps_up_to}
 use Rattle.least_cut.specs.Detectors.{one_more}
 use Rattle.least_cut.proofs.Moving.{all_events}
