@@ -1,1 +1,4 @@
 pub mod Callers
+pub mod Followed
+pub mod Entries
+pub mod Halting

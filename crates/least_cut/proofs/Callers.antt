@@ -1,17 +1,18 @@
 -- What the calls of a detector require, from what the calls of its world say.
 use Rattle.std.proofs.Common.{◌≡◌, ℕ, ◌+◌, ◌<◌, ◌≤◌, List, [], ◌∷◌, length, map, get_or, take, drop, refl, sym, ap, ◌∙◌, subst, inr, arith}
 use Rattle.std.proofs.lemmas.List.{get_or-set_same, length-take-le, take-take}
+use Rattle.std.proofs.lemmas.Option.{slice_get-get_or}
 use Rattle.dbg_base.specs.declared.elimination.Elimination.{Elimination}
 use Rattle.dbg_base.specs.Trees.{Program}
 use Rattle.dbg_base.specs.Histories.{History}
 use Rattle.dbg_base.specs.Reversal.{without_last}
 use Rattle.dbg_base.specs.Eliminations.{reach_from}
-use Rattle.dbg_base.specs.SystemStates.{SystemState, line_of, place_at, history_of, after_choice, after_undo, after_rollback}
-use Rattle.cut_core.specs.ConsistentCuts.{IsConsistentCut}
+use Rattle.dbg_base.specs.SystemStates.{SystemState, line_of, place_at, history_of, after_choice, after_redo, after_undo, after_rollback}
+pub use Rattle.cut_core.specs.ConsistentCuts.{IsConsistentCut}
 use Rattle.causal_world.specs.Scenes.{Scene, IsWorldOf}
 use Rattle.causal_world.proofs.Back.{history_without}
 use Rattle.causal_world.proofs.Calls.{events_counted}
-use Rattle.causal_world.proofs.LineStates.{length_cut, cut_at, history_choice}
+use Rattle.causal_world.proofs.LineStates.{length_cut, cut_at, history_choice, history_redo}
 use Rattle.causal_world.proofs.Looking.{kinds_placed}
 use Rattle.causal_world.proofs.Unfiring.{without_with}
 use Rattle.least_cut.specs.Watches.{TruthLine, WatchState, WatchRoom}
@@ -62,6 +63,25 @@ module _ (P : Program) (before w : Scene) (d : DetectorState) (of : IsWorldOf P 
       let one : without_last (history_of w.state) p ≡ history_of before.state =
       ap (λ (M : SystemState). without_last (history_of M) p) state
       ∙ ap (λ (H : History). without_last H p) (history_choice P before.state of.state p here k)
+      ∙ without_with (history_of before.state) p k size in
+      (P, before, record { detector = is; of = of; now = now }, omega (arith, place), sym one)
+
+  -- it has made one again
+  pub has_redone : (p : ℕ) → p < length P → place_at before.state p < length (line_of before.state p)
+      → w.state ≡ after_redo before.state p → IsGrown d p w
+  has_redone p here more state =
+      let line = line_of before.state p in
+      let k : ℕ = get_or line (place_at before.state p) 0 in
+      let there : p < length before.state.places = omega (arith, here, of.state.places) in
+      let size : p < length (history_of before.state) =
+      omega (arith, here, length_cut before.state.lines before.state.places, of.state.lines) in
+      let place : place_at w.state p ≡ place_at before.state p + 1 =
+      ap (λ (M : SystemState). place_at M p) state
+      ∙ get_or-set_same before.state.places p (place_at before.state p + 1) 0 there in
+      let one : without_last (history_of w.state) p ≡ history_of before.state =
+      ap (λ (M : SystemState). without_last (history_of M) p) state
+      ∙ ap (λ (H : History). without_last H p)
+      (history_redo P before.state of.state p here k (slice_get-get_or line (place_at before.state p) 0 more))
       ∙ without_with (history_of before.state) p k size in
       (P, before, record { detector = is; of = of; now = now }, omega (arith, place), sym one)
 

@@ -1,0 +1,306 @@
+-- The entries of a book by name and by position, and its breakpoints.
+use Rattle.std.proofs.Common.{◌≡◌, ℕ, zero, suc, ◌+◌, ◌-◌, ◌<◌, ◌≤◌, Bool, true, false, cond, List, [], ◌∷◌, ◌++◌, length, get_or, map, take}
+use Rattle.std.proofs.Common.{drop, insert, remove, Option, Some, None, Ok, Err, is_some, refl, sym, ap, ◌∙◌, subst, arith}
+use Rattle.std.specs.Prelude.{slice_get, if◌then◌else◌, position, nat_lt}
+use Rattle.std.specs.Prelude.{Result, OnOk, is_ok}
+use Rattle.std.specs.Option.{ok_or, option_map, option_map_or}
+use Rattle.std.specs.Map.{lookup}
+use Rattle.std.specs.Str.{bytes_eq}
+use Rattle.std.specs.List.{AllByRecursion, position_or_len}
+use Rattle.std.proofs.lemmas.Bool.{le-ltb}
+use Rattle.std.proofs.lemmas.List.{length-map, map_push}
+use Rattle.std.proofs.lemmas.List.Quantifiers.{position-Some}
+use Rattle.std.proofs.lemmas.Slice.Eq.{bytes_eq-Decides}
+use Rattle.dbg_base.specs.declared.limits.TheConstants.{BREAKPOINTS}
+use Rattle.dbg_base.specs.declared.refusal.Refusal.{Refusal}
+use Rattle.dbg_base.specs.Predicates.{Conjunct}
+use Rattle.least_cut.specs.Detectors.{DetectorState, conjuncts_of}
+use Rattle.dbg_base.specs.declared.refusal.Refusal.TheVariants.{BreakTaken, BreaksFull}
+use Rattle.dbg_base.specs.Breakpoints.{Breakpoint, named, without, with_mark, name_refusal}
+use Rattle.indexmap.specs.IndexMap.{insert_entry, move_index, index_before, set_value_at, shift_remove_entry}
+use Rattle.indexmap.proofs.MapLemmas.{Missing-position, absent_from_lookup, or_len-absent}
+use Rattle.break_book.specs.Books.{Kept, Entry, breakpoint_of, breakpoints_of, new_breakpoint, position_of, marked_at}
+
+abbrev names_of : List Entry → List (List ℕ)
+names_of book = map (λ (entry : Entry). entry.0) book
+
+-- what was asked for is there
+pub of_ok : {A E : Type 0} (r : Option A) (e : E) (x : A) → ok_or r e ≡ Ok x → r ≡ Some x
+of_ok None e x is = cc
+of_ok (Some y) e x is = let same : y ≡ x = cc in ap Some same
+
+pub of_err : {A E : Type 0} (r : Option A) (e f : E) → ok_or r e ≡ Err f → (r ≡ None) × (f ≡ e)
+of_err None e f is = let same : e ≡ f = cc in (refl, sym same)
+of_err (Some y) e f is = cc
+
+pub same_in : {A : Type 0} (x y : A) → Some x ≡ Some y → x ≡ y
+same_in x y is = cc
+
+none_in : {A : Type 0} (o : Option A) → is_some o ≡ false → o ≡ None
+none_in None is = refl
+none_in (Some x) is = cc
+
+module _ (name : List ℕ) where
+  -- a breakpoint is named where its entry is found
+  pub named_there : (book : List Entry) → is_some (named name (breakpoints_of book)) ≡ is_some (lookup (bytes_eq name) book)
+  named_there [] = refl
+  named_there (entry ∷ book) = by (bytes_eq name entry.0) (named_there book)
+    where
+      by : (b : Bool) → is_some (named name (breakpoints_of book)) ≡ is_some (lookup (bytes_eq name) book)
+          → is_some (if b then Some (breakpoint_of entry) else named name (breakpoints_of book))
+          ≡ is_some (cond b (Some entry.1) (lookup (bytes_eq name) book))
+      by true rest = refl
+      by false rest = rest
+
+  pub not_named : (book : List Entry) → lookup (bytes_eq name) book ≡ None → named name (breakpoints_of book) ≡ None
+  not_named book none = none_in (named name (breakpoints_of book)) (named_there book ∙ ap is_some none)
+
+  pub not_placed : (book : List Entry) → position_of name book ≡ None → named name (breakpoints_of book) ≡ None
+  not_placed book none = not_named book (Missing-position (bytes_eq name) book none).value
+
+  pub not_found : (book : List Entry) → named name (breakpoints_of book) ≡ None → lookup (bytes_eq name) book ≡ None
+  not_found book none = none_in (lookup (bytes_eq name) book) (sym (named_there book) ∙ ap is_some none)
+
+  -- a new name goes last
+  pub inserted : (kept : Kept) (book : List Entry) → named name (breakpoints_of book) ≡ None
+      → insert_entry bytes_eq book name kept ≡ book ++ (name, kept) ∷ []
+  inserted kept [] none = refl
+  inserted kept (entry ∷ book) none = by (bytes_eq name entry.0) (λ rest. inserted kept book rest) none
+    where
+      by : (b : Bool) → (named name (breakpoints_of book) ≡ None → insert_entry bytes_eq book name kept ≡ book ++ (name, kept) ∷ [])
+          → (if b then Some (breakpoint_of entry) else named name (breakpoints_of book)) ≡ None
+          → (if b then (entry.0, kept) ∷ book else entry ∷ insert_entry bytes_eq book name kept) ≡ entry ∷ (book ++ (name, kept) ∷ [])
+      by true rest none = cc
+      by false rest none = ap (λ (l : List Entry). entry ∷ l) (rest none)
+
+  -- what holds of all holds of all others
+  pub all_left : (P : Entry → Type 0) (book : List Entry) → AllByRecursion P book
+      → AllByRecursion P (shift_remove_entry (bytes_eq name) book)
+  all_left P [] all = tt
+  all_left P (entry ∷ book) all = by (bytes_eq name entry.0) (all_left P book all.1)
+    where
+      by : (b : Bool) → AllByRecursion P (shift_remove_entry (bytes_eq name) book)
+          → AllByRecursion P (cond b book (entry ∷ shift_remove_entry (bytes_eq name) book))
+      by true rest = all.1
+      by false rest = (all.0, rest)
+
+  -- all other breakpoints are those of all other entries
+  pub left : (book : List Entry) → breakpoints_of (shift_remove_entry (bytes_eq name) book) ≡ without name (breakpoints_of book)
+  left [] = refl
+  left (entry ∷ book) = by (bytes_eq name entry.0) (left book)
+    where
+      by : (b : Bool) → breakpoints_of (shift_remove_entry (bytes_eq name) book) ≡ without name (breakpoints_of book)
+          → breakpoints_of (cond b book (entry ∷ shift_remove_entry (bytes_eq name) book))
+          ≡ (if b then breakpoints_of book else breakpoint_of entry ∷ without name (breakpoints_of book))
+      by true rest = refl
+      by false rest = ap (λ (l : List Breakpoint). breakpoint_of entry ∷ l) rest
+
+  -- the entry of the name stands at this position
+  pub record Here (book : List Entry) (i : ℕ) : Type 0 where
+    pub kept : Kept
+    pub entry : slice_get book i ≡ Some (name, kept)
+    pub value : slice_get (map (λ (entry : Entry). entry.1) book) i ≡ Some kept
+    pub found : lookup (bytes_eq name) book ≡ Some kept
+    pub is : named name (breakpoints_of book) ≡ Some (breakpoint_of (name, kept))
+    pub marked : (armed : Bool) → breakpoints_of (marked_at i armed book) ≡ with_mark name armed (breakpoints_of book)
+    pub within : i < length book
+    pub place : i ≤ length (shift_remove_entry (bytes_eq name) book)
+    pub whole : book ≡ insert (shift_remove_entry (bytes_eq name) book) i (name, kept)
+
+  here_first : (entry : Entry) (book : List Entry) → bytes_eq name entry.0 ≡ true → Here (entry ∷ book) 0
+  here_first entry book same =
+      let e : name ≡ entry.0 = (bytes_eq-Decides name entry.0).0 same in
+      record {
+        kept = entry.1;
+        entry = λ i. Some (sym e i, entry.1);
+        value = refl;
+        found = ap (λ (b : Bool). cond b (Some entry.1) (lookup (bytes_eq name) book)) same;
+        is = ap (λ (b : Bool). if b then Some (breakpoint_of entry) else named name (breakpoints_of book)) same
+            ∙ (λ i. Some (breakpoint_of (sym e i, entry.1)));
+        marked = λ armed. sym (ap (λ (b : Bool).
+            if b then record { name = entry.0; conjuncts = (breakpoint_of entry).conjuncts; armed = armed } ∷ breakpoints_of book
+            else breakpoint_of entry ∷ with_mark name armed (breakpoints_of book)) same);
+        within = omega arith;
+        place = omega arith;
+        whole = (λ i. (sym e i, entry.1) ∷ book)
+            ∙ ap (λ (l : List Entry). (name, entry.1) ∷ l)
+            (sym (ap (λ (b : Bool). cond b book (entry ∷ shift_remove_entry (bytes_eq name) book)) same));
+      }
+
+  here_behind : (entry : Entry) (book : List Entry) (i : ℕ) → bytes_eq name entry.0 ≡ false → Here book i → Here (entry ∷ book) (suc i)
+  here_behind entry book i other here =
+      let rest = shift_remove_entry (bytes_eq name) book in
+      let less = here.within in
+      let fits = here.place in
+      let all : shift_remove_entry (bytes_eq name) (entry ∷ book) ≡ entry ∷ rest =
+      ap (λ (b : Bool). cond b book (entry ∷ rest)) other in
+      record {
+        kept = here.kept;
+        entry = here.entry;
+        value = here.value;
+        found = ap (λ (b : Bool). cond b (Some entry.1) (lookup (bytes_eq name) book)) other ∙ here.found;
+        is = ap (λ (b : Bool). if b then Some (breakpoint_of entry) else named name (breakpoints_of book)) other ∙ here.is;
+        marked = λ armed. ap (λ (l : List Breakpoint). breakpoint_of entry ∷ l) (here.marked armed)
+            ∙ sym (ap (λ (b : Bool).
+            if b then record { name = entry.0; conjuncts = (breakpoint_of entry).conjuncts; armed = armed } ∷ breakpoints_of book
+            else breakpoint_of entry ∷ with_mark name armed (breakpoints_of book)) other);
+        within = omega (arith, less);
+        place = omega (arith, fits, ap (λ (l : List Entry). length l) all);
+        whole = ap (λ (l : List Entry). entry ∷ l) here.whole
+            ∙ ap (λ (l : List Entry). insert l (suc i) (name, here.kept)) (sym all);
+      }
+
+  pub here : (book : List Entry) (i : ℕ) → position_of name book ≡ Some i → Here book i
+  here book i is = let at = position-Some (bytes_eq name) (names_of book) i [] is in from book i at.0 at.1 at.2
+    where
+      from : (book : List Entry) (i : ℕ) → i < length (names_of book) → bytes_eq name (get_or (names_of book) i []) ≡ true
+          → ((k : ℕ) → k < i → bytes_eq name (get_or (names_of book) k []) ≡ false) → Here book i
+      from [] i less is before = let none : i < 0 = less in absurd (omega (arith, none))
+      from (entry ∷ book) zero less is before = here_first entry book is
+      from (entry ∷ book) (suc i) less is before =
+          here_behind entry book i (before 0 (omega arith))
+          (from book i (omega (arith, less)) is (λ k lt. before (suc k) (omega (arith, lt))))
+
+-- the breakpoint at the position of its name
+pub named_at : (name : List ℕ) (book : List Entry) (i : ℕ) (kept : Kept) → position_of name book ≡ Some i
+    → slice_get (map (λ (entry : Entry). entry.1) book) i ≡ Some kept
+    → named name (breakpoints_of book) ≡ Some (breakpoint_of (name, kept))
+named_at name book i kept at value =
+    let spot = here name book i at in
+    spot.is ∙ ap (λ (k : Kept). Some (breakpoint_of (name, k))) (same_in spot.kept kept (sym spot.value ∙ value))
+
+pub found_at : (name : List ℕ) (book : List Entry) (i : ℕ) (kept : Kept) → position_of name book ≡ Some i
+    → lookup (bytes_eq name) book ≡ Some kept
+    → (named name (breakpoints_of book) ≡ Some (breakpoint_of (name, kept))) × (slice_get book i ≡ Some (name, kept))
+found_at name book i kept at found =
+    let spot = here name book i at in
+    let same : spot.kept ≡ kept = same_in spot.kept kept (sym spot.found ∙ found) in
+    (
+      spot.is ∙ ap (λ (k : Kept). Some (breakpoint_of (name, k))) same,
+      spot.entry ∙ ap (λ (k : Kept). Some (name, k)) same,
+    )
+
+-- what holds of all holds of the one at a position
+pub all_there : (P : Entry → Type 0) (book : List Entry) (i : ℕ) (entry : Entry) → slice_get book i ≡ Some entry → AllByRecursion P book
+    → P entry
+all_there P [] i entry at all = cc
+all_there P (e ∷ book) zero entry at all = subst P (same_in e entry at) all.0
+all_there P (e ∷ book) (suc i) entry at all = all_there P book i entry at all.1
+
+pub all_kept : (P : Kept → Type 0) (book : List Entry) (i : ℕ) (kept : Kept)
+    → slice_get (map (λ (entry : Entry). entry.1) book) i ≡ Some kept → AllByRecursion (λ entry. P entry.1) book → P kept
+all_kept P [] i kept at all = cc
+all_kept P (e ∷ book) zero kept at all = subst P (same_in e.1 kept at) all.0
+all_kept P (e ∷ book) (suc i) kept at all = all_kept P book i kept at all.1
+
+-- a name that may be set is not there
+free_name : (o : Option Breakpoint) (rest : Option Refusal) → (if is_some o then Some BreakTaken else rest) ≡ None → o ≡ None
+free_name None rest may = refl
+free_name (Some b) rest may = cc
+
+pub set_last : (name : List ℕ) (inside book new : List Entry) (d : DetectorState) (conjuncts : List Conjunct) → inside ≡ book
+    → name_refusal name (breakpoints_of book) ≡ None → conjuncts_of d ≡ conjuncts
+    → new ≡ insert_entry bytes_eq inside name (record { armed = true; detector = d })
+    → (new ≡ book ++ (name, record { armed = true; detector = d }) ∷ [])
+    × (breakpoints_of new ≡ breakpoints_of book ++ new_breakpoint name conjuncts ∷ [])
+set_last name inside book new d conjuncts view may same is =
+    let none : named name (breakpoints_of book) ≡ None = free_name (named name (breakpoints_of book)) _ may in
+    let last : new ≡ book ++ (name, record { armed = true; detector = d }) ∷ [] =
+    is ∙ ap (λ (l : List Entry). insert_entry bytes_eq l name (record { armed = true; detector = d })) view
+    ∙ inserted name (record { armed = true; detector = d }) book none in
+    (
+      last,
+      ap breakpoints_of last ∙ map_push breakpoint_of book (name, record { armed = true; detector = d })
+      ∙ ap (λ (l : List Conjunct). breakpoints_of book ++ new_breakpoint name l ∷ []) same,
+    )
+
+pub on_ok : {T E : Type 0} (r : Result T E) (X : Type 0) → is_ok r ≡ true → OnOk r X → X
+on_ok (Ok x) X is holds = holds
+on_ok (Err e) X is holds = cc
+
+-- why a name may not be set, by whether it is found
+pub refusal_by : (name : List ℕ) (book : List Entry) (found full : Bool) → found ≡ is_some (lookup (bytes_eq name) book)
+    → nat_lt (length book) BREAKPOINTS ≡ full
+    → name_refusal name (breakpoints_of book) ≡ (if found then Some BreakTaken else (if full then None else Some BreaksFull))
+refusal_by name book found full is size = λ i.
+    if (named_there name book ∙ sym is) i then Some BreakTaken
+    else (if (ap (λ (n : ℕ). nat_lt n BREAKPOINTS) (length-map book breakpoint_of) ∙ size) i then None else Some BreaksFull)
+
+-- what a book is whose breakpoint of this name was taken out
+pub record IsCleared (name : List ℕ) (book new : List Entry) (i : ℕ) (kept : Kept) : Type 0 where
+  pub is : named name (breakpoints_of book) ≡ Some (breakpoint_of (name, kept))
+  pub left : breakpoints_of new ≡ without name (breakpoints_of book)
+  pub place : i ≤ length new
+  pub whole : book ≡ insert new i (name, kept)
+
+pub cleared : (name : List ℕ) (book new : List Entry) (i : ℕ) (key : List ℕ) (kept : Kept) (taken : Option (ℕ × List ℕ × Kept))
+    → taken ≡ Some (i, key, kept) → option_map (λ p. p.0) taken ≡ position_of name book
+    → option_map (λ p. p.2) taken ≡ lookup (bytes_eq name) book → new ≡ shift_remove_entry (bytes_eq name) book
+    → IsCleared name book new i kept
+cleared name book new i key kept taken is index value entries =
+    let spot = here name book i (sym index ∙ ap (option_map (λ p. p.0)) is) in
+    let same : spot.kept ≡ kept = same_in spot.kept kept (sym spot.found ∙ sym value ∙ ap (option_map (λ p. p.2)) is) in
+    subst (λ (l : List Entry). IsCleared name book l i kept) (sym entries)
+    (subst (IsCleared name book (shift_remove_entry (bytes_eq name) book) i) same
+    (record { is = spot.is; left = left name book; place = spot.place; whole = spot.whole }))
+
+-- a mark is written where the rest stays
+pub written : (book : List Entry) (i : ℕ) (kept : Kept) (armed : Bool)
+    → slice_get (map (λ (entry : Entry). entry.1) book) i ≡ Some kept
+    → set_value_at book i (record { armed = armed; detector = kept.detector }) ≡ marked_at i armed book
+written [] i kept armed at = cc
+written (entry ∷ book) zero kept armed at =
+    let same : kept ≡ entry.1 = cc in
+    λ j. (entry.0, record { armed = armed; detector = (same j).detector }) ∷ book
+written (entry ∷ book) (suc i) kept armed at = ap (λ (l : List Entry). entry ∷ l) (written book i kept armed at)
+
+pub length_marked : (book : List Entry) (i : ℕ) (armed : Bool) → length (marked_at i armed book) ≡ length book
+length_marked [] i armed = refl
+length_marked (entry ∷ book) zero armed = refl
+length_marked (entry ∷ book) (suc i) armed = ap suc (length_marked book i armed)
+
+-- what holds of all whatever the mark still does
+pub all_marked : (P : Kept → Type 0) → ((kept : Kept) (armed : Bool) → P kept → P (record { armed = armed; detector = kept.detector }))
+    → (book : List Entry) (i : ℕ) (armed : Bool) → AllByRecursion (λ entry. P entry.1) book
+    → AllByRecursion (λ entry. P entry.1) (marked_at i armed book)
+all_marked P each [] i armed all = tt
+all_marked P each (entry ∷ book) zero armed all = (each entry.1 armed all.0, all.1)
+all_marked P each (entry ∷ book) (suc i) armed all = (all.0, all_marked P each book i armed all.1)
+
+-- One more at a place.
+
+pub all_insert : (P : Entry → Type 0) (book : List Entry) (i : ℕ) (entry : Entry) → AllByRecursion P book → P entry
+    → AllByRecursion P (insert book i entry)
+all_insert P book zero entry all holds = (holds, all)
+all_insert P [] (suc i) entry all holds = (holds, tt)
+all_insert P (e ∷ book) (suc i) entry all holds = (all.0, all_insert P book i entry all.1 holds)
+
+last_there : (book : List Entry) (entry : Entry) → slice_get (book ++ entry ∷ []) (length book) ≡ Some entry
+last_there [] entry = refl
+last_there (e ∷ book) entry = last_there book entry
+
+last_off : (book : List Entry) (entry : Entry) → remove (book ++ entry ∷ []) (length book) ≡ book
+last_off [] entry = refl
+last_off (e ∷ book) entry = ap (λ (l : List Entry). e ∷ l) (last_off book entry)
+
+moved : (book : List Entry) (entry : Entry) (i : ℕ) → move_index (book ++ entry ∷ []) (length book) i ≡ insert book i entry
+moved book entry i =
+    by (slice_get (book ++ entry ∷ []) (length book)) (last_there book entry)
+    ∙ ap (λ (l : List Entry). insert l i entry) (last_off book entry)
+  where
+    by : (o : Option Entry) → o ≡ Some entry
+        → option_map_or (λ (x : Entry). insert (remove (book ++ entry ∷ []) (length book)) i x) o (book ++ entry ∷ [])
+        ≡ insert (remove (book ++ entry ∷ []) (length book)) i entry
+    by None is = cc
+    by (Some x) is = let same : x ≡ entry = cc in ap (insert (remove (book ++ entry ∷ []) (length book)) i) same
+
+-- a new breakpoint goes to its place
+pub restored : (book : List Entry) (name : List ℕ) (kept : Kept) (i n : ℕ) → named name (breakpoints_of book) ≡ None → i ≤ length book
+    → n ≡ index_before (position_or_len (bytes_eq name) (names_of book)) i
+    → move_index (insert_entry bytes_eq book name kept) (position_or_len (bytes_eq name) (names_of book)) n ≡ insert book i (name, kept)
+restored book name kept i n none few at =
+    let last : position_or_len (bytes_eq name) (names_of book) ≡ length book =
+    or_len-absent (bytes_eq name) book (absent_from_lookup (bytes_eq name) book (not_found name book none)) in
+    let here : n ≡ i =
+    at ∙ ap (λ (m : ℕ). index_before m i) last ∙ ap (λ (b : Bool). if b then i - 1 else i) (le-ltb (length book) i few) in
+    (λ j. move_index (inserted name kept book none j) (last j) (here j)) ∙ moved book (name, kept) i
