@@ -1,5 +1,5 @@
 -- A book that is gone through breakpoint by breakpoint: each gets room, or follows the world.
-use Rattle.std.proofs.Common.{◌≡◌, ℕ, zero, suc, ◌+◌, ◌<◌, ◌≤◌, ◌⊎◌, List, [], ◌∷◌, length, get_or, set, map, Some, refl, sym, ap, ◌∙◌}
+use Rattle.std.proofs.Common.{◌≡◌, ℕ, zero, suc, ◌+◌, ◌<◌, ◌≤◌, List, [], ◌∷◌, length, get_or, set, map, Some, refl, sym, ap, ◌∙◌}
 use Rattle.std.proofs.Common.{subst, ⊎_elim, arith}
 use Rattle.std.specs.Prelude.{slice_get}
 use Rattle.std.specs.List.{AllByRecursion}
@@ -8,7 +8,7 @@ use Rattle.dbg_base.specs.Predicates.{Conjunct}
 use Rattle.causal_world.specs.Scenes.{Scene}
 use Rattle.indexmap.specs.IndexMap.{set_value_at}
 use Rattle.least_cut.specs.Watches.{WatchState, WatchRoom, conjunct_in}
-use Rattle.least_cut.specs.Detectors.{DetectorState, conjuncts_of, states_of, HasRoomUpTo, IsDetectorOf, IsSameButRoom}
+use Rattle.least_cut.specs.Detectors.{DetectorState, conjuncts_of, HasRoomUpTo, IsDetectorOf, IsSameButRoom}
 use Rattle.least_cut.proofs.Each.{Became, became_more, became_less, at_turn, all_at, all_from, same_map}
 use Rattle.least_cut.proofs.Callers.{roomier_detector}
 use Rattle.break_book.proofs.Callers.{all_map}

@@ -1,5 +1,5 @@
 -- Which breakpoint halts the session.
-use Rattle.std.proofs.Common.{◌≡◌, ℕ, Bool, true, false, List, ◌∷◌, Option, Some, None, Bor, is_some, refl, sym, subst, inl, inr, ⊎_elim}
+use Rattle.std.proofs.Common.{◌≡◌, ℕ, Bool, true, false, List, ◌∷◌, Option, Some, None, Bor, is_some, refl, inl, inr, ⊎_elim}
 use Rattle.std.specs.Prelude.{MatchOption, ◌⊎◌}
 use Rattle.std.specs.Bool.{MatchBool}
 use Rattle.dbg_base.specs.Trees.{Program}

@@ -1,6 +1,5 @@
-use Rattle.std.proofs.Common.{rules, ◌≡◌, ℕ, true, false, List, map, not, None, Some, Err, refl, sym, ap, ◌∙◌, subst}
-use Rattle.std.specs.Prelude.{slice_get, if◌then◌else◌, Option, Bool, IfErr}
-use Rattle.dbg_base.specs.declared.refusal.Refusal.{Refusal}
+use Rattle.std.proofs.Common.{rules, ◌≡◌, false, List, map, not, None, Some, Err, refl, sym, ap, ◌∙◌, subst}
+use Rattle.std.specs.Prelude.{slice_get, Option}
 use Rattle.dbg_base.specs.declared.refusal.Refusal.TheVariants.{UnknownBreak}
 use Rattle.dbg_base.specs.Breakpoints.{Breakpoint, named}
 use Rattle.dbg_base.specs.declared.refusal.Refusal.TheVariants as refusals
@@ -74,7 +73,7 @@ returns-clause-passes c = (
     (sym c.ok_or.ensures.value ∙ c.in_ok-position.was))
     (ap (λ (l : List Entry). slice_get (map (λ (entry : Entry). entry.1) l) c.in_ok-position.position) (sym c.self.view_is)
     ∙ c.index-breakpoint.ensures ∙ ap Some (sym c.breakpoint.view_is))))
-    (c.if-not-breakpoint.false, some.0.now, some.1),
+    (c.if-not-breakpoint.false, (some.0.now, some.1)),
 )
 
 pub returns-clause-of : goal.returns-clause-of
