@@ -1,6 +1,8 @@
 pub mod Writing
 pub mod Pairs
 pub mod Words
+pub mod Places
+pub mod BreakLines
 pub mod Reading
 pub mod LineEnds
 pub mod UnderWay

@@ -141,12 +141,17 @@ fn read_parts(
 {
     let mut made = Vec::new(alloc);
     let mut rest = bytes;
-    while let Some(((name, text), behind)) = next_part(rest)? {
-        let conjunct = read_part(alloc, program, made.as_slice(), name, text)?;
-        made.push(conjunct)?;
-        rest = behind;
+    loop {
+        match next_part(rest) {
+            Ok(Some(((name, text), behind))) => {
+                let conjunct = read_part(alloc, program, made.as_slice(), name, text)?;
+                made.push(conjunct)?;
+                rest = behind;
+            }
+            Ok(None) => return Ok(Sequence::new(made)),
+            Err(refusal) => return Err(refusal),
+        }
     }
-    Ok(Sequence::new(made))
 }
 
 // What a line that sets a breakpoint asks for, where these are its seat and the bytes behind its command word.
