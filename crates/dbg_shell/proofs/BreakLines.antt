@@ -106,7 +106,9 @@ parts_more (suc n) (suc m) bytes low high =
 
 goes_on : (n : ℕ) (x y : Option (List Part)) → 0 < n → cond (nat_le n 0) x y ≡ y
 goes_on zero x y some = absurd (omega arith)
-goes_on (suc n) x y some = refl
+goes_on (suc n) x y some =
+    let e : nat_le (suc n) 0 ≡ false = grind (arith, nat_tests) in
+    ap (λ (t : Bool). cond t x y) e
 
 has_text : (name text rest : List ℕ) (next : List ℕ → Option (List Part)) → 0 < length text → is_apart rest ≡ true
     → part_then (Some name) text rest next ≡ with_part (name, text) (next rest)

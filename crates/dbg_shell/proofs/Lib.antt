@@ -3,6 +3,7 @@ pub mod Pairs
 pub mod Words
 pub mod Places
 pub mod BreakLines
+pub mod PartsRead
 pub mod Reading
 pub mod LineEnds
 pub mod UnderWay

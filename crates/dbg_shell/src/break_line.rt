@@ -41,10 +41,13 @@ fn closed_length(bytes: &[u8]) -> usize
 fn predicate_length(bytes: &[u8]) -> usize
     ensures { result ≡ length (predicate_front bytes.now) }
 {
-    match bytes {
-        [first, ..] if *first == b'(' => closed_length(bytes),
-        _ => word_length(bytes),
+    let [first, ..] = bytes else {
+        return 0;
+    };
+    if *first == b'(' {
+        return closed_length(bytes);
     }
+    word_length(bytes)
 }
 
 // The text of a predicate at the front, and the bytes behind it.
@@ -144,8 +147,10 @@ fn read_parts(
     loop {
         match next_part(rest) {
             Ok(Some(((name, text), behind))) => {
-                let conjunct = read_part(alloc, program, made.as_slice(), name, text)?;
-                made.push(conjunct)?;
+                match read_part(alloc, program, made.as_slice(), name, text) {
+                    Ok(conjunct) => made.push(conjunct)?,
+                    Err(refusal) => return Err(refusal),
+                }
                 rest = behind;
             }
             Ok(None) => return Ok(Sequence::new(made)),

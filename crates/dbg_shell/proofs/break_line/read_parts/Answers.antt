@@ -1,0 +1,20 @@
+use Rattle.std.proofs.Common.{◌≡◌, List, sym, subst, inl}
+use Rattle.dbg_base.specs.declared.call.Conjunct as conjunct
+use Rattle.proc_lang.specs.Programs.{program_of}
+use Rattle.dbg_shell.proofs.PartsRead.{ReadSoFar, none_read, all_read, has_form}
+use Rattle.dbg_shell.proofs.break_line.read_parts.Goals as goal
+
+pub loop-name-init : goal.loop-name-init
+loop-name-init c =
+    subst (λ (made : List conjunct.Conjunct). ReadSoFar (program_of c.args.program.now) c.args.bytes.now c.args.bytes.now made)
+    (sym c.new-made.ensures.items) (none_read (program_of c.args.program.now) c.args.bytes.now)
+
+pub returns-in-Ok-None : goal.returns-in-Ok-None
+returns-in-Ok-None c = λ parts whole.
+    inl (all_read (program_of c.args.program.now) c.args.bytes.now c.loop-name.rest.now c.loop-name.made.items c.loop-name.invariant
+    parts whole c.in-Ok-None.ensures.part)
+
+pub returns-in-Err : goal.returns-in-Err
+returns-in-Err c = λ parts whole.
+    has_form (program_of c.args.program.now) c.args.bytes.now c.loop-name.rest.now c.loop-name.made.items c.loop-name.invariant
+    parts whole c.in-Err.ensures.refuses.1
