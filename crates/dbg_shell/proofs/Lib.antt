@@ -4,6 +4,7 @@ pub mod Words
 pub mod Places
 pub mod BreakLines
 pub mod PartsRead
+pub mod LineCalls
 pub mod Reading
 pub mod LineEnds
 pub mod UnderWay

@@ -149,20 +149,20 @@ module _ (P : Program) (all rest : List ℕ) (made : List conjunct.Conjunct) (so
         let left = so_far.leaves parts whole in
         let nothing : [] ≡ left.0 = cc in
         subst (λ (known : List Conjunct). ReadsParts P [] parts (Ok known)) (plus_nothing (map conjunct_of made))
-        (left.1.1.onward (Ok []) (subst (λ (l : List Part). ReadsParts P so_far.before l (Ok [])) nothing refl))
+        (left.2.onward (Ok []) (subst (λ (l : List Part). ReadsParts P so_far.before l (Ok [])) nothing refl))
 
     -- what is left has its form
     pub has_form : {A : Type 0} → parts_of rest ≡ None → A
-    has_form e = let left = so_far.leaves parts whole in absurd (let no_parts : None ≡ Some left.0 = sym e ∙ left.1.0 in cc)
+    has_form e = let left = so_far.leaves parts whole in absurd (let no_parts : None ≡ Some left.0 = sym e ∙ left.1 in cc)
 
     -- the next part is refused
     pub refused_next : (name text more : List ℕ) (refusal : Refusal) → parts_of rest ≡ with_part (name, text) (parts_of more)
         → ReadsNamed P (stands_in made) (named_process P name) text (Err refusal) → ReadsParts P [] parts (Err refusal)
     refused_next name text more refusal e h =
         let left = so_far.leaves parts whole in
-        let two = splits (name, text) (parts_of more) left.0 (sym e ∙ left.1.0) in
-        left.1.1.onward (Err refusal)
-        (subst (λ (l : List Part). ReadsParts P so_far.before l (Err refusal)) two.1.1
+        let two = splits (name, text) (parts_of more) left.0 (sym e ∙ left.1) in
+        left.2.onward (Err refusal)
+        (subst (λ (l : List Part). ReadsParts P so_far.before l (Err refusal)) two.2
         (refuses_part P so_far.before (stands_in made) so_far.same _ (named_process P name) text refusal h))
 
   -- the next part was read
@@ -176,12 +176,12 @@ module _ (P : Program) (all rest : List ℕ) (made : List conjunct.Conjunct) (so
         same = λ p. ap (λ (b : Bool). eqb c.pid.0 p || b) (so_far.same p) ∙ sym (stands_more made c p);
         leaves = λ parts whole.
             let left = so_far.leaves parts whole in
-            let two = splits (name, text) (parts_of more) left.0 (sym e ∙ left.1.0) in
-            (two.0, two.1.0, record {
+            let two = splits (name, text) (parts_of more) left.0 (sym e ∙ left.1) in
+            (two.0, two.1, record {
               onward = λ others r.
                   let known = with_conjunct c.pid.0 (conjunct_of c).expression others in
                   subst (λ (o : Result (List Conjunct) Refusal). ReadsParts P [] parts o) (behind_more made c others)
-                  (left.1.1.onward known (subst (λ (l : List Part). ReadsParts P so_far.before l known) two.1.1
+                  (left.2.onward known (subst (λ (l : List Part). ReadsParts P so_far.before l known) two.2
                   (subst (λ (n : Result ℕ Refusal). ReadsPart P so_far.before n text
                   (λ p o. ReadsParts P (p ∷ so_far.before) two.0 o) known) (sym is.process)
                   (inl ((conjunct_of c).expression, is.reads, subst (λ (t : Bool). MatchBool t (known ≡ Err BadPredicate)

@@ -292,8 +292,10 @@ fn parse_words(program: &Program, bytes: &[u8]) -> Result<Option<Line>, Refusal>
         return Ok(None);
     };
     let seat = seat_word(seat).ok_or(Refusal::BadLine)?;
-    let call = parse_call(program, rest)?;
-    Ok(Some(Line { seat, call }))
+    match parse_call(program, rest) {
+        Ok(call) => Ok(Some(Line { seat, call })),
+        Err(refusal) => Err(refusal),
+    }
 }
 
 /// The seat and the call of a command line, nothing for a blank one, or why the line is refused. The bytes are the line without its
