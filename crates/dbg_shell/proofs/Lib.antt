@@ -5,6 +5,7 @@ pub mod Places
 pub mod BreakLines
 pub mod PartsRead
 pub mod LineCalls
+pub mod WholeLines
 pub mod Reading
 pub mod LineEnds
 pub mod UnderWay

@@ -6,7 +6,7 @@ use Rattle.std.specs.List.{list_any}
 use Rattle.dbg_base.specs.declared.call.Conjunct as conjunct
 use Rattle.dbg_base.specs.declared.fault.ProgFault.{ProgFault}
 use Rattle.dbg_base.specs.declared.refusal.Refusal.{Refusal}
-use Rattle.dbg_base.specs.declared.refusal.Refusal.TheVariants.{BadPredicate}
+use Rattle.dbg_base.specs.declared.refusal.Refusal.TheVariants.{BadPredicate, Memory}
 use Rattle.dbg_base.specs.Calls.{conjunct_of}
 use Rattle.dbg_base.specs.Checks.{ReadsPredicate, IsPredicateFault}
 use Rattle.dbg_base.specs.Predicates.{Conjunct}
@@ -189,3 +189,24 @@ module _ (P : Program) (all rest : List ℕ) (made : List conjunct.Conjunct) (so
                   × (known ≡ with_conjunct c.pid.0 (conjunct_of c).expression o))) (sym alone) (others, r, refl))))));
             });
       }
+
+  module _ (name text more : List ℕ) (slice : List conjunct.Conjunct) (is_slice : slice ≡ made)
+      (e : parts_of rest ≡ with_part (name, text) (parts_of more)) where
+    -- the same of a slice, where memory may run out
+    pub read_more : (c : conjunct.Conjunct) (items : List conjunct.Conjunct) → items ≡ made ++ c ∷ []
+        → ReadsNamed P (stands_in slice) (named_process P name) text (Ok (conjunct_of c))
+        ⊎ (◌≡◌ {A = Result conjunct.Conjunct Refusal} (Ok c) (Err Memory)) → ReadSoFar P all more items
+    read_more c items pushed (inl h) =
+        subst (λ (now : List conjunct.Conjunct). ReadSoFar P all more now) (sym pushed)
+        (read_next name text more c e (subst (λ (m : List conjunct.Conjunct).
+        ReadsNamed P (stands_in m) (named_process P name) text (Ok (conjunct_of c))) is_slice h))
+    read_more c items pushed (inr no_memory) = cc
+
+    pub refused_more : (refusal : Refusal) → ReadsNamed P (stands_in slice) (named_process P name) text (Err refusal)
+        ⊎ (◌≡◌ {A = Result conjunct.Conjunct Refusal} (Err refusal) (Err Memory)) → (parts : List Part) → parts_of all ≡ Some parts
+        → ReadsParts P [] parts (Err refusal) ⊎ (◌≡◌ {A = Result (List conjunct.Conjunct) Refusal} (Err refusal) (Err Memory))
+    refused_more refusal (inl h) parts whole =
+        inl (refused_next parts whole name text more refusal e (subst (λ (m : List conjunct.Conjunct).
+        ReadsNamed P (stands_in m) (named_process P name) text (Err refusal)) is_slice h))
+    refused_more refusal (inr no_memory) parts whole =
+        let same : refusal ≡ Memory = cc in inr (ap (λ (r : Refusal). Err r) same)
