@@ -29,7 +29,7 @@ returns-in-Err c = λ parts whole.
 pub returns-in-Err-read_part : goal.returns-in-Err-read_part
 returns-in-Err-read_part c =
     let e : parts_of c.loop-name.rest.now ≡ with_part (c.in-Ok-Some.name, c.in-Ok-Some.text.now) (parts_of c.in-Ok-Some.behind.now) =
-    c.in-Ok-Some.ensures.part.1 in
+    search rules in
     refused_more (program_of c.args.program.now) c.args.bytes.now c.loop-name.rest.now c.loop-name.made.items c.loop-name.invariant
     c.in-Ok-Some.name c.in-Ok-Some.text.now c.in-Ok-Some.behind.now c.as_slice.result.now c.as_slice.ensures.value e
     c.in-Err-read_part.refusal c.in-Err-read_part.ensures
@@ -37,7 +37,7 @@ returns-in-Err-read_part c =
 pub loop-name-preserved : goal.loop-name-preserved
 loop-name-preserved c =
     let e : parts_of c.loop-name.rest.now ≡ with_part (c.in-Ok-Some.name, c.in-Ok-Some.text.now) (parts_of c.in-Ok-Some.behind.now) =
-    c.in-Ok-Some.ensures.part.1 in
+    search rules in
     let pushed : c.push.new.self.items ≡ c.loop-name.made.items ++ c.in-Ok.conjunct ∷ [] = search rules in
     read_more (program_of c.args.program.now) c.args.bytes.now c.loop-name.rest.now c.loop-name.made.items c.loop-name.invariant
     c.in-Ok-Some.name c.in-Ok-Some.text.now c.in-Ok-Some.behind.now c.as_slice.result.now c.as_slice.ensures.value e
