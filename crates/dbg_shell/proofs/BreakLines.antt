@@ -127,15 +127,14 @@ has_part bytes name text rest word named text_is rest_is some apart =
     let front = predicate_front begun in
     let behind = drop (length front) begun in
     let less : length behind < length bytes = rest_shorter bytes (length front) word in
-    let next = parts_within (length bytes) in
-    (
+    let next = parts_within (length bytes) in (
       omega (arith, less, ap length rest_is),
       goes_on (length (next_word bytes)) (Some []) (part_at (name_word (next_word bytes)) begun next) word
-      ∙ ap (λ (found : Option (List ℕ)). part_then found front behind next) named
-      ∙ ap (λ (t : List ℕ). part_then (Some name) t behind next) (sym text_is)
-      ∙ ap (λ (r : List ℕ). part_then (Some name) text r next) (sym rest_is)
-      ∙ has_text name text rest next some apart
-      ∙ ap (with_part (name, text)) (parts_more (length bytes) (suc (length rest)) rest (omega (arith, less, ap length rest_is)) (omega arith)),
+          ∙ ap (λ (found : Option (List ℕ)). part_then found front behind next) named
+          ∙ ap (λ (t : List ℕ). part_then (Some name) t behind next) (sym text_is)
+          ∙ ap (λ (r : List ℕ). part_then (Some name) text r next) (sym rest_is)
+          ∙ has_text name text rest next some apart
+          ∙ ap (with_part (name, text)) (parts_more (length bytes) (suc (length rest)) rest (omega (arith, less, ap length rest_is)) (omega arith)),
     )
 
 -- the parts behind a name

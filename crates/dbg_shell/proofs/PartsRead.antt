@@ -31,14 +31,22 @@ module _ (P : Program) (stands : ℕ → Bool) (named : Result ℕ Refusal) (tex
     -- the process has a part already
     pub stood : stands p ≡ true → ReadsNamed P stands named text (Err BadPredicate)
     stood e = subst (λ (n : Result ℕ Refusal). ReadsNamed P stands n text (Err BadPredicate)) here
-        (inl (tree, reads, subst (λ (t : Bool). MatchBool t (IsOutcome (Err BadPredicate) (Err BadPredicate))
-        (IsOutcome (Err BadPredicate) conjunct_here)) (sym e) refl))
+        (inl (
+          tree,
+          reads,
+          subst (λ (t : Bool). MatchBool t (IsOutcome (Err BadPredicate) (Err BadPredicate))
+              (IsOutcome (Err BadPredicate) conjunct_here)) (sym e) refl,
+        ))
 
     -- it has none yet
     pub stood_not : stands p ≡ false → ReadsNamed P stands named text conjunct_here
     stood_not e = subst (λ (n : Result ℕ Refusal). ReadsNamed P stands n text conjunct_here) here
-        (inl (tree, reads, subst (λ (t : Bool). MatchBool t (IsOutcome conjunct_here (Err BadPredicate))
-        (IsOutcome conjunct_here conjunct_here)) (sym e) refl))
+        (inl (
+          tree,
+          reads,
+          subst (λ (t : Bool). MatchBool t (IsOutcome conjunct_here (Err BadPredicate))
+              (IsOutcome conjunct_here conjunct_here)) (sym e) refl,
+        ))
 
 abbrev behind : List Conjunct → Result (List Conjunct) Refusal → Result (List Conjunct) Refusal
 behind made others = map_ok (λ conjuncts. made ++ conjuncts) others
@@ -63,9 +71,13 @@ pub none_read : (P : Program) (all : List ℕ) → ReadSoFar P all all []
 none_read P all = record {
   before = [];
   same = λ p. refl;
-  leaves = λ parts e. (parts, e, record {
-    onward = λ others r. subst (λ (o : Result (List Conjunct) Refusal). ReadsParts P [] parts o) (behind_nothing others) r;
-  });
+  leaves = λ parts e. (
+    parts,
+    e,
+    record {
+      onward = λ others r. subst (λ (o : Result (List Conjunct) Refusal). ReadsParts P [] parts o) (behind_nothing others) r;
+    },
+  );
 }
 
 plus_nothing : (made : List Conjunct) → made ++ [] ≡ made
@@ -94,8 +106,12 @@ module _ (P : Program) (before : List ℕ) (stands : ℕ → Bool) (same : (p : 
         → ReadsPart P before named text Rest (Err refusal)
     refuses_part (Err known) text refusal h = err_as_list refusal known h
     refuses_part (Ok p) text refusal (inl (tree, reads, m)) =
-        inl (tree, reads, refuses_by refusal (record { process = p; expression = tree }) _ (list_any (λ q. eqb q p) before) (stands p)
-        (same p) m)
+        inl (
+          tree,
+          reads,
+          refuses_by refusal (record { process = p; expression = tree }) _ (list_any (λ q. eqb q p) before) (stands p)
+              (same p) m,
+        )
     refuses_part (Ok p) text refusal (inr (fault, is, e)) = inr (fault, is, err_as_list refusal BadPredicate e)
 
 -- a text was read as this conjunct
@@ -176,18 +192,25 @@ module _ (P : Program) (all rest : List ℕ) (made : List conjunct.Conjunct) (so
         same = λ p. ap (λ (b : Bool). eqb c.pid.0 p || b) (so_far.same p) ∙ sym (stands_more made c p);
         leaves = λ parts whole.
             let left = so_far.leaves parts whole in
-            let two = splits (name, text) (parts_of more) left.0 (sym e ∙ left.1) in
-            (two.0, two.1, record {
-              onward = λ others r.
-                  let known = with_conjunct c.pid.0 (conjunct_of c).expression others in
-                  subst (λ (o : Result (List Conjunct) Refusal). ReadsParts P [] parts o) (behind_more made c others)
-                  (left.2.onward known (subst (λ (l : List Part). ReadsParts P so_far.before l known) two.2
-                  (subst (λ (n : Result ℕ Refusal). ReadsPart P so_far.before n text
-                  (λ p o. ReadsParts P (p ∷ so_far.before) two.0 o) known) (sym is.process)
-                  (inl ((conjunct_of c).expression, is.reads, subst (λ (t : Bool). MatchBool t (known ≡ Err BadPredicate)
-                  ((o : Result (List Conjunct) Refusal) × ReadsParts P (c.pid.0 ∷ so_far.before) two.0 o
-                  × (known ≡ with_conjunct c.pid.0 (conjunct_of c).expression o))) (sym alone) (others, r, refl))))));
-            });
+            let two = splits (name, text) (parts_of more) left.0 (sym e ∙ left.1) in (
+              two.0,
+              two.1,
+              record {
+                onward = λ others r.
+                    let known = with_conjunct c.pid.0 (conjunct_of c).expression others in
+                    subst (λ (o : Result (List Conjunct) Refusal). ReadsParts P [] parts o) (behind_more made c others)
+                    (left.2.onward known (subst (λ (l : List Part). ReadsParts P so_far.before l known) two.2
+                    (subst (λ (n : Result ℕ Refusal). ReadsPart P so_far.before n text
+                    (λ p o. ReadsParts P (p ∷ so_far.before) two.0 o) known) (sym is.process)
+                    (inl (
+                      (conjunct_of c).expression,
+                      is.reads,
+                      subst (λ (t : Bool). MatchBool t (known ≡ Err BadPredicate)
+                          ((o : Result (List Conjunct) Refusal) × ReadsParts P (c.pid.0 ∷ so_far.before) two.0 o
+                          × (known ≡ with_conjunct c.pid.0 (conjunct_of c).expression o))) (sym alone) (others, r, refl),
+                    )))));
+              },
+            );
       }
 
   module _ (name text more : List ℕ) (slice : List conjunct.Conjunct) (is_slice : slice ≡ made)

@@ -134,11 +134,7 @@ fn read_part(
 }
 
 // The parts as conjuncts, where all have their form.
-fn read_parts(
-    alloc: Global,
-    program: &Program,
-    bytes: &[u8],
-) -> Result<Sequence<Conjunct>, Refusal>
+fn read_parts(alloc: Global, program: &Program, bytes: &[u8]) -> Result<Sequence<Conjunct>, Refusal>
     ensures { (parts : List Part) → parts_of bytes.now ≡ Some parts
         → ReadsParts (program_of program.now) [] parts (map_ok (map conjunct_of) result) ⊎ (result ≡ Err Memory) }
 {

@@ -301,11 +301,7 @@ fn parse_words(program: &Program, bytes: &[u8]) -> Result<Option<Line>, Refusal>
 /// The seat and the call of a command line, nothing for a blank one, or why the line is refused. The bytes are the line without its
 /// line end, and may have a carriage return at their end. A line that sets a breakpoint takes memory, and where that runs out it is
 /// refused as `Memory`; the others take none.
-pub fn parse_line(
-    alloc: Global,
-    program: &Program,
-    bytes: &[u8],
-) -> Result<Option<Line>, Refusal>
+pub fn parse_line(alloc: Global, program: &Program, bytes: &[u8]) -> Result<Option<Line>, Refusal>
     ensures { IsParsed (program_of program.now) bytes.now result }
 {
     if bytes.len() > LINE_BYTES {
