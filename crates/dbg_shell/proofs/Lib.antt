@@ -1,6 +1,12 @@
 pub mod Writing
 pub mod Pairs
 pub mod Words
+pub mod Places
+pub mod BreakLines
+pub mod PartsRead
+pub mod BreakAsked
+pub mod LineCalls
+pub mod WholeLines
 pub mod Reading
 pub mod LineEnds
 pub mod UnderWay

@@ -1,45 +1,84 @@
 -- The words of a line, from its front.
-use Rattle.std.proofs.Common.{◌≡◌, ◌≢◌, ℕ, zero, suc, ◌-◌, ◌<◌, Bool, true, false, not, eqb, List, [], ◌∷◌, length, get_or, take, drop}
+use Rattle.std.proofs.Common.{◌≡◌, ◌≢◌, ℕ, zero, suc, ◌<◌, Bool, true, false, not, eqb, List, [], ◌∷◌, length, get_or, take, drop}
 use Rattle.std.proofs.Common.{refl, sym, ap, ◌∙◌, arith, one-add}
 use Rattle.std.specs.List.{prefix_len}
-use Rattle.std.proofs.lemmas.Bool.{eqb-true, not-true}
-use Rattle.std.proofs.lemmas.Grind.{common_steps}
-use Rattle.dbg_base.specs.CommandLines.{is_blank, words_of, before_first_word, without_return}
-use Rattle.dbg_shell.specs.Lines.{begins_word}
+use Rattle.std.proofs.lemmas.Bool.{eqb-true}
+use Rattle.dbg_base.specs.CommandLines.{is_blank, words_of, before_first_word, without_return, without_blanks, word_front}
+use Rattle.dbg_base.specs.CommandLines.{next_word, after_word}
 
 -- a byte of a word
 abbrev pub is_inner : ℕ → Bool
 is_inner b = not (is_blank b)
 
 inner_word_by : (b c : ℕ) (bytes : List ℕ) (t : Bool) → is_blank b ≡ false → is_blank c ≡ t
-    → (is_blank c ≡ false → words_of (c ∷ bytes)
-    ≡ (c ∷ take (prefix_len is_inner bytes) bytes) ∷ words_of (drop (prefix_len is_inner bytes) bytes))
-    → words_of (b ∷ c ∷ bytes) ≡ (b ∷ take (prefix_len is_inner (c ∷ bytes)) (c ∷ bytes)) ∷ words_of
-    (drop (prefix_len is_inner (c ∷ bytes)) (c ∷ bytes))
+    → (is_blank c ≡ false → words_of (c ∷ bytes) ≡ (c ∷ word_front bytes) ∷ words_of (drop (length (word_front bytes)) bytes))
+    → words_of (b ∷ c ∷ bytes) ≡ (b ∷ word_front (c ∷ bytes)) ∷ words_of (drop (length (word_front (c ∷ bytes))) (c ∷ bytes))
 inner_word_by b c bytes true e f others =
     let front : words_of (b ∷ c ∷ bytes) ≡ (b ∷ []) ∷ words_of (c ∷ bytes) = rw (e, f) refl in
-    let length_is : prefix_len is_inner (c ∷ bytes) ≡ 0 = rw f refl in
-    front ∙ ap (λ n. (b ∷ take n (c ∷ bytes)) ∷ words_of (drop n (c ∷ bytes))) (sym length_is)
+    let nothing : word_front (c ∷ bytes) ≡ [] = rw f refl in
+    front ∙ ap (λ (word : List ℕ). (b ∷ word) ∷ words_of (drop (length word) (c ∷ bytes))) (sym nothing)
 inner_word_by b c bytes false e f others =
     let front : words_of (b ∷ c ∷ bytes) ≡ before_first_word b (words_of (c ∷ bytes)) = rw (e, f) refl in
-    let length_is : prefix_len is_inner (c ∷ bytes) ≡ suc (prefix_len is_inner bytes) = rw f (one-add _) in
+    let longer : word_front (c ∷ bytes) ≡ c ∷ word_front bytes = rw f refl in
     front ∙ ap (before_first_word b) (others f)
-    ∙ ap (λ n. (b ∷ take n (c ∷ bytes)) ∷ words_of (drop n (c ∷ bytes))) (sym length_is)
+    ∙ ap (λ (word : List ℕ). (b ∷ word) ∷ words_of (drop (length word) (c ∷ bytes))) (sym longer)
 
 inner_word : (b : ℕ) (bytes : List ℕ) → is_blank b ≡ false
-    → words_of (b ∷ bytes) ≡ (b ∷ take (prefix_len is_inner bytes) bytes) ∷ words_of (drop (prefix_len is_inner bytes) bytes)
+    → words_of (b ∷ bytes) ≡ (b ∷ word_front bytes) ∷ words_of (drop (length (word_front bytes)) bytes)
 inner_word b [] e = rw e refl
 inner_word b (c ∷ bytes) e = inner_word_by b c bytes (is_blank c) e refl (inner_word c bytes)
 
--- the first word is the run of bytes that are no blanks
-pub first_word_is : (bytes : List ℕ) → begins_word bytes ≡ true → 0 < length bytes
-    → words_of bytes ≡ take (prefix_len is_inner bytes) bytes ∷ words_of (drop (prefix_len is_inner bytes) bytes)
-first_word_is [] begun some = absurd (omega arith)
-first_word_is (b ∷ bytes) begun some =
-    let inner : is_blank b ≡ false = not-true (is_blank b) begun in
-    let length_is : prefix_len is_inner (b ∷ bytes) ≡ suc (prefix_len is_inner bytes) = rw inner (one-add _) in
-    inner_word b bytes inner
-    ∙ ap (λ n. take n (b ∷ bytes) ∷ words_of (drop n (b ∷ bytes))) (sym length_is)
+-- the words are the first one and those behind it
+abbrev BeginsWithWord : List ℕ → Type 0
+BeginsWithWord bytes = 0 < length (next_word bytes) → words_of bytes ≡ next_word bytes ∷ words_of (after_word bytes)
+
+begins_by : (b : ℕ) (bytes : List ℕ) (t : Bool) → is_blank b ≡ t → BeginsWithWord bytes → BeginsWithWord (b ∷ bytes)
+begins_by b bytes true e behind = rw e behind
+begins_by b bytes false e behind = λ some.
+    let stays : without_blanks (b ∷ bytes) ≡ b ∷ bytes = rw e refl in
+    let word : word_front (b ∷ bytes) ≡ b ∷ word_front bytes = rw e refl in
+    let next : next_word (b ∷ bytes) ≡ b ∷ word_front bytes = ap word_front stays ∙ word in
+    inner_word b bytes e
+    ∙ ap (λ (w : List ℕ). w ∷ words_of (drop (length w) (b ∷ bytes))) (sym next)
+    ∙ ap (λ (rest : List ℕ). next_word (b ∷ bytes) ∷ words_of (drop (length (next_word (b ∷ bytes))) rest)) (sym stays)
+
+pub begins_with_word : (bytes : List ℕ) → BeginsWithWord bytes
+begins_with_word [] = λ some. absurd (omega arith)
+begins_with_word (b ∷ bytes) = begins_by b bytes (is_blank b) refl (begins_with_word bytes)
+
+no_word_by : (b : ℕ) (bytes : List ℕ) (t : Bool) → is_blank b ≡ t → (length (next_word bytes) ≡ 0 → words_of bytes ≡ [])
+    → length (next_word (b ∷ bytes)) ≡ 0 → words_of (b ∷ bytes) ≡ []
+no_word_by b bytes true e behind = rw e behind
+no_word_by b bytes false e behind = λ none.
+    let stays : without_blanks (b ∷ bytes) ≡ b ∷ bytes = rw e refl in
+    let word : word_front (b ∷ bytes) ≡ b ∷ word_front bytes = rw e refl in
+    let next : length (next_word (b ∷ bytes)) ≡ suc (length (word_front bytes)) = ap length (ap word_front stays ∙ word) in
+    absurd (omega arith)
+
+-- no word at the front, and none behind
+pub no_word : (bytes : List ℕ) → length (next_word bytes) ≡ 0 → words_of bytes ≡ []
+no_word [] = λ none. refl
+no_word (b ∷ bytes) = no_word_by b bytes (is_blank b) refl (no_word bytes)
+
+word_length_by : (b : ℕ) (bytes : List ℕ) (t : Bool) → is_blank b ≡ t → length (word_front bytes) ≡ prefix_len is_inner bytes
+    → length (word_front (b ∷ bytes)) ≡ prefix_len is_inner (b ∷ bytes)
+word_length_by b bytes true e h = rw e refl
+word_length_by b bytes false e h = rw e (ap suc h ∙ sym (one-add _))
+
+-- the word at the front has as many bytes as there are no blanks
+pub word_length_is : (bytes : List ℕ) → length (word_front bytes) ≡ prefix_len is_inner bytes
+word_length_is [] = refl
+word_length_is (b ∷ bytes) = word_length_by b bytes (is_blank b) refl (word_length_is bytes)
+
+word_taken_by : (b : ℕ) (bytes : List ℕ) (t : Bool) → is_blank b ≡ t → take (length (word_front bytes)) bytes ≡ word_front bytes
+    → take (length (word_front (b ∷ bytes))) (b ∷ bytes) ≡ word_front (b ∷ bytes)
+word_taken_by b bytes true e h = rw e refl
+word_taken_by b bytes false e h = rw e (ap (λ (rest : List ℕ). b ∷ rest) h)
+
+-- and is their front
+pub word_taken : (bytes : List ℕ) → take (length (word_front bytes)) bytes ≡ word_front bytes
+word_taken [] = refl
+word_taken (b ∷ bytes) = word_taken_by b bytes (is_blank b) refl (word_taken bytes)
 
 -- a carriage return at the end is dropped
 pub return_dropped : (line : List ℕ) (n : ℕ) → length line ≡ suc n → get_or line n 0 ≡ 13 → take n line ≡ without_return line
@@ -58,7 +97,3 @@ pub return_missing : (line : List ℕ) → ((n : ℕ) → length line ≡ suc n 
 return_missing [] h = refl
 return_missing (b ∷ []) h = kept_by b (eqb b 13) refl (h 0 refl)
 return_missing (b ∷ c ∷ line) h = ap (λ rest. b ∷ rest) (return_missing (c ∷ line) (λ n e. h (suc n) (ap suc e)))
-
--- all that is left
-pub drop_whole : (n : ℕ) (bytes : List ℕ) → drop n bytes ≡ take (length bytes - n) (drop n bytes)
-drop_whole n bytes = grind (arith, common_steps)

@@ -4,6 +4,7 @@
 //! of the program's own command line. Its session is a world, which the calls of the seats change in place.
 #![tactic(auto)]
 
+mod break_line;
 mod checking;
 mod command_line;
 mod framing;
