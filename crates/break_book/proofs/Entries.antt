@@ -174,8 +174,7 @@ pub found_at : (name : List ℕ) (book : List Entry) (i : ℕ) (kept : Kept) →
     → (named name (breakpoints_of book) ≡ Some (breakpoint_of (name, kept))) × (slice_get book i ≡ Some (name, kept))
 found_at name book i kept at found =
     let spot = here name book i at in
-    let same : spot.kept ≡ kept = same_in spot.kept kept (sym spot.found ∙ found) in
-    (
+    let same : spot.kept ≡ kept = same_in spot.kept kept (sym spot.found ∙ found) in (
       spot.is ∙ ap (λ (k : Kept). Some (breakpoint_of (name, k))) same,
       spot.entry ∙ ap (λ (k : Kept). Some (name, k)) same,
     )
@@ -207,11 +206,10 @@ set_last name inside book new d conjuncts view may same is =
     let none : named name (breakpoints_of book) ≡ None = free_name (named name (breakpoints_of book)) _ may in
     let last : new ≡ book ++ (name, record { armed = true; detector = d }) ∷ [] =
     is ∙ ap (λ (l : List Entry). insert_entry bytes_eq l name (record { armed = true; detector = d })) view
-    ∙ inserted name (record { armed = true; detector = d }) book none in
-    (
+    ∙ inserted name (record { armed = true; detector = d }) book none in (
       last,
       ap breakpoints_of last ∙ map_push breakpoint_of book (name, record { armed = true; detector = d })
-      ∙ ap (λ (l : List Conjunct). breakpoints_of book ++ new_breakpoint name l ∷ []) same,
+          ∙ ap (λ (l : List Conjunct). breakpoints_of book ++ new_breakpoint name l ∷ []) same,
     )
 
 pub on_ok : {T E : Type 0} (r : Result T E) (X : Type 0) → is_ok r ≡ true → OnOk r X → X

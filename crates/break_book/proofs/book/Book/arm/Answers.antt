@@ -29,16 +29,16 @@ returns-then-index-clause-refuses c =
 pub returns-clause-arms : goal.returns-clause-arms
 returns-clause-arms c = (
   ap arm_refusal (named_at c.args.name c.args.self.now c.in_ok-position.position
-    (record { armed = c.behind-self.inside.armed; detector = c.behind-self.inside.detector })
-    (sym c.position.ensures ∙ of_ok c.position.result UnknownBreak c.in_ok-position.position
-    (sym c.ok_or.ensures.value ∙ c.in_ok-position.was))
-    (ap (λ (l : List Entry). slice_get (map (λ (entry : Entry). entry.1) l) c.in_ok-position.position) (sym c.self.view_is)
-    ∙ c.index.ensures ∙ ap Some (sym c.behind-self.view_is)))
-  ∙ ap (λ (b : Bool). if b then Some AlreadyArmed else None) c.if-index.false,
+      (record { armed = c.behind-self.inside.armed; detector = c.behind-self.inside.detector })
+      (sym c.position.ensures ∙ of_ok c.position.result UnknownBreak c.in_ok-position.position
+      (sym c.ok_or.ensures.value ∙ c.in_ok-position.was))
+      (ap (λ (l : List Entry). slice_get (map (λ (entry : Entry). entry.1) l) c.in_ok-position.position) (sym c.self.view_is)
+      ∙ c.index.ensures ∙ ap Some (sym c.behind-self.view_is)))
+      ∙ ap (λ (b : Bool). if b then Some AlreadyArmed else None) c.if-index.false,
   (let spot = here c.args.name c.args.self.now c.in_ok-position.position
-    (sym c.position.ensures ∙ of_ok c.position.result UnknownBreak c.in_ok-position.position
-    (sym c.ok_or.ensures.value ∙ c.in_ok-position.was)) in
-  ap breakpoints_of c.mark.ensures ∙ spot.marked true),
+      (sym c.position.ensures ∙ of_ok c.position.result UnknownBreak c.in_ok-position.position
+      (sym c.ok_or.ensures.value ∙ c.in_ok-position.was)) in
+      ap breakpoints_of c.mark.ensures ∙ spot.marked true),
 )
 
 pub returns-clause-of : goal.returns-clause-of

@@ -23,8 +23,7 @@ loop-name-preserved c = λ w P are now.
     let kept = c.in-Some.breakpoint.now in
     let before = c.loop-name.invariant w P are now in
     let all = subst (AreDetectorsOf w) c.in-Some.ensures.steps before.0 in
-    let halts_not = when_false c.halts.result (Halts P H kept) (HaltsNot P H kept) c.if-halts.false (c.halts.ensures w P all.0 now) in
-    (
+    let halts_not = when_false c.halts.result (Halts P H kept) (HaltsNot P H kept) c.if-halts.false (c.halts.ensures w P all.0 now) in (
       all.1,
       λ halted later. before.1 halted
           (subst (λ (l : List Entry). IsHaltedBy P H (breakpoints_of l) halted) (sym c.in-Some.ensures.steps)

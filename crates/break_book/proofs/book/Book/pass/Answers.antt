@@ -55,25 +55,25 @@ returns-then-is_none-clause-refuses c = λ w P are now.
 pub returns-clause-passes : goal.returns-clause-passes
 returns-clause-passes c = (
   (let spot = here c.args.name c.args.self.now c.in_ok-position.position
-    (sym c.position.ensures ∙ of_ok c.position.result UnknownBreak c.in_ok-position.position
-    (sym c.ok_or.ensures.value ∙ c.in_ok-position.was)) in
-  ap breakpoints_of c.mark.ensures ∙ spot.marked false),
+      (sym c.position.ensures ∙ of_ok c.position.result UnknownBreak c.in_ok-position.position
+      (sym c.ok_or.ensures.value ∙ c.in_ok-position.was)) in
+      ap breakpoints_of c.mark.ensures ∙ spot.marked false),
   λ w P are now.
-    let H = history_of w.state in
-    let is = all_kept (λ (k : Kept). IsDetectorOf w k.detector) c.args.self.now c.in_ok-position.position
-    (record { armed = c.breakpoint.inside.armed; detector = c.breakpoint.inside.detector })
-    (ap (λ (l : List Entry). slice_get (map (λ (entry : Entry). entry.1) l) c.in_ok-position.position) (sym c.self.view_is)
-    ∙ c.index-breakpoint.ensures ∙ ap Some (sym c.breakpoint.view_is)) are in
-    let some = when_some c.cut.result (NoCut P H (conjuncts_of c.breakpoint.inside.detector))
-    (λ cut. IsLeast P H (conjuncts_of c.breakpoint.inside.detector) cut.now) (c.is_none.ensures ∙ ap not c.if-is_none.false)
-    (c.cut.ensures w P is now) in
-    subst (MayPass P H) (sym (named_at c.args.name c.args.self.now c.in_ok-position.position
-    (record { armed = c.breakpoint.inside.armed; detector = c.breakpoint.inside.detector })
-    (sym c.position.ensures ∙ of_ok c.position.result UnknownBreak c.in_ok-position.position
-    (sym c.ok_or.ensures.value ∙ c.in_ok-position.was))
-    (ap (λ (l : List Entry). slice_get (map (λ (entry : Entry). entry.1) l) c.in_ok-position.position) (sym c.self.view_is)
-    ∙ c.index-breakpoint.ensures ∙ ap Some (sym c.breakpoint.view_is))))
-    (c.if-not-breakpoint.false, (some.0.now, some.1)),
+      let H = history_of w.state in
+      let is = all_kept (λ (k : Kept). IsDetectorOf w k.detector) c.args.self.now c.in_ok-position.position
+      (record { armed = c.breakpoint.inside.armed; detector = c.breakpoint.inside.detector })
+      (ap (λ (l : List Entry). slice_get (map (λ (entry : Entry). entry.1) l) c.in_ok-position.position) (sym c.self.view_is)
+      ∙ c.index-breakpoint.ensures ∙ ap Some (sym c.breakpoint.view_is)) are in
+      let some = when_some c.cut.result (NoCut P H (conjuncts_of c.breakpoint.inside.detector))
+      (λ cut. IsLeast P H (conjuncts_of c.breakpoint.inside.detector) cut.now) (c.is_none.ensures ∙ ap not c.if-is_none.false)
+      (c.cut.ensures w P is now) in
+      subst (MayPass P H) (sym (named_at c.args.name c.args.self.now c.in_ok-position.position
+      (record { armed = c.breakpoint.inside.armed; detector = c.breakpoint.inside.detector })
+      (sym c.position.ensures ∙ of_ok c.position.result UnknownBreak c.in_ok-position.position
+      (sym c.ok_or.ensures.value ∙ c.in_ok-position.was))
+      (ap (λ (l : List Entry). slice_get (map (λ (entry : Entry). entry.1) l) c.in_ok-position.position) (sym c.self.view_is)
+      ∙ c.index-breakpoint.ensures ∙ ap Some (sym c.breakpoint.view_is))))
+      (c.if-not-breakpoint.false, (some.0.now, some.1)),
 )
 
 pub returns-clause-of : goal.returns-clause-of

@@ -10,9 +10,9 @@ index_mut-breakpoint-requires c = omega (arith, c.loop-i-test.true, c.len-i-end.
 pub shrink-requires : goal.shrink-requires
 shrink-requires c = record {
   shrunk = turn (IsFollowed c.args.world.now) c.args.breaks.now.entries c.loop-i.breaks.entries c.loop-i.i
-    (record { armed = c.breakpoint.inside.armed; detector = c.breakpoint.inside.detector }) c.loop-i.invariant
-    (c.index_mut-breakpoint.ensures.value ∙ ap Some (sym c.breakpoint.view_is))
-    (λ (kept : Kept). IsShrunk kept.detector c.args.pid.0 c.args.world.now) c.requires;
+      (record { armed = c.breakpoint.inside.armed; detector = c.breakpoint.inside.detector }) c.loop-i.invariant
+      (c.index_mut-breakpoint.ensures.value ∙ ap Some (sym c.breakpoint.view_is))
+      (λ (kept : Kept). IsShrunk kept.detector c.args.pid.0 c.args.world.now) c.requires;
 }
 
 pub loop-i-preserved : goal.loop-i-preserved
