@@ -47,7 +47,8 @@ module _ (P : Program) (H : History) (kept : Kept) where
   halts_by None armed none = inr none
   halts_by (Some cut) armed least = (armed, cut.now, least)
 
-  pub halts_here : (name : List ℕ) (rest : List Breakpoint) → Halts P H kept → IsHaltedBy P H (breakpoint_of (name, kept) ∷ rest) (Some name)
+  pub halts_here : (name : List ℕ) (rest : List Breakpoint) → Halts P H kept
+      → IsHaltedBy P H (breakpoint_of (name, kept) ∷ rest) (Some name)
   halts_here name rest halts =
       let b = breakpoint_of (name, kept) in
       match_true kept.armed ((HasCut P H b × (Some name ≡ Some name)) ⊎ (NoCut P H b.conjuncts × IsHaltedBy P H rest (Some name)))

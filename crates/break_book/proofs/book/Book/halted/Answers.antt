@@ -33,4 +33,5 @@ loop-name-preserved c = λ w P are now.
 pub returns : goal.returns
 returns c = λ w P are now.
     let before = c.loop-name.invariant w P are now in
-    before.1 None (subst (λ (l : List Entry). IsHaltedBy P (history_of w.state) (breakpoints_of l) None) (sym c.in-None.ensures.steps.0) refl)
+    before.1 None (subst (λ (l : List Entry). IsHaltedBy P (history_of w.state) (breakpoints_of l) None)
+    (sym c.in-None.ensures.steps.0) refl)

@@ -24,7 +24,8 @@ returns-in_err-position-clause-refuses c =
 pub returns-then-not-breakpoint-clause-refuses : goal.returns-then-not-breakpoint-clause-refuses
 returns-then-not-breakpoint-clause-refuses c = λ w P are now.
     let H = history_of w.state in
-    subst (λ (o : Option Breakpoint). CannotPass P H o refusals.NotArmed) (sym (named_at c.args.name c.args.self.now c.in_ok-position.position
+    subst (λ (o : Option Breakpoint). CannotPass P H o refusals.NotArmed)
+    (sym (named_at c.args.name c.args.self.now c.in_ok-position.position
     (record { armed = c.breakpoint.inside.armed; detector = c.breakpoint.inside.detector })
     (sym c.position.ensures ∙ of_ok c.position.result UnknownBreak c.in_ok-position.position
     (sym c.ok_or.ensures.value ∙ c.in_ok-position.was))

@@ -17,4 +17,5 @@ returns-in-Ok-clause-restores c =
 pub returns-in-Ok-clause-of : goal.returns-in-Ok-clause-of
 returns-in-Ok-clause-of c = λ w are is.
     subst (AreDetectorsOf w) (sym (returns-in-Ok-clause-restores c))
-    (all_insert (λ (entry : Entry). IsDetectorOf w entry.1.detector) c.args.self.now c.args.position (c.args.name, c.args.breakpoint) are is)
+    (all_insert (λ (entry : Entry). IsDetectorOf w entry.1.detector) c.args.self.now c.args.position
+    (c.args.name, c.args.breakpoint) are is)

@@ -13,7 +13,8 @@ loop-i-preserved c =
     turn (HasRoom (one_more c.args.world.now c.args.pid.0)) c.args.breaks.now.entries c.loop-i.breaks.entries c.loop-i.i
     (record { armed = c.breakpoint.inside.armed; detector = c.breakpoint.inside.detector }) c.loop-i.invariant
     (c.index_mut-breakpoint.ensures.value ∙ ap Some (sym c.breakpoint.view_is))
-    (λ (kept : Kept). HasRoomUpTo kept.detector c.args.world.now.state.places) (have_room c.args.world.now c.args.breaks.now.entries c.requires.of) in
+    (λ (kept : Kept). HasRoomUpTo kept.detector c.args.world.now.state.places)
+    (have_room c.args.world.now c.args.breaks.now.entries c.requires.of) in
     more (HasRoom (one_more c.args.world.now c.args.pid.0)) c.args.breaks.now.entries c.loop-i.breaks.entries c.loop-i.i
     (record { armed = c.breakpoint.inside.armed; detector = c.breakpoint.inside.detector }) c.loop-i.invariant
     (c.index_mut-breakpoint.ensures.value ∙ ap Some (sym c.breakpoint.view_is))
@@ -29,7 +30,8 @@ returns-in_err-reserve-clause-same c =
     roomier c.args.breaks.now.entries _ (c.loop-i.i + 1)
     (more IsRoomier c.args.breaks.now.entries c.loop-i.breaks.entries c.loop-i.i
     (record { armed = c.breakpoint.inside.armed; detector = c.breakpoint.inside.detector })
-    (roomier_so_far (one_more c.args.world.now c.args.pid.0) c.args.breaks.now.entries c.loop-i.breaks.entries c.loop-i.i c.loop-i.invariant)
+    (roomier_so_far (one_more c.args.world.now c.args.pid.0) c.args.breaks.now.entries c.loop-i.breaks.entries c.loop-i.i
+    c.loop-i.invariant)
     (c.index_mut-breakpoint.ensures.value ∙ ap Some (sym c.breakpoint.view_is))
     (record { armed = c.breakpoint.inside.armed; detector = c.reserve.new.self })
     (λ name. roomier_one (record { armed = c.breakpoint.inside.armed; detector = c.breakpoint.inside.detector })
@@ -38,7 +40,8 @@ returns-in_err-reserve-clause-same c =
 pub returns-clause-same : goal.returns-clause-same
 returns-clause-same c =
     roomier c.args.breaks.now.entries c.loop-i.breaks.entries c.loop-i.i
-    (roomier_so_far (one_more c.args.world.now c.args.pid.0) c.args.breaks.now.entries c.loop-i.breaks.entries c.loop-i.i c.loop-i.invariant)
+    (roomier_so_far (one_more c.args.world.now c.args.pid.0) c.args.breaks.now.entries c.loop-i.breaks.entries c.loop-i.i
+    c.loop-i.invariant)
 
 pub returns-clause-room : goal.returns-clause-room
 returns-clause-room c =
