@@ -121,15 +121,15 @@ Sets None P name conjuncts M said M' =
     Lists P (M.breakpoints ++ record { name = name; conjuncts = conjuncts; armed = true } ∷ []) M said M'
 
 -- a breakpoint that is not armed is armed
-abbrev pub Arms : Program → Breakpoint → ModelState → Said → ModelState → Type 0
-Arms P b M said M' =
-    MatchBool b.armed (Refuses AlreadyArmed M said M') (Lists P (with_mark b.name true M.breakpoints) M said M')
+abbrev pub Arms : Program → List ℕ → Breakpoint → ModelState → Said → ModelState → Type 0
+Arms P name b M said M' =
+    MatchBool b.armed (Refuses AlreadyArmed M said M') (Lists P (with_mark name true M.breakpoints) M said M')
 
 -- one that is armed, and has a cut, no longer halts the session
-abbrev pub Passes : Program → Breakpoint → ModelState → Said → ModelState → Type 0
-Passes P b M said M' =
+abbrev pub Passes : Program → List ℕ → Breakpoint → ModelState → Said → ModelState → Type 0
+Passes P name b M said M' =
     MatchBool b.armed
-    ((HasCut P (history_of M.system) b × Lists P (with_mark b.name false M.breakpoints) M said M')
+    ((HasCut P (history_of M.system) b × Lists P (with_mark name false M.breakpoints) M said M')
     ⊎ (HasNone P M b × Refuses refusals.NoCut M said M'))
     (Refuses NotArmed M said M')
 
@@ -147,5 +147,5 @@ Acts P (Goto name) M said M' =
     WithBreak name (λ b. GoesTo P b M said M' ⊎ (HasNone P M b × Refuses refusals.NoCut M said M')) M said M'
 Acts P (Break name conjuncts) M said M' = Sets (break_refusal P M name conjuncts) P name conjuncts M said M'
 Acts P (Clear name) M said M' = WithBreak name (λ b. Lists P (without name M.breakpoints) M said M') M said M'
-Acts P (Arm name) M said M' = WithBreak name (λ b. Arms P b M said M') M said M'
-Acts P (Pass name) M said M' = WithBreak name (λ b. Passes P b M said M') M said M'
+Acts P (Arm name) M said M' = WithBreak name (λ b. Arms P name b M said M') M said M'
+Acts P (Pass name) M said M' = WithBreak name (λ b. Passes P name b M said M') M said M'

@@ -15,8 +15,11 @@ use Rattle.dbg_base.specs.Reversal.{MayUndo, IsRollback}
 use Rattle.dbg_base.specs.Choices.{CannotUndo}
 use Rattle.dbg_base.specs.Breakpoints.{Breakpoint}
 use Rattle.dbg_base.specs.ModelStates.{ModelState, IsHalted, with_system}
-use Rattle.dbg_base.specs.Acts.{Accepts, Refuses, Plays, UnlessHalted, WithProcess, WithFound, TakesBack, KeepsEvent, RollsBack, RollsBackAt}
-use Rattle.dbg_command.specs.Tables.{Replies, UnknownIn, HaltedAt, Unready, said_of}
+use Rattle.dbg_base.specs.declared.refusal.Refusal.TheVariants as refusals
+use Rattle.dbg_base.specs.Calls.{Undo, Rollback, Goto}
+use Rattle.dbg_base.specs.Acts.{Accepts, Refuses, Plays, UnlessHalted, WithProcess, WithFound, RollsBack, RollsBackAt, GoesTo, HasNone}
+use Rattle.dbg_command.specs.Tables.{Replies, UnknownIn, Unready, HasLeast, LacksCut, ActsOrRefuses}
+use Rattle.std.specs.Prelude.{IfOk, IfErr, OnOk, OnErr}
 
 -- it did so, or memory ran out
 abbrev pub OrMemory : Type 0 → ModelState → Said → ModelState → Type 0
@@ -79,3 +82,61 @@ module _ (P : Program) (p : ℕ) (choice : Result ℕ Refusal) (after : ℕ → 
         inl (with_process P p _ M (Refused refusal) M' here
         (inl (goes, subst (λ (c : Result ℕ Refusal). Plays P p c after M (Refused refusal) M') (sym made) does)))
     not_played here goes (inr e) = no_memory P p _ M M' same refusal e
+
+-- the last event of a process that is there was taken back
+pub taken_back : (P : Program) (M M' : ModelState) (p k : ℕ) (reply : Reply) → p < length P → MayUndo P (history_of M.system) p
+    → last_choice M.system p ≡ Some k → M' ≡ with_system M (after_undo M.system p)
+    → Replies P M' (Undone (record { 0 = p }) (record { 0 = k })) reply → ActsOrRefuses P (Undo p) M (Ok reply) M'
+taken_back P M M' p k reply here may was left replies =
+    inl (with_process P p _ M (Accepted reply) M' here (inl (record {
+      may = may;
+      choice = k;
+      was = was;
+      told = accepted P M' (Undone (record { 0 = p }) (record { 0 = k })) reply replies;
+      left = left;
+    })))
+
+-- What a call that goes back to a cut returned: the places, or that memory ran out.
+pub record GoesBack (P : Program) (M : ModelState) (cut : List ℕ) (result : Result Reply Refusal) (M' : ModelState) : Type 0 where
+  pub moves : OnOk result (M' ≡ with_system M (after_rollback M.system cut))
+  pub replies : IfOk result (λ reply. Replies P M' (Places cut) reply)
+  pub refuses : IfErr result (λ refusal. refusal ≡ Memory)
+  pub kept : OnErr result (M' ≡ M)
+
+pub rolled_back : (P : Program) (M M' : ModelState) (p n : ℕ) (cut : List ℕ) (result : Result Reply Refusal) → p < length P
+    → n ≤ place_at M.system p → IsRollback P (history_of M.system) p n cut → GoesBack P M cut result M'
+    → ActsOrRefuses P (Rollback p n) M result M'
+rolled_back P M M' p n cut (Err refusal) here within is back = inr (refused M M' refusal Memory back.refuses back.kept)
+rolled_back P M M' p n cut (Ok reply) here within is back =
+    let said : Said = Accepted reply in
+    let rolled : RollsBack P p n M said M' =
+    record { cut = cut; is = is; told = accepted P M' (Places cut) reply back.replies; left = back.moves } in
+    let acts : RollsBackAt P p n M said M' =
+    subst (λ (t : Bool). MatchBool t (Refuses BadPlace M said M') (RollsBack P p n M said M'))
+    (sym (le-ltb (place_at M.system p) n within)) rolled in
+    inl (with_process P p _ M said M' here acts)
+
+pub went_to : (P : Program) (M M' : ModelState) (name cut : List ℕ) (result : Result Reply Refusal) → HasLeast P M name cut
+    → GoesBack P M cut result M' → ActsOrRefuses P (Goto name) M result M'
+went_to P M M' name cut (Err refusal) has back = inr (refused M M' refusal Memory back.refuses back.kept)
+went_to P M M' name cut (Ok reply) has back =
+    let said : Said = Accepted reply in
+    inl (subst (λ (o : Option Breakpoint). WithFound o (λ b. GoesTo P b M said M' ⊎ (HasNone P M b × Refuses refusals.NoCut M said M'))
+    M said M') (sym has.1.0) (inl (record {
+      cut = cut;
+      is = has.1.1;
+      told = accepted P M' (Places cut) reply back.replies;
+      left = back.moves;
+    })))
+
+pub not_gone : (P : Program) (M : ModelState) (name : List ℕ) (refusal : Refusal) → LacksCut P M name refusal
+    → ActsOrRefuses P (Goto name) M (Err refusal) M
+not_gone P M name refusal (inl lacks) =
+    let said : Said = Refused refusal in
+    inl (subst (λ (o : Option Breakpoint). WithFound o (λ b. GoesTo P b M said M ⊎ (HasNone P M b × Refuses refusals.NoCut M said M))
+    M said M) (sym lacks.none) (refused M M refusal UnknownBreak lacks.is refl))
+not_gone P M name refusal (inr (inl none)) =
+    let said : Said = Refused refusal in
+    inl (subst (λ (o : Option Breakpoint). WithFound o (λ b. GoesTo P b M said M ⊎ (HasNone P M b × Refuses refusals.NoCut M said M))
+    M said M) (sym none.there) (inr (none.none, refused M M refusal refusals.NoCut none.is refl)))
+not_gone P M name refusal (inr (inr e)) = inr (refused M M refusal Memory e refl)

@@ -1,15 +1,16 @@
-use Rattle.std.proofs.Common.{rules, ◌≡◌, map, ℕ, ◌+◌, ◌-◌, ◌*◌, ◌<◌, ◌≤◌, length, ◌/◌, ◌%◌, Bool, true, false, nat_eq, nat_lt, List, [], ◌∷◌, ◌++◌, slice_index_or, slice_set, bit_and, bit_or, Fits, w8, w32, w64, Bor, MutBor}
-use Rattle.dbg_base.specs.Trees as tree
+use Rattle.std.proofs.Common.{sym, subst, Ok}
 use Rattle.dbg_base.specs.Calls as model
-use Rattle.dbg_base.specs.Calls.{conjunct_of}
-use Rattle.proc_lang.specs.Programs.{program_of}
-use Rattle.dbg_command.specs.Tables.{IsTableOf, ActsOrRefuses, state_of}
+use Rattle.dbg_command.specs.Tables.{TableState, IsTableOf, ActsOrRefuses, state_of}
+use Rattle.dbg_command.proofs.Breaking.{keeps_table, arms}
 use Rattle.dbg_command.proofs.table.Table.arm.Goals as goal
 
--- src/breaking.rt:54:5
 pub returns-clause-of : goal.returns-clause-of
-returns-clause-of c = ?
+returns-clause-of c = λ P is.
+    keeps_table P c.self.inside.world c.self.inside.book c.arm.new.self c.in_ok-arm.ensures.of (subst (IsTableOf P) (sym c.self.view_is) is)
 
--- src/breaking.rt:54:5
 pub returns-clause-acts : goal.returns-clause-acts
-returns-clause-acts c = ?
+returns-clause-acts c = λ P is.
+    let after : TableState = record { world = c.self.inside.world; book = c.arm.new.self } in
+    subst (λ (t : TableState). ActsOrRefuses P (model.Arm c.args.name) (state_of t) (Ok c.reply.result) (state_of after)) c.self.view_is
+    (arms P c.self.inside.world c.self.inside.book c.arm.new.self c.reply.result (c.reply.ensures P (returns-clause-of c P is))
+    c.args.name c.in_ok-arm.ensures.arms.0 c.in_ok-arm.ensures.arms.1)
