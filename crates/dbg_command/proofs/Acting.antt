@@ -1,6 +1,6 @@
 -- What is said to a command, case by case.
 use Rattle.std.proofs.Common.{◌≡◌, ◌⊎◌, inl, inr, ℕ, ◌<◌, ◌≤◌, Bool, true, false, List, [], ◌∷◌, ◌++◌, length, Option, Some, None, Result, Ok, Err}
-use Rattle.std.proofs.Common.{refl, sym, ap, ◌∙◌, subst, MatchBool}
+use Rattle.std.proofs.Common.{zero, suc, refl, sym, ap, ◌∙◌, subst, MatchBool, arith}
 use Rattle.std.proofs.lemmas.Bool.{lt-ltb, le-ltb}
 use Rattle.dbg_base.specs.declared.said.Done.{Done}
 use Rattle.dbg_base.specs.declared.said.Done.TheVariants.{Played, Undone, Places, Plain}
@@ -19,7 +19,17 @@ use Rattle.dbg_base.specs.declared.refusal.Refusal.TheVariants as refusals
 use Rattle.dbg_base.specs.Calls.{Undo, Rollback, Goto}
 use Rattle.dbg_base.specs.Acts.{Accepts, Refuses, Plays, UnlessHalted, WithProcess, WithFound, RollsBack, RollsBackAt, GoesTo, HasNone}
 use Rattle.dbg_command.specs.Tables.{Replies, UnknownIn, Unready, HasLeast, LacksCut, ActsOrRefuses}
-use Rattle.std.specs.Prelude.{IfOk, IfErr, OnOk, OnErr}
+use Rattle.std.specs.Prelude.{IfOk, IfErr, OnOk, OnErr, slice_get}
+use Rattle.dbg_base.specs.declared.refusal.Refusal.TheVariants.{NothingToRedo}
+use Rattle.dbg_base.specs.Choices.{redo_choice, choice_again}
+use Rattle.dbg_base.specs.SystemStates.{line_of, configuration_of}
+use Rattle.dbg_base.specs.Predicates.{Conjunct, IsLeast}
+use Rattle.cut_core.specs.declared.kind.Kind.{Kind}
+use Rattle.cut_core.specs.ConsistentCuts.{IsConsistentCut}
+use Rattle.causal_world.specs.Scenes.{Scene, IsWorldOf}
+use Rattle.causal_world.proofs.KindsOf.{consistent_cut}
+use Rattle.break_book.specs.Books.{breakpoints_of}
+use Rattle.dbg_command.specs.Tables.{TableState, state_of}
 
 -- it did so, or memory ran out
 abbrev pub OrMemory : Type 0 → ModelState → Said → ModelState → Type 0
@@ -122,9 +132,9 @@ went_to P M M' name cut (Err refusal) has back = inr (refused M M' refusal Memor
 went_to P M M' name cut (Ok reply) has back =
     let said : Said = Accepted reply in
     inl (subst (λ (o : Option Breakpoint). WithFound o (λ b. GoesTo P b M said M' ⊎ (HasNone P M b × Refuses refusals.NoCut M said M'))
-    M said M') (sym has.1.0) (inl (record {
+    M said M') (sym has.1) (inl (record {
       cut = cut;
-      is = has.1.1;
+      is = has.2;
       told = accepted P M' (Places cut) reply back.replies;
       left = back.moves;
     })))
@@ -140,3 +150,28 @@ not_gone P M name refusal (inr (inl none)) =
     inl (subst (λ (o : Option Breakpoint). WithFound o (λ b. GoesTo P b M said M ⊎ (HasNone P M b × Refuses refusals.NoCut M said M))
     M said M) (sym none.there) (inr (none.none, refused M M refusal refusals.NoCut none.is refl)))
 not_gone P M name refusal (inr (inr e)) = inr (refused M M refusal Memory e refl)
+
+-- the system changed, and the breakpoints did not
+pub system_changed : (before after : TableState) (system : SystemState) → after.world.state ≡ system
+    → breakpoints_of after.book ≡ breakpoints_of before.book → state_of after ≡ with_system (state_of before) system
+system_changed before after system moved same = λ i. record { system = moved i; breakpoints = same i }
+
+on_line : (line : List ℕ) (n k : ℕ) → slice_get line n ≡ Some k → n < length line
+on_line [] n k e = cc
+on_line (choice ∷ line) zero k e = omega arith
+on_line (choice ∷ line) (suc n) k e = let rest = on_line line n k e in omega (arith, rest)
+
+-- a choice that is made again is on its line
+pub redo_left : (P : Program) (M : SystemState) (p k : ℕ) → redo_choice P M p ≡ Ok k → place_at M p < length (line_of M p)
+redo_left P M p k made = by (slice_get (line_of M p) (place_at M p)) refl
+  where
+    by : (o : Option ℕ) → slice_get (line_of M p) (place_at M p) ≡ o → place_at M p < length (line_of M p)
+    by None e =
+        let wrong : Err NothingToRedo ≡ Ok k = sym (ap (choice_again P (configuration_of P M) p) e) ∙ made in cc
+    by (Some choice) e = on_line (line_of M p) (place_at M p) choice e
+
+-- the least cut of a world is consistent by what its events sent and received
+pub consistent_least : (P : Program) (w : Scene) → IsWorldOf P w → (conjuncts : List Conjunct) (cut : List ℕ)
+    → IsLeast P (history_of w.state) conjuncts cut → IsConsistentCut w.kinds cut
+consistent_least P w of conjuncts cut is =
+    subst (λ (kinds : List (List Kind)). IsConsistentCut kinds cut) (sym of.counts) (consistent_cut P (history_of w.state) cut is.satisfies.consistent)

@@ -1,3 +1,3 @@
 pub mod Fitting
 pub mod Acting
-pub mod Breaking
+pub mod Listing

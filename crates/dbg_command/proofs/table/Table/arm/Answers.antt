@@ -1,7 +1,7 @@
 use Rattle.std.proofs.Common.{sym, subst, Ok}
 use Rattle.dbg_base.specs.Calls as model
 use Rattle.dbg_command.specs.Tables.{TableState, IsTableOf, ActsOrRefuses, state_of}
-use Rattle.dbg_command.proofs.Breaking.{keeps_table, arms}
+use Rattle.dbg_command.proofs.Listing.{keeps_table, arms}
 use Rattle.dbg_command.proofs.table.Table.arm.Goals as goal
 
 pub returns-clause-of : goal.returns-clause-of

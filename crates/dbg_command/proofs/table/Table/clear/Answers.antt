@@ -1,15 +1,19 @@
-use Rattle.std.proofs.Common.{rules, ◌≡◌, map, ℕ, ◌+◌, ◌-◌, ◌*◌, ◌<◌, ◌≤◌, length, ◌/◌, ◌%◌, Bool, true, false, nat_eq, nat_lt, List, [], ◌∷◌, ◌++◌, slice_index_or, slice_set, bit_and, bit_or, Fits, w8, w32, w64, Bor, MutBor}
-use Rattle.dbg_base.specs.Trees as tree
+use Rattle.std.proofs.Common.{sym, subst, Ok}
 use Rattle.dbg_base.specs.Calls as model
-use Rattle.dbg_base.specs.Calls.{conjunct_of}
-use Rattle.proc_lang.specs.Programs.{program_of}
-use Rattle.dbg_command.specs.Tables.{IsTableOf, ActsOrRefuses, state_of}
+use Rattle.break_book.specs.Books.{breakpoint_of}
+use Rattle.dbg_command.specs.Tables.{TableState, IsTableOf, ActsOrRefuses, state_of}
+use Rattle.dbg_command.proofs.Listing.{keeps_table, clears}
 use Rattle.dbg_command.proofs.table.Table.clear.Goals as goal
 
--- src/breaking.rt:43:5
 pub returns-clause-of : goal.returns-clause-of
-returns-clause-of c = ?
+returns-clause-of c = λ P is.
+    keeps_table P c.self.inside.world c.self.inside.book c.clear.new.self c.in_ok-_cleared.ensures.of
+    (subst (IsTableOf P) (sym c.self.view_is) is)
 
--- src/breaking.rt:43:5
 pub returns-clause-acts : goal.returns-clause-acts
-returns-clause-acts c = ?
+returns-clause-acts c = λ P is.
+    let after : TableState = record { world = c.self.inside.world; book = c.clear.new.self } in
+    subst (λ (t : TableState). ActsOrRefuses P (model.Clear c.args.name) (state_of t) (Ok c.reply.result) (state_of after)) c.self.view_is
+    (clears P c.self.inside.world c.self.inside.book c.clear.new.self c.reply.result (c.reply.ensures P (returns-clause-of c P is))
+    c.args.name (breakpoint_of (c.args.name, c.in_ok-_cleared._cleared.1)) c.in_ok-_cleared.ensures.clears.0
+    c.in_ok-_cleared.ensures.clears.1)

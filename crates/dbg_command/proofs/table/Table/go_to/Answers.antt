@@ -1,23 +1,26 @@
-use Rattle.std.proofs.Common.{rules, ◌≡◌, OnErr, OnOk, IfOk, IfErr, ℕ, ◌+◌, ◌-◌, ◌*◌, ◌<◌, ◌≤◌, length, ◌/◌, ◌%◌, Bool, true, false, nat_eq, nat_lt, List, [], ◌∷◌, ◌++◌, slice_index_or, slice_set, bit_and, bit_or, Fits, w8, w32, w64, Bor, MutBor}
-use Rattle.dbg_base.specs.declared.said.Done.TheVariants.{Places}
-use Rattle.dbg_base.specs.declared.refusal.Refusal.TheVariants.{Memory}
-use Rattle.dbg_base.specs.Trees as tree
+use Rattle.std.proofs.Common.{◌≡◌, Err, subst, sym, rules}
 use Rattle.dbg_base.specs.Calls as model
-use Rattle.dbg_base.specs.SystemStates.{after_rollback}
-use Rattle.dbg_base.specs.ModelStates.{with_system}
-use Rattle.proc_lang.specs.Programs.{program_of}
-use Rattle.cut_core.specs.ConsistentCuts.{IsConsistentCut}
-use Rattle.dbg_command.specs.Tables.{IsTableOf, ActsOrRefuses, Replies, HasLeast, LacksCut, state_of}
+use Rattle.dbg_command.specs.Tables.{ActsOrRefuses, state_of}
+use Rattle.dbg_command.proofs.Acting.{went_to, not_gone, consistent_least}
 use Rattle.dbg_command.proofs.table.Table.go_to.Goals as goal
 
--- src/undoing.rt:86:19
 pub returns-in_err-cut-clause-acts : goal.returns-in_err-cut-clause-acts
-returns-in_err-cut-clause-acts c = ?
+returns-in_err-cut-clause-acts c = λ P is.
+    let refused = c.in_err-cut.was in
+    let err : c.from_residual.result ≡ Err c.in_err-cut.field-0.0 = search (rules, refused) in
+    rw err (not_gone P (state_of c.args.self.now) c.args.name c.in_err-cut.field-0.0 (c.in_err-cut.ensures.refuses P is))
 
--- src/undoing.rt:87:9
 pub roll_to-requires-clause-cut : goal.roll_to-requires-clause-cut
-roll_to-requires-clause-cut c = ?
+roll_to-requires-clause-cut c =
+    let least = c.in_ok-cut.ensures.cut c.requires.0 c.requires.1 in
+    consistent_least c.requires.0 c.args.self.now.world c.requires.1.world least.0.conjuncts c.in_ok-cut.cut least.2
 
--- src/undoing.rt:80:5
 pub returns-clause-acts : goal.returns-clause-acts
-returns-clause-acts c = ?
+returns-clause-acts c = λ P is.
+    went_to P (state_of c.args.self.now) (state_of c.roll_to.new.self) c.args.name c.in_ok-cut.cut c.roll_to.result
+    (c.in_ok-cut.ensures.cut P is) (record {
+      moves = c.roll_to.ensures.moves;
+      replies = ?;
+      refuses = c.roll_to.ensures.refuses;
+      kept = c.roll_to.ensures.kept;
+    })

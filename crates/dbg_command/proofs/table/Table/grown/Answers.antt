@@ -1,13 +1,11 @@
-use Rattle.std.proofs.Common.{rules, ◌≡◌, ℕ, ◌+◌, ◌-◌, ◌*◌, ◌<◌, ◌≤◌, length, ◌/◌, ◌%◌, Bool, true, false, nat_eq, nat_lt, List, [], ◌∷◌, ◌++◌, slice_index_or, slice_set, bit_and, bit_or, Fits, w8, w32, w64, Bor, MutBor}
-use Rattle.dbg_base.specs.declared.said.Done.TheVariants.{Played}
-use Rattle.dbg_base.specs.Trees as tree
-use Rattle.dbg_base.specs.Calls as model
-use Rattle.proc_lang.specs.Programs.{program_of}
-use Rattle.causal_world.specs.Scenes.{IsWorldOf}
-use Rattle.break_book.specs.Books.{AreGrown, HaveRoomUpTo}
-use Rattle.dbg_command.specs.Tables.{IsTableOf, ActsOrRefuses, Replies, state_of}
+use Rattle.std.proofs.Common.{ap, sym, subst}
+use Rattle.causal_world.specs.Scenes.{Scene, IsWorldOf}
+use Rattle.dbg_command.specs.Tables.{TableState}
 use Rattle.dbg_command.proofs.table.Table.grown.Goals as goal
 
--- src/playing.rt:19:5
 pub returns-clause-replies : goal.returns-clause-replies
-returns-clause-replies c = ?
+returns-clause-replies c = λ P is.
+    c.reply.ensures P (record {
+      world = subst (IsWorldOf P) (ap (λ (t : TableState). t.world) (sym c.self.view_is)) is;
+      detectors = c.grow.ensures.of;
+    })

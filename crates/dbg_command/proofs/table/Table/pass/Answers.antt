@@ -1,19 +1,27 @@
-use Rattle.std.proofs.Common.{rules, ◌≡◌, map, ℕ, ◌+◌, ◌-◌, ◌*◌, ◌<◌, ◌≤◌, length, ◌/◌, ◌%◌, Bool, true, false, nat_eq, nat_lt, List, [], ◌∷◌, ◌++◌, slice_index_or, slice_set, bit_and, bit_or, Fits, w8, w32, w64, Bor, MutBor}
-use Rattle.dbg_base.specs.Trees as tree
+use Rattle.std.proofs.Common.{◌≡◌, sym, subst, Ok, Err, rules}
 use Rattle.dbg_base.specs.Calls as model
-use Rattle.dbg_base.specs.Calls.{conjunct_of}
-use Rattle.proc_lang.specs.Programs.{program_of}
-use Rattle.dbg_command.specs.Tables.{IsTableOf, ActsOrRefuses, state_of}
+use Rattle.dbg_command.specs.Tables.{TableState, IsTableOf, ActsOrRefuses, state_of}
+use Rattle.dbg_command.proofs.Listing.{keeps_table, passes, not_passed}
 use Rattle.dbg_command.proofs.table.Table.pass.Goals as goal
 
--- src/breaking.rt:71:9
 pub returns-in_err-pass-clause-acts : goal.returns-in_err-pass-clause-acts
-returns-in_err-pass-clause-acts c = ?
+returns-in_err-pass-clause-acts c = λ P is.
+    let refused = c.in_err-pass.was in
+    let err : c.from_residual.result ≡ Err c.in_err-pass.field-0.0 = search (rules, refused) in
+    let own : IsTableOf P (record { world = c.self.inside.world; book = c.self.inside.book }) = subst (IsTableOf P) (sym c.self.view_is) is in
+    let after : TableState = record { world = c.self.inside.world; book = c.pass.new.self } in
+    let same : after ≡ c.args.self.now = search (rules, refused) in
+    ?
 
--- src/breaking.rt:65:5
 pub returns-clause-of : goal.returns-clause-of
-returns-clause-of c = ?
+returns-clause-of c = λ P is.
+    keeps_table P c.self.inside.world c.self.inside.book c.pass.new.self c.in_ok-pass.ensures.of
+    (subst (IsTableOf P) (sym c.self.view_is) is)
 
--- src/breaking.rt:65:5
 pub returns-clause-acts : goal.returns-clause-acts
-returns-clause-acts c = ?
+returns-clause-acts c = λ P is.
+    let own : IsTableOf P (record { world = c.self.inside.world; book = c.self.inside.book }) = subst (IsTableOf P) (sym c.self.view_is) is in
+    let after : TableState = record { world = c.self.inside.world; book = c.pass.new.self } in
+    subst (λ (t : TableState). ActsOrRefuses P (model.Pass c.args.name) (state_of t) (Ok c.reply.result) (state_of after)) c.self.view_is
+    (passes P c.self.inside.world c.self.inside.book c.pass.new.self c.reply.result (c.reply.ensures P (returns-clause-of c P is))
+    c.args.name (c.in_ok-pass.ensures.passes.1 c.self.inside.world P own.detectors own.world) c.in_ok-pass.ensures.passes.0)

@@ -1,23 +1,23 @@
-use Rattle.std.proofs.Common.{rules, ◌≡◌, OnErr, OnOk, IfOk, IfErr, ℕ, ◌+◌, ◌-◌, ◌*◌, ◌<◌, ◌≤◌, length, ◌/◌, ◌%◌, Bool, true, false, nat_eq, nat_lt, List, [], ◌∷◌, ◌++◌, slice_index_or, slice_set, bit_and, bit_or, Fits, w8, w32, w64, Bor, MutBor}
-use Rattle.dbg_base.specs.declared.said.Done.TheVariants.{Places}
-use Rattle.dbg_base.specs.declared.refusal.Refusal.TheVariants.{Memory}
-use Rattle.dbg_base.specs.Trees as tree
-use Rattle.dbg_base.specs.Calls as model
-use Rattle.dbg_base.specs.SystemStates.{after_rollback}
-use Rattle.dbg_base.specs.ModelStates.{with_system}
-use Rattle.proc_lang.specs.Programs.{program_of}
-use Rattle.cut_core.specs.ConsistentCuts.{IsConsistentCut}
-use Rattle.dbg_command.specs.Tables.{IsTableOf, ActsOrRefuses, Replies, HasLeast, LacksCut, state_of}
+use Rattle.std.proofs.Common.{sym, subst}
+use Rattle.break_book.proofs.Callers.{book_moved, book_moved_room}
+use Rattle.dbg_command.specs.Tables.{IsTableOf}
 use Rattle.dbg_command.proofs.table.Table.roll_to.Goals as goal
 
--- src/undoing.rt:45:9
 pub follow-requires-clause-moved : goal.follow-requires-clause-moved
-follow-requires-clause-moved c = ?
+follow-requires-clause-moved c =
+    let P = c.requires.of.0 in
+    let own = subst (IsTableOf P) (sym c.self.view_is) c.requires.of.1 in
+    book_moved P c.self.inside.world c.roll_to.new.self c.self.inside.book own.world (c.in_ok-_rolled.ensures.of P own.world)
+    own.detectors c.args.cut ? c.in_ok-_rolled.ensures.moves
 
--- src/undoing.rt:45:9
 pub follow-requires-clause-room : goal.follow-requires-clause-room
-follow-requires-clause-room c = ?
+follow-requires-clause-room c =
+    let P = c.requires.of.0 in
+    let own = subst (IsTableOf P) (sym c.self.view_is) c.requires.of.1 in
+    book_moved_room P c.self.inside.world c.roll_to.new.self c.self.inside.book own.world (c.in_ok-_rolled.ensures.of P own.world)
+    own.detectors c.args.cut ? c.in_ok-_rolled.ensures.moves
 
--- src/undoing.rt:34:5
 pub returns-clause-replies : goal.returns-clause-replies
-returns-clause-replies c = ?
+returns-clause-replies c = λ P is.
+    let own = subst (IsTableOf P) (sym c.self.view_is) is in
+    c.reply.ensures P (record { world = c.in_ok-_rolled.ensures.of P own.world; detectors = c.follow.ensures.of })

@@ -1,13 +1,12 @@
-use Rattle.std.proofs.Common.{rules, ◌≡◌, ℕ, ◌+◌, ◌-◌, ◌*◌, ◌<◌, ◌≤◌, length, ◌/◌, ◌%◌, Bool, true, false, nat_eq, nat_lt, List, [], ◌∷◌, ◌++◌, slice_index_or, slice_set, bit_and, bit_or, Fits, w8, w32, w64, Bor, MutBor}
-use Rattle.dbg_base.specs.declared.said.Done.TheVariants.{Played}
-use Rattle.dbg_base.specs.Trees as tree
-use Rattle.dbg_base.specs.Calls as model
+use Rattle.std.proofs.Common.{sym, subst}
 use Rattle.proc_lang.specs.Programs.{program_of}
-use Rattle.causal_world.specs.Scenes.{IsWorldOf}
-use Rattle.break_book.specs.Books.{AreGrown, HaveRoomUpTo}
-use Rattle.dbg_command.specs.Tables.{IsTableOf, ActsOrRefuses, Replies, state_of}
+use Rattle.break_book.proofs.Callers.{book_grown}
+use Rattle.dbg_command.specs.Tables.{IsTableOf}
 use Rattle.dbg_command.proofs.table.Table.step.Goals as goal
 
--- src/playing.rt:45:12
 pub grown-requires-clause-grown : goal.grown-requires-clause-grown
-grown-requires-clause-grown c = ?
+grown-requires-clause-grown c =
+    let P = program_of c.args.program.now in
+    let own = subst (IsTableOf P) (sym c.self.view_is) c.ready.ensures.of in
+    book_grown P c.self.inside.world c.step.new.self c.self.inside.book own.world c.step.ensures.of own.detectors c.args.pid.0
+    c.args.choice.0 c.in_ok-ready.ensures.ready.here c.in_ok-_cutoff.ensures.moves.1

@@ -1,19 +1,32 @@
-use Rattle.std.proofs.Common.{rules, ◌≡◌, OnErr, OnOk, IfOk, IfErr, ℕ, ◌+◌, ◌-◌, ◌*◌, ◌<◌, ◌≤◌, length, ◌/◌, ◌%◌, Bool, true, false, nat_eq, nat_lt, List, [], ◌∷◌, ◌++◌, slice_index_or, slice_set, bit_and, bit_or, Fits, w8, w32, w64, Bor, MutBor}
-use Rattle.dbg_base.specs.declared.said.Done.TheVariants.{Places}
-use Rattle.dbg_base.specs.declared.refusal.Refusal.TheVariants.{Memory}
-use Rattle.dbg_base.specs.Trees as tree
+use Rattle.std.proofs.Common.{◌≡◌, Option, Some, Ok, sym, ap, ◌∙◌, subst, rules}
+use Rattle.std.specs.Option.{option_map}
+use Rattle.dbg_base.specs.declared.ids.Choice.{Choice}
 use Rattle.dbg_base.specs.Calls as model
-use Rattle.dbg_base.specs.SystemStates.{after_rollback}
-use Rattle.dbg_base.specs.ModelStates.{with_system}
+use Rattle.dbg_base.specs.SystemStates.{last_choice}
 use Rattle.proc_lang.specs.Programs.{program_of}
-use Rattle.cut_core.specs.ConsistentCuts.{IsConsistentCut}
-use Rattle.dbg_command.specs.Tables.{IsTableOf, ActsOrRefuses, Replies, HasLeast, LacksCut, state_of}
+use Rattle.break_book.specs.Books.{breakpoints_of}
+use Rattle.break_book.proofs.Callers.{book_shrunk}
+use Rattle.dbg_command.specs.Tables.{TableState, IsTableOf, ActsOrRefuses, state_of}
+use Rattle.dbg_command.proofs.Acting.{taken_back, system_changed}
 use Rattle.dbg_command.proofs.table.Table.undo.Goals as goal
 
--- src/undoing.rt:29:9
 pub shrink-requires : goal.shrink-requires
-shrink-requires c = ?
+shrink-requires c =
+    let P = program_of c.args.program.now in
+    let own = subst (IsTableOf P) (sym c.self.view_is) c.requires in
+    book_shrunk P c.self.inside.world c.undo.new.self c.self.inside.book own.world (c.in_ok-_rolled.ensures.of P own.world) own.detectors
+    c.args.pid.0 c.in_ok-known.ensures.here c.in_ok-_rolled.ensures.moves
 
--- src/undoing.rt:21:5
 pub returns-clause-acts : goal.returns-clause-acts
-returns-clause-acts c = ?
+returns-clause-acts c =
+    let P = program_of c.args.program.now in
+    let own = subst (IsTableOf P) (sym c.self.view_is) c.requires in
+    let before : TableState = record { world = c.self.inside.world; book = c.self.inside.book } in
+    let after : TableState = record { world = c.undo.new.self; book = c.shrink.new.self } in
+    let of : IsTableOf P after = record { world = c.in_ok-_rolled.ensures.of P own.world; detectors = c.shrink.ensures.of } in
+    let chosen : c.ok_or.result ≡ Ok c.in_ok-choice.choice = c.in_ok-choice.was in
+    let was : last_choice c.self.inside.world.state c.args.pid.0 ≡ Some c.in_ok-choice.choice.0 = search (rules, chosen) in
+    subst (λ (t : TableState). ActsOrRefuses P (model.Undo c.args.pid.0) (state_of t) (Ok c.reply.result) (state_of after)) c.self.view_is
+    (taken_back P (state_of before) (state_of after) c.args.pid.0 c.in_ok-choice.choice.0 c.reply.result c.in_ok-known.ensures.here
+    (c.in_ok-_rolled.ensures.may P own.world) was (system_changed before after _ c.in_ok-_rolled.ensures.moves c.shrink.ensures.same)
+    (c.reply.ensures P of))
