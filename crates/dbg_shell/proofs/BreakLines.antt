@@ -104,7 +104,8 @@ parts_more (suc n) (suc m) bytes low high =
     part_then_same (name_word (next_word bytes)) front rest (parts_within n) (parts_within m)
     (parts_more n m rest (omega (arith, less)) (omega (arith, less))))
 
-goes_on : (n : ℕ) (x y : Option (List Part)) → 0 < n → cond (nat_le n 0) x y ≡ y
+-- there is a word
+pub goes_on : (n : ℕ) (x y : Option (List Part)) → 0 < n → cond (nat_le n 0) x y ≡ y
 goes_on zero x y some = absurd (omega arith)
 goes_on (suc n) x y some =
     let e : nat_le (suc n) 0 ≡ false = grind (arith, nat_tests) in

@@ -4,6 +4,7 @@ pub mod Words
 pub mod Places
 pub mod BreakLines
 pub mod PartsRead
+pub mod BreakAsked
 pub mod LineCalls
 pub mod WholeLines
 pub mod Reading

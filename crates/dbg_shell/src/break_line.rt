@@ -164,16 +164,24 @@ pub(crate) fn parse_break(
 ) -> Result<Option<Line>, Refusal>
     ensures { IsBreakParsed (program_of program.now) (break_parts seat.now bytes.now) result }
 {
-    let seat = seat_word(seat).ok_or(Refusal::BadLine)?;
-    let (name, rest) = next_word(bytes);
-    let name = name_word(name).ok_or(Refusal::BadLine)?;
+    let Some(seat) = seat_word(seat) else {
+        return Err(Refusal::BadLine);
+    };
+    let (word, rest) = next_word(bytes);
+    let Some(name) = name_word(word) else {
+        return Err(Refusal::BadLine);
+    };
     if next_word(rest).0.is_empty() {
         return Err(Refusal::BadLine);
     }
     if !are_parts(rest) {
         return Err(Refusal::BadLine);
     }
-    let conjuncts = read_parts(alloc, program, rest)?;
-    let call = Call::Give(Plan::Break(name, conjuncts));
-    Ok(Some(Line { seat, call }))
+    match read_parts(alloc, program, rest) {
+        Ok(conjuncts) => {
+            let call = Call::Give(Plan::Break(name, conjuncts));
+            Ok(Some(Line { seat, call }))
+        }
+        Err(refusal) => Err(refusal),
+    }
 }

@@ -1,7 +1,7 @@
-use Rattle.std.proofs.Common.{◌≡◌, ◌<◌, length, true, Some, arith, sym, ap, ◌∙◌, drop, rules}
+use Rattle.std.proofs.Common.{◌≡◌, ◌<◌, length, true, Some, arith, sym, ap, ◌∙◌, drop}
 use Rattle.std.proofs.lemmas.Bool.Decides.{nat_tests}
 use Rattle.std.proofs.lemmas.Grind.{common_steps}
-use Rattle.dbg_base.specs.CommandLines.{is_apart, name_word, next_word, predicate_front, without_blanks}
+use Rattle.dbg_base.specs.CommandLines.{is_apart, name_word, predicate_front, without_blanks}
 use Rattle.dbg_shell.proofs.BreakLines.{has_part}
 use Rattle.dbg_shell.proofs.break_line.next_part.Goals as goal
 

@@ -1,5 +1,4 @@
-use Rattle.std.proofs.Common.{◌≡◌, length, ap, sym, ◌∙◌}
-use Rattle.dbg_base.specs.CommandLines.{predicate_front}
+use Rattle.std.proofs.Common.{length, ap, sym, ◌∙◌}
 use Rattle.dbg_shell.proofs.Words.{word_length_is}
 use Rattle.dbg_shell.proofs.BreakLines.{predicate_is_word}
 use Rattle.dbg_shell.proofs.break_line.predicate_length.Goals as goal

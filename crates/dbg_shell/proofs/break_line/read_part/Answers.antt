@@ -1,4 +1,4 @@
-use Rattle.std.proofs.Common.{◌≡◌, Ok, true, false, arith, sym, ◌∙◌, inl}
+use Rattle.std.proofs.Common.{◌≡◌, Ok, true, false, arith, inl}
 use Rattle.std.proofs.lemmas.Grind.{common_steps}
 use Rattle.dbg_base.specs.Trees.{tree_of}
 use Rattle.dbg_base.specs.CommandLines.{named_process}

@@ -1,6 +1,6 @@
 use Rattle.std.proofs.Common.{◌≡◌, length, arith, sym, ◌∙◌, ap, take, drop}
 use Rattle.std.proofs.lemmas.List.Sums.{prefix_len-le-length}
-use Rattle.dbg_base.specs.CommandLines.{word_front, next_word}
+use Rattle.dbg_base.specs.CommandLines.{word_front}
 use Rattle.dbg_shell.proofs.Words.{is_inner, word_length_is, word_taken}
 use Rattle.dbg_shell.proofs.command_line.next_word.Goals as goal
 
