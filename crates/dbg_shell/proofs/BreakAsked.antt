@@ -1,8 +1,7 @@
 -- What a line that sets a breakpoint asks for, from what was read of it.
-use Rattle.std.proofs.Common.{◌≡◌, ◌⊎◌, ℕ, zero, suc, ◌<◌, Bool, true, false, cond, List, [], ◌∷◌, length, drop, map, Option, Some, None, Result, Ok, Err}
-use Rattle.std.proofs.Common.{is_some, refl, sym, ap, ◌∙◌, subst, inl, inr, arith}
+use Rattle.std.proofs.Common.{◌≡◌, ◌⊎◌, ℕ, zero, suc, ◌<◌, Bool, true, false, cond, List, [], ◌∷◌, length, drop, map, Option, Some, None}
+use Rattle.std.proofs.Common.{is_some, Result, Ok, Err, refl, sym, ap, ◌∙◌, subst, inl, inr, arith}
 use Rattle.std.specs.Prelude.{nat_le}
-use Rattle.std.proofs.lemmas.Bool.Decides.{nat_tests}
 use Rattle.dbg_base.specs.declared.call.Conjunct as conjunct
 use Rattle.dbg_base.specs.declared.call.Plan.TheVariants as plans
 use Rattle.dbg_base.specs.declared.call.Call.TheVariants as calls
@@ -10,8 +9,8 @@ use Rattle.dbg_base.specs.declared.refusal.Refusal.{Refusal}
 use Rattle.dbg_base.specs.declared.refusal.Refusal.TheVariants.{BadLine, Memory}
 use Rattle.dbg_base.specs.Calls.{conjunct_of}
 use Rattle.dbg_base.specs.Trees.{Program}
-use Rattle.dbg_base.specs.CommandLines.{Part, BreakLine, seat_word, name_word, next_word, after_word, without_blanks, is_apart, with_part, predicate_front}
-use Rattle.dbg_base.specs.CommandLines.{map_ok, part_then, part_at, parts_within, break_line_of}
+use Rattle.dbg_base.specs.CommandLines.{Part, BreakLine, seat_word, name_word, next_word, after_word, without_blanks, predicate_front}
+use Rattle.dbg_base.specs.CommandLines.{is_apart, with_part, map_ok, part_then, part_at, parts_within, break_line_of}
 use Rattle.dbg_base.specs.Requests.{ReadsParts, AsksBreak, break_parts, break_request}
 use Rattle.dbg_shell.specs.declared.command_line.Line.{Line}
 use Rattle.dbg_shell.specs.Lines.{IsBreakParsed, parts_of}

@@ -1,7 +1,7 @@
 -- The parts of a line that sets a breakpoint, from its front.
 use Rattle.std.proofs.Common.{◌≡◌, ◌≢◌, ℕ, zero, suc, ◌+◌, ◌-◌, ◌<◌, ◌≤◌, Bool, true, false, cond, eqb, List, [], ◌∷◌, length, get_or, take}
 use Rattle.std.proofs.Common.{drop, Option, Some, None, refl, sym, ap, ◌∙◌, arith}
-use Rattle.std.specs.Prelude.{nat_le, min}
+use Rattle.std.specs.Prelude.{nat_le}
 use Rattle.std.proofs.lemmas.Bool.{eqb-true}
 use Rattle.std.proofs.lemmas.Bool.Decides.{nat_tests}
 use Rattle.std.proofs.lemmas.List.{length-take, length-drop}
@@ -67,10 +67,11 @@ shorter [] = omega arith
 shorter (b ∷ bytes) = shorter_by b bytes (is_blank b) refl (shorter bytes)
 
 -- what is behind a word is shorter than what it begins
-pub behind_shorter : (bytes : List ℕ) → 0 < length (next_word bytes) → length (after_word bytes) < length bytes
+behind_shorter : (bytes : List ℕ) → 0 < length (next_word bytes) → length (after_word bytes) < length bytes
 behind_shorter bytes some =
     let within = prefix_len-le-length is_inner (without_blanks bytes) in
-    omega (arith, some, shorter bytes, word_length_is (without_blanks bytes), within, length-drop (length (next_word bytes)) (without_blanks bytes))
+    let behind = length-drop (length (next_word bytes)) (without_blanks bytes) in
+    omega (arith, some, shorter bytes, word_length_is (without_blanks bytes), within, behind)
 
 -- and so is what is behind something behind it
 rest_shorter : (bytes : List ℕ) (n : ℕ) → 0 < length (next_word bytes) → length (drop n (without_blanks (after_word bytes))) < length bytes
@@ -92,7 +93,7 @@ is_some_word : (n : ℕ) → nat_le n 0 ≡ false → 0 < n
 is_some_word n e = grind (arith, nat_tests)
 
 -- the bound is none, where there may be more parts than bytes
-pub parts_more : (n m : ℕ) (bytes : List ℕ) → length bytes < n → length bytes < m → parts_within n bytes ≡ parts_within m bytes
+parts_more : (n m : ℕ) (bytes : List ℕ) → length bytes < n → length bytes < m → parts_within n bytes ≡ parts_within m bytes
 parts_more zero m bytes low high = absurd (omega arith)
 parts_more (suc n) zero bytes low high = absurd (omega arith)
 parts_more (suc n) (suc m) bytes low high =
@@ -135,10 +136,12 @@ has_part bytes name text rest word named text_is rest_is some apart =
           ∙ ap (λ (t : List ℕ). part_then (Some name) t behind next) (sym text_is)
           ∙ ap (λ (r : List ℕ). part_then (Some name) text r next) (sym rest_is)
           ∙ has_text name text rest next some apart
-          ∙ ap (with_part (name, text)) (parts_more (length bytes) (suc (length rest)) rest (omega (arith, less, ap length rest_is)) (omega arith)),
+          ∙ ap (with_part (name, text))
+          (parts_more (length bytes) (suc (length rest)) rest (omega (arith, less, ap length rest_is)) (omega arith)),
     )
 
 -- the parts behind a name
-pub parts_behind : (bytes : List ℕ) → 0 < length (next_word bytes) → parts_within (length bytes) (after_word bytes) ≡ parts_of (after_word bytes)
+pub parts_behind : (bytes : List ℕ) → 0 < length (next_word bytes)
+    → parts_within (length bytes) (after_word bytes) ≡ parts_of (after_word bytes)
 parts_behind bytes some =
     parts_more (length bytes) (suc (length (after_word bytes))) (after_word bytes) (behind_shorter bytes some) (omega arith)

@@ -4,7 +4,7 @@ use Rattle.std.specs.Option.{option_map}
 use Rattle.dbg_base.specs.declared.refusal.Refusal.{Refusal}
 use Rattle.dbg_base.specs.Calls.{Call}
 use Rattle.dbg_base.specs.Trees.{Program}
-use Rattle.dbg_base.specs.CommandLines.{Request, map_ok, seat_word, by_seat, call_of_words, line_of_words}
+use Rattle.dbg_base.specs.CommandLines.{map_ok, seat_word, by_seat, call_of_words, line_of_words}
 use Rattle.dbg_shell.specs.Lines.{requested}
 
 refused_call : (seat : ℕ) (refusal : Refusal) (call : Result Call Refusal)

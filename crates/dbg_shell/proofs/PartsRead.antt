@@ -1,24 +1,18 @@
 -- The parts of a line that sets a breakpoint, read one behind the other.
-use Rattle.std.proofs.Common.{◌≡◌, ◌⊎◌, ℕ, Bool, true, false, ◌||◌, eqb, List, [], ◌∷◌, ◌++◌, map, Option, Some, None, Result, Ok, Err, is_some}
-use Rattle.std.proofs.Common.{refl, sym, ap, ◌∙◌, subst, inl, inr}
+use Rattle.std.proofs.Common.{◌≡◌, ◌⊎◌, ℕ, Bool, true, false, ◌||◌, eqb, List, [], ◌∷◌, ◌++◌, map, Option, Some, None}
+use Rattle.std.proofs.Common.{Result, Ok, Err, refl, sym, ap, ◌∙◌, subst, inl, inr}
 use Rattle.std.specs.Bool.{MatchBool}
 use Rattle.std.specs.List.{list_any}
 use Rattle.dbg_base.specs.declared.call.Conjunct as conjunct
-use Rattle.dbg_base.specs.declared.fault.ProgFault.{ProgFault}
 use Rattle.dbg_base.specs.declared.refusal.Refusal.{Refusal}
 use Rattle.dbg_base.specs.declared.refusal.Refusal.TheVariants.{BadPredicate, Memory}
 use Rattle.dbg_base.specs.Calls.{conjunct_of}
-use Rattle.dbg_base.specs.Checks.{ReadsPredicate, IsPredicateFault}
+use Rattle.dbg_base.specs.Checks.{ReadsPredicate}
 use Rattle.dbg_base.specs.Predicates.{Conjunct}
 use Rattle.dbg_base.specs.Trees.{Tree, Program}
 use Rattle.dbg_base.specs.CommandLines.{Part, named_process, with_part, map_ok}
 use Rattle.dbg_base.specs.Requests.{ReadsPart, ReadsParts, with_conjunct}
 use Rattle.dbg_shell.specs.Lines.{parts_of, stands_in, ReadsNamed}
-
--- there are parts with one before them where there are some
-pub some_with_part : (part : Part) (parts : Option (List Part)) → is_some (with_part part parts) ≡ is_some parts
-some_with_part part (Some parts) = refl
-some_with_part part None = refl
 
 abbrev IsOutcome : Result Conjunct Refusal → Result Conjunct Refusal → Type 0
 IsOutcome made known = made ≡ known
@@ -89,7 +83,8 @@ splits : (part : Part) (found : Option (List Part)) (left : List Part) → with_
 splits part (Some others) left e = (others, refl, cc)
 splits part None left e = cc
 
-err_as_list : (refusal known : Refusal) → IsOutcome (Err refusal) (Err known) → ◌≡◌ {A = Result (List Conjunct) Refusal} (Err refusal) (Err known)
+err_as_list : (refusal known : Refusal) → IsOutcome (Err refusal) (Err known)
+    → ◌≡◌ {A = Result (List Conjunct) Refusal} (Err refusal) (Err known)
 err_as_list refusal known e = let same : refusal ≡ known = cc in ap (λ (r : Refusal). Err r) same
 
 refuses_by : (refusal : Refusal) (k : Conjunct) (Other : Type 0) (t u : Bool) → t ≡ u
@@ -121,7 +116,8 @@ record Accepts (P : Program) (stands : ℕ → Bool) (named : Result ℕ Refusal
   alone : stands k.process ≡ false
 
 accepts_by : (P : Program) (stands : ℕ → Bool) (text : List ℕ) (k : Conjunct) (p : ℕ) (tree : Tree) (t : Bool) → stands p ≡ t
-    → ReadsPredicate P p text tree → MatchBool t (IsOutcome (Ok k) (Err BadPredicate)) (IsOutcome (Ok k) (Ok (record { process = p; expression = tree })))
+    → ReadsPredicate P p text tree
+    → MatchBool t (IsOutcome (Ok k) (Err BadPredicate)) (IsOutcome (Ok k) (Ok (record { process = p; expression = tree })))
     → Accepts P stands (Ok p) text k
 accepts_by P stands text k p tree true e reads m = cc
 accepts_by P stands text k p tree false e reads m =
@@ -172,7 +168,7 @@ module _ (P : Program) (all rest : List ℕ) (made : List conjunct.Conjunct) (so
     has_form e = let left = so_far.leaves parts whole in absurd (let no_parts : None ≡ Some left.0 = sym e ∙ left.1 in cc)
 
     -- the next part is refused
-    pub refused_next : (name text more : List ℕ) (refusal : Refusal) → parts_of rest ≡ with_part (name, text) (parts_of more)
+    refused_next : (name text more : List ℕ) (refusal : Refusal) → parts_of rest ≡ with_part (name, text) (parts_of more)
         → ReadsNamed P (stands_in made) (named_process P name) text (Err refusal) → ReadsParts P [] parts (Err refusal)
     refused_next name text more refusal e h =
         let left = so_far.leaves parts whole in
@@ -182,7 +178,7 @@ module _ (P : Program) (all rest : List ℕ) (made : List conjunct.Conjunct) (so
         (refuses_part P so_far.before (stands_in made) so_far.same _ (named_process P name) text refusal h))
 
   -- the next part was read
-  pub read_next : (name text more : List ℕ) (c : conjunct.Conjunct) → parts_of rest ≡ with_part (name, text) (parts_of more)
+  read_next : (name text more : List ℕ) (c : conjunct.Conjunct) → parts_of rest ≡ with_part (name, text) (parts_of more)
       → ReadsNamed P (stands_in made) (named_process P name) text (Ok (conjunct_of c)) → ReadSoFar P all more (made ++ c ∷ [])
   read_next name text more c e h =
       let is = accepts P (stands_in made) (named_process P name) text (conjunct_of c) h in

@@ -13,7 +13,7 @@ ghost use Rattle.proc_lang.specs.Programs.{program_of};
 ghost use Rattle.dbg_shell.specs.Lines.{called, asked, requested, IsParsed};
 
 use crate::break_line::parse_break;
-use dbg_base::limits::{LINE_BYTES, NAME_BYTES, SEATS};
+use dbg_base::limits::{LINE_BYTES, SEATS};
 use dbg_base::{Call, Choice, Name, Pid, Plan, Query, Refusal};
 use proc_lang::Program;
 use std::alloc::Global;

@@ -1,6 +1,5 @@
-use Rattle.std.proofs.Common.{◌≡◌, ◌∷◌, [], List, ℕ, Some, arith, sym, ap, ◌∙◌}
+use Rattle.std.proofs.Common.{arith}
 use Rattle.std.proofs.lemmas.Grind.{common_steps}
-use Rattle.dbg_base.specs.CommandLines.{words_of, call_of_words, map_ok}
 use Rattle.proc_lang.specs.Programs.{program_of}
 use Rattle.dbg_shell.proofs.command_line.parse_call.Goals as goal
 
