@@ -11,25 +11,27 @@ use Rattle.dbg_base.specs.declared.refusal.Refusal.{Refusal}
 use Rattle.dbg_base.specs.declared.refusal.Refusal.TheVariants.{Memory, UnknownProcess, UnknownBreak, BadPlace}
 use Rattle.dbg_base.specs.Trees.{Program}
 use Rattle.dbg_base.specs.SystemStates.{SystemState, place_at, history_of, last_choice, after_rollback, after_undo}
+use Rattle.dbg_base.specs.Copies.{IsCopy}
 use Rattle.dbg_base.specs.Reversal.{MayUndo, IsRollback}
 use Rattle.dbg_base.specs.Choices.{CannotUndo}
-use Rattle.dbg_base.specs.Breakpoints.{Breakpoint}
+use Rattle.dbg_base.specs.Breakpoints.{Breakpoint, named}
 use Rattle.dbg_base.specs.ModelStates.{ModelState, IsHalted, with_system}
 use Rattle.dbg_base.specs.declared.refusal.Refusal.TheVariants as refusals
 use Rattle.dbg_base.specs.Calls.{Undo, Rollback, Goto}
 use Rattle.dbg_base.specs.Acts.{Accepts, Refuses, Plays, UnlessHalted, WithProcess, WithFound, RollsBack, RollsBackAt, GoesTo, HasNone}
-use Rattle.dbg_command.specs.Tables.{Replies, UnknownIn, Unready, HasLeast, LacksCut, ActsOrRefuses}
+use Rattle.dbg_command.specs.Tables.{Replies, UnknownIn, Unready, HasLeast, LacksCut, GoesBack, ActsOrRefuses}
 use Rattle.std.specs.Prelude.{IfOk, IfErr, OnOk, OnErr, slice_get}
 use Rattle.dbg_base.specs.declared.refusal.Refusal.TheVariants.{NothingToRedo}
 use Rattle.dbg_base.specs.Choices.{redo_choice, choice_again}
 use Rattle.dbg_base.specs.SystemStates.{line_of, configuration_of}
-use Rattle.dbg_base.specs.Predicates.{Conjunct, IsLeast}
+use Rattle.dbg_base.specs.Predicates.{Conjunct, IsLeast, NoCut}
 use Rattle.cut_core.specs.declared.kind.Kind.{Kind}
 use Rattle.cut_core.specs.ConsistentCuts.{IsConsistentCut}
 use Rattle.causal_world.specs.Scenes.{Scene, IsWorldOf}
 use Rattle.causal_world.proofs.KindsOf.{consistent_cut}
-use Rattle.break_book.specs.Books.{breakpoints_of}
-use Rattle.dbg_command.specs.Tables.{TableState, state_of}
+use Rattle.break_book.specs.Books.{Kept, breakpoint_of, breakpoints_of, AreDetectorsOf}
+use Rattle.dbg_command.specs.Tables.{TableState, IsTableOf, state_of}
+use Rattle.least_cut.specs.Detectors.{IsDetectorOf, conjuncts_of}
 
 -- it did so, or memory ran out
 abbrev pub OrMemory : Type 0 → ModelState → Said → ModelState → Type 0
@@ -106,13 +108,6 @@ taken_back P M M' p k reply here may was left replies =
       left = left;
     })))
 
--- What a call that goes back to a cut returned: the places, or that memory ran out.
-pub record GoesBack (P : Program) (M : ModelState) (cut : List ℕ) (result : Result Reply Refusal) (M' : ModelState) : Type 0 where
-  pub moves : OnOk result (M' ≡ with_system M (after_rollback M.system cut))
-  pub replies : IfOk result (λ reply. Replies P M' (Places cut) reply)
-  pub refuses : IfErr result (λ refusal. refusal ≡ Memory)
-  pub kept : OnErr result (M' ≡ M)
-
 pub rolled_back : (P : Program) (M M' : ModelState) (p n : ℕ) (cut : List ℕ) (result : Result Reply Refusal) → p < length P
     → n ≤ place_at M.system p → IsRollback P (history_of M.system) p n cut → GoesBack P M cut result M'
     → ActsOrRefuses P (Rollback p n) M result M'
@@ -175,3 +170,28 @@ pub consistent_least : (P : Program) (w : Scene) → IsWorldOf P w → (conjunct
     → IsLeast P (history_of w.state) conjuncts cut → IsConsistentCut w.kinds cut
 consistent_least P w of conjuncts cut is =
     subst (λ (kinds : List (List Kind)). IsConsistentCut kinds cut) (sym of.counts) (consistent_cut P (history_of w.state) cut is.satisfies.consistent)
+
+-- what the detector of a breakpoint that was found tells of its cut
+module _ (P : Program) (t : TableState) (name : List ℕ) (kept : Kept) (is : IsTableOf P t)
+    (there : named name (breakpoints_of t.book) ≡ Some (breakpoint_of (name, kept)))
+    (of : (w : Scene) → AreDetectorsOf w t.book → IsDetectorOf w kept.detector) where
+  pub found_least : (cut : List ℕ) → ((w : Scene) (Q : Program) → IsDetectorOf w kept.detector → IsWorldOf Q w
+      → IsLeast Q (history_of w.state) (conjuncts_of kept.detector) cut) → HasLeast P (state_of t) name cut
+  found_least cut least = (breakpoint_of (name, kept), there, least t.world P (of t.world is.detectors) is.world)
+
+  pub found_none : ((w : Scene) (Q : Program) → IsDetectorOf w kept.detector → IsWorldOf Q w
+      → NoCut Q (history_of w.state) (conjuncts_of kept.detector)) → LacksCut P (state_of t) name refusals.NoCut
+  found_none none = inr (inl (record {
+    breakpoint = breakpoint_of (name, kept);
+    there = there;
+    none = none t.world P (of t.world is.detectors) is.world;
+    is = refl;
+  }))
+
+-- a copy of the cut is the cut
+pub copied_least : (t : TableState) (name cut : List ℕ) (result : Result (List ℕ) Refusal) → IsCopy result (λ made. made ≡ cut)
+    → ((P : Program) → IsTableOf P t → HasLeast P (state_of t) name cut)
+    → IfOk result (λ made. (P : Program) → IsTableOf P t → HasLeast P (state_of t) name made)
+copied_least t name cut (Ok made) same least =
+    λ P is. subst (λ (c : List ℕ). HasLeast P (state_of t) name c) (sym same) (least P is)
+copied_least t name cut (Err refusal) same least = tt

@@ -1,8 +1,11 @@
 -- Conjuncts that are looked at from left to right.
 use Rattle.std.proofs.Common.{◌≡◌, ℕ, suc, ◌+◌, ◌<◌, ◌≤◌, Bool, true, false, List, [], ◌∷◌, ◌++◌, length, get_or, take, drop, map}
 use Rattle.std.proofs.Common.{Some, None, refl, sym, ap, ◌∙◌, subst, arith}
-use Rattle.std.specs.Prelude.{◌==◌, ◌||◌, nat_lt}
-use Rattle.std.specs.List.{list_any}
+use Rattle.std.specs.Prelude.{◌==◌, ◌||◌, ◌&&◌, not, nat_lt, Option, if◌then◌else◌}
+use Rattle.std.specs.List.{list_any, AllByRecursion}
+use Rattle.std.proofs.lemmas.Bool.{ltb-true}
+use Rattle.dbg_base.specs.declared.refusal.Refusal.{Refusal}
+use Rattle.dbg_base.specs.Predicates.{Conjunct}
 use Rattle.std.proofs.Common.{rules, drop_of_length-le}
 use Rattle.std.proofs.lemmas.Bool.{lt-ltb, le-ltb}
 use Rattle.std.proofs.lemmas.List.{drop_more}
@@ -68,3 +71,19 @@ pub all_fitting : (P : Program) (cs : List given.Conjunct) (i : ℕ) → AreFitt
     → conjuncts_refusal P [] (map conjunct_of cs) ≡ None
 all_fitting P cs i are past =
     sym are.rest ∙ ap (λ (l : List given.Conjunct). conjuncts_refusal P are.before (map conjunct_of l)) (drop_of_length-le cs past)
+
+-- one that is not refused is of a process that is there, and those behind it are not refused
+known_first : (known fit : Bool) (rest : Option Refusal)
+    → (if known then (if fit then rest else Some BadPredicate) else Some UnknownProcess) ≡ None → (known ≡ true) × (rest ≡ None)
+known_first true true rest h = (refl, h)
+known_first true false rest h = cc
+known_first false fit rest h = cc
+
+pub all_known : (P : Program) (before : List ℕ) (cs : List Conjunct) → conjuncts_refusal P before cs ≡ None
+    → AllByRecursion (λ (c : Conjunct). c.process < length P) cs
+all_known P before [] none = tt
+all_known P before (c ∷ cs) none =
+    let first = known_first (nat_lt c.process (length P))
+    (is_fit (bounds_of P c.process) sort.Truth c.expression && not (list_any (λ p. p == c.process) before))
+    (conjuncts_refusal P (c.process ∷ before) cs) none in
+    (ltb-true c.process (length P) first.0, all_known P (c.process ∷ before) cs first.1)

@@ -1,6 +1,6 @@
 -- What is said to a command about a breakpoint.
-use Rattle.std.proofs.Common.{◌≡◌, ◌⊎◌, inl, inr, ℕ, Bool, true, false, List, [], ◌∷◌, ◌++◌, length, map, Option, Some, None, Ok, Err}
-use Rattle.std.proofs.Common.{refl, sym, ap, ◌∙◌, subst, MatchBool, true≢false}
+use Rattle.std.proofs.Common.{◌≡◌, ◌⊎◌, inl, inr, ℕ, ◌<◌, Bool, true, false, List, [], ◌∷◌, ◌++◌, length, Option, Some, None, Ok, Err}
+use Rattle.std.proofs.Common.{refl, sym, ap, ◌∙◌, subst, MatchBool, arith}
 use Rattle.std.specs.Prelude.{if◌then◌else◌}
 use Rattle.dbg_base.specs.declared.said.Done.TheVariants.{Plain}
 use Rattle.dbg_base.specs.declared.said.Reply.{Reply}
@@ -17,7 +17,7 @@ use Rattle.dbg_base.specs.Calls.{Break, Clear, Arm, Pass}
 use Rattle.dbg_base.specs.Acts.{Lists, Refuses, WithFound, Arms, Passes, Sets, break_refusal, first_refusal, conjuncts_refusal}
 use Rattle.causal_world.specs.Scenes.{Scene, IsWorldOf}
 use Rattle.break_book.specs.Books.{Entry, breakpoints_of, AreDetectorsOf, arm_refusal, MayPass, CannotPass, new_breakpoint}
-use Rattle.dbg_command.specs.Tables.{TableState, IsTableOf, Replies, state_of, ActsOrRefuses}
+use Rattle.dbg_command.specs.Tables.{IsTableOf, Replies, Adds, state_of, ActsOrRefuses}
 use Rattle.dbg_command.proofs.Acting.{accepted, refused}
 
 -- another list of breakpoints, with detectors of the same world
@@ -25,6 +25,13 @@ pub keeps_table : (P : Program) (w : Scene) (book new : List Entry)
     → ((v : Scene) → AreDetectorsOf v book → AreDetectorsOf v new) → IsTableOf P (record { world = w; book = book })
     → IsTableOf P (record { world = w; book = new })
 keeps_table P w book new keeps is = record { world = is.world; detectors = keeps w is.detectors }
+
+-- conjuncts that fit, at least one, under a name that is free
+may_break : (P : Program) (M : ModelState) (name : List ℕ) (conjuncts : List Conjunct) → 0 < length conjuncts
+    → conjuncts_refusal P [] conjuncts ≡ None → name_refusal name M.breakpoints ≡ None → break_refusal P M name conjuncts ≡ None
+may_break P M name [] some fit free = absurd (omega (arith, some))
+may_break P M name (conjunct ∷ conjuncts) some fit free =
+    ap (λ (r : Option Refusal). first_refusal r (name_refusal name M.breakpoints)) fit ∙ free
 
 module _ (P : Program) (w : Scene) (book new : List Entry) (reply : Reply)
     (replies : Replies P (state_of (record { world = w; book = new })) Plain reply) where
@@ -38,15 +45,12 @@ module _ (P : Program) (w : Scene) (book new : List Entry) (reply : Reply)
   lists breakpoints e = (accepted P after Plain reply replies,
       ap (λ (l : List Breakpoint). record { system = w.state; breakpoints = l }) e)
 
-  pub sets : (name : List ℕ) (conjunct : Conjunct) (conjuncts : List Conjunct)
-      → conjuncts_refusal P [] (conjunct ∷ conjuncts) ≡ None → name_refusal name (breakpoints_of book) ≡ None
-      → breakpoints_of new ≡ breakpoints_of book ++ new_breakpoint name (conjunct ∷ conjuncts) ∷ []
-      → ActsOrRefuses P (Break name (conjunct ∷ conjuncts)) before (Ok reply) after
-  sets name conjunct conjuncts fit free e =
-      let may : break_refusal P before name (conjunct ∷ conjuncts) ≡ None =
-      ap (λ (r : Option Refusal). first_refusal r (name_refusal name (breakpoints_of book))) fit ∙ free in
-      inl (subst (λ (r : Option Refusal). Sets r P name (conjunct ∷ conjuncts) before (Accepted reply) after) (sym may)
-      (lists (breakpoints_of book ++ new_breakpoint name (conjunct ∷ conjuncts) ∷ []) e))
+  pub sets : (name : List ℕ) (conjuncts : List Conjunct) → 0 < length conjuncts → conjuncts_refusal P [] conjuncts ≡ None
+      → Adds book name conjuncts new → ActsOrRefuses P (Break name conjuncts) before (Ok reply) after
+  sets name conjuncts some fit adds =
+      inl (subst (λ (r : Option Refusal). Sets r P name conjuncts before (Accepted reply) after)
+      (sym (may_break P before name conjuncts some fit adds.free))
+      (lists (breakpoints_of book ++ new_breakpoint name conjuncts ∷ []) adds.added))
 
   pub clears : (name : List ℕ) (b : Breakpoint) → named name (breakpoints_of book) ≡ Some b
       → breakpoints_of new ≡ without name (breakpoints_of book) → ActsOrRefuses P (Clear name) before (Ok reply) after

@@ -1,6 +1,7 @@
 -- What contracts see of a table, what it is of a program, and what a command may do to it.
-use Rattle.std.specs.Prelude.{◌≡◌, ◌⊎◌, ℕ, ◌<◌, ◌≤◌, List, length, Option, Some, None, Result, Ok, Err}
+use Rattle.std.specs.Prelude.{◌≡◌, ◌⊎◌, ℕ, ◌<◌, ◌≤◌, List, [], ◌∷◌, ◌++◌, length, Option, Some, None, Result, Ok, Err, IfOk, IfErr, OnOk, OnErr}
 use Rattle.dbg_base.specs.declared.said.Done.{Done}
+use Rattle.dbg_base.specs.declared.said.Done.TheVariants.{Places}
 use Rattle.dbg_base.specs.declared.said.Reply.{Reply}
 use Rattle.dbg_base.specs.declared.said.Said.{Said}
 use Rattle.dbg_base.specs.declared.said.Said.TheVariants.{Accepted, Refused}
@@ -8,15 +9,15 @@ use Rattle.dbg_base.specs.declared.refusal.Refusal.{Refusal}
 use Rattle.dbg_base.specs.declared.refusal.Refusal.TheVariants.{Memory, Halted, UnknownProcess}
 use Rattle.dbg_base.specs.declared.refusal.Refusal.TheVariants as refusals
 use Rattle.dbg_base.specs.Trees.{Program}
-use Rattle.dbg_base.specs.SystemStates.{history_of}
-use Rattle.dbg_base.specs.Predicates.{IsLeast, NoCut}
-use Rattle.dbg_base.specs.Breakpoints.{Breakpoint, named}
-use Rattle.dbg_base.specs.ModelStates.{ModelState, IsHalted}
+use Rattle.dbg_base.specs.SystemStates.{history_of, after_rollback}
+use Rattle.dbg_base.specs.Predicates.{Conjunct, IsLeast, NoCut}
+use Rattle.dbg_base.specs.Breakpoints.{Breakpoint, named, name_refusal}
+use Rattle.dbg_base.specs.ModelStates.{ModelState, IsHalted, with_system}
 use Rattle.dbg_base.specs.Calls.{Plan}
 use Rattle.dbg_base.specs.Acts.{Acts, Refuses}
 use Rattle.causal_world.specs.Scenes.{Scene, IsWorldOf}
 use Rattle.least_cut.specs.Detectors.{one_more}
-use Rattle.break_book.specs.Books.{Entry, breakpoints_of, AreDetectorsOf, HaveRoomUpTo}
+use Rattle.break_book.specs.Books.{Entry, breakpoints_of, new_breakpoint, AreDetectorsOf, HaveRoomUpTo}
 
 pub record TableState : Type 0 where
   pub world : Scene
@@ -56,6 +57,11 @@ pub record IsReady (P : Program) (p : ℕ) (t : TableState) : Type 0 where
   pub goes_on : IsHalted P (state_of t) None
   pub room : HaveRoomUpTo t.book (one_more t.world p)
 
+-- a breakpoint of this name, which was free, stands behind all others, armed
+pub record Adds (old : List Entry) (name : List ℕ) (conjuncts : List Conjunct) (new : List Entry) : Type 0 where
+  pub free : name_refusal name (breakpoints_of old) ≡ None
+  pub added : breakpoints_of new ≡ breakpoints_of old ++ new_breakpoint name conjuncts ∷ []
+
 -- the breakpoint of this name is there, and this is its least cut
 abbrev pub HasLeast : Program → ModelState → List ℕ → List ℕ → Type 0
 HasLeast P M name cut =
@@ -76,6 +82,13 @@ pub record HasNoCut (P : Program) (M : ModelState) (name : List ℕ) (refusal : 
 -- one of these, or memory ran out
 abbrev pub LacksCut : Program → ModelState → List ℕ → Refusal → Type 0
 LacksCut P M name refusal = LacksBreak M name refusal ⊎ HasNoCut P M name refusal ⊎ (refusal ≡ Memory)
+
+-- What a call that goes back to a cut returned, and the state that it left: the places, or that memory ran out.
+pub record GoesBack (P : Program) (M : ModelState) (cut : List ℕ) (result : Result Reply Refusal) (M' : ModelState) : Type 0 where
+  pub moves : OnOk result (M' ≡ with_system M (after_rollback M.system cut))
+  pub replies : IfOk result (λ reply. Replies P M' (Places cut) reply)
+  pub refuses : IfErr result (λ refusal. refusal ≡ Memory)
+  pub kept : OnErr result (M' ≡ M)
 
 -- what is said where a command was accepted or refused
 abbrev pub said_of : Result Reply Refusal → Said

@@ -1,11 +1,15 @@
 //! The commands about breakpoints: break, clear, arm, pass.
 
-ghost use Rattle.std.specs.Prelude.{◌≡◌, map};
+ghost use Rattle.std.specs.Prelude.{◌≡◌, ◌⊎◌, ◌<◌, Some, length, map, IfErr, OnErr, OnOk};
+ghost use Rattle.std.specs.List.{AllByRecursion};
+ghost use Rattle.dbg_base.specs.declared.refusal.Refusal.TheVariants.{Memory};
+ghost use Rattle.dbg_base.specs.Breakpoints.{name_refusal};
+ghost use Rattle.break_book.specs.Books.{breakpoints_of};
 ghost use Rattle.dbg_base.specs.Trees as tree;
 ghost use Rattle.dbg_base.specs.Calls as model;
 ghost use Rattle.dbg_base.specs.Calls.{conjunct_of};
 ghost use Rattle.proc_lang.specs.Programs.{program_of};
-ghost use Rattle.dbg_command.specs.Tables.{IsTableOf, ActsOrRefuses, state_of};
+ghost use Rattle.dbg_command.specs.Tables.{IsTableOf, ActsOrRefuses, Adds, state_of};
 
 use crate::conjuncts::fitting;
 use crate::table::Table;
@@ -15,6 +19,29 @@ use proc_lang::Program;
 use std::alloc::Global;
 
 impl Table {
+    // Sets a breakpoint of conjuncts that fit.
+    fn set_fitting(
+        &mut self,
+        alloc: Global,
+        name: Name,
+        conjuncts: &Sequence<Conjunct>,
+    ) -> Result<(), Refusal>
+        requires of { (P : tree.Program) × IsTableOf P self.old }
+        requires here { AllByRecursion (λ conjunct. conjunct.process < length self.old.world.state.places)
+            (map conjunct_of conjuncts.now) }
+        ensures of { (P : tree.Program) → IsTableOf P self.old → IsTableOf P self.new }
+        ensures world { self.new.world ≡ self.old.world }
+        ensures sets { OnOk result (Adds self.old.book name (map conjunct_of conjuncts.now) self.new.book) }
+        ensures refuses { IfErr result (λ refusal. (name_refusal name (breakpoints_of self.old.book) ≡ Some refusal)
+            ⊎ (refusal ≡ Memory)) }
+        ensures kept { OnErr result (self.new ≡ self.old) }
+    {
+        self.book.may_set(name)?;
+        let conjuncts = copy_conjuncts(conjuncts)?;
+        let scan = Scan::of(alloc, &self.world, conjuncts.items())?;
+        self.book.set(alloc, name, conjuncts, scan, &self.world)
+    }
+
     // A breakpoint is set, armed, behind all others.
     pub(crate) fn set_break(
         &mut self,
@@ -32,10 +59,7 @@ impl Table {
             return Err(Refusal::BadPredicate);
         }
         fitting(program, conjuncts.items())?;
-        self.book.may_set(name)?;
-        let conjuncts = copy_conjuncts(conjuncts)?;
-        let scan = Scan::of(alloc, &self.world, conjuncts.items())?;
-        self.book.set(alloc, name, conjuncts, scan, &self.world)?;
+        self.set_fitting(alloc, name, conjuncts)?;
         Ok(self.reply(Done::Plain))
     }
 

@@ -1,15 +1,11 @@
 //! The commands that take events back: undo, rollback, goto.
 
-ghost use Rattle.std.specs.Prelude.{◌≡◌, OnErr, OnOk, IfOk, IfErr};
-ghost use Rattle.dbg_base.specs.declared.said.Done.TheVariants.{Places};
-ghost use Rattle.dbg_base.specs.declared.refusal.Refusal.TheVariants.{Memory};
+ghost use Rattle.std.specs.Prelude.{IfOk, IfErr};
 ghost use Rattle.dbg_base.specs.Trees as tree;
 ghost use Rattle.dbg_base.specs.Calls as model;
-ghost use Rattle.dbg_base.specs.SystemStates.{after_rollback};
-ghost use Rattle.dbg_base.specs.ModelStates.{with_system};
 ghost use Rattle.proc_lang.specs.Programs.{program_of};
 ghost use Rattle.cut_core.specs.ConsistentCuts.{IsConsistentCut};
-ghost use Rattle.dbg_command.specs.Tables.{IsTableOf, ActsOrRefuses, Replies, HasLeast, LacksCut, state_of};
+ghost use Rattle.dbg_command.specs.Tables.{IsTableOf, ActsOrRefuses, GoesBack, HasLeast, LacksCut, state_of};
 
 use crate::table::{Table, known};
 use dbg_base::{Cut, Done, Name, Pid, Refusal, Reply};
@@ -35,11 +31,7 @@ impl Table {
         requires of { (P : tree.Program) × IsTableOf P self.old }
         requires cut { IsConsistentCut self.old.world.kinds cut }
         ensures of { (P : tree.Program) → IsTableOf P self.old → IsTableOf P self.new }
-        ensures moves { OnOk result (state_of self.new ≡ with_system (state_of self.old) (after_rollback self.old.world.state cut)) }
-        ensures replies { IfOk result (λ reply. (P : tree.Program) → IsTableOf P self.old
-            → Replies P (state_of self.new) (Places cut) reply) }
-        ensures refuses { IfErr result (λ refusal. refusal ≡ Memory) }
-        ensures kept { OnErr result (state_of self.new ≡ state_of self.old) }
+        ensures back { (P : tree.Program) → IsTableOf P self.old → GoesBack P (state_of self.old) cut result (state_of self.new) }
     {
         let _rolled = self.world.roll_to(alloc, &cut)?;
         self.book.follow(&self.world);
@@ -72,8 +64,13 @@ impl Table {
         ensures refuses { IfErr result (λ refusal. (P : tree.Program) → IsTableOf P self.now
             → LacksCut P (state_of self.now) name refusal) }
     {
-        let (_, breakpoint) = self.book.find(name).ok_or(Refusal::UnknownBreak)?;
-        breakpoint.detector().cut().ok_or(Refusal::NoCut)?.copy()
+        let Some((_, breakpoint)) = self.book.find(name) else {
+            return Err(Refusal::UnknownBreak);
+        };
+        match breakpoint.detector().cut() {
+            Some(cut) => cut.copy(),
+            None => Err(Refusal::NoCut),
+        }
     }
 
     // All processes go back to the breakpoint's cut.

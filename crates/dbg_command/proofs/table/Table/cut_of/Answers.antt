@@ -1,19 +1,28 @@
-use Rattle.std.proofs.Common.{rules, ◌≡◌, OnErr, OnOk, IfOk, IfErr, ℕ, ◌+◌, ◌-◌, ◌*◌, ◌<◌, ◌≤◌, length, ◌/◌, ◌%◌, Bool, true, false, nat_eq, nat_lt, List, [], ◌∷◌, ◌++◌, slice_index_or, slice_set, bit_and, bit_or, Fits, w8, w32, w64, Bor, MutBor}
-use Rattle.dbg_base.specs.declared.said.Done.TheVariants.{Places}
-use Rattle.dbg_base.specs.declared.refusal.Refusal.TheVariants.{Memory}
-use Rattle.dbg_base.specs.Trees as tree
-use Rattle.dbg_base.specs.Calls as model
-use Rattle.dbg_base.specs.SystemStates.{after_rollback}
-use Rattle.dbg_base.specs.ModelStates.{with_system}
-use Rattle.proc_lang.specs.Programs.{program_of}
-use Rattle.cut_core.specs.ConsistentCuts.{IsConsistentCut}
-use Rattle.dbg_command.specs.Tables.{IsTableOf, ActsOrRefuses, Replies, HasLeast, LacksCut, state_of}
+use Rattle.std.proofs.Common.{ℕ, List, sym, subst}
+use Rattle.dbg_base.specs.Trees.{Program}
+use Rattle.dbg_base.specs.Predicates.{IsLeast, NoCut}
+use Rattle.dbg_base.specs.SystemStates.{history_of}
+use Rattle.dbg_base.specs.declared.refusal.Refusal.TheVariants as refusals
+use Rattle.causal_world.specs.Scenes.{Scene, IsWorldOf}
+use Rattle.least_cut.specs.Detectors.{DetectorState, IsDetectorOf, conjuncts_of}
+use Rattle.dbg_command.specs.Tables.{TableState, IsTableOf, HasLeast, LacksCut, state_of}
+use Rattle.dbg_command.proofs.Acting.{found_least, found_none, copied_least}
 use Rattle.dbg_command.proofs.table.Table.cut_of.Goals as goal
 
--- src/undoing.rt:76:9
-pub returns-in_err-ok_or-clause-refuses : goal.returns-in_err-ok_or-clause-refuses
-returns-in_err-ok_or-clause-refuses c = ?
+pub returns-in-Some-cut-clause-cut : goal.returns-in-Some-cut-clause-cut
+returns-in-Some-cut-clause-cut c =
+    copied_least c.args.self.now c.args.name c.in-Some-cut.cut.now c.copy.result c.copy.ensures
+    (λ P is.
+    subst (λ (t : TableState). HasLeast P (state_of t) c.args.name c.in-Some-cut.cut.now) c.self.view_is
+    (found_least P (record { world = c.self.inside.world; book = c.self.inside.book }) c.args.name c.in-Some.breakpoint.now
+    (subst (IsTableOf P) (sym c.self.view_is) is) c.in-Some.ensures.named c.in-Some.ensures.of c.in-Some-cut.cut.now
+    (subst (λ (d : DetectorState). (w : Scene) (Q : Program) → IsDetectorOf w d → IsWorldOf Q w
+    → IsLeast Q (history_of w.state) (conjuncts_of d) c.in-Some-cut.cut.now) c.detector.ensures c.in-Some-cut.ensures)))
 
--- src/undoing.rt:70:5
-pub returns-clause-cut : goal.returns-clause-cut
-returns-clause-cut c = ?
+pub returns-in-None-clause-refuses : goal.returns-in-None-clause-refuses
+returns-in-None-clause-refuses c = λ P is.
+    subst (λ (t : TableState). LacksCut P (state_of t) c.args.name refusals.NoCut) c.self.view_is
+    (found_none P (record { world = c.self.inside.world; book = c.self.inside.book }) c.args.name c.in-Some.breakpoint.now
+    (subst (IsTableOf P) (sym c.self.view_is) is) c.in-Some.ensures.named c.in-Some.ensures.of
+    (subst (λ (d : DetectorState). (w : Scene) (Q : Program) → IsDetectorOf w d → IsWorldOf Q w
+    → NoCut Q (history_of w.state) (conjuncts_of d)) c.detector.ensures c.in-None.ensures))

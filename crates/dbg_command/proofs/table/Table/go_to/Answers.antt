@@ -18,9 +18,4 @@ roll_to-requires-clause-cut c =
 pub returns-clause-acts : goal.returns-clause-acts
 returns-clause-acts c = λ P is.
     went_to P (state_of c.args.self.now) (state_of c.roll_to.new.self) c.args.name c.in_ok-cut.cut c.roll_to.result
-    (c.in_ok-cut.ensures.cut P is) (record {
-      moves = c.roll_to.ensures.moves;
-      replies = ?;
-      refuses = c.roll_to.ensures.refuses;
-      kept = c.roll_to.ensures.kept;
-    })
+    (c.in_ok-cut.ensures.cut P is) (c.roll_to.ensures.back P is)

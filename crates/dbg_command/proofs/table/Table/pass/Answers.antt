@@ -1,5 +1,6 @@
-use Rattle.std.proofs.Common.{◌≡◌, sym, subst, Ok, Err, rules}
+use Rattle.std.proofs.Common.{◌≡◌, List, sym, subst, Ok, Err, rules}
 use Rattle.dbg_base.specs.Calls as model
+use Rattle.break_book.specs.Books.{Entry}
 use Rattle.dbg_command.specs.Tables.{TableState, IsTableOf, ActsOrRefuses, state_of}
 use Rattle.dbg_command.proofs.Listing.{keeps_table, passes, not_passed}
 use Rattle.dbg_command.proofs.table.Table.pass.Goals as goal
@@ -9,9 +10,14 @@ returns-in_err-pass-clause-acts c = λ P is.
     let refused = c.in_err-pass.was in
     let err : c.from_residual.result ≡ Err c.in_err-pass.field-0.0 = search (rules, refused) in
     let own : IsTableOf P (record { world = c.self.inside.world; book = c.self.inside.book }) = subst (IsTableOf P) (sym c.self.view_is) is in
-    let after : TableState = record { world = c.self.inside.world; book = c.pass.new.self } in
-    let same : after ≡ c.args.self.now = search (rules, refused) in
-    ?
+    let said = not_passed P (state_of (record { world = c.self.inside.world; book = c.self.inside.book })) c.args.name
+        c.in_err-pass.field-0.0 (c.in_err-pass.ensures.refuses c.self.inside.world P own.detectors own.world) in
+    rw err (subst
+    (λ (t : TableState). ActsOrRefuses P (model.Pass c.args.name) (state_of t) (Err c.in_err-pass.field-0.0)
+    (state_of (record { world = c.self.inside.world; book = c.pass.new.self }))) c.self.view_is
+    (subst (λ (b : List Entry). ActsOrRefuses P (model.Pass c.args.name)
+    (state_of (record { world = c.self.inside.world; book = c.self.inside.book })) (Err c.in_err-pass.field-0.0)
+    (state_of (record { world = c.self.inside.world; book = b }))) (sym c.in_err-pass.ensures.kept) said))
 
 pub returns-clause-of : goal.returns-clause-of
 returns-clause-of c = λ P is.

@@ -1,19 +1,22 @@
-use Rattle.std.proofs.Common.{rules, ◌≡◌, OnErr, OnOk, IfOk, IfErr, ℕ, ◌+◌, ◌-◌, ◌*◌, ◌<◌, ◌≤◌, length, ◌/◌, ◌%◌, Bool, true, false, nat_eq, nat_lt, List, [], ◌∷◌, ◌++◌, slice_index_or, slice_set, bit_and, bit_or, Fits, w8, w32, w64, Bor, MutBor}
-use Rattle.dbg_base.specs.declared.said.Done.TheVariants.{Places}
-use Rattle.dbg_base.specs.declared.refusal.Refusal.TheVariants.{Memory}
-use Rattle.dbg_base.specs.Trees as tree
-use Rattle.dbg_base.specs.Calls as model
-use Rattle.dbg_base.specs.SystemStates.{after_rollback}
-use Rattle.dbg_base.specs.ModelStates.{with_system}
+use Rattle.std.proofs.Common.{◌≤◌, ap, sym, ◌∙◌, arith, subst}
 use Rattle.proc_lang.specs.Programs.{program_of}
-use Rattle.cut_core.specs.ConsistentCuts.{IsConsistentCut}
-use Rattle.dbg_command.specs.Tables.{IsTableOf, ActsOrRefuses, Replies, HasLeast, LacksCut, state_of}
+use Rattle.dbg_base.specs.SystemStates.{place_at, history_of}
+use Rattle.dbg_base.specs.Reversal.{IsRollback}
+use Rattle.dbg_command.specs.Tables.{TableState, IsTableOf, state_of}
+use Rattle.dbg_command.proofs.Acting.{rolled_back}
 use Rattle.dbg_command.proofs.table.Table.rollback.Goals as goal
 
--- src/undoing.rt:50:5
 pub returns-clause-of : goal.returns-clause-of
-returns-clause-of c = ?
+returns-clause-of c = c.roll_to.ensures.of (program_of c.args.program.now) c.requires
 
--- src/undoing.rt:50:5
 pub returns-clause-acts : goal.returns-clause-acts
-returns-clause-acts c = ?
+returns-clause-acts c =
+    let P = program_of c.args.program.now in
+    let own = subst (IsTableOf P) (sym c.self.view_is) c.requires in
+    let within : c.args.n ≤ place_at c.self.inside.world.state c.args.pid.0 = omega (arith, c.if-n-place.false, c.place.ensures) in
+    rolled_back P (state_of c.args.self.now) (state_of c.roll_to.new.self) c.args.pid.0 c.args.n c.in_ok-cut.cut c.roll_to.result
+    c.in_ok-known.ensures.here
+    (subst (λ (t : TableState). c.args.n ≤ place_at t.world.state c.args.pid.0) c.self.view_is within)
+    (subst (λ (t : TableState). IsRollback P (history_of t.world.state) c.args.pid.0 c.args.n c.in_ok-cut.cut) c.self.view_is
+    (c.in_ok-cut.ensures.greatest P own.world))
+    (c.roll_to.ensures.back P c.requires)
