@@ -1,7 +1,10 @@
-use Rattle.std.proofs.Common.{sym, subst}
+use Rattle.std.proofs.Common.{◌≡◌, sym, subst}
 use Rattle.cut_core.specs.ConsistentCuts.{IsConsistentCut}
 use Rattle.break_book.proofs.Callers.{book_moved, book_moved_room}
-use Rattle.dbg_command.specs.Tables.{TableState, IsTableOf}
+use Rattle.dbg_command.specs.Tables.{TableState, IsTableOf, state_of}
+use Rattle.dbg_base.specs.SystemStates.{after_rollback}
+use Rattle.dbg_base.specs.ModelStates.{with_system}
+use Rattle.dbg_command.proofs.Acting.{system_changed}
 use Rattle.dbg_command.proofs.table.Table.roll_to.Goals as goal
 
 pub follow-requires-clause-moved : goal.follow-requires-clause-moved
@@ -19,3 +22,16 @@ follow-requires-clause-room c =
     book_moved_room P c.self.inside.world c.roll_to.new.self c.self.inside.book own.world (c.in_ok-_rolled.ensures.of P own.world)
     own.detectors c.args.cut (subst (λ (t : TableState). IsConsistentCut t.world.kinds c.args.cut) (sym c.self.view_is) c.requires.cut)
     c.in_ok-_rolled.ensures.moves
+
+pub returns-clause-back : goal.returns-clause-back
+returns-clause-back c = λ P is.
+    let own = subst (IsTableOf P) (sym c.self.view_is) is in
+    let before : TableState = record { world = c.self.inside.world; book = c.self.inside.book } in
+    let after : TableState = record { world = c.roll_to.new.self; book = c.follow.new.self } in
+    record {
+      moves = subst (λ (t : TableState). state_of after ≡ with_system (state_of t) (after_rollback t.world.state c.args.cut)) c.self.view_is
+          (system_changed before after _ c.in_ok-_rolled.ensures.moves c.follow.ensures.same);
+      replies = c.reply.ensures P (record { world = c.in_ok-_rolled.ensures.of P own.world; detectors = c.follow.ensures.of });
+      refuses = tt;
+      kept = tt;
+    }

@@ -1,5 +1,7 @@
-use Rattle.std.proofs.Common.{◌≡◌, ℕ, ◌<◌, eqb-false, length-map, None, Ok, List, [], length, map, sym, ap, ◌∙◌, subst, arith, rules}
+use Rattle.std.proofs.Common.{◌≡◌, ℕ, ◌<◌, None, Ok, List, [], length, map, sym, ap, ◌∙◌, subst, arith, rules}
 use Rattle.std.specs.List.{AllByRecursion}
+use Rattle.std.proofs.lemmas.Bool.{eqb-false}
+use Rattle.std.proofs.lemmas.List.{length-map}
 use Rattle.dbg_base.specs.Calls as model
 use Rattle.dbg_base.specs.Calls.{conjunct_of}
 use Rattle.dbg_base.specs.Predicates.{Conjunct}
