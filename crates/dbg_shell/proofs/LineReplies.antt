@@ -77,7 +77,7 @@ some_answers P [] M = ([], M, (refl, refl))
 some_answers P (line ∷ lines) M =
     let out = as_line (refusal_text P Memory) in
     let others = some_answers P lines M in
-    (out ++ others.0, others.1, (out, others.0, M, (Err Memory, inr refl, refl, refl), others.2, refl))
+    (out ++ others.0, others.1, (out, others.0, M, (Err Memory, inr refl, (refl, refl)), others.2, refl))
 
 regrouped : (x y z w : List ℕ) → x ++ y ++ (z ++ w) ≡ x ++ (y ++ z) ++ w
 regrouped x y z w = append_assoc x y (z ++ w) ∙ ap (λ (t : List ℕ). x ++ t) (sym (append_assoc y z w)) ∙ sym (append_assoc x (y ++ z) w)

@@ -3,6 +3,7 @@ use Rattle.std.proofs.Common.{◌≡◌, ℕ, List, [], Option, Some, None, Resu
 use Rattle.std.specs.Option.{option_map}
 use Rattle.dbg_base.specs.declared.refusal.Refusal.{Refusal}
 use Rattle.dbg_base.specs.declared.call.Query as query
+use Rattle.dbg_base.specs.declared.call.Query.TheVariants as queries
 use Rattle.dbg_base.specs.declared.call.Call as call
 use Rattle.dbg_base.specs.declared.call.Call.TheVariants as calls
 use Rattle.dbg_base.specs.Calls.{Call, Give, Ask, plan_of, query_of, call_of, query_told, asked_query, asked_by}
@@ -48,11 +49,15 @@ is_refused refusal (Ok None) e = cc
 is_refused refusal (Err other) e = cc
 
 -- a query of the code is told as the model's
-abbrev Told : query.Query → Type 0
-Told asked = asked ≡ query_told (query_of asked)
-
-told : (asked : query.Query) → Told asked
-told asked = elim asked as Told [ _ ↦ search rules ]
+told : (asked : query.Query) → asked ≡ query_told (query_of asked)
+told (queries.Vars pid) = refl
+told (queries.Chan source target) = refl
+told (queries.Clock pid) = refl
+told (queries.Place pid) = refl
+told (queries.Can pid) = refl
+told (queries.CutOf name) = refl
+told (queries.Why name) = refl
+told queries.Breaks = refl
 
 -- a call of the code asks what the model's asks
 pub asks_same : (given : call.Call) (known : Call) → call_of given ≡ Some known → asked_query given ≡ asked_by known

@@ -1,15 +1,24 @@
 -- What is said to a question.
-use Rattle.std.proofs.Common.{◌≡◌, ℕ, ◌<◌, Bool, List, length, Ok, refl, sym, subst, inl, MatchBool}
+use Rattle.std.proofs.Common.{◌≡◌, ℕ, ◌<◌, Bool, List, length, Option, Some, None, Ok, refl, sym, ap, ◌∙◌, subst, inl, inr, MatchBool}
 use Rattle.std.proofs.lemmas.Bool.{lt-ltb}
+use Rattle.dbg_base.specs.declared.said.Said.{Said}
 use Rattle.dbg_base.specs.declared.said.Said.TheVariants.{Answered, Refused}
-use Rattle.dbg_base.specs.declared.said.Answer.TheVariants.{Counts}
+use Rattle.dbg_base.specs.declared.said.Answer.TheVariants.{Counts, CutIs, Frontier}
+use Rattle.dbg_base.specs.declared.said.Head.{Head}
 use Rattle.dbg_base.specs.declared.refusal.Refusal.TheVariants.{UnknownProcess}
 use Rattle.dbg_base.specs.Trees.{Program}
 use Rattle.dbg_base.specs.Clocks.{IsClock}
+use Rattle.dbg_base.specs.Predicates.{IsLeast, NoCut}
+use Rattle.dbg_base.specs.Breakpoints.{Breakpoint, named}
 use Rattle.dbg_base.specs.SystemStates.{place_at, history_of}
 use Rattle.dbg_base.specs.ModelStates.{ModelState}
-use Rattle.dbg_base.specs.Calls.{Clock}
-use Rattle.dbg_base.specs.Views.{TellsClock}
+use Rattle.dbg_base.specs.Calls.{Clock, CutOf, Why}
+use Rattle.dbg_base.specs.Views.{AboutFound, TellsClock, TellsCut, TellsFrontier}
+use Rattle.causal_world.specs.Scenes.{Scene, IsWorldOf}
+use Rattle.least_cut.specs.Detectors as detector
+use Rattle.least_cut.specs.Detectors.{DetectorState, IsDetectorOf, conjuncts_of}
+use Rattle.break_book.specs.Books.{Kept, Entry, breakpoint_of, breakpoints_of, AreDetectorsOf}
+use Rattle.dbg_command.specs.Tables.{TableState, IsTableOf, state_of}
 use Rattle.dbg_shell.specs.Sessions.{AnswersOrRefuses}
 
 -- the clock of a process that is there
@@ -18,3 +27,52 @@ pub tells_clock : (P : Program) (M : ModelState) (p : ℕ) (cut : List ℕ) → 
 tells_clock P M p cut here is = inl (subst
     (λ (t : Bool). MatchBool t (TellsClock P M.system p (Answered (Counts cut))) (Answered (Counts cut) ≡ Refused UnknownProcess))
     (sym (lt-ltb p (length P) here)) (record { cut = cut; is = is; told = refl }))
+
+-- a breakpoint that was found, and its detector
+module _ (P : Program) (t : TableState) (is : IsTableOf P t) (name : List ℕ) (kept : Kept) (book : List Entry) (same : book ≡ t.book)
+    (there : named name (breakpoints_of book) ≡ Some (breakpoint_of (name, kept)))
+    (of : (w : Scene) → AreDetectorsOf w book → IsDetectorOf w kept.detector) (d : DetectorState) (own : d ≡ kept.detector) where
+  abbrev M : ModelState
+  M = state_of t
+
+  detects : IsDetectorOf t.world d
+  detects =
+      subst (IsDetectorOf t.world) (sym own) (of t.world (subst (AreDetectorsOf t.world) (sym same) is.detectors))
+
+  -- what is told of it is told
+  found : (Tells : Breakpoint → Type 0) (said : Said) → Tells (breakpoint_of (name, kept))
+      → AboutFound (named name (breakpoints_of t.book)) Tells said
+  found Tells said tells =
+      subst (λ (o : Option Breakpoint). AboutFound o Tells said)
+      (sym (ap (λ (l : List Entry). named name (breakpoints_of l)) (sym same) ∙ there)) tells
+
+  pub tells_cut : (cut made : List ℕ) → ((w : Scene) (Q : Program) → IsDetectorOf w d → IsWorldOf Q w
+      → IsLeast Q (history_of w.state) (conjuncts_of d) cut) → made ≡ cut → AnswersOrRefuses P M (CutOf name) (Ok (CutIs (Some made)))
+  tells_cut cut made least e =
+      let said : Said = Answered (CutIs (Some made)) in
+      inl (found (λ b. TellsCut P M b said) said (inl (
+        cut,
+        subst (λ (x : DetectorState). IsLeast P (history_of t.world.state) (conjuncts_of x) cut) own (least t.world P detects is.world),
+        ap (λ (c : List ℕ). Answered (CutIs (Some c))) e,
+      )))
+
+  pub tells_no_cut : ((w : Scene) (Q : Program) → IsDetectorOf w d → IsWorldOf Q w → NoCut Q (history_of w.state) (conjuncts_of d))
+      → AnswersOrRefuses P M (CutOf name) (Ok (CutIs None))
+  tells_no_cut none =
+      let said : Said = Answered (CutIs None) in
+      inl (found (λ b. TellsCut P M b said) said (inr (
+        subst (λ (x : DetectorState). NoCut P (history_of t.world.state) (conjuncts_of x)) own (none t.world P detects is.world),
+        refl,
+      )))
+
+  pub tells_frontier : (heads : List Head) → ((w : Scene) (Q : Program) → IsDetectorOf w d → IsWorldOf Q w
+      → detector.TellsFrontier Q (history_of w.state) (conjuncts_of d) heads) → AnswersOrRefuses P M (Why name) (Ok (Frontier heads))
+  tells_frontier heads tells =
+      let said : Said = Answered (Frontier heads) in
+      let told = subst (λ (x : DetectorState). detector.TellsFrontier P (history_of t.world.state) (conjuncts_of x) heads) own
+          (tells t.world P detects is.world) in
+      inl (found (λ b. TellsFrontier P M b said) said (record {
+        tuple = told.tuple;
+        is = told.is;
+        told = ap (λ (l : List Head). Answered (Frontier l)) told.told;
+      }))

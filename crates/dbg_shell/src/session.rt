@@ -90,7 +90,9 @@ fn cut_of(table: &Table, program: &Program, name: Name) -> Result<Answer, Refusa
     requires { IsTableOf (program_of program.now) table.now }
     ensures { AnswersOrRefuses (program_of program.now) (state_of table.now) (model.CutOf name) result }
 {
-    let (_, breakpoint) = table.book().find(name).ok_or(Refusal::UnknownBreak)?;
+    let Some((_, breakpoint)) = table.book().find(name) else {
+        return Err(Refusal::UnknownBreak);
+    };
     match breakpoint.detector().cut() {
         Some(cut) => Ok(Answer::CutIs(Some(cut.copy()?))),
         None => Ok(Answer::CutIs(None)),
@@ -102,7 +104,9 @@ fn frontier_of(table: &Table, alloc: Global, program: &Program, name: Name) -> R
     requires { IsTableOf (program_of program.now) table.now }
     ensures { AnswersOrRefuses (program_of program.now) (state_of table.now) (model.Why name) result }
 {
-    let (_, breakpoint) = table.book().find(name).ok_or(Refusal::UnknownBreak)?;
+    let Some((_, breakpoint)) = table.book().find(name) else {
+        return Err(Refusal::UnknownBreak);
+    };
     Ok(Answer::Frontier(breakpoint.detector().frontier(alloc)?))
 }
 

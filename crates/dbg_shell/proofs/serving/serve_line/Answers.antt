@@ -1,6 +1,6 @@
-use Rattle.std.proofs.Common.{Option, Some, None, Result, Ok, Err, subst, sym, ap}
+use Rattle.std.proofs.Common.{Option, Ok, subst, rules}
 use Rattle.proc_lang.specs.Programs.{program_of}
-use Rattle.dbg_base.specs.declared.refusal.Refusal.{Refusal}
+use Rattle.dbg_command.specs.Tables.{state_of}
 use Rattle.dbg_shell.specs.declared.command_line.Line.{Line}
 use Rattle.dbg_shell.specs.Lines.{IsParsed}
 use Rattle.dbg_shell.proofs.Requests.{answers_call, answers_refusal, answers_nothing}
@@ -16,3 +16,9 @@ returns-in-Ok-Some-clause-answers g c =
 pub returns-in-Err-clause-answers : goal.returns-in-Err-clause-answers
 returns-in-Err-clause-answers g c =
     answers_refusal _ _ _ c.in-Err.refusal _ _ _ c.in-Err.ensures (c.hand_on-in-Err.ensures _ _ c.print_refusal-written.ensures)
+
+pub returns-in-Ok-None-clause-answers : goal.returns-in-Ok-None-clause-answers
+returns-in-Ok-None-clause-answers g c =
+    answers_nothing (program_of c.args.program.now) c.args.line.now (state_of c.args.table.now) (g.W.Write.contents c.args.writer.now) _
+    (subst (λ (o : Option Line). IsParsed (program_of c.args.program.now) c.args.line.now (Ok o)) c.in-Ok-None.field-0-is
+    c.in-Ok-None.ensures) (search rules)

@@ -51,3 +51,6 @@ pub returns-in-TooLong-clause-stopped : goal.returns-in-TooLong-clause-stopped
 returns-in-TooLong-clause-stopped g c =
     any_is_cut _ _ _ _ _ _ _ c.next_line.new.self.at _ _ _ _ c.loop-table.invariant.answered c.next_line.ensures.reads.narrows
     c.in_ok-span.ensures.tells _ _ c.in-TooLong.is c.tell_too_long.ensures.written
+
+pub returns-in-End-clause-reads : goal.returns-in-End-clause-reads
+returns-in-End-clause-reads g c = reads_then c.loop-table.invariant.reads c.next_line.ensures.reads
