@@ -169,7 +169,10 @@ fn a_line_has_at_most_1024_bytes(rt: HostRuntime) -> Result<(), Fail> {
         Err(Refusal::BadLine)
     );
     let blank = padded(alloc, 1_024, "")?;
-    assert_eq!(rt; told(parse_line(alloc, &program, blank.as_slice())), Ok(None));
+    assert_eq!(rt;
+        told(parse_line(alloc, &program, blank.as_slice())),
+        Ok(None)
+    );
     let long_blank = padded(alloc, 1_025, "")?;
     assert_eq!(rt;
         told(parse_line(alloc, &program, long_blank.as_slice())),
