@@ -1,9 +1,11 @@
 //! Tests of `dbg_shell`, with expected texts from the tables of the program's documents.
 
+mod breakpoints;
 mod examples;
 mod faults;
 mod jobs;
 mod lines;
+mod many_breakpoints;
 mod programs;
 mod replies;
 mod rollback;

@@ -44,7 +44,7 @@ fn told(parsed: Result<Option<Line>, Refusal>) -> Result<Option<(u32, Asked)>, R
     }
 }
 
-const LINES: [(&str, Result<Option<(u32, Asked)>, Refusal>); 67] = [
+const LINES: [(&str, Result<Option<(u32, Asked)>, Refusal>); 66] = [
     ("1 next a", Ok(Some((1, Asked::Next(0))))),
     ("1 next b", Ok(Some((1, Asked::Next(1))))),
     ("16 vars b", Ok(Some((16, Asked::Vars(1))))),
@@ -104,7 +104,6 @@ const LINES: [(&str, Result<Option<(u32, Asked)>, Refusal>); 67] = [
     ("1 next a 0", Err(Refusal::BadLine)),
     ("1 can a b", Err(Refusal::BadLine)),
     ("1 back", Err(Refusal::BadLine)),
-    ("1 why a", Err(Refusal::BadLine)),
     ("1 clock", Err(Refusal::BadLine)),
     ("1 clock a b", Err(Refusal::BadLine)),
     ("1 rollback a", Err(Refusal::BadLine)),
@@ -122,22 +121,24 @@ const LINES: [(&str, Result<Option<(u32, Asked)>, Refusal>); 67] = [
 
 #[test]
 fn lines_become_calls(rt: HostRuntime) {
-    let program = two(&rt, rt.alloc());
+    let alloc = rt.alloc();
+    let program = two(&rt, alloc);
     for (line, want) in &LINES {
-        let parsed = told(parse_line(&program, line.as_bytes()));
+        let parsed = told(parse_line(alloc, &program, line.as_bytes()));
         assert_eq!(rt; parsed, *want, "at {line:?}");
     }
 }
 
 #[test]
 fn names_may_be_reserved_words_and_have_32_bytes(rt: HostRuntime) {
-    let program = two(&rt, rt.alloc());
+    let alloc = rt.alloc();
+    let program = two(&rt, alloc);
     let unknown = ["1 next process", "1 vars abcdefghijklmnopqrstuvwxyz_01234"];
     for line in &unknown {
-        let parsed = told(parse_line(&program, line.as_bytes()));
+        let parsed = told(parse_line(alloc, &program, line.as_bytes()));
         assert_eq!(rt; parsed, Err(Refusal::UnknownProcess), "at {line:?}");
     }
-    let long = told(parse_line(&program, b"1 vars abcdefghijklmnopqrstuvwxyz_012345"));
+    let long = told(parse_line(alloc, &program, b"1 vars abcdefghijklmnopqrstuvwxyz_012345"));
     assert_eq!(rt; long, Err(Refusal::BadLine));
 }
 
@@ -154,24 +155,27 @@ fn a_line_has_at_most_1024_bytes(rt: HostRuntime) -> Result<(), Fail> {
     let program = two(&rt, alloc);
     let most = padded(alloc, 1_016, "1 next a")?;
     assert_eq!(rt;
-        told(parse_line(&program, most.as_slice())),
+        told(parse_line(alloc, &program, most.as_slice())),
         Ok(Some((1, Asked::Next(0))))
     );
     let more = padded(alloc, 1_017, "1 next a")?;
     assert_eq!(rt;
-        told(parse_line(&program, more.as_slice())),
+        told(parse_line(alloc, &program, more.as_slice())),
         Err(Refusal::BadLine)
     );
     let carriage = padded(alloc, 1_016, "1 next a\r")?;
     assert_eq!(rt;
-        told(parse_line(&program, carriage.as_slice())),
+        told(parse_line(alloc, &program, carriage.as_slice())),
         Err(Refusal::BadLine)
     );
     let blank = padded(alloc, 1_024, "")?;
-    assert_eq!(rt; told(parse_line(&program, blank.as_slice())), Ok(None));
+    assert_eq!(rt;
+        told(parse_line(alloc, &program, blank.as_slice())),
+        Ok(None)
+    );
     let long_blank = padded(alloc, 1_025, "")?;
     assert_eq!(rt;
-        told(parse_line(&program, long_blank.as_slice())),
+        told(parse_line(alloc, &program, long_blank.as_slice())),
         Err(Refusal::BadLine)
     );
     Ok(())
