@@ -1,5 +1,6 @@
 -- What is said to a command, case by case.
-use Rattle.std.proofs.Common.{◌≡◌, ◌⊎◌, inl, inr, ℕ, ◌<◌, ◌≤◌, Bool, true, false, List, [], ◌∷◌, ◌++◌, length, Option, Some, None, Result, Ok, Err}
+use Rattle.std.proofs.Common.{◌≡◌, ◌⊎◌, inl, inr, ℕ, ◌<◌, ◌≤◌, Bool, true, false, List, [], ◌∷◌, ◌++◌, length, Option, Some, None}
+use Rattle.std.proofs.Common.{Result, Ok, Err}
 use Rattle.std.proofs.Common.{zero, suc, refl, sym, ap, ◌∙◌, subst, MatchBool, arith}
 use Rattle.std.proofs.lemmas.Bool.{lt-ltb, le-ltb}
 use Rattle.dbg_base.specs.declared.said.Done.{Done}
@@ -58,7 +59,8 @@ module _ (P : Program) (p : ℕ) (Does : Type 0) (M : ModelState) (said : Said) 
       subst (λ (t : Bool). MatchBool t Does (Refuses UnknownProcess M said M')) (sym (le-ltb p (length P) none)) refuses
 
 module _ (P : Program) (p : ℕ) (Does : Type 0) (M : ModelState) (M' : ModelState) (same : M' ≡ M) where
-  pub no_process : (refusal : Refusal) → UnknownIn P p refusal → OrMemory (WithProcess P p Does M (Refused refusal) M') M (Refused refusal) M'
+  pub no_process : (refusal : Refusal) → UnknownIn P p refusal
+      → OrMemory (WithProcess P p Does M (Refused refusal) M') M (Refused refusal) M'
   no_process refusal unknown =
       inl (without_process P p Does M (Refused refusal) M' unknown.none (refused M M' refusal UnknownProcess unknown.is same))
 
@@ -169,7 +171,8 @@ redo_left P M p k made = by (slice_get (line_of M p) (place_at M p)) refl
 pub consistent_least : (P : Program) (w : Scene) → IsWorldOf P w → (conjuncts : List Conjunct) (cut : List ℕ)
     → IsLeast P (history_of w.state) conjuncts cut → IsConsistentCut w.kinds cut
 consistent_least P w of conjuncts cut is =
-    subst (λ (kinds : List (List Kind)). IsConsistentCut kinds cut) (sym of.counts) (consistent_cut P (history_of w.state) cut is.satisfies.consistent)
+    subst (λ (kinds : List (List Kind)). IsConsistentCut kinds cut) (sym of.counts)
+    (consistent_cut P (history_of w.state) cut is.satisfies.consistent)
 
 -- what the detector of a breakpoint that was found tells of its cut
 module _ (P : Program) (t : TableState) (name : List ℕ) (kept : Kept) (is : IsTableOf P t)

@@ -12,6 +12,7 @@ returns c =
     let P = program_of c.args.program.now in
     let own = subst (IsWorldOf P) (sym c.world-world.ensures) c.requires.world in
     tells_clock P (state_of c.args.table.now) c.args.pid.0 c.in_ok-counts.counts c.in_ok-known.ensures.here
-    (subst (λ (w : Scene). IsClock P (history_of w.state) c.args.pid.0 (place_at w.state c.args.pid.0) c.in_ok-counts.counts) c.world-world.ensures
+    (subst (λ (w : Scene). IsClock P (history_of w.state) c.args.pid.0 (place_at w.state c.args.pid.0) c.in_ok-counts.counts)
+    c.world-world.ensures
     (subst (λ (n : ℕ). IsClock P (history_of c.world-world.result.now.state) c.args.pid.0 n c.in_ok-counts.counts) c.place.ensures
     (c.in_ok-counts.ensures.clock P own)))

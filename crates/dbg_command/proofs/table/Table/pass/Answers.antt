@@ -9,7 +9,8 @@ pub returns-in_err-pass-clause-acts : goal.returns-in_err-pass-clause-acts
 returns-in_err-pass-clause-acts c = λ P is.
     let refused = c.in_err-pass.was in
     let err : c.from_residual.result ≡ Err c.in_err-pass.field-0.0 = search (rules, refused) in
-    let own : IsTableOf P (record { world = c.self.inside.world; book = c.self.inside.book }) = subst (IsTableOf P) (sym c.self.view_is) is in
+    let own : IsTableOf P (record { world = c.self.inside.world; book = c.self.inside.book }) =
+    subst (IsTableOf P) (sym c.self.view_is) is in
     let said = not_passed P (state_of (record { world = c.self.inside.world; book = c.self.inside.book })) c.args.name
         c.in_err-pass.field-0.0 (c.in_err-pass.ensures.refuses c.self.inside.world P own.detectors own.world) in
     rw err (subst
@@ -26,7 +27,8 @@ returns-clause-of c = λ P is.
 
 pub returns-clause-acts : goal.returns-clause-acts
 returns-clause-acts c = λ P is.
-    let own : IsTableOf P (record { world = c.self.inside.world; book = c.self.inside.book }) = subst (IsTableOf P) (sym c.self.view_is) is in
+    let own : IsTableOf P (record { world = c.self.inside.world; book = c.self.inside.book }) =
+    subst (IsTableOf P) (sym c.self.view_is) is in
     let after : TableState = record { world = c.self.inside.world; book = c.pass.new.self } in
     subst (λ (t : TableState). ActsOrRefuses P (model.Pass c.args.name) (state_of t) (Ok c.reply.result) (state_of after)) c.self.view_is
     (passes P c.self.inside.world c.self.inside.book c.pass.new.self c.reply.result (c.reply.ensures P (returns-clause-of c P is))
