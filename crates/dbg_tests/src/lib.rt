@@ -11,6 +11,8 @@ mod copies;
 mod cuts;
 pub mod detector_calls;
 #[cfg(test)]
+mod eliminations;
+#[cfg(test)]
 mod evaluation;
 #[cfg(test)]
 mod events;
