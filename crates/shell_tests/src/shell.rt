@@ -1,5 +1,6 @@
 //! Tests of `dbg_shell`, with expected texts from the tables of the program's documents.
 
+mod break_lines;
 mod breakpoints;
 mod examples;
 mod faults;
