@@ -8,6 +8,7 @@ mod jobs;
 mod lines;
 mod many_breakpoints;
 mod programs;
+mod protocols;
 mod replies;
 mod rollback;
 mod sessions;
