@@ -1,5 +1,6 @@
 //! Tests of `dbg_shell`, with expected texts from the tables of the program's documents.
 
+mod break_lines;
 mod breakpoints;
 mod examples;
 mod faults;
@@ -7,6 +8,7 @@ mod jobs;
 mod lines;
 mod many_breakpoints;
 mod programs;
+mod protocols;
 mod replies;
 mod rollback;
 mod sessions;
