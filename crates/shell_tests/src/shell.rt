@@ -10,6 +10,7 @@ mod many_breakpoints;
 mod programs;
 mod protocols;
 mod replies;
+mod rings;
 mod rollback;
 mod sessions;
 mod undo;

@@ -111,3 +111,114 @@ fn an_update_is_lost(rt: HostRuntime) {
     assert_eq!(rt; replies.as_slice(), FOUND.as_bytes());
     assert_eq!(rt; code, 0);
 }
+
+// The text of examples/two_phase_commit.rdbg: a participant that has voted for the commit gives up waiting for the decision.
+const TWO_PHASE_COMMIT: &str = "process coordinator {
+  var left_vote = 0;
+  var right_vote = 0;
+  var decision = 0;
+  when (sent(left) = 0) : send left 0;
+  when (sent(right) = 0) : send right 0;
+  when (got(left) = 0) : recv left left_vote;
+  when (got(right) = 0) : recv right right_vote;
+  when ((decision = 0) and ((got(left) + got(right)) = 2)) : decision := (2 - (left_vote * right_vote));
+  when ((decision > 0) and (sent(left) = 1)) : send left decision;
+  when ((decision > 0) and (sent(right) = 1)) : send right decision;
+}
+process left {
+  var state = 0;
+  var order = 0;
+  when (got(coordinator) = 0) : recv coordinator order;
+  when ((got(coordinator) = 1) and (state = 0)) : send coordinator 1, state := 1;
+  when ((got(coordinator) = 1) and (state = 0)) : send coordinator 0, state := 3;
+  when (state = 1) : recv coordinator order, state := (order + 1);
+  when (state = 1) : state := 3;
+}
+process right {
+  var state = 0;
+  var order = 0;
+  when (got(coordinator) = 0) : recv coordinator order;
+  when ((got(coordinator) = 1) and (state = 0)) : send coordinator 1, state := 1;
+  when ((got(coordinator) = 1) and (state = 0)) : send coordinator 0, state := 3;
+  when (state = 1) : recv coordinator order, state := (order + 1);
+  when (state = 1) : state := 3;
+}
+%%
+1 break split left (state = 2) right (state = 3)
+1 break torn left (state = 3) right (state = 2)
+1 next coordinator
+1 next coordinator
+2 next left
+2 next left
+3 next right
+3 next right
+1 next coordinator
+1 next coordinator
+1 next coordinator
+1 next coordinator
+3 step right 4
+2 next left
+1 next coordinator
+1 cut split
+2 vars left
+3 vars right
+2 clock left
+1 pass split
+1 next coordinator
+1 chan coordinator right
+1 arm split
+1 goto split
+1 chan coordinator right
+3 can right
+3 undo right
+1 redo coordinator
+3 next right
+1 cut split
+1 why split
+1 why torn
+1 breaks
+";
+
+// The left one commits by the sixth event of the coordinator, and the right one has aborted by itself. Where it waits for the
+// decision both commit: the right one has no state left in which it has aborted, and the left one never had one.
+const TWO_DECISIONS: &str = "ok
+ok
+ok coordinator 0
+ok coordinator 1
+ok left 0
+ok left 1
+ok right 0
+ok right 1
+ok coordinator 2
+ok coordinator 3
+ok coordinator 4
+ok coordinator 5
+ok right 4
+ok left 3 halted split
+no 9 split
+cut split coordinator=6 left=3 right=3
+vars left state=2 order=1
+vars right state=3 order=0
+clock left coordinator=6 left=3 right=2
+ok
+ok coordinator 6
+chan coordinator right 1
+ok halted split
+ok coordinator=6 left=3 right=3 halted split
+chan coordinator right
+can right yes
+ok right 4
+ok coordinator 6
+ok right 3
+cut split none
+why split coordinator=7 left=3 right=past
+why torn coordinator=7 left=past right=3
+breaks split on torn on
+";
+
+#[test]
+fn a_commit_has_two_decisions(rt: HostRuntime) {
+    let (replies, code) = served(rt.alloc(), TWO_PHASE_COMMIT.as_bytes());
+    assert_eq!(rt; replies.as_slice(), TWO_DECISIONS.as_bytes());
+    assert_eq!(rt; code, 0);
+}
