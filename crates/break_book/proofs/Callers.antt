@@ -13,11 +13,6 @@ pub all_map : {A : Type 0} (P Q : A → Type 0) → ((x : A) → P x → Q x) �
 all_map P Q each [] all = tt
 all_map P Q each (x ∷ xs) all = (each x all.0, all_map P Q each xs all.1)
 
--- With one event more of the process there is room where the places are those.
-pub book_grown_room : (book : List Entry) (before w : Scene) (p : ℕ) → HaveRoomUpTo book (one_more before p)
-    → w.state.places ≡ one_more before p → HaveRoomUpTo book w.state.places
-book_grown_room book before w p room same = subst (HaveRoomUpTo book) (sym same) room
-
 module _ (P : Program) (before w : Scene) (book : List Entry) (of : IsWorldOf P before) (now : IsWorldOf P w)
     (are : AreDetectorsOf before book) where
   -- a process has made a choice

@@ -85,10 +85,6 @@ module _ (P : Program) (before w : Scene) (d : DetectorState) (of : IsWorldOf P 
       ∙ without_with (history_of before.state) p k size in
       (P, before, record { detector = is; of = of; now = now }, omega (arith, place), sym one)
 
-  pub has_grown_room : (p k : ℕ) → w.state ≡ after_choice before.state p k → HasRoomUpTo d (one_more before p)
-      → HasRoomUpTo d w.state.places
-  has_grown_room p k state room = subst (HasRoomUpTo d) (sym (ap (λ (M : SystemState). M.places) state)) room
-
   -- it has taken its last one back
   pub has_shrunk : (p : ℕ) → p < length P → w.state ≡ after_undo before.state p → IsShrunk d p w
   has_shrunk p here state =
