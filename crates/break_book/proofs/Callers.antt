@@ -1,10 +1,10 @@
 -- What the calls of a book require, from what the calls of its world say.
-use Rattle.std.proofs.Common.{◌≡◌, ℕ, ◌<◌, List, [], ◌∷◌, length, sym, subst}
+use Rattle.std.proofs.Common.{◌≡◌, ℕ, ◌<◌, List, [], ◌∷◌, length}
 use Rattle.std.specs.List.{AllByRecursion}
 use Rattle.dbg_base.specs.Trees.{Program}
 use Rattle.dbg_base.specs.SystemStates.{line_of, place_at, after_choice, after_redo, after_undo, after_rollback}
 use Rattle.causal_world.specs.Scenes.{Scene, IsWorldOf}
-use Rattle.least_cut.specs.Detectors.{IsDetectorOf, IsGrown, IsShrunk, IsMoved, HasRoomUpTo, one_more}
+use Rattle.least_cut.specs.Detectors.{IsDetectorOf, IsGrown, IsShrunk, IsMoved, HasRoomUpTo}
 use Rattle.least_cut.proofs.Callers.{IsConsistentCut}
 use Rattle.least_cut.proofs.Callers as detector
 use Rattle.break_book.specs.Books.{Entry, AreDetectorsOf, HaveRoomUpTo, AreGrown, AreShrunk, AreMoved}

@@ -1,27 +1,26 @@
 -- What is said to a command, case by case.
-use Rattle.std.proofs.Common.{◌≡◌, ◌⊎◌, inl, inr, ℕ, ◌<◌, ◌≤◌, Bool, true, false, List, [], ◌∷◌, ◌++◌, length, Option, Some, None}
+use Rattle.std.proofs.Common.{◌≡◌, ◌⊎◌, inl, inr, ℕ, ◌<◌, ◌≤◌, Bool, List, [], ◌∷◌, length, Option, Some, None}
 use Rattle.std.proofs.Common.{Result, Ok, Err}
 use Rattle.std.proofs.Common.{zero, suc, refl, sym, ap, ◌∙◌, subst, MatchBool, arith}
 use Rattle.std.proofs.lemmas.Bool.{lt-ltb, le-ltb}
 use Rattle.dbg_base.specs.declared.said.Done.{Done}
-use Rattle.dbg_base.specs.declared.said.Done.TheVariants.{Played, Undone, Places, Plain}
+use Rattle.dbg_base.specs.declared.said.Done.TheVariants.{Undone, Places}
 use Rattle.dbg_base.specs.declared.said.Reply.{Reply}
 use Rattle.dbg_base.specs.declared.said.Said.{Said}
 use Rattle.dbg_base.specs.declared.said.Said.TheVariants.{Accepted, Refused}
 use Rattle.dbg_base.specs.declared.refusal.Refusal.{Refusal}
 use Rattle.dbg_base.specs.declared.refusal.Refusal.TheVariants.{Memory, UnknownProcess, UnknownBreak, BadPlace}
 use Rattle.dbg_base.specs.Trees.{Program}
-use Rattle.dbg_base.specs.SystemStates.{SystemState, place_at, history_of, last_choice, after_rollback, after_undo}
+use Rattle.dbg_base.specs.SystemStates.{SystemState, place_at, history_of, last_choice, after_undo}
 use Rattle.dbg_base.specs.Copies.{IsCopy}
 use Rattle.dbg_base.specs.Reversal.{MayUndo, IsRollback}
-use Rattle.dbg_base.specs.Choices.{CannotUndo}
 use Rattle.dbg_base.specs.Breakpoints.{Breakpoint, named}
-use Rattle.dbg_base.specs.ModelStates.{ModelState, IsHalted, with_system}
+use Rattle.dbg_base.specs.ModelStates.{ModelState, with_system}
 use Rattle.dbg_base.specs.declared.refusal.Refusal.TheVariants as refusals
 use Rattle.dbg_base.specs.Calls.{Undo, Rollback, Goto}
-use Rattle.dbg_base.specs.Acts.{Accepts, Refuses, Plays, UnlessHalted, WithProcess, WithFound, RollsBack, RollsBackAt, GoesTo, HasNone}
-use Rattle.dbg_command.specs.Tables.{Replies, UnknownIn, Unready, HasLeast, LacksCut, GoesBack, ActsOrRefuses}
-use Rattle.std.specs.Prelude.{IfOk, IfErr, OnOk, OnErr, slice_get}
+use Rattle.dbg_base.specs.Acts.{Accepts, Refuses, WithProcess, WithFound, RollsBack, RollsBackAt, GoesTo, HasNone}
+use Rattle.dbg_command.specs.Tables.{Replies, HasLeast, LacksCut, GoesBack, ActsOrRefuses}
+use Rattle.std.specs.Prelude.{IfOk, slice_get}
 use Rattle.dbg_base.specs.declared.refusal.Refusal.TheVariants.{NothingToRedo}
 use Rattle.dbg_base.specs.Choices.{redo_choice, choice_again}
 use Rattle.dbg_base.specs.SystemStates.{line_of, configuration_of}

@@ -4,7 +4,6 @@ use Rattle.std.proofs.Common.{refl, sym, ap, ◌∙◌, subst, MatchBool, arith}
 use Rattle.std.specs.Prelude.{if◌then◌else◌}
 use Rattle.dbg_base.specs.declared.said.Done.TheVariants.{Plain}
 use Rattle.dbg_base.specs.declared.said.Reply.{Reply}
-use Rattle.dbg_base.specs.declared.said.Said.{Said}
 use Rattle.dbg_base.specs.declared.said.Said.TheVariants.{Accepted, Refused}
 use Rattle.dbg_base.specs.declared.refusal.Refusal.{Refusal}
 use Rattle.dbg_base.specs.declared.refusal.Refusal.TheVariants as refusals
@@ -15,7 +14,7 @@ use Rattle.dbg_base.specs.Breakpoints.{Breakpoint, named, without, with_mark, na
 use Rattle.dbg_base.specs.ModelStates.{ModelState}
 use Rattle.dbg_base.specs.Calls.{Break, Clear, Arm, Pass}
 use Rattle.dbg_base.specs.Acts.{Lists, Refuses, WithFound, Arms, Passes, Sets, break_refusal, first_refusal, conjuncts_refusal}
-use Rattle.causal_world.specs.Scenes.{Scene, IsWorldOf}
+use Rattle.causal_world.specs.Scenes.{Scene}
 use Rattle.break_book.specs.Books.{Entry, breakpoints_of, AreDetectorsOf, arm_refusal, MayPass, CannotPass, new_breakpoint}
 use Rattle.dbg_command.specs.Tables.{IsTableOf, Replies, Adds, state_of, ActsOrRefuses}
 use Rattle.dbg_command.proofs.Acting.{accepted, refused}
@@ -42,8 +41,10 @@ module _ (P : Program) (w : Scene) (book new : List Entry) (reply : Reply)
   after = state_of (record { world = w; book = new })
 
   lists : (breakpoints : List Breakpoint) → breakpoints_of new ≡ breakpoints → Lists P breakpoints before (Accepted reply) after
-  lists breakpoints e = (accepted P after Plain reply replies,
-      ap (λ (l : List Breakpoint). record { system = w.state; breakpoints = l }) e)
+  lists breakpoints e = (
+    accepted P after Plain reply replies,
+    ap (λ (l : List Breakpoint). record { system = w.state; breakpoints = l }) e,
+  )
 
   pub sets : (name : List ℕ) (conjuncts : List Conjunct) → 0 < length conjuncts → conjuncts_refusal P [] conjuncts ≡ None
       → Adds book name conjuncts new → ActsOrRefuses P (Break name conjuncts) before (Ok reply) after

@@ -46,7 +46,12 @@ impl Table {
     }
 
     // The process makes its first command that fires.
-    pub(crate) fn next(&mut self, alloc: Global, program: &Program, pid: Pid) -> Result<Reply, Refusal>
+    pub(crate) fn next(
+        &mut self,
+        alloc: Global,
+        program: &Program,
+        pid: Pid,
+    ) -> Result<Reply, Refusal>
         requires { IsTableOf (program_of program.now) self.old }
         ensures of { IsTableOf (program_of program.now) self.new }
         ensures acts { ActsOrRefuses (program_of program.now) (model.Next pid.0) (state_of self.old) result (state_of self.new) }
@@ -57,7 +62,12 @@ impl Table {
     }
 
     // The process makes the choice at its place again.
-    pub(crate) fn redo(&mut self, alloc: Global, program: &Program, pid: Pid) -> Result<Reply, Refusal>
+    pub(crate) fn redo(
+        &mut self,
+        alloc: Global,
+        program: &Program,
+        pid: Pid,
+    ) -> Result<Reply, Refusal>
         requires { IsTableOf (program_of program.now) self.old }
         ensures of { IsTableOf (program_of program.now) self.new }
         ensures acts { ActsOrRefuses (program_of program.now) (model.Redo pid.0) (state_of self.old) result (state_of self.new) }

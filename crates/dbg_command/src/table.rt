@@ -96,7 +96,12 @@ impl Table {
     }
 
     // Gets ready for an event of the process: it is there, no breakpoint halts the session, and there is room in each detector.
-    pub(crate) fn ready(&mut self, alloc: Global, program: &Program, pid: Pid) -> Result<(), Refusal>
+    pub(crate) fn ready(
+        &mut self,
+        alloc: Global,
+        program: &Program,
+        pid: Pid,
+    ) -> Result<(), Refusal>
         requires { IsTableOf (program_of program.now) self.old }
         ensures of { IsTableOf (program_of program.now) self.new }
         ensures world { self.new.world ≡ self.old.world }

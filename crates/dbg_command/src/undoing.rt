@@ -14,7 +14,12 @@ use std::alloc::Global;
 
 impl Table {
     // The last event of the process is taken back.
-    pub(crate) fn undo(&mut self, alloc: Global, program: &Program, pid: Pid) -> Result<Reply, Refusal>
+    pub(crate) fn undo(
+        &mut self,
+        alloc: Global,
+        program: &Program,
+        pid: Pid,
+    ) -> Result<Reply, Refusal>
         requires { IsTableOf (program_of program.now) self.old }
         ensures of { IsTableOf (program_of program.now) self.new }
         ensures acts { ActsOrRefuses (program_of program.now) (model.Undo pid.0) (state_of self.old) result (state_of self.new) }

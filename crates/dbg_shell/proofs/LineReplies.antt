@@ -1,5 +1,5 @@
 -- What the command lines are answered with.
-use Rattle.std.proofs.Common.{◌≡◌, ℕ, ◌≤◌, Bool, true, false, List, [], ◌∷◌, ◌++◌, length, Option, Some, None, refl, sym, ap, ◌∙◌, subst}
+use Rattle.std.proofs.Common.{◌≡◌, ℕ, ◌≤◌, Bool, true, false, List, [], ◌∷◌, ◌++◌, length, Option, refl, sym, ap, ◌∙◌, subst}
 use Rattle.std.proofs.Common.{inr, append_assoc, arith}
 use Rattle.std.specs.Prelude.{slice_range, IfOk, IfErr, Result, Ok, Err}
 use Rattle.std.specs.Io.KnownBytes.{Appends}

@@ -1,5 +1,5 @@
 -- What a line of the code says of the model's.
-use Rattle.std.proofs.Common.{◌≡◌, ℕ, List, [], Option, Some, None, Result, Ok, Err, refl, ap, ◌∙◌, subst, rules}
+use Rattle.std.proofs.Common.{◌≡◌, ℕ, List, [], Option, Some, None, Result, Ok, Err, refl, ap, ◌∙◌, subst}
 use Rattle.std.specs.Option.{option_map}
 use Rattle.dbg_base.specs.declared.refusal.Refusal.{Refusal}
 use Rattle.dbg_base.specs.declared.call.Query as query
@@ -80,8 +80,12 @@ module _ (P : Program) (bytes : List ℕ) (M M' : ModelState) where
       ap (λ (asked : Option query.Query). as_line (reply_text P asked said)) (asks_same line.call request.call request.there) in
       record {
         text = text;
-        answers = (parsed.known, parsed.asks, subst (λ (known : Result (Option Request) Refusal). AnswersParsed P known M text M')
-            request.same (said, says request.call request.there, refl));
+        answers = (
+          parsed.known,
+          parsed.asks,
+          subst (λ (known : Result (Option Request) Refusal). AnswersParsed P known M text M')
+              request.same (said, says request.call request.there, refl),
+        );
         written = subst (λ (t : List ℕ). Writes old new r t) same wrote;
       }
 
@@ -93,8 +97,12 @@ answers_refusal P bytes M refusal old new r parsed wrote =
     let text : List ℕ = as_line (refusal_text P refusal) in
     record {
       text = text;
-      answers = (parsed.known, parsed.asks, subst (λ (known : Result (Option Request) Refusal). AnswersParsed P known M text M)
-          (is_refused refusal parsed.known parsed.same) (refl, refl));
+      answers = (
+        parsed.known,
+        parsed.asks,
+        subst (λ (known : Result (Option Request) Refusal). AnswersParsed P known M text M)
+            (is_refused refusal parsed.known parsed.same) (refl, refl),
+      );
       written = wrote;
     }
 
@@ -108,7 +116,11 @@ pub answers_nothing : {A : Type 0} (P : Program) (bytes : List ℕ) (M : ModelSt
     → IsParsed P bytes (Ok None) → Writes old old r [] → WritesAnswer P bytes M old r old M
 answers_nothing P bytes M old r parsed wrote = record {
   text = [];
-  answers = (parsed.known, parsed.asks, subst (λ (known : Result (Option Request) Refusal). AnswersParsed P known M [] M)
-      (is_blank_line parsed.known parsed.same) (refl, refl));
+  answers = (
+    parsed.known,
+    parsed.asks,
+    subst (λ (known : Result (Option Request) Refusal). AnswersParsed P known M [] M)
+        (is_blank_line parsed.known parsed.same) (refl, refl),
+  );
   written = wrote;
 }

@@ -70,7 +70,7 @@ module _ (P : Program) (t : TableState) (is : IsTableOf P t) (name : List ℕ) (
   tells_frontier heads tells =
       let said : Said = Answered (Frontier heads) in
       let told = subst (λ (x : DetectorState). detector.TellsFrontier P (history_of t.world.state) (conjuncts_of x) heads) own
-          (tells t.world P detects is.world) in
+      (tells t.world P detects is.world) in
       inl (found (λ b. TellsFrontier P M b said) said (record {
         tuple = told.tuple;
         is = told.is;

@@ -49,9 +49,7 @@ fn messages(
 {
     known(program, source)?;
     known(program, target)?;
-    Ok(Answer::Messages(
-        table.world().channel(alloc, source, target)?,
-    ))
+    Ok(Answer::Messages(table.world().channel(alloc, source, target)?))
 }
 
 // The clock of the process's present state.
@@ -100,7 +98,12 @@ fn cut_of(table: &Table, program: &Program, name: Name) -> Result<Answer, Refusa
 }
 
 // The frontier of the breakpoint of this name.
-fn frontier_of(table: &Table, alloc: Global, program: &Program, name: Name) -> Result<Answer, Refusal>
+fn frontier_of(
+    table: &Table,
+    alloc: Global,
+    program: &Program,
+    name: Name,
+) -> Result<Answer, Refusal>
     requires { IsTableOf (program_of program.now) table.now }
     ensures { AnswersOrRefuses (program_of program.now) (state_of table.now) (model.Why name) result }
 {

@@ -100,7 +100,12 @@ fn a_clock_rules_out_no_more_than_it_counts(rt: HostRuntime) -> Result<(), Fail>
 
 #[test]
 fn a_clock_that_no_cut_needs_yet_rules_nothing_out(rt: HostRuntime) -> Result<(), Fail> {
-    expect(&rt, rt.alloc(), &[passes(A, 0, 1, Cause::Passed(B, 1))], false)
+    expect(
+        &rt,
+        rt.alloc(),
+        &[passes(A, 0, 1, Cause::Passed(B, 1))],
+        false,
+    )
 }
 
 #[test]

@@ -1,4 +1,4 @@
-use Rattle.std.proofs.Common.{ℕ, List, sym, subst}
+use Rattle.std.proofs.Common.{sym, subst}
 use Rattle.dbg_base.specs.Trees.{Program}
 use Rattle.dbg_base.specs.Predicates.{IsLeast, NoCut}
 use Rattle.dbg_base.specs.SystemStates.{history_of}

@@ -1,6 +1,5 @@
-use Rattle.std.proofs.Common.{◌≡◌, Err, subst, sym, rules}
-use Rattle.dbg_base.specs.Calls as model
-use Rattle.dbg_command.specs.Tables.{ActsOrRefuses, state_of}
+use Rattle.std.proofs.Common.{◌≡◌, Err, rules}
+use Rattle.dbg_command.specs.Tables.{state_of}
 use Rattle.dbg_command.proofs.Acting.{went_to, not_gone, consistent_least}
 use Rattle.dbg_command.proofs.table.Table.go_to.Goals as goal
 

@@ -1,5 +1,5 @@
 use Rattle.std.proofs.Common.{ap, sym, subst}
-use Rattle.causal_world.specs.Scenes.{Scene, IsWorldOf}
+use Rattle.causal_world.specs.Scenes.{IsWorldOf}
 use Rattle.dbg_command.specs.Tables.{TableState}
 use Rattle.dbg_command.proofs.table.Table.grown.Goals as goal
 

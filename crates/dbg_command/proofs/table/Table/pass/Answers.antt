@@ -12,7 +12,7 @@ returns-in_err-pass-clause-acts c = λ P is.
     let own : IsTableOf P (record { world = c.self.inside.world; book = c.self.inside.book }) =
     subst (IsTableOf P) (sym c.self.view_is) is in
     let said = not_passed P (state_of (record { world = c.self.inside.world; book = c.self.inside.book })) c.args.name
-        c.in_err-pass.field-0.0 (c.in_err-pass.ensures.refuses c.self.inside.world P own.detectors own.world) in
+    c.in_err-pass.field-0.0 (c.in_err-pass.ensures.refuses c.self.inside.world P own.detectors own.world) in
     rw err (subst
     (λ (t : TableState). ActsOrRefuses P (model.Pass c.args.name) (state_of t) (Err c.in_err-pass.field-0.0)
     (state_of (record { world = c.self.inside.world; book = c.pass.new.self }))) c.self.view_is

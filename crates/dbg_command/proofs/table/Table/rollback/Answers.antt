@@ -1,4 +1,4 @@
-use Rattle.std.proofs.Common.{◌≤◌, ap, sym, ◌∙◌, arith, subst}
+use Rattle.std.proofs.Common.{◌≤◌, sym, arith, subst}
 use Rattle.proc_lang.specs.Programs.{program_of}
 use Rattle.dbg_base.specs.SystemStates.{place_at, history_of}
 use Rattle.dbg_base.specs.Reversal.{IsRollback}

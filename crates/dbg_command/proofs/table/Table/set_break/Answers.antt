@@ -40,7 +40,7 @@ returns-clause-acts c =
     let after : TableState = record { world = c.args.self.now.world; book = c.set_fitting.new.self.book } in
     let same : c.set_fitting.new.self ≡ after = λ i. record { world = c.set_fitting.ensures.world i; book = c.set_fitting.new.self.book } in
     let replies = subst (λ (t : TableState). Replies P (state_of t) Plain c.reply.result) same
-        (c.reply.ensures P (c.set_fitting.ensures.of P c.requires)) in
+    (c.reply.ensures P (c.set_fitting.ensures.of P c.requires)) in
     subst (λ (t : TableState). ActsOrRefuses P (model.Break c.args.name conjuncts) (state_of c.args.self.now) (Ok c.reply.result)
     (state_of t)) (sym same)
     (sets P c.args.self.now.world c.args.self.now.book c.set_fitting.new.self.book c.reply.result replies c.args.name conjuncts some none

@@ -1,10 +1,7 @@
-use Rattle.std.proofs.Common.{◌≡◌, Option, Some, Ok, sym, ap, ◌∙◌, subst, rules}
-use Rattle.std.specs.Option.{option_map}
-use Rattle.dbg_base.specs.declared.ids.Choice.{Choice}
+use Rattle.std.proofs.Common.{◌≡◌, Some, Ok, sym, subst, rules}
 use Rattle.dbg_base.specs.Calls as model
 use Rattle.dbg_base.specs.SystemStates.{last_choice}
 use Rattle.proc_lang.specs.Programs.{program_of}
-use Rattle.break_book.specs.Books.{breakpoints_of}
 use Rattle.break_book.proofs.Callers.{book_shrunk}
 use Rattle.dbg_command.specs.Tables.{TableState, IsTableOf, ActsOrRefuses, state_of}
 use Rattle.dbg_command.proofs.Acting.{taken_back, system_changed}
