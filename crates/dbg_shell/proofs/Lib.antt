@@ -1,12 +1,5 @@
 pub mod Writing
 pub mod Pairs
-pub mod Words
-pub mod Places
-pub mod BreakLines
-pub mod PartsRead
-pub mod BreakAsked
-pub mod LineCalls
-pub mod WholeLines
 pub mod Reading
 pub mod LineEnds
 pub mod UnderWay
@@ -17,4 +10,3 @@ pub mod LineReplies
 pub mod Known
 pub mod InputTexts
 pub mod CheckTexts
-pub mod Digits

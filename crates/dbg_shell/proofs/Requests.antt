@@ -16,8 +16,8 @@ use Rattle.dbg_base.specs.Shell.{as_line, SaysOrRefuses, AnswersParsed}
 use Rattle.dbg_shell.specs.declared.outcome.ServeFault.{ServeFault}
 use Rattle.dbg_shell.specs.Writing.{Writes}
 use Rattle.dbg_shell.specs.Serving.{WritesAnswer}
-use Rattle.dbg_shell.specs.declared.command_line.Line.{Line}
-use Rattle.dbg_shell.specs.Lines.{IsParsed, requested}
+use Rattle.command_line.specs.declared.line.Line.{Line}
+use Rattle.command_line.specs.Lines.{IsParsed, requested}
 
 -- a call was read
 pub record Requests (seat : ℕ) (called : Option Call) (known : Result (Option Request) Refusal) : Type 0 where

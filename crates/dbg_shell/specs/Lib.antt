@@ -2,7 +2,6 @@ pub mod Outcomes
 pub mod Writing
 pub mod Pieces
 pub mod Spans
-pub mod Lines
 pub mod Checking
 pub mod Sessions
 pub mod Serving

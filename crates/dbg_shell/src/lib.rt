@@ -4,9 +4,7 @@
 //! of the program's own command line. Its session is a table, which the calls of the seats change in place.
 #![tactic(auto)]
 
-mod break_line;
 mod checking;
-mod command_line;
 mod framing;
 mod jobs;
 mod notices;

@@ -7,9 +7,9 @@ ghost use Rattle.dbg_shell.specs.Serving.{SplitsAny};
 ghost use Rattle.dbg_shell.specs.declared.program_text.TextEnd.TheVariants.{End};
 ghost use Rattle.dbg_shell.specs.declared.outcome.ServeFault.TheVariants.{Read};
 
-use crate::command_line::without_return;
 use crate::framing::{Input, Next, Span};
 use crate::outcome::ServeFault;
+use command_line::without_return;
 use std::io::Read;
 
 /// Where the program text ends.

@@ -11,13 +11,13 @@ ghost use Rattle.dbg_shell.specs.Spans.{EndsWith, ReadsOn};
 ghost use Rattle.dbg_shell.specs.Serving.{ServesInput, BreaksInput, ReadsFew, WritesAnswer, WritesSome, WritesFront};
 ghost use Rattle.dbg_shell.specs.Serving.{ServesLines, StopsLines, BreaksLines};
 
-use crate::command_line::parse_line;
 use crate::framing::{Input, Next};
 use crate::notices::{hand_on, tell_fault, tell_no_end_line, tell_too_long};
 use crate::outcome::{ServeFault, Served};
 use crate::program_text::{TextEnd, read_program_text};
 use crate::reply::{print_refusal, print_reply};
 use crate::session::answer;
+use command_line::parse_line;
 use dbg_command::Table;
 use proc_lang::{ProgError, Program, parse_program};
 use std::alloc::Global;

@@ -9,7 +9,7 @@ ghost use Rattle.proc_lang.specs.Programs.{program_of};
 ghost use Rattle.dbg_command.specs.Tables.{IsTableOf, state_of};
 ghost use Rattle.dbg_shell.specs.Sessions.{AnswersOrRefuses};
 
-use crate::command_line::Line;
+use command_line::Line;
 use dbg_base::{Answer, Call, Name, Pid, Query, Refusal, Said};
 use dbg_command::Table;
 use proc_lang::Program;

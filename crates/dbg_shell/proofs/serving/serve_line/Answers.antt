@@ -1,8 +1,8 @@
 use Rattle.std.proofs.Common.{Option, Ok, subst, rules}
 use Rattle.proc_lang.specs.Programs.{program_of}
 use Rattle.dbg_command.specs.Tables.{state_of}
-use Rattle.dbg_shell.specs.declared.command_line.Line.{Line}
-use Rattle.dbg_shell.specs.Lines.{IsParsed}
+use Rattle.command_line.specs.declared.line.Line.{Line}
+use Rattle.command_line.specs.Lines.{IsParsed}
 use Rattle.dbg_shell.proofs.Requests.{answers_call, answers_refusal, answers_nothing}
 use Rattle.dbg_shell.proofs.serving.serve_line.Goals as goal
 

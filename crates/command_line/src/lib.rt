@@ -1,0 +1,8 @@
+//! Command lines become calls: a line names a seat and what it asks for, by words, or by a predicate text for each process where it
+//! sets a breakpoint.
+#![tactic(auto)]
+
+mod break_line;
+mod line;
+
+pub use line::{Line, parse_line, without_return};

@@ -1,9 +1,0 @@
-use Rattle.std.proofs.Common.{◌≡◌, is_some, length}
-use Rattle.dbg_shell.specs.Lines.{parts_of}
-use Rattle.dbg_shell.proofs.break_line.are_parts.Given as goal
-
-abbrev pub invariant-loop-behind : goal.invariant-loop-behind
-invariant-loop-behind l = is_some (parts_of l.rest) ≡ is_some (parts_of l.fn.bytes)
-
-abbrev pub decreases-loop-behind : goal.decreases-loop-behind
-decreases-loop-behind l = length l.rest
