@@ -19,7 +19,7 @@ use Rattle.dbg_base.specs.ModelStates.{ModelState, with_system}
 use Rattle.dbg_base.specs.declared.refusal.Refusal.TheVariants as refusals
 use Rattle.dbg_base.specs.Calls.{Undo, Rollback, Goto}
 use Rattle.dbg_base.specs.Acts.{Accepts, Refuses, WithProcess, WithFound, RollsBack, RollsBackAt, GoesTo, HasNone}
-use Rattle.dbg_command.specs.Tables.{Replies, HasLeast, LacksCut, GoesBack, ActsOrRefuses}
+use Rattle.dbg_command.specs.Tables.{Replies, HasLeast, HasNoCut, IsCutOf, GoesBack, ActsOrRefuses}
 use Rattle.std.specs.Prelude.{IfOk, slice_get}
 use Rattle.dbg_base.specs.declared.refusal.Refusal.TheVariants.{NothingToRedo}
 use Rattle.dbg_base.specs.Choices.{redo_choice, choice_again}
@@ -88,17 +88,20 @@ went_to P M M' name cut (Ok reply) has back =
       left = back.moves;
     })))
 
-pub not_gone : (P : Program) (M : ModelState) (name : List ℕ) (refusal : Refusal) → LacksCut P M name refusal
+-- nothing is done where it has no cut, or is not there
+pub no_cut : (P : Program) (M : ModelState) (name : List ℕ) → HasNoCut P M name → ActsOrRefuses P (Goto name) M (Err refusals.NoCut) M
+no_cut P M name none =
+    let said : Said = Refused refusals.NoCut in
+    inl (subst (λ (o : Option Breakpoint). WithFound o (λ b. GoesTo P b M said M ⊎ (HasNone P M b × Refuses refusals.NoCut M said M))
+    M said M) (sym none.1) (inr (none.2, (refl, refl))))
+
+pub not_there : (P : Program) (M : ModelState) (name : List ℕ) (refusal : Refusal) → IsCutOf P M name (Err refusal)
     → ActsOrRefuses P (Goto name) M (Err refusal) M
-not_gone P M name refusal (inl lacks) =
+not_there P M name refusal (inl lacks) =
     let said : Said = Refused refusal in
     inl (subst (λ (o : Option Breakpoint). WithFound o (λ b. GoesTo P b M said M ⊎ (HasNone P M b × Refuses refusals.NoCut M said M))
     M said M) (sym lacks.none) (refused M M refusal UnknownBreak lacks.is refl))
-not_gone P M name refusal (inr (inl none)) =
-    let said : Said = Refused refusal in
-    inl (subst (λ (o : Option Breakpoint). WithFound o (λ b. GoesTo P b M said M ⊎ (HasNone P M b × Refuses refusals.NoCut M said M))
-    M said M) (sym none.there) (inr (none.none, refused M M refusal refusals.NoCut none.is refl)))
-not_gone P M name refusal (inr (inr e)) = inr (refused M M refusal Memory e refl)
+not_there P M name refusal (inr e) = inr (refused M M refusal Memory e refl)
 
 -- the system changed, and the breakpoints did not
 pub system_changed : (before after : TableState) (system : SystemState) → after.world.state ≡ system
@@ -125,28 +128,3 @@ pub consistent_least : (P : Program) (w : Scene) → IsWorldOf P w → (conjunct
 consistent_least P w of conjuncts cut is =
     subst (λ (kinds : List (List Kind)). IsConsistentCut kinds cut) (sym of.counts)
     (consistent_cut P (history_of w.state) cut is.satisfies.consistent)
-
--- what the detector of a breakpoint that was found tells of its cut
-module _ (P : Program) (t : TableState) (name : List ℕ) (kept : Kept) (is : IsTableOf P t)
-    (there : named name (breakpoints_of t.book) ≡ Some (breakpoint_of (name, kept)))
-    (of : (w : Scene) → AreDetectorsOf w t.book → IsDetectorOf w kept.detector) where
-  pub found_least : (cut : List ℕ) → ((w : Scene) (Q : Program) → IsDetectorOf w kept.detector → IsWorldOf Q w
-      → IsLeast Q (history_of w.state) (conjuncts_of kept.detector) cut) → HasLeast P (state_of t) name cut
-  found_least cut least = (breakpoint_of (name, kept), there, least t.world P (of t.world is.detectors) is.world)
-
-  pub found_none : ((w : Scene) (Q : Program) → IsDetectorOf w kept.detector → IsWorldOf Q w
-      → NoCut Q (history_of w.state) (conjuncts_of kept.detector)) → LacksCut P (state_of t) name refusals.NoCut
-  found_none none = inr (inl (record {
-    breakpoint = breakpoint_of (name, kept);
-    there = there;
-    none = none t.world P (of t.world is.detectors) is.world;
-    is = refl;
-  }))
-
--- a copy of the cut is the cut
-pub copied_least : (t : TableState) (name cut : List ℕ) (result : Result (List ℕ) Refusal) → IsCopy result (λ made. made ≡ cut)
-    → ((P : Program) → IsTableOf P t → HasLeast P (state_of t) name cut)
-    → IfOk result (λ made. (P : Program) → IsTableOf P t → HasLeast P (state_of t) name made)
-copied_least t name cut (Ok made) same least =
-    λ P is. subst (λ (c : List ℕ). HasLeast P (state_of t) name c) (sym same) (least P is)
-copied_least t name cut (Err refusal) same least = tt

@@ -1,3 +1,4 @@
 pub mod Fitting
 pub mod Acting
 pub mod Listing
+pub mod Told

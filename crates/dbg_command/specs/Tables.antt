@@ -1,11 +1,12 @@
--- What contracts see of a table, what it is of a program, and what a command may do to it.
-use Rattle.std.specs.Prelude.{◌≡◌, ◌⊎◌, ℕ, ◌<◌, ◌≤◌, List, [], ◌∷◌, ◌++◌, length, Some, None, Result, Ok, Err, IfOk}
+-- What contracts see of a table, what it is of a program, what a command may do to it, and what it may tell.
+use Rattle.std.specs.Prelude.{◌≡◌, ◌⊎◌, ℕ, ◌<◌, ◌≤◌, List, [], ◌∷◌, ◌++◌, length, Option, Some, None, Result, Ok, Err, IfOk}
 use Rattle.std.specs.Prelude.{IfErr, OnOk, OnErr}
+use Rattle.dbg_base.specs.declared.said.Answer.{Answer}
 use Rattle.dbg_base.specs.declared.said.Done.{Done}
 use Rattle.dbg_base.specs.declared.said.Done.TheVariants.{Places}
 use Rattle.dbg_base.specs.declared.said.Reply.{Reply}
 use Rattle.dbg_base.specs.declared.said.Said.{Said}
-use Rattle.dbg_base.specs.declared.said.Said.TheVariants.{Accepted, Refused}
+use Rattle.dbg_base.specs.declared.said.Said.TheVariants.{Accepted, Answered, Refused}
 use Rattle.dbg_base.specs.declared.refusal.Refusal.{Refusal}
 use Rattle.dbg_base.specs.declared.refusal.Refusal.TheVariants.{Memory, Halted, UnknownProcess}
 use Rattle.dbg_base.specs.declared.refusal.Refusal.TheVariants as refusals
@@ -14,8 +15,9 @@ use Rattle.dbg_base.specs.SystemStates.{history_of, after_rollback}
 use Rattle.dbg_base.specs.Predicates.{Conjunct, IsLeast, NoCut}
 use Rattle.dbg_base.specs.Breakpoints.{Breakpoint, named, name_refusal}
 use Rattle.dbg_base.specs.ModelStates.{ModelState, IsHalted, with_system}
-use Rattle.dbg_base.specs.Calls.{Plan}
+use Rattle.dbg_base.specs.Calls.{Plan, Query}
 use Rattle.dbg_base.specs.Acts.{Acts, Refuses}
+use Rattle.dbg_base.specs.Views.{Answers}
 use Rattle.causal_world.specs.Scenes.{Scene, IsWorldOf}
 use Rattle.least_cut.specs.Detectors.{one_more}
 use Rattle.break_book.specs.Books.{Entry, breakpoints_of, new_breakpoint, AreDetectorsOf, HaveRoomUpTo}
@@ -73,16 +75,16 @@ pub record LacksBreak (M : ModelState) (name : List ℕ) (refusal : Refusal) : T
   pub none : named name M.breakpoints ≡ None
   pub is : refusal ≡ refusals.UnknownBreak
 
--- it has no cut
-pub record HasNoCut (P : Program) (M : ModelState) (name : List ℕ) (refusal : Refusal) : Type 0 where
-  pub breakpoint : Breakpoint
-  pub there : named name M.breakpoints ≡ Some breakpoint
-  pub none : NoCut P (history_of M.system) breakpoint.conjuncts
-  pub is : refusal ≡ refusals.NoCut
+-- it is there, and has no cut
+abbrev pub HasNoCut : Program → ModelState → List ℕ → Type 0
+HasNoCut P M name =
+    (b : Breakpoint) × (named name M.breakpoints ≡ Some b) × NoCut P (history_of M.system) b.conjuncts
 
--- one of these, or memory ran out
-abbrev pub LacksCut : Program → ModelState → List ℕ → Refusal → Type 0
-LacksCut P M name refusal = LacksBreak M name refusal ⊎ HasNoCut P M name refusal ⊎ (refusal ≡ Memory)
+-- What is told of the cut of the breakpoint of this name: its least cut, that it has none, that it is not there, or that memory ran out.
+abbrev pub IsCutOf : Program → ModelState → List ℕ → Result (Option (List ℕ)) Refusal → Type 0
+IsCutOf P M name (Ok (Some cut)) = HasLeast P M name cut
+IsCutOf P M name (Ok None) = HasNoCut P M name
+IsCutOf P M name (Err refusal) = LacksBreak M name refusal ⊎ (refusal ≡ Memory)
 
 -- What a call that goes back to a cut returned, and the state that it left: the places, or that memory ran out.
 pub record GoesBack (P : Program) (M : ModelState) (cut : List ℕ) (result : Result Reply Refusal) (M' : ModelState) : Type 0 where
@@ -99,3 +101,12 @@ said_of (Err refusal) = Refused refusal
 -- the plan was given at M, was answered so, and left M', or memory ran out, which changes nothing
 abbrev pub ActsOrRefuses : Program → Plan → ModelState → Result Reply Refusal → ModelState → Type 0
 ActsOrRefuses P plan M result M' = Acts P plan M (said_of result) M' ⊎ Refuses Memory M (said_of result) M'
+
+-- what is said where a question was answered or refused
+abbrev pub told_of : Result Answer Refusal → Said
+told_of (Ok told) = Answered told
+told_of (Err refusal) = Refused refusal
+
+-- the query was answered so, or memory ran out
+abbrev pub AnswersOrRefuses : Program → ModelState → Query → Result Answer Refusal → Type 0
+AnswersOrRefuses P M query result = Answers P M query (told_of result) ⊎ (result ≡ Err Memory)

@@ -1,6 +1,7 @@
-//! A table: a world and the breakpoints in it, which stay together; and what each command does to it.
+//! A table: a world and the breakpoints in it, which stay together; what each command does to it, and what it tells.
 #![tactic(auto)]
 
+mod asking;
 mod breaking;
 mod conjuncts;
 mod playing;

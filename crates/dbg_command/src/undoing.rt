@@ -1,11 +1,10 @@
 //! The commands that take events back: undo, rollback, goto.
 
-ghost use Rattle.std.specs.Prelude.{IfOk, IfErr};
 ghost use Rattle.dbg_base.specs.Trees as tree;
 ghost use Rattle.dbg_base.specs.Calls as model;
 ghost use Rattle.proc_lang.specs.Programs.{program_of};
 ghost use Rattle.cut_core.specs.ConsistentCuts.{IsConsistentCut};
-ghost use Rattle.dbg_command.specs.Tables.{IsTableOf, ActsOrRefuses, GoesBack, HasLeast, LacksCut, state_of};
+ghost use Rattle.dbg_command.specs.Tables.{IsTableOf, ActsOrRefuses, GoesBack, state_of};
 
 use crate::table::{Table, known};
 use dbg_base::{Cut, Done, Name, Pid, Refusal, Reply};
@@ -63,21 +62,6 @@ impl Table {
         self.roll_to(alloc, cut)
     }
 
-    // The cut of the breakpoint of this name.
-    fn cut_of(&self, name: Name) -> Result<Cut, Refusal>
-        ensures cut { IfOk result (λ cut. (P : tree.Program) → IsTableOf P self.now → HasLeast P (state_of self.now) name cut) }
-        ensures refuses { IfErr result (λ refusal. (P : tree.Program) → IsTableOf P self.now
-            → LacksCut P (state_of self.now) name refusal) }
-    {
-        let Some((_, breakpoint)) = self.book.find(name) else {
-            return Err(Refusal::UnknownBreak);
-        };
-        match breakpoint.detector().cut() {
-            Some(cut) => cut.copy(),
-            None => Err(Refusal::NoCut),
-        }
-    }
-
     // All processes go back to the breakpoint's cut.
     pub(crate) fn go_to(&mut self, alloc: Global, name: Name) -> Result<Reply, Refusal>
         requires { (P : tree.Program) × IsTableOf P self.old }
@@ -85,7 +69,10 @@ impl Table {
         ensures acts { (P : tree.Program) → IsTableOf P self.old
             → ActsOrRefuses P (model.Goto name) (state_of self.old) result (state_of self.new) }
     {
-        let cut = self.cut_of(name)?;
-        self.roll_to(alloc, cut)
+        match self.cut_of(name) {
+            Ok(Some(cut)) => self.roll_to(alloc, cut),
+            Ok(None) => Err(Refusal::NoCut),
+            Err(refusal) => Err(refusal),
+        }
     }
 }

@@ -5,7 +5,6 @@ pub mod LineEnds
 pub mod UnderWay
 pub mod Splits
 pub mod Requests
-pub mod Told
 pub mod LineReplies
 pub mod Known
 pub mod InputTexts

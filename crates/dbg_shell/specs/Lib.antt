@@ -3,5 +3,4 @@ pub mod Writing
 pub mod Pieces
 pub mod Spans
 pub mod Checking
-pub mod Sessions
 pub mod Serving

@@ -1,9 +1,9 @@
 use Rattle.proc_lang.specs.Programs.{program_of}
-use Rattle.dbg_shell.proofs.Told.{tells_frontier}
-use Rattle.dbg_shell.proofs.session.frontier_of.Goals as goal
+use Rattle.dbg_command.proofs.Told.{tells_frontier}
+use Rattle.dbg_command.proofs.table.Table.frontier.Goals as goal
 
 pub returns : goal.returns
 returns c =
-    tells_frontier (program_of c.args.program.now) c.args.table.now c.requires c.args.name c.in-Some.breakpoint.now c.book.result.now
+    tells_frontier (program_of c.args.program.now) c.args.self.now c.requires c.args.name c.in-Some.breakpoint.now c.book.result.now
     c.book.ensures c.in-Some.ensures.named c.in-Some.ensures.of c.detector.result.now c.detector.ensures c.in_ok-frontier.field-0
     c.in_ok-frontier.ensures.frontier

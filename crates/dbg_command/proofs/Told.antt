@@ -1,10 +1,11 @@
 -- What is said to a question.
-use Rattle.std.proofs.Common.{◌≡◌, ℕ, ◌<◌, Bool, List, length, Option, Some, None, Ok, refl, sym, ap, ◌∙◌, subst, inl, inr, MatchBool}
+use Rattle.std.proofs.Common.{◌≡◌, ℕ, ◌<◌, Bool, List, length, Option, Some, None, Ok, Err, refl, sym, ap, ◌∙◌, subst, inl, inr, MatchBool}
 use Rattle.std.proofs.lemmas.Bool.{lt-ltb}
 use Rattle.dbg_base.specs.declared.said.Said.{Said}
 use Rattle.dbg_base.specs.declared.said.Said.TheVariants.{Answered, Refused}
 use Rattle.dbg_base.specs.declared.said.Answer.TheVariants.{Counts, CutIs, Frontier}
 use Rattle.dbg_base.specs.declared.said.Head.{Head}
+use Rattle.dbg_base.specs.declared.refusal.Refusal.{Refusal}
 use Rattle.dbg_base.specs.declared.refusal.Refusal.TheVariants.{UnknownProcess}
 use Rattle.dbg_base.specs.Trees.{Program}
 use Rattle.dbg_base.specs.Clocks.{IsClock}
@@ -18,8 +19,7 @@ use Rattle.causal_world.specs.Scenes.{Scene, IsWorldOf}
 use Rattle.least_cut.specs.Detectors as detector
 use Rattle.least_cut.specs.Detectors.{DetectorState, IsDetectorOf, conjuncts_of}
 use Rattle.break_book.specs.Books.{Kept, Entry, breakpoint_of, breakpoints_of, AreDetectorsOf}
-use Rattle.dbg_command.specs.Tables.{TableState, IsTableOf, state_of}
-use Rattle.dbg_shell.specs.Sessions.{AnswersOrRefuses}
+use Rattle.dbg_command.specs.Tables.{TableState, IsTableOf, IsCutOf, AnswersOrRefuses, state_of}
 
 -- the clock of a process that is there
 pub tells_clock : (P : Program) (M : ModelState) (p : ℕ) (cut : List ℕ) → p < length P
@@ -27,6 +27,24 @@ pub tells_clock : (P : Program) (M : ModelState) (p : ℕ) (cut : List ℕ) → 
 tells_clock P M p cut here is = inl (subst
     (λ (t : Bool). MatchBool t (TellsClock P M.system p (Answered (Counts cut))) (Answered (Counts cut) ≡ Refused UnknownProcess))
     (sym (lt-ltb p (length P) here)) (record { cut = cut; is = is; told = refl }))
+
+-- the cut of a breakpoint is told as it is
+pub tells_cut : (P : Program) (M : ModelState) (name : List ℕ) (cut : Option (List ℕ)) → IsCutOf P M name (Ok cut)
+    → AnswersOrRefuses P M (CutOf name) (Ok (CutIs cut))
+tells_cut P M name (Some cut) has =
+    let said : Said = Answered (CutIs (Some cut)) in
+    inl (subst (λ (o : Option Breakpoint). AboutFound o (λ b. TellsCut P M b said) said) (sym has.1) (inl (cut, has.2, refl)))
+tells_cut P M name None has =
+    let said : Said = Answered (CutIs None) in
+    inl (subst (λ (o : Option Breakpoint). AboutFound o (λ b. TellsCut P M b said) said) (sym has.1) (inr (has.2, refl)))
+
+pub tells_no_break : (P : Program) (M : ModelState) (name : List ℕ) (refusal : Refusal) → IsCutOf P M name (Err refusal)
+    → AnswersOrRefuses P M (CutOf name) (Err refusal)
+tells_no_break P M name refusal (inl lacks) =
+    let said : Said = Refused refusal in
+    inl (subst (λ (o : Option Breakpoint). AboutFound o (λ b. TellsCut P M b said) said) (sym lacks.none)
+    (ap (λ (r : Refusal). Refused r) lacks.is))
+tells_no_break P M name refusal (inr e) = inr (ap (λ (r : Refusal). Err r) e)
 
 -- a breakpoint that was found, and its detector
 module _ (P : Program) (t : TableState) (is : IsTableOf P t) (name : List ℕ) (kept : Kept) (book : List Entry) (same : book ≡ t.book)
@@ -46,24 +64,22 @@ module _ (P : Program) (t : TableState) (is : IsTableOf P t) (name : List ℕ) (
       subst (λ (o : Option Breakpoint). AboutFound o Tells said)
       (sym (ap (λ (l : List Entry). named name (breakpoints_of l)) (sym same) ∙ there)) tells
 
-  pub tells_cut : (cut made : List ℕ) → ((w : Scene) (Q : Program) → IsDetectorOf w d → IsWorldOf Q w
-      → IsLeast Q (history_of w.state) (conjuncts_of d) cut) → made ≡ cut → AnswersOrRefuses P M (CutOf name) (Ok (CutIs (Some made)))
-  tells_cut cut made least e =
-      let said : Said = Answered (CutIs (Some made)) in
-      inl (found (λ b. TellsCut P M b said) said (inl (
-        cut,
-        subst (λ (x : DetectorState). IsLeast P (history_of t.world.state) (conjuncts_of x) cut) own (least t.world P detects is.world),
-        ap (λ (c : List ℕ). Answered (CutIs (Some c))) e,
-      )))
+  pub has_least : (cut made : List ℕ) → ((w : Scene) (Q : Program) → IsDetectorOf w d → IsWorldOf Q w
+      → IsLeast Q (history_of w.state) (conjuncts_of d) cut) → made ≡ cut → IsCutOf P M name (Ok (Some made))
+  has_least cut made least e = (
+    breakpoint_of (name, kept),
+    ap (λ (l : List Entry). named name (breakpoints_of l)) (sym same) ∙ there,
+    subst (λ (c : List ℕ). IsLeast P (history_of t.world.state) (conjuncts_of kept.detector) c) (sym e)
+    (subst (λ (x : DetectorState). IsLeast P (history_of t.world.state) (conjuncts_of x) cut) own (least t.world P detects is.world)),
+  )
 
-  pub tells_no_cut : ((w : Scene) (Q : Program) → IsDetectorOf w d → IsWorldOf Q w → NoCut Q (history_of w.state) (conjuncts_of d))
-      → AnswersOrRefuses P M (CutOf name) (Ok (CutIs None))
-  tells_no_cut none =
-      let said : Said = Answered (CutIs None) in
-      inl (found (λ b. TellsCut P M b said) said (inr (
-        subst (λ (x : DetectorState). NoCut P (history_of t.world.state) (conjuncts_of x)) own (none t.world P detects is.world),
-        refl,
-      )))
+  pub has_no_cut : ((w : Scene) (Q : Program) → IsDetectorOf w d → IsWorldOf Q w → NoCut Q (history_of w.state) (conjuncts_of d))
+      → IsCutOf P M name (Ok None)
+  has_no_cut none = (
+    breakpoint_of (name, kept),
+    ap (λ (l : List Entry). named name (breakpoints_of l)) (sym same) ∙ there,
+    subst (λ (x : DetectorState). NoCut P (history_of t.world.state) (conjuncts_of x)) own (none t.world P detects is.world),
+  )
 
   pub tells_frontier : (heads : List Head) → ((w : Scene) (Q : Program) → IsDetectorOf w d → IsWorldOf Q w
       → detector.TellsFrontier Q (history_of w.state) (conjuncts_of d) heads) → AnswersOrRefuses P M (Why name) (Ok (Frontier heads))
