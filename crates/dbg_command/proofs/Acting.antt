@@ -12,26 +12,24 @@ use Rattle.dbg_base.specs.declared.refusal.Refusal.{Refusal}
 use Rattle.dbg_base.specs.declared.refusal.Refusal.TheVariants.{Memory, UnknownProcess, UnknownBreak, BadPlace}
 use Rattle.dbg_base.specs.Trees.{Program}
 use Rattle.dbg_base.specs.SystemStates.{SystemState, place_at, history_of, last_choice, after_undo}
-use Rattle.dbg_base.specs.Copies.{IsCopy}
 use Rattle.dbg_base.specs.Reversal.{MayUndo, IsRollback}
-use Rattle.dbg_base.specs.Breakpoints.{Breakpoint, named}
+use Rattle.dbg_base.specs.Breakpoints.{Breakpoint}
 use Rattle.dbg_base.specs.ModelStates.{ModelState, with_system}
 use Rattle.dbg_base.specs.declared.refusal.Refusal.TheVariants as refusals
 use Rattle.dbg_base.specs.Calls.{Undo, Rollback, Goto}
 use Rattle.dbg_base.specs.Acts.{Accepts, Refuses, WithProcess, WithFound, RollsBack, RollsBackAt, GoesTo, HasNone}
 use Rattle.dbg_command.specs.Tables.{Replies, HasLeast, HasNoCut, IsCutOf, GoesBack, ActsOrRefuses}
-use Rattle.std.specs.Prelude.{IfOk, slice_get}
+use Rattle.std.specs.Prelude.{slice_get}
 use Rattle.dbg_base.specs.declared.refusal.Refusal.TheVariants.{NothingToRedo}
 use Rattle.dbg_base.specs.Choices.{redo_choice, choice_again}
 use Rattle.dbg_base.specs.SystemStates.{line_of, configuration_of}
-use Rattle.dbg_base.specs.Predicates.{Conjunct, IsLeast, NoCut}
+use Rattle.dbg_base.specs.Predicates.{Conjunct, IsLeast}
 use Rattle.cut_core.specs.declared.kind.Kind.{Kind}
 use Rattle.cut_core.specs.ConsistentCuts.{IsConsistentCut}
 use Rattle.causal_world.specs.Scenes.{Scene, IsWorldOf}
 use Rattle.causal_world.proofs.KindsOf.{consistent_cut}
-use Rattle.break_book.specs.Books.{Kept, breakpoint_of, breakpoints_of, AreDetectorsOf}
-use Rattle.dbg_command.specs.Tables.{TableState, IsTableOf, state_of}
-use Rattle.least_cut.specs.Detectors.{IsDetectorOf, conjuncts_of}
+use Rattle.break_book.specs.Books.{breakpoints_of}
+use Rattle.dbg_command.specs.Tables.{TableState, state_of}
 
 -- a refusal that changes nothing
 pub refused : (M M' : ModelState) (refusal is : Refusal) → refusal ≡ is → M' ≡ M → Refuses is M (Refused refusal) M'

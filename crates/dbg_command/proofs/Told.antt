@@ -70,7 +70,7 @@ module _ (P : Program) (t : TableState) (is : IsTableOf P t) (name : List ℕ) (
     breakpoint_of (name, kept),
     ap (λ (l : List Entry). named name (breakpoints_of l)) (sym same) ∙ there,
     subst (λ (c : List ℕ). IsLeast P (history_of t.world.state) (conjuncts_of kept.detector) c) (sym e)
-    (subst (λ (x : DetectorState). IsLeast P (history_of t.world.state) (conjuncts_of x) cut) own (least t.world P detects is.world)),
+        (subst (λ (x : DetectorState). IsLeast P (history_of t.world.state) (conjuncts_of x) cut) own (least t.world P detects is.world)),
   )
 
   pub has_no_cut : ((w : Scene) (Q : Program) → IsDetectorOf w d → IsWorldOf Q w → NoCut Q (history_of w.state) (conjuncts_of d))
