@@ -44,6 +44,10 @@ process server {
 1 next alice
 1 cut lost
 1 vars server
+1 chan alice server
+2 chan bob server
+1 clock alice
+2 clock bob
 1 pass lost
 1 next alice
 1 arm lost
@@ -83,6 +87,10 @@ ok server 5 halted lost
 no 9 lost
 cut lost alice=3 bob=3 server=6
 vars server value=1 request=0
+chan alice server
+chan bob server
+clock alice alice=3 bob=1 server=3
+clock bob alice=1 bob=3 server=4
 ok
 ok alice 3
 ok halted lost
@@ -163,6 +171,7 @@ process right {
 2 vars left
 3 vars right
 2 clock left
+1 chan coordinator right
 1 pass split
 1 next coordinator
 1 chan coordinator right
@@ -200,6 +209,7 @@ cut split coordinator=6 left=3 right=3
 vars left state=2 order=1
 vars right state=3 order=0
 clock left coordinator=6 left=3 right=2
+chan coordinator right
 ok
 ok coordinator 6
 chan coordinator right 1

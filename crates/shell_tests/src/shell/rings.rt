@@ -158,9 +158,13 @@ process west {
 1 next north
 1 next north
 1 cut rivals
+1 vars north
 1 clock north
 1 why two
 1 chan west north
+1 pass rivals
+1 next north
+1 arm rivals
 1 goto rivals
 1 vars west
 1 chan west north
@@ -168,7 +172,7 @@ process west {
 3 redo west
 2 redo east
 2 redo east
-1 next north
+1 redo north
 1 next north
 1 next north
 2 next east
@@ -197,9 +201,13 @@ ok north 1
 ok north 2 halted rivals
 no 9 rivals
 cut rivals north=3 east=1 west=3
+vars north own=1 heard=2 leader=1
 clock north north=3 east=0 west=1
 why two north=1 east=past west=3
 chan west north 3
+ok
+ok north 3
+ok halted rivals
 ok north=3 east=1 west=3 halted rivals
 vars west own=2 heard=3 leader=1
 chan west north
