@@ -1,4 +1,4 @@
-use super::served;
+use super::expect_served;
 
 // The text of examples/lost_update.rdbg: two clients that read a value of one server, and write it back one larger.
 const LOST_UPDATE: &str = "process alice {
@@ -115,9 +115,7 @@ why lost alice=3 bob=3 server=past
 
 #[test]
 fn an_update_is_lost(rt: HostRuntime) {
-    let (replies, code) = served(rt.alloc(), LOST_UPDATE.as_bytes());
-    assert_eq!(rt; replies.as_slice(), FOUND.as_bytes());
-    assert_eq!(rt; code, 0);
+    expect_served(&rt, rt.alloc(), LOST_UPDATE.as_bytes(), FOUND);
 }
 
 // The text of examples/two_phase_commit.rdbg: a participant that has voted for the commit gives up waiting for the decision.
@@ -228,7 +226,5 @@ breaks split on torn on
 
 #[test]
 fn a_commit_has_two_decisions(rt: HostRuntime) {
-    let (replies, code) = served(rt.alloc(), TWO_PHASE_COMMIT.as_bytes());
-    assert_eq!(rt; replies.as_slice(), TWO_DECISIONS.as_bytes());
-    assert_eq!(rt; code, 0);
+    expect_served(&rt, rt.alloc(), TWO_PHASE_COMMIT.as_bytes(), TWO_DECISIONS);
 }

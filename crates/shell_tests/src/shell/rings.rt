@@ -1,4 +1,4 @@
-use super::served;
+use super::expect_served;
 
 // The text of examples/token_duplicated.rdbg: a token that is not acknowledged is sent again, and tokens have no numbers.
 const TOKEN_DUPLICATED: &str = "process left {
@@ -106,9 +106,7 @@ why both left=7 right=past
 
 #[test]
 fn a_token_is_duplicated(rt: HostRuntime) {
-    let (replies, code) = served(rt.alloc(), TOKEN_DUPLICATED.as_bytes());
-    assert_eq!(rt; replies.as_slice(), BOTH_INSIDE.as_bytes());
-    assert_eq!(rt; code, 0);
+    expect_served(&rt, rt.alloc(), TOKEN_DUPLICATED.as_bytes(), BOTH_INSIDE);
 }
 
 // The text of examples/leader_election.rdbg: a process is elected where the number that it hears is its own or greater, in place of its
@@ -230,7 +228,5 @@ breaks two on rivals off
 
 #[test]
 fn an_election_has_two_leaders(rt: HostRuntime) {
-    let (replies, code) = served(rt.alloc(), LEADER_ELECTION.as_bytes());
-    assert_eq!(rt; replies.as_slice(), TWO_LEADERS.as_bytes());
-    assert_eq!(rt; code, 0);
+    expect_served(&rt, rt.alloc(), LEADER_ELECTION.as_bytes(), TWO_LEADERS);
 }
