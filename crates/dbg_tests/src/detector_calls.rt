@@ -7,6 +7,7 @@ ghost use Rattle.proc_lang.specs.Programs.{program_of};
 ghost use Rattle.causal_world.specs.Scenes.{IsWorldOf};
 ghost use Rattle.least_cut.specs.Detectors.{IsDetectorOf, HasRoomUpTo, one_more};
 
+use crate::world_calls::{known, reached};
 use causal_world::World;
 use dbg_base::{Choice, Conjunct, Elimination, Pid, Refusal, Sequence};
 use least_cut::{Detector, Scan, check_why, steps_up_to};
@@ -20,9 +21,7 @@ pub fn conjunct(
     pid: Pid,
     text: &str,
 ) -> Result<Conjunct, Refusal> {
-    if pid.0 >= program.processes() {
-        return Err(Refusal::UnknownProcess);
-    }
+    known(program, pid)?;
     match parse_predicate(alloc, program, pid, text.as_bytes()) {
         Ok(expr) => Ok(Conjunct { pid, expr }),
         Err(_) => Err(Refusal::BadPredicate),
@@ -30,14 +29,12 @@ pub fn conjunct(
 }
 
 // Refuses conjuncts of processes that the program does not have.
-fn known(program: &Program, conjuncts: &[Conjunct]) -> Result<(), Refusal>
+fn known_all(program: &Program, conjuncts: &[Conjunct]) -> Result<(), Refusal>
     ensures { OnOk result (AllByRecursion (λ conjunct. conjunct.process < length (program_of program.now))
         (map conjunct_of conjuncts.now)) }
 {
     for conjunct in conjuncts {
-        if conjunct.pid.0 >= program.processes() {
-            return Err(Refusal::UnknownProcess);
-        }
+        known(program, conjunct.pid)?;
     }
     Ok(())
 }
@@ -52,7 +49,7 @@ pub fn detector(
     requires { IsWorldOf (program_of program.now) world.now }
     ensures { IfOk result (λ made. IsDetectorOf world.now made) }
 {
-    known(program, conjuncts.items())?;
+    known_all(program, conjuncts.items())?;
     let scan = Scan::of(alloc, world, conjuncts.items())?;
     Detector::new(alloc, conjuncts, scan, world)
 }
@@ -67,7 +64,7 @@ pub fn checked(
 ) -> Result<bool, Refusal>
     requires { IsWorldOf (program_of program.now) world.now }
 {
-    known(program, conjuncts)?;
+    known_all(program, conjuncts)?;
     check_why(alloc, world, conjuncts, steps)
 }
 
@@ -106,9 +103,7 @@ pub fn step(
     ensures of { IsWorldOf (program_of program.now) world.new }
     ensures detector { IsDetectorOf world.new detector.new }
 {
-    if pid.0 >= program.processes() {
-        return Err(Refusal::UnknownProcess);
-    }
+    known(program, pid)?;
     reserve(world, detector, alloc, program, pid)?;
     world.step(alloc, program, pid, choice)?;
     detector.grow(pid, world);
@@ -128,9 +123,7 @@ pub fn undo(
     ensures of { IsWorldOf (program_of program.now) world.new }
     ensures detector { IsDetectorOf world.new detector.new }
 {
-    if pid.0 >= program.processes() {
-        return Err(Refusal::UnknownProcess);
-    }
+    known(program, pid)?;
     world.undo(alloc, pid)?;
     detector.shrink(pid, world);
     Ok(())
@@ -150,12 +143,7 @@ pub fn rollback(
     ensures of { IsWorldOf (program_of program.now) world.new }
     ensures detector { IsDetectorOf world.new detector.new }
 {
-    if pid.0 >= program.processes() {
-        return Err(Refusal::UnknownProcess);
-    }
-    if n > world.place(pid) {
-        return Err(Refusal::BadPlace);
-    }
+    reached(world, program, pid, n)?;
     let cut = world.rollback_cut(alloc, pid, n)?;
     world.roll_to(alloc, &cut)?;
     detector.follow(world);

@@ -41,6 +41,23 @@ fn binary(alloc: Global, operator: Operator, left: Expr, right: Expr) -> Result<
     Ok(Expr::Binary(operator, Box::new(alloc, left)?, Box::new(alloc, right)?))
 }
 
+// `when true : recv SOURCE x, y := (x + OTHER);` of the variables x and y.
+fn receive_and_add(alloc: Global, source: Pid, other: Expr) -> Result<Guarded, AllocError> {
+    let mut assignments = Vec::new(alloc);
+    assignments.push(Assignment {
+        variable: 1,
+        value: binary(alloc, Operator::Add, Expr::Variable(0), other)?,
+    })?;
+    Ok(Guarded {
+        guard: Expr::Truth(true),
+        action: Action::Receive {
+            source,
+            variable: 0,
+        },
+        assignments: Sequence::new(assignments),
+    })
+}
+
 // `((x = n) CONNECTIVE ((x / 0) = 1))` of the first variable x.
 fn beside_a_fault(alloc: Global, connective: Operator, n: i64) -> Result<Expr, AllocError> {
     let left = binary(alloc, Operator::Equal, Expr::Variable(0), Expr::Number(n))?;
@@ -207,25 +224,7 @@ fn a_swap_with_a_send(rt: HostRuntime) -> Result<(), Fail> {
 #[test]
 fn a_receive_before_an_assignment(rt: HostRuntime) -> Result<(), Fail> {
     let env = make_env(rt.alloc(), &[1, 20])?;
-    let mut assignments = Vec::new(rt.alloc());
-    let sum = binary(
-        rt.alloc(),
-        Operator::Add,
-        Expr::Variable(0),
-        Expr::Variable(1),
-    )?;
-    assignments.push(Assignment {
-        variable: 1,
-        value: sum,
-    })?;
-    let command = Guarded {
-        guard: Expr::Truth(true),
-        action: Action::Receive {
-            source: Pid(0),
-            variable: 0,
-        },
-        assignments: Sequence::new(assignments),
-    };
+    let command = receive_and_add(rt.alloc(), Pid(0), Expr::Variable(1))?;
     let change = effect(rt.alloc(), &command, &env, Some(5))
         .ok()
         .ok_or("no fault and ample memory")?;
@@ -263,25 +262,7 @@ fn counts_of_messages(rt: HostRuntime) -> Result<(), Fail> {
 #[test]
 fn a_receive_that_reads_the_count_before(rt: HostRuntime) -> Result<(), Fail> {
     let env = make_counts(rt.alloc(), 0, 1)?;
-    let mut assignments = Vec::new(rt.alloc());
-    let sum = binary(
-        rt.alloc(),
-        Operator::Add,
-        Expr::Variable(0),
-        Expr::Got(Pid(1)),
-    )?;
-    assignments.push(Assignment {
-        variable: 1,
-        value: sum,
-    })?;
-    let command = Guarded {
-        guard: Expr::Truth(true),
-        action: Action::Receive {
-            source: Pid(1),
-            variable: 0,
-        },
-        assignments: Sequence::new(assignments),
-    };
+    let command = receive_and_add(rt.alloc(), Pid(1), Expr::Got(Pid(1)))?;
     let change = effect(rt.alloc(), &command, &env, Some(11))
         .ok()
         .ok_or("no fault and ample memory")?;

@@ -1,6 +1,7 @@
 //! Calls of a world for its tests, each of which says what the next one requires.
 
-ghost use Rattle.std.specs.Prelude.{◌≡◌, ◌<◌, length, IfOk, OnOk};
+ghost use Rattle.std.specs.Prelude.{◌≡◌, ◌<◌, ◌≤◌, length, IfOk, OnOk};
+ghost use Rattle.dbg_base.specs.SystemStates.{place_at};
 ghost use Rattle.proc_lang.specs.Programs.{program_of};
 ghost use Rattle.causal_world.specs.Scenes.{IsWorldOf};
 ghost use Rattle.causal_world.specs.Rollings.{IsRolled, IsStepped, IsRedone};
@@ -10,8 +11,8 @@ use dbg_base::{Choice, Cut, Pid, Refusal};
 use proc_lang::Program;
 use std::alloc::Global;
 
-// Refuses a process that the program does not have.
-fn known(program: &Program, pid: Pid) -> Result<(), Refusal>
+/// Refuses a process that the program does not have.
+pub fn known(program: &Program, pid: Pid) -> Result<(), Refusal>
     ensures { OnOk result (pid.0 < length (program_of program.now)) }
 {
     if pid.0 < program.processes() {
@@ -19,6 +20,18 @@ fn known(program: &Program, pid: Pid) -> Result<(), Refusal>
     } else {
         Err(Refusal::UnknownProcess)
     }
+}
+
+/// Refuses a process that the program does not have, and a count of events that the process has not reached.
+pub fn reached(world: &World, program: &Program, pid: Pid, n: u32) -> Result<(), Refusal>
+    ensures process { OnOk result (pid.0 < length (program_of program.now)) }
+    ensures event { OnOk result (n ≤ place_at world.now.state pid.0) }
+{
+    known(program, pid)?;
+    if n > world.place(pid) {
+        return Err(Refusal::BadPlace);
+    }
+    Ok(())
 }
 
 /// The process makes this command.
@@ -101,10 +114,7 @@ pub fn rollback(
     ensures of { IsWorldOf (program_of program.now) world.new }
     ensures back { IfOk result (λ rolled. IsRolled (program_of program.now) rolled world.new) }
 {
-    known(program, pid)?;
-    if n > world.place(pid) {
-        return Err(Refusal::BadPlace);
-    }
+    reached(world, program, pid, n)?;
     let cut = world.rollback_cut(alloc, pid, n)?;
     let rolled = world.roll_to(alloc, &cut)?;
     Ok(rolled)
@@ -129,10 +139,7 @@ pub fn clock(
 ) -> Result<Cut, Refusal>
     requires { IsWorldOf (program_of program.now) world.now }
 {
-    known(program, pid)?;
-    if n > world.place(pid) {
-        return Err(Refusal::BadPlace);
-    }
+    reached(world, program, pid, n)?;
     world.clock(alloc, pid, n)
 }
 
@@ -146,9 +153,6 @@ pub fn clock_part(
 ) -> Result<u32, Refusal>
     requires { IsWorldOf (program_of program.now) world.now }
 {
-    known(program, pid)?;
-    if n > world.place(pid) {
-        return Err(Refusal::BadPlace);
-    }
+    reached(world, program, pid, n)?;
     Ok(world.clock_part(pid, n, of))
 }

@@ -65,6 +65,31 @@ fn served(alloc: Global, input: &[u8]) -> (Vec<u8>, u8) {
     (writer, code)
 }
 
+// The status that belongs to what is written.
+fn status_beside(text: &str) -> u8 {
+    if text.starts_with("program refused") {
+        3
+    } else if text.ends_with("input too long\n") {
+        1
+    } else {
+        0
+    }
+}
+
+// Expects what `check` writes for a text.
+fn expect_checked(rt: &impl Abort, alloc: Global, text: &[u8], want: &str) {
+    let (told, code) = checked(alloc, text);
+    assert_eq!(rt; told.as_slice(), want.as_bytes(), "at {want:?}");
+    assert_eq!(rt; code, status_beside(want), "at {want:?}");
+}
+
+// Expects what `serve` writes for an input.
+fn expect_served(rt: &impl Abort, alloc: Global, input: &[u8], want: &str) {
+    let (replies, code) = served(alloc, input);
+    assert_eq!(rt; replies.as_slice(), want.as_bytes(), "at {want:?}");
+    assert_eq!(rt; code, status_beside(want), "at {want:?}");
+}
+
 // Rows of a name, a program, the lines behind it and what is written for them.
 fn expect_rows(
     rt: &impl Abort,
@@ -75,7 +100,7 @@ fn expect_rows(
         let input = joined(alloc, program, lines)?;
         let (replies, code) = served(alloc, input.as_slice());
         assert_eq!(rt; replies.as_slice(), want.as_bytes(), "{name}");
-        assert_eq!(rt; code, 0, "{name}");
+        assert_eq!(rt; code, status_beside(want), "{name}");
     }
     Ok(())
 }

@@ -3,11 +3,13 @@ use super::undo::THREE;
 use super::{TWO, expect_rows};
 use std::test::Fail;
 
-// The present state does not satisfy the breakpoint, since a has gone on; its cut does.
-const THE_LEAST_CUT_IS_GONE_TO: (&str, &str, &str, &str) = (
-    "the least cut is gone to",
-    TWO,
-    "%%
+// A name, a program, the lines behind it and what is written for them.
+const ROWS: [(&str, &str, &str, &str); 11] = [
+    // The present state does not satisfy the breakpoint, since a has gone on; its cut does.
+    (
+        "the least cut is gone to",
+        TWO,
+        "%%
 1 break k a (x = 1) b (n = 1)
 1 next a
 1 next a
@@ -19,7 +21,7 @@ const THE_LEAST_CUT_IS_GONE_TO: (&str, &str, &str, &str) = (
 1 vars a
 1 chan a b
 ",
-    "ok
+        "ok
 ok a 0
 ok a 0
 ok b 0 halted k
@@ -30,19 +32,12 @@ place a 1 of 2
 vars a x=1
 chan a b
 ",
-);
-
-#[test]
-fn the_least_cut_is_gone_to(rt: HostRuntime) -> Result<(), Fail> {
-    expect_rows(&rt, rt.alloc(), &[THE_LEAST_CUT_IS_GONE_TO])?;
-    Ok(())
-}
-
-// What b has received was sent, and then x is not 0 any more.
-const A_BREAKPOINT_HAS_NO_CUT: (&str, &str, &str, &str) = (
-    "a breakpoint has no cut",
-    TWO,
-    "%%
+    ),
+    // What b has received was sent, and then x is not 0 any more.
+    (
+        "a breakpoint has no cut",
+        TWO,
+        "%%
 1 break k a (x = 0) b (n = 1)
 1 next a
 1 next b
@@ -50,26 +45,19 @@ const A_BREAKPOINT_HAS_NO_CUT: (&str, &str, &str, &str) = (
 1 why k
 1 goto k
 ",
-    "ok
+        "ok
 ok a 0
 ok b 0
 cut k none
 why k a=past b=1
 no 13
 ",
-);
-
-#[test]
-fn a_breakpoint_has_no_cut(rt: HostRuntime) -> Result<(), Fail> {
-    expect_rows(&rt, rt.alloc(), &[A_BREAKPOINT_HAS_NO_CUT])?;
-    Ok(())
-}
-
-// The process a is needed once, and c not at all.
-const UNNAMED_PROCESSES_STAND_WHERE_THEY_MUST: (&str, &str, &str, &str) = (
-    "unnamed processes stand where they must",
-    THREE,
-    "%%
+    ),
+    // The process a is needed once, and c not at all.
+    (
+        "unnamed processes stand where they must",
+        THREE,
+        "%%
 1 break m b (n = 1)
 1 next a
 1 next a
@@ -77,26 +65,19 @@ const UNNAMED_PROCESSES_STAND_WHERE_THEY_MUST: (&str, &str, &str, &str) = (
 1 next b
 1 cut m
 ",
-    "ok
+        "ok
 ok a 0
 ok a 0
 ok c 0
 ok b 0 halted m
 cut m a=1 b=1 c=0
 ",
-);
-
-#[test]
-fn unnamed_processes_stand_where_they_must(rt: HostRuntime) -> Result<(), Fail> {
-    expect_rows(&rt, rt.alloc(), &[UNNAMED_PROCESSES_STAND_WHERE_THEY_MUST])?;
-    Ok(())
-}
-
-// It takes events back, and goes on once the breakpoint is passed.
-const A_HALTED_SESSION_MAKES_NO_EVENT: (&str, &str, &str, &str) = (
-    "a halted session makes no event",
-    TWO,
-    "%%
+    ),
+    // It takes events back, and goes on once the breakpoint is passed.
+    (
+        "a halted session makes no event",
+        TWO,
+        "%%
 1 break k a (x = 1) b (n = 1)
 1 next a
 1 next a
@@ -111,7 +92,7 @@ const A_HALTED_SESSION_MAKES_NO_EVENT: (&str, &str, &str, &str) = (
 1 arm k
 1 arm k
 ",
-    "ok
+        "ok
 ok a 0
 ok a 0
 ok b 0 halted k
@@ -125,19 +106,12 @@ no 14
 ok halted k
 no 15
 ",
-);
-
-#[test]
-fn a_halted_session_makes_no_event(rt: HostRuntime) -> Result<(), Fail> {
-    expect_rows(&rt, rt.alloc(), &[A_HALTED_SESSION_MAKES_NO_EVENT])?;
-    Ok(())
-}
-
-// A redo repeats the choice: the receive takes what was sent anew, and the search forgets what it had seen.
-const ANOTHER_MESSAGE_IS_RECEIVED_AGAIN: (&str, &str, &str, &str) = (
-    "another message is received again",
-    PAIR,
-    "%%
+    ),
+    // A redo repeats the choice: the receive takes what was sent anew, and the search forgets what it had seen.
+    (
+        "another message is received again",
+        PAIR,
+        "%%
 1 break k s (u = 2) r (v = 7)
 1 step s 0
 1 step r 0
@@ -150,7 +124,7 @@ const ANOTHER_MESSAGE_IS_RECEIVED_AGAIN: (&str, &str, &str, &str) = (
 1 vars r
 1 cut k
 ",
-    "ok
+        "ok
 ok s 0
 ok r 0
 vars r v=5
@@ -162,40 +136,26 @@ ok r 0 halted k
 vars r v=7
 cut k s=1 r=1
 ",
-);
-
-#[test]
-fn another_message_is_received_again(rt: HostRuntime) -> Result<(), Fail> {
-    expect_rows(&rt, rt.alloc(), &[ANOTHER_MESSAGE_IS_RECEIVED_AGAIN])?;
-    Ok(())
-}
-
-const AN_EVALUATION_THAT_FAULTS_IS_NOT_TRUE: (&str, &str, &str, &str) = (
-    "an evaluation that faults is not true",
-    TWO,
-    "%%
+    ),
+    (
+        "an evaluation that faults is not true",
+        TWO,
+        "%%
 1 break k a ((x / 0) = 1)
 1 cut k
 1 break m a ((x = 0) or ((x / 0) = 1))
 1 breaks
 ",
-    "ok
+        "ok
 cut k none
 ok halted m
 breaks k on m on
 ",
-);
-
-#[test]
-fn an_evaluation_that_faults_is_not_true(rt: HostRuntime) -> Result<(), Fail> {
-    expect_rows(&rt, rt.alloc(), &[AN_EVALUATION_THAT_FAULTS_IS_NOT_TRUE])?;
-    Ok(())
-}
-
-const LINES_ARE_REFUSED_IN_ORDER: (&str, &str, &str, &str) = (
-    "lines are refused in order",
-    TWO,
-    "%%
+    ),
+    (
+        "lines are refused in order",
+        TWO,
+        "%%
 17 next a
 1 jump a
 1 step a
@@ -206,7 +166,7 @@ const LINES_ARE_REFUSED_IN_ORDER: (&str, &str, &str, &str) = (
 1 break k d (x = 1)
 
 ",
-    "no 22
+        "no 22
 no 22
 no 22
 no 22
@@ -215,18 +175,11 @@ no 23
 no 23
 no 1
 ",
-);
-
-#[test]
-fn lines_are_refused_in_order(rt: HostRuntime) -> Result<(), Fail> {
-    expect_rows(&rt, rt.alloc(), &[LINES_ARE_REFUSED_IN_ORDER])?;
-    Ok(())
-}
-
-const BREAKPOINTS_STAND_IN_ORDER: (&str, &str, &str, &str) = (
-    "breakpoints stand in order",
-    TWO,
-    "%%
+    ),
+    (
+        "breakpoints stand in order",
+        TWO,
+        "%%
 1 break k a (x = 0)
 1 cut k
 1 pass k
@@ -235,7 +188,7 @@ const BREAKPOINTS_STAND_IN_ORDER: (&str, &str, &str, &str) = (
 1 clear k
 1 breaks
 ",
-    "ok halted k
+        "ok halted k
 cut k a=0 b=0
 ok
 ok
@@ -243,19 +196,12 @@ breaks k off m on
 ok
 breaks m on
 ",
-);
-
-#[test]
-fn breakpoints_stand_in_order(rt: HostRuntime) -> Result<(), Fail> {
-    expect_rows(&rt, rt.alloc(), &[BREAKPOINTS_STAND_IN_ORDER])?;
-    Ok(())
-}
-
-// A refused line changes no breakpoint.
-const BREAKPOINTS_ARE_REFUSED_IN_ORDER: (&str, &str, &str, &str) = (
-    "breakpoints are refused in order",
-    TWO,
-    "%%
+    ),
+    // A refused line changes no breakpoint.
+    (
+        "breakpoints are refused in order",
+        TWO,
+        "%%
 1 break k a (x = 0)
 1 pass k
 1 break m b (n = 1)
@@ -274,7 +220,7 @@ const BREAKPOINTS_ARE_REFUSED_IN_ORDER: (&str, &str, &str, &str) = (
 1 arm m
 1 breaks
 ",
-    "ok halted k
+        "ok halted k
 ok
 ok
 no 11
@@ -292,19 +238,12 @@ no 14
 no 15
 breaks k off m on
 ",
-);
-
-#[test]
-fn breakpoints_are_refused_in_order(rt: HostRuntime) -> Result<(), Fail> {
-    expect_rows(&rt, rt.alloc(), &[BREAKPOINTS_ARE_REFUSED_IN_ORDER])?;
-    Ok(())
-}
-
-// Both have a cut in the end, and k was set first.
-const THE_FIRST_ARMED_BREAKPOINT_HALTS: (&str, &str, &str, &str) = (
-    "the first armed breakpoint halts",
-    TWO,
-    "%%
+    ),
+    // Both have a cut in the end, and k was set first.
+    (
+        "the first armed breakpoint halts",
+        TWO,
+        "%%
 1 break k a (x = 1)
 1 break m a (x = 0)
 1 next a
@@ -316,7 +255,7 @@ const THE_FIRST_ARMED_BREAKPOINT_HALTS: (&str, &str, &str, &str) = (
 1 next a
 1 arm k
 ",
-    "ok
+        "ok
 ok halted m
 no 9 m
 ok
@@ -327,18 +266,11 @@ ok
 ok a 0
 ok halted k
 ",
-);
-
-#[test]
-fn the_first_armed_breakpoint_halts(rt: HostRuntime) -> Result<(), Fail> {
-    expect_rows(&rt, rt.alloc(), &[THE_FIRST_ARMED_BREAKPOINT_HALTS])?;
-    Ok(())
-}
-
-const COUNTS_OF_MESSAGES_ARE_IN_THE_PAST: (&str, &str, &str, &str) = (
-    "counts of messages are in the past",
-    COUNTS,
-    "%%
+    ),
+    (
+        "counts of messages are in the past",
+        COUNTS,
+        "%%
 1 next a
 1 next a
 1 next a
@@ -357,7 +289,7 @@ const COUNTS_OF_MESSAGES_ARE_IN_THE_PAST: (&str, &str, &str, &str) = (
 1 break m a (sent(a) = 0)
 1 break m a sent(b)
 ",
-    "ok a 0
+        "ok a 0
 ok a 0
 no 24
 no 3
@@ -375,10 +307,11 @@ chan a b 10 11
 no 23
 no 23
 ",
-);
+    ),
+];
 
 #[test]
-fn counts_of_messages_are_in_the_past(rt: HostRuntime) -> Result<(), Fail> {
-    expect_rows(&rt, rt.alloc(), &[COUNTS_OF_MESSAGES_ARE_IN_THE_PAST])?;
+fn sessions_halt_at_breakpoints(rt: HostRuntime) -> Result<(), Fail> {
+    expect_rows(&rt, rt.alloc(), &ROWS)?;
     Ok(())
 }

@@ -1,4 +1,4 @@
-use super::served;
+use super::expect_served;
 
 // The text of examples/message_counts.rdbg: five numbered frames, of which at most three are in flight.
 const MESSAGE_COUNTS: &str = "process sender {
@@ -62,9 +62,7 @@ vars sender acknowledged=3
 
 #[test]
 fn a_window_of_three_frames(rt: HostRuntime) {
-    let (replies, code) = served(rt.alloc(), MESSAGE_COUNTS.as_bytes());
-    assert_eq!(rt; replies.as_slice(), REPLIES.as_bytes());
-    assert_eq!(rt; code, 0);
+    expect_served(&rt, rt.alloc(), MESSAGE_COUNTS.as_bytes(), REPLIES);
 }
 
 // The text of examples/unrelated_undo.rdbg: a client and a server that seat 1 steps, and a clock of its own that seat 2 steps.
@@ -128,9 +126,7 @@ vars clock ticks=2
 
 #[test]
 fn two_seats_undo_unrelated_work(rt: HostRuntime) {
-    let (replies, code) = served(rt.alloc(), UNRELATED_UNDO.as_bytes());
-    assert_eq!(rt; replies.as_slice(), AFTER_UNDO.as_bytes());
-    assert_eq!(rt; code, 0);
+    expect_served(&rt, rt.alloc(), UNRELATED_UNDO.as_bytes(), AFTER_UNDO);
 }
 
 // The text of examples/rollback.rdbg: a client and a primary that seat 1 steps, and a backup that seat 2 steps. The primary answers a
@@ -222,7 +218,5 @@ no 10
 
 #[test]
 fn a_backup_is_rolled_back(rt: HostRuntime) {
-    let (replies, code) = served(rt.alloc(), ROLLBACK.as_bytes());
-    assert_eq!(rt; replies.as_slice(), ROLLED.as_bytes());
-    assert_eq!(rt; code, 0);
+    expect_served(&rt, rt.alloc(), ROLLBACK.as_bytes(), ROLLED);
 }

@@ -1,4 +1,4 @@
-use super::{TWO, checked, joined};
+use super::{TWO, expect_checked, joined};
 use std::alloc::{AllocError, Global};
 use std::test::Fail;
 
@@ -55,18 +55,14 @@ fn programs_are_refused(rt: HostRuntime) -> Result<(), Fail> {
     let alloc = rt.alloc();
     for (text, want) in &REFUSED {
         let input = joined(alloc, text, "\n%%\n")?;
-        let (told, code) = checked(alloc, input.as_slice());
-        assert_eq!(rt; told.as_slice(), want.as_bytes(), "at {text:?}");
-        assert_eq!(rt; code, 3);
+        expect_checked(&rt, alloc, input.as_slice(), want);
     }
     Ok(())
 }
 
 #[test]
 fn a_program_without_a_process_is_refused(rt: HostRuntime) {
-    let (told, code) = checked(rt.alloc(), b"%%\n");
-    assert_eq!(rt; told.as_slice(), b"program refused 3 at 0\n".as_slice());
-    assert_eq!(rt; code, 3);
+    expect_checked(&rt, rt.alloc(), b"%%\n", "program refused 3 at 0\n");
 }
 
 const ENDS: [&str; 6] = ["", "%%\n", "%%", "%%\r\n", "%%\r", "%%\n%% \nprocess\n"];
@@ -76,22 +72,19 @@ fn a_text_ends_with_its_line_or_the_input(rt: HostRuntime) -> Result<(), Fail> {
     let alloc = rt.alloc();
     for end in &ENDS {
         let input = joined(alloc, TWO, end)?;
-        let (told, code) = checked(alloc, input.as_slice());
-        assert_eq!(rt;
-            told.as_slice(),
-            b"ok 2 processes 3 commands\n".as_slice(),
-            "at {end:?}"
-        );
-        assert_eq!(rt; code, 0);
+        expect_checked(&rt, alloc, input.as_slice(), "ok 2 processes 3 commands\n");
     }
     Ok(())
 }
 
 #[test]
 fn counts_are_plural(rt: HostRuntime) {
-    let (told, code) = checked(rt.alloc(), b"process a { }\n");
-    assert_eq!(rt; told.as_slice(), b"ok 1 processes 0 commands\n".as_slice());
-    assert_eq!(rt; code, 0);
+    expect_checked(
+        &rt,
+        rt.alloc(),
+        b"process a { }\n",
+        "ok 1 processes 0 commands\n",
+    );
 }
 
 // A program with blank lines behind it, so many bytes in all, and an end.
@@ -106,20 +99,12 @@ fn long(alloc: Global, bytes: usize, end: &str) -> Result<Vec<u8>, AllocError> {
 fn a_text_ends_within_the_input_that_may_be(rt: HostRuntime) -> Result<(), Fail> {
     let alloc = rt.alloc();
     let most = long(alloc, 1_048_573, "%%\nrest")?;
-    let (told, code) = checked(alloc, most.as_slice());
-    assert_eq!(rt; told.as_slice(), b"ok 1 processes 0 commands\n".as_slice());
-    assert_eq!(rt; code, 0);
+    expect_checked(&rt, alloc, most.as_slice(), "ok 1 processes 0 commands\n");
     let whole = long(alloc, 1_048_576, "")?;
-    let (told, code) = checked(alloc, whole.as_slice());
-    assert_eq!(rt; told.as_slice(), b"ok 1 processes 0 commands\n".as_slice());
-    assert_eq!(rt; code, 0);
+    expect_checked(&rt, alloc, whole.as_slice(), "ok 1 processes 0 commands\n");
     let late = long(alloc, 1_048_574, "%%\n")?;
-    let (told, code) = checked(alloc, late.as_slice());
-    assert_eq!(rt; told.as_slice(), b"input too long\n".as_slice());
-    assert_eq!(rt; code, 1);
+    expect_checked(&rt, alloc, late.as_slice(), "input too long\n");
     let more = long(alloc, 1_048_577, "")?;
-    let (told, code) = checked(alloc, more.as_slice());
-    assert_eq!(rt; told.as_slice(), b"input too long\n".as_slice());
-    assert_eq!(rt; code, 1);
+    expect_checked(&rt, alloc, more.as_slice(), "input too long\n");
     Ok(())
 }

@@ -1,4 +1,4 @@
-use super::served;
+use super::expect_served;
 
 // The text of examples/lost_update.rdbg: two clients that read a value of one server, and write it back one larger.
 const LOST_UPDATE: &str = "process alice {
@@ -44,6 +44,10 @@ process server {
 1 next alice
 1 cut lost
 1 vars server
+1 chan alice server
+2 chan bob server
+1 clock alice
+2 clock bob
 1 pass lost
 1 next alice
 1 arm lost
@@ -83,6 +87,10 @@ ok server 5 halted lost
 no 9 lost
 cut lost alice=3 bob=3 server=6
 vars server value=1 request=0
+chan alice server
+chan bob server
+clock alice alice=3 bob=1 server=3
+clock bob alice=1 bob=3 server=4
 ok
 ok alice 3
 ok halted lost
@@ -107,9 +115,7 @@ why lost alice=3 bob=3 server=past
 
 #[test]
 fn an_update_is_lost(rt: HostRuntime) {
-    let (replies, code) = served(rt.alloc(), LOST_UPDATE.as_bytes());
-    assert_eq!(rt; replies.as_slice(), FOUND.as_bytes());
-    assert_eq!(rt; code, 0);
+    expect_served(&rt, rt.alloc(), LOST_UPDATE.as_bytes(), FOUND);
 }
 
 // The text of examples/two_phase_commit.rdbg: a participant that has voted for the commit gives up waiting for the decision.
@@ -163,6 +169,7 @@ process right {
 2 vars left
 3 vars right
 2 clock left
+1 chan coordinator right
 1 pass split
 1 next coordinator
 1 chan coordinator right
@@ -200,6 +207,7 @@ cut split coordinator=6 left=3 right=3
 vars left state=2 order=1
 vars right state=3 order=0
 clock left coordinator=6 left=3 right=2
+chan coordinator right
 ok
 ok coordinator 6
 chan coordinator right 1
@@ -218,7 +226,5 @@ breaks split on torn on
 
 #[test]
 fn a_commit_has_two_decisions(rt: HostRuntime) {
-    let (replies, code) = served(rt.alloc(), TWO_PHASE_COMMIT.as_bytes());
-    assert_eq!(rt; replies.as_slice(), TWO_DECISIONS.as_bytes());
-    assert_eq!(rt; code, 0);
+    expect_served(&rt, rt.alloc(), TWO_PHASE_COMMIT.as_bytes(), TWO_DECISIONS);
 }

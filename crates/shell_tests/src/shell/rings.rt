@@ -1,4 +1,4 @@
-use super::served;
+use super::expect_served;
 
 // The text of examples/token_duplicated.rdbg: a token that is not acknowledged is sent again, and tokens have no numbers.
 const TOKEN_DUPLICATED: &str = "process left {
@@ -106,9 +106,7 @@ why both left=7 right=past
 
 #[test]
 fn a_token_is_duplicated(rt: HostRuntime) {
-    let (replies, code) = served(rt.alloc(), TOKEN_DUPLICATED.as_bytes());
-    assert_eq!(rt; replies.as_slice(), BOTH_INSIDE.as_bytes());
-    assert_eq!(rt; code, 0);
+    expect_served(&rt, rt.alloc(), TOKEN_DUPLICATED.as_bytes(), BOTH_INSIDE);
 }
 
 // The text of examples/leader_election.rdbg: a process is elected where the number that it hears is its own or greater, in place of its
@@ -158,9 +156,13 @@ process west {
 1 next north
 1 next north
 1 cut rivals
+1 vars north
 1 clock north
 1 why two
 1 chan west north
+1 pass rivals
+1 next north
+1 arm rivals
 1 goto rivals
 1 vars west
 1 chan west north
@@ -168,7 +170,7 @@ process west {
 3 redo west
 2 redo east
 2 redo east
-1 next north
+1 redo north
 1 next north
 1 next north
 2 next east
@@ -197,9 +199,13 @@ ok north 1
 ok north 2 halted rivals
 no 9 rivals
 cut rivals north=3 east=1 west=3
+vars north own=1 heard=2 leader=1
 clock north north=3 east=0 west=1
 why two north=1 east=past west=3
 chan west north 3
+ok
+ok north 3
+ok halted rivals
 ok north=3 east=1 west=3 halted rivals
 vars west own=2 heard=3 leader=1
 chan west north
@@ -222,7 +228,5 @@ breaks two on rivals off
 
 #[test]
 fn an_election_has_two_leaders(rt: HostRuntime) {
-    let (replies, code) = served(rt.alloc(), LEADER_ELECTION.as_bytes());
-    assert_eq!(rt; replies.as_slice(), TWO_LEADERS.as_bytes());
-    assert_eq!(rt; code, 0);
+    expect_served(&rt, rt.alloc(), LEADER_ELECTION.as_bytes(), TWO_LEADERS);
 }

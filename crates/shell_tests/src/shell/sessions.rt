@@ -1,5 +1,5 @@
 use super::programs::REFUSED;
-use super::{TWO, joined, served};
+use super::{TWO, expect_rows, expect_served, joined, served};
 use std::alloc::{AllocError, Global};
 use std::test::Fail;
 
@@ -174,25 +174,18 @@ const SESSIONS: [(&str, &str, &str, &str); 22] = [
 
 #[test]
 fn sessions_are_answered(rt: HostRuntime) -> Result<(), Fail> {
-    let alloc = rt.alloc();
-    for (name, program, lines, want) in &SESSIONS {
-        let input = joined(alloc, program, lines)?;
-        let (replies, code) = served(alloc, input.as_slice());
-        assert_eq!(rt; replies.as_slice(), want.as_bytes(), "{name}");
-        let refused = want.starts_with("program refused");
-        assert_eq!(rt; code, if refused { 3 } else { 0 }, "{name}");
-    }
+    expect_rows(&rt, rt.alloc(), &SESSIONS)?;
     Ok(())
 }
 
 #[test]
 fn a_text_without_an_end_line_is_refused(rt: HostRuntime) {
-    let (replies, code) = served(rt.alloc(), TWO.as_bytes());
-    assert_eq!(rt;
-        replies.as_slice(),
-        b"program refused: no end line\n".as_slice()
+    expect_served(
+        &rt,
+        rt.alloc(),
+        TWO.as_bytes(),
+        "program refused: no end line\n",
     );
-    assert_eq!(rt; code, 3);
 }
 
 #[test]
@@ -200,9 +193,7 @@ fn a_refused_program_ends_it(rt: HostRuntime) -> Result<(), Fail> {
     let alloc = rt.alloc();
     for (text, want) in &REFUSED {
         let input = joined(alloc, text, "\n%%\n1 next a\n")?;
-        let (replies, code) = served(alloc, input.as_slice());
-        assert_eq!(rt; replies.as_slice(), want.as_bytes(), "at {text:?}");
-        assert_eq!(rt; code, 3);
+        expect_served(&rt, alloc, input.as_slice(), want);
     }
     Ok(())
 }
@@ -267,9 +258,7 @@ fn a_text_may_be_too_long(rt: HostRuntime) -> Result<(), Fail> {
     let mut input = Vec::from_slice(alloc, b"process a { }")?;
     input.resize(1_048_574, b'\n')?;
     input.extend_from_slice(b"%%\n1 vars a\n")?;
-    let (replies, code) = served(alloc, input.as_slice());
-    assert_eq!(rt; replies.as_slice(), b"input too long\n".as_slice());
-    assert_eq!(rt; code, 1);
+    expect_served(&rt, alloc, input.as_slice(), "input too long\n");
     Ok(())
 }
 
@@ -278,9 +267,7 @@ fn a_refused_program_comes_before_long_input(rt: HostRuntime) -> Result<(), Fail
     let alloc = rt.alloc();
     let mut input = Vec::from_slice(alloc, b"process A {}\n%%\n")?;
     input.resize(1_048_600, b'\n')?;
-    let (replies, code) = served(alloc, input.as_slice());
-    assert_eq!(rt; replies.as_slice(), b"program refused 1 at 8\n".as_slice());
-    assert_eq!(rt; code, 3);
+    expect_served(&rt, alloc, input.as_slice(), "program refused 1 at 8\n");
     Ok(())
 }
 
@@ -293,11 +280,11 @@ fn a_line_may_be_too_long(rt: HostRuntime) -> Result<(), Fail> {
     push_line(&mut input, "", 1_026)?;
     push_line(&mut input, "", 1_025)?;
     push_line(&mut input, "1 vars a", 9)?;
-    let (replies, code) = served(alloc, input.as_slice());
-    assert_eq!(rt;
-        replies.as_slice(),
-        b"no 22\nok a 0\nno 22\nvars a x=1\n".as_slice()
+    expect_served(
+        &rt,
+        alloc,
+        input.as_slice(),
+        "no 22\nok a 0\nno 22\nvars a x=1\n",
     );
-    assert_eq!(rt; code, 0);
     Ok(())
 }

@@ -1,4 +1,3 @@
-use Rattle.std.proofs.Common.{arith}
 use Rattle.proc_lang.specs.Programs.{program_of}
 use Rattle.least_cut.proofs.Callers.{has_shrunk}
 use Rattle.dbg_tests.proofs.detector_calls.undo.Goals as goal
@@ -8,5 +7,5 @@ shrink-requires c =
     let P = program_of c.args.program.now in
     record {
       shrunk = has_shrunk P c.args.world.now c.undo.new.self c.args.detector.now c.requires.of (c.undo.ensures.of P c.requires.of)
-          c.requires.detector c.args.pid.0 (omega (arith, c.if-pid-processes.false, c.processes.ensures.value)) c.in_ok-undo.ensures.moves;
+          c.requires.detector c.args.pid.0 c.in_ok-known.ensures c.in_ok-undo.ensures.moves;
     }
