@@ -7,7 +7,11 @@ use Rattle.std.proofs.lemmas.Bool.{cases_eq}
 use Rattle.std.proofs.lemmas.List.{length-map, length-set, get_or-map, get_or-set_same, get_or-set_other, get_or_default}
 use Rattle.std.proofs.lemmas.List.Folds.{list_any_at, list_any_more}
 
-module _ {A B : Type 0} (f : A → B) (test : B → Bool) (xs : List A) (ys : List B) (seen : map f xs ≡ ys) (i : ℕ) where
+module _ {A B : Type 0} (f : A → B) (test : B → Bool) {xs inside : List A} {ys : List B} (items : xs ≡ inside)
+    (view : map f inside ≡ ys) (i : ℕ) where
+  seen : map f xs ≡ ys
+  seen = ap (λ (l : List A). map f l) items ∙ view
+
   -- one that passes the test is found
   pub found : (x : A) → x ≡ get_or xs i x → i < length xs → test (f x) ≡ true → true ≡ list_any test ys
   found x here lt passes =
