@@ -1,8 +1,7 @@
 -- The entries of a book by name and by position, and its breakpoints.
 use Rattle.std.proofs.Common.{◌≡◌, ℕ, zero, suc, ◌-◌, ◌<◌, ◌≤◌, Bool, true, false, cond, List, [], ◌∷◌, ◌++◌, length, get_or, map}
 use Rattle.std.proofs.Common.{insert, remove, Option, Some, None, Ok, Err, is_some, refl, sym, ap, ◌∙◌, subst, arith}
-use Rattle.std.specs.Prelude.{slice_get, position, if◌then◌else◌, nat_lt}
-use Rattle.std.specs.Prelude.{Result, OnOk, is_ok}
+use Rattle.std.specs.Prelude.{slice_get, position, if◌then◌else◌, nat_lt, Result, OnOk, is_ok}
 use Rattle.std.specs.Option.{option_map_or}
 use Rattle.std.specs.Map.{lookup}
 use Rattle.std.specs.Str.{bytes_eq}
@@ -14,7 +13,7 @@ use Rattle.std.proofs.lemmas.Slice.Eq.{bytes_eq-Decides}
 use Rattle.dbg_base.specs.declared.limits.TheConstants.{BREAKPOINTS}
 use Rattle.dbg_base.specs.declared.refusal.Refusal.{Refusal}
 use Rattle.dbg_base.specs.Predicates.{Conjunct}
-use Rattle.least_cut.specs.Detectors.{DetectorState, conjuncts_of, IsDetectorOf}
+use Rattle.least_cut.specs.Detectors.{DetectorState, conjuncts_of}
 use Rattle.dbg_base.specs.declared.refusal.Refusal.TheVariants.{BreakTaken, BreaksFull}
 use Rattle.dbg_base.specs.Breakpoints.{Breakpoint, named, without, with_mark, name_refusal}
 use Rattle.indexmap.specs.IndexMap.{insert_entry, move_index, index_before, set_value_at, shift_remove_entry}
@@ -28,7 +27,7 @@ names_of book = map (λ (entry : Entry). entry.0) book
 abbrev pub position_of : List ℕ → List Entry → Option ℕ
 position_of name book = position (bytes_eq name) (names_of book)
 
-pub same_in : {A : Type 0} (x y : A) → Some x ≡ Some y → x ≡ y
+same_in : {A : Type 0} (x y : A) → Some x ≡ Some y → x ≡ y
 same_in x y is = cc
 
 none_in : {A : Type 0} (o : Option A) → is_some o ≡ false → o ≡ None
@@ -87,91 +86,72 @@ module _ (name : List ℕ) where
       by true rest = refl
       by false rest = ap (λ (l : List Breakpoint). breakpoint_of entry ∷ l) rest
 
-  -- the entry of the name stands at this position
-  pub record Here (book : List Entry) (i : ℕ) : Type 0 where
-    pub kept : Kept
-    pub entry : slice_get book i ≡ Some (name, kept)
-    pub value : slice_get (map (λ (entry : Entry). entry.1) book) i ≡ Some kept
-    pub found : lookup (bytes_eq name) book ≡ Some kept
-    pub is : named name (breakpoints_of book) ≡ Some (breakpoint_of (name, kept))
-    pub marked : (armed : Bool) → breakpoints_of (marked_at i armed book) ≡ with_mark name armed (breakpoints_of book)
-    pub within : i < length book
+  -- the breakpoint stands at this position, and goes there among the others
+  pub record Here (book : List Entry) (i : ℕ) (kept : Kept) : Type 0 where
+    pub stands : StandsAt name book i kept
     pub place : i ≤ length (shift_remove_entry (bytes_eq name) book)
     pub whole : book ≡ insert (shift_remove_entry (bytes_eq name) book) i (name, kept)
 
-  here_first : (entry : Entry) (book : List Entry) → bytes_eq name entry.0 ≡ true → Here (entry ∷ book) 0
+  here_first : (entry : Entry) (book : List Entry) → bytes_eq name entry.0 ≡ true → Here (entry ∷ book) 0 entry.1
   here_first entry book same =
       let e : name ≡ entry.0 = (bytes_eq-Decides name entry.0).0 same in
       record {
-        kept = entry.1;
-        entry = λ i. Some (sym e i, entry.1);
-        value = refl;
-        found = ap (λ (b : Bool). cond b (Some entry.1) (lookup (bytes_eq name) book)) same;
-        is = ap (λ (b : Bool). if b then Some (breakpoint_of entry) else named name (breakpoints_of book)) same
-            ∙ (λ i. Some (breakpoint_of (sym e i, entry.1)));
-        marked = λ armed. sym (ap (λ (b : Bool).
-            if b then record { name = entry.0; conjuncts = (breakpoint_of entry).conjuncts; armed = armed } ∷ breakpoints_of book
-            else breakpoint_of entry ∷ with_mark name armed (breakpoints_of book)) same);
-        within = omega arith;
+        stands = record {
+          is = ap (λ (b : Bool). if b then Some (breakpoint_of entry) else named name (breakpoints_of book)) same
+              ∙ (λ i. Some (breakpoint_of (sym e i, entry.1)));
+          entry = λ i. Some (sym e i, entry.1);
+          within = omega arith;
+          detector = λ w are. are.0;
+          marked = λ armed. sym (ap (λ (b : Bool).
+              if b then record { name = entry.0; conjuncts = (breakpoint_of entry).conjuncts; armed = armed } ∷ breakpoints_of book
+              else breakpoint_of entry ∷ with_mark name armed (breakpoints_of book)) same);
+        };
         place = omega arith;
         whole = (λ i. (sym e i, entry.1) ∷ book)
             ∙ ap (λ (l : List Entry). (name, entry.1) ∷ l)
             (sym (ap (λ (b : Bool). cond b book (entry ∷ shift_remove_entry (bytes_eq name) book)) same));
       }
 
-  here_behind : (entry : Entry) (book : List Entry) (i : ℕ) → bytes_eq name entry.0 ≡ false → Here book i → Here (entry ∷ book) (suc i)
-  here_behind entry book i other here =
+  here_behind : (entry : Entry) (book : List Entry) (i : ℕ) (kept : Kept) → bytes_eq name entry.0 ≡ false → Here book i kept
+      → Here (entry ∷ book) (suc i) kept
+  here_behind entry book i kept other here =
       let rest = shift_remove_entry (bytes_eq name) book in
-      let less = here.within in
+      let less = here.stands.within in
       let fits = here.place in
       let all : shift_remove_entry (bytes_eq name) (entry ∷ book) ≡ entry ∷ rest =
       ap (λ (b : Bool). cond b book (entry ∷ rest)) other in
       record {
-        kept = here.kept;
-        entry = here.entry;
-        value = here.value;
-        found = ap (λ (b : Bool). cond b (Some entry.1) (lookup (bytes_eq name) book)) other ∙ here.found;
-        is = ap (λ (b : Bool). if b then Some (breakpoint_of entry) else named name (breakpoints_of book)) other ∙ here.is;
-        marked = λ armed. ap (λ (l : List Breakpoint). breakpoint_of entry ∷ l) (here.marked armed)
-            ∙ sym (ap (λ (b : Bool).
-            if b then record { name = entry.0; conjuncts = (breakpoint_of entry).conjuncts; armed = armed } ∷ breakpoints_of book
-            else breakpoint_of entry ∷ with_mark name armed (breakpoints_of book)) other);
-        within = omega (arith, less);
+        stands = record {
+          is = ap (λ (b : Bool). if b then Some (breakpoint_of entry) else named name (breakpoints_of book)) other ∙ here.stands.is;
+          entry = here.stands.entry;
+          within = omega (arith, less);
+          detector = λ w are. here.stands.detector w are.1;
+          marked = λ armed. ap (λ (l : List Breakpoint). breakpoint_of entry ∷ l) (here.stands.marked armed)
+              ∙ sym (ap (λ (b : Bool).
+              if b then record { name = entry.0; conjuncts = (breakpoint_of entry).conjuncts; armed = armed } ∷ breakpoints_of book
+              else breakpoint_of entry ∷ with_mark name armed (breakpoints_of book)) other);
+        };
         place = omega (arith, fits, ap (λ (l : List Entry). length l) all);
-        whole = ap (λ (l : List Entry). entry ∷ l) here.whole
-            ∙ ap (λ (l : List Entry). insert l (suc i) (name, here.kept)) (sym all);
+        whole = ap (λ (l : List Entry). entry ∷ l) here.whole ∙ ap (λ (l : List Entry). insert l (suc i) (name, kept)) (sym all);
       }
 
-  pub here : (book : List Entry) (i : ℕ) → position_of name book ≡ Some i → Here book i
-  here book i is = let at = position-Some (bytes_eq name) (names_of book) i [] is in from book i at.0 at.1 at.2
+  pub here : (book : List Entry) (i : ℕ) (kept : Kept) → position_of name book ≡ Some i → lookup (bytes_eq name) book ≡ Some kept
+      → Here book i kept
+  here book i kept is = let at = position-Some (bytes_eq name) (names_of book) i [] is in from book i at.0 at.1 at.2
     where
       from : (book : List Entry) (i : ℕ) → i < length (names_of book) → bytes_eq name (get_or (names_of book) i []) ≡ true
-          → ((k : ℕ) → k < i → bytes_eq name (get_or (names_of book) k []) ≡ false) → Here book i
-      from [] i less is before = let none : i < 0 = less in absurd (omega (arith, none))
-      from (entry ∷ book) zero less is before = here_first entry book is
-      from (entry ∷ book) (suc i) less is before =
-          here_behind entry book i (before 0 (omega arith))
-          (from book i (omega (arith, less)) is (λ k lt. before (suc k) (omega (arith, lt))))
-
--- what holds of all holds of the one at a position
-pub all_there : (P : Entry → Type 0) (book : List Entry) (i : ℕ) (entry : Entry) → slice_get book i ≡ Some entry → AllByRecursion P book
-    → P entry
-all_there P [] i entry at all = cc
-all_there P (e ∷ book) zero entry at all = subst P (same_in e entry at) all.0
-all_there P (e ∷ book) (suc i) entry at all = all_there P book i entry at all.1
-
--- the breakpoint at the position of its name
-pub found_at : (name : List ℕ) (book : List Entry) (i : ℕ) (kept : Kept) → position_of name book ≡ Some i
-    → lookup (bytes_eq name) book ≡ Some kept → StandsAt name book i kept
-found_at name book i kept at found =
-    let spot = here name book i at in
-    subst (StandsAt name book i) (same_in spot.kept kept (sym spot.found ∙ found)) (record {
-      is = spot.is;
-      entry = spot.entry;
-      within = spot.within;
-      detector = λ w are. all_there (λ entry. IsDetectorOf w entry.1.detector) book i (name, spot.kept) spot.entry are;
-      marked = spot.marked;
-    })
+          → ((k : ℕ) → k < i → bytes_eq name (get_or (names_of book) k []) ≡ false) → lookup (bytes_eq name) book ≡ Some kept
+          → Here book i kept
+      from [] i less is before found = let none : i < 0 = less in absurd (omega (arith, none))
+      from (entry ∷ book) zero less is before found =
+          subst (Here (entry ∷ book) 0)
+          (same_in entry.1 kept (sym (ap (λ (b : Bool). cond b (Some entry.1) (lookup (bytes_eq name) book)) is) ∙ found))
+          (here_first entry book is)
+      from (entry ∷ book) (suc i) less is before found =
+          let other = before 0 (omega arith) in
+          here_behind entry book i kept other
+          (from book i (omega (arith, less)) is (λ k lt. before (suc k) (omega (arith, lt)))
+          (sym (ap (λ (b : Bool). cond b (Some entry.1) (lookup (bytes_eq name) book)) other) ∙ found))
 
 -- a name that may be set is not there
 free_name : (o : Option Breakpoint) (rest : Option Refusal) → (if is_some o then Some BreakTaken else rest) ≡ None → o ≡ None
@@ -215,10 +195,9 @@ pub record IsCleared (name : List ℕ) (book new : List Entry) (i : ℕ) (kept :
 pub cleared : (name : List ℕ) (book new : List Entry) (i : ℕ) (kept : Kept) → position_of name book ≡ Some i
     → lookup (bytes_eq name) book ≡ Some kept → new ≡ shift_remove_entry (bytes_eq name) book → IsCleared name book new i kept
 cleared name book new i kept at found entries =
-    let spot = here name book i at in
+    let spot = here name book i kept at found in
     subst (λ (l : List Entry). IsCleared name book l i kept) (sym entries)
-    (subst (IsCleared name book (shift_remove_entry (bytes_eq name) book) i) (same_in spot.kept kept (sym spot.found ∙ found))
-    (record { is = spot.is; left = left name book; place = spot.place; whole = spot.whole }))
+    (record { is = spot.stands.is; left = left name book; place = spot.place; whole = spot.whole })
 
 -- a mark is written where the rest stays
 pub written : (book : List Entry) (i : ℕ) (kept next : Kept) (armed : Bool)

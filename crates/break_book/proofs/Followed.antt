@@ -52,14 +52,14 @@ module _ {R : Kept → Kept → Type 0} {old new : List Entry} {i : ℕ} {kept :
   pub turn : (P : Kept → Type 0) → AllByRecursion (λ entry. P entry.1) old → P kept
   turn P all =
       let here = there new i kept at in
-      at_turn (Stays R) (λ (entry : Entry). P entry.1) old new i (here.name, kept) is all here.is here.within
+      at_turn is here.is here.within (λ (entry : Entry). P entry.1) all
 
   -- one breakpoint more
   pub more : {next : Kept} → R kept next → Became (Stays R) old (set_value_at new i next) (i + 1)
   more {next} r =
       let here = there new i kept at in
       subst (λ (l : List Entry). Became (Stays R) old l (i + 1)) (sym (here.written next))
-      (became_more (Stays R) old new i (here.name, kept) (here.name, next) is here.is here.within (record { name = refl; is = r }))
+      (became_more is here.is here.within (record { name = refl; is = r }))
 
 same_breakpoint : (old new : Entry) → new.0 ≡ old.0 → ((name : List ℕ) → breakpoint_of (name, new.1) ≡ breakpoint_of (name, old.1))
     → breakpoint_of new ≡ breakpoint_of old
@@ -113,8 +113,7 @@ roomier {old} {new} {i} is = record {
 
 pub roomier_so_far : {places : List ℕ} {old new : List Entry} {i : ℕ} → Became (Stays (HasRoom places)) old new i
     → Became (Stays IsRoomier) old new i
-roomier_so_far {places} {old} {new} {i} is =
-    became_less (Stays (HasRoom places)) (Stays IsRoomier) (λ a b r. record { name = r.name; is = r.is.same }) old new i is
+roomier_so_far is = became_less is (λ a b r. record { name = r.name; is = r.is.same })
 
 -- all have room at the end
 pub all_room : {places : List ℕ} {old new : List Entry} {i : ℕ} → Became (Stays (HasRoom places)) old new i → length old ≤ i

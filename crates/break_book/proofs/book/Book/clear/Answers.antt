@@ -1,10 +1,9 @@
-use Rattle.std.proofs.Common.{rules, ◌≡◌, None, sym, ap, ◌∙◌, subst}
+use Rattle.std.proofs.Common.{refl, sym, ap, ◌∙◌, subst}
 use Rattle.std.specs.Map.{lookup}
 use Rattle.std.specs.Str.{bytes_eq}
-use Rattle.dbg_base.specs.Breakpoints.{named}
 use Rattle.indexmap.specs.IndexMap.{shift_remove_entry}
 use Rattle.least_cut.specs.Detectors.{IsDetectorOf}
-use Rattle.break_book.specs.Books.{Entry, breakpoints_of, AreDetectorsOf}
+use Rattle.break_book.specs.Books.{Entry, AreDetectorsOf}
 use Rattle.break_book.proofs.Entries.{IsCleared, position_of, not_named, all_left, cleared}
 use Rattle.break_book.proofs.book.Book.clear.Goals as goal
 
@@ -31,6 +30,4 @@ returns-clause-of c = λ w are.
 
 pub returns-in_default-clause-refuses : goal.returns-in_default-clause-refuses
 returns-in_default-clause-refuses c =
-    let none : named c.args.name (breakpoints_of c.args.self.now) ≡ None =
-    not_named c.args.name c.args.self.now (ap (lookup (bytes_eq c.args.name)) (sym c.self.view_is) ∙ sym c.in_default.ensures.value) in
-    search (rules, none)
+    (not_named c.args.name c.args.self.now (ap (lookup (bytes_eq c.args.name)) (sym c.self.view_is) ∙ sym c.in_default.ensures.value), refl)

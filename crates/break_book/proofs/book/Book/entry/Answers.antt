@@ -1,19 +1,16 @@
-use Rattle.std.proofs.Common.{rules, ◌≡◌, None, sym, ap, ◌∙◌}
+use Rattle.std.proofs.Common.{refl, sym, ap, ◌∙◌}
 use Rattle.std.specs.Map.{lookup}
 use Rattle.std.specs.Str.{bytes_eq}
-use Rattle.dbg_base.specs.Breakpoints.{named}
-use Rattle.break_book.specs.Books.{breakpoints_of}
-use Rattle.break_book.proofs.Entries.{position_of, not_named, found_at}
+use Rattle.break_book.proofs.Entries.{position_of, not_named, here}
 use Rattle.break_book.proofs.book.Book.entry.Goals as goal
 
 pub returns-clause-found : goal.returns-clause-found
 returns-clause-found c =
-    found_at c.args.name c.args.self.now c.in-Some.position c.in-Some.found.now
+    let spot = here c.args.name c.args.self.now c.in-Some.position c.in-Some.found.now
     (ap (position_of c.args.name) (sym c.self.view_is) ∙ sym c.in-Some.ensures.index)
-    (ap (lookup (bytes_eq c.args.name)) (sym c.self.view_is) ∙ sym c.in-Some.ensures.value)
+    (ap (lookup (bytes_eq c.args.name)) (sym c.self.view_is) ∙ sym c.in-Some.ensures.value) in
+    spot.stands
 
 pub returns-in_default-clause-refuses : goal.returns-in_default-clause-refuses
 returns-in_default-clause-refuses c =
-    let none : named c.args.name (breakpoints_of c.args.self.now) ≡ None =
-    not_named c.args.name c.args.self.now (ap (lookup (bytes_eq c.args.name)) (sym c.self.view_is) ∙ sym c.in_default.ensures.value) in
-    search (rules, none)
+    (not_named c.args.name c.args.self.now (ap (lookup (bytes_eq c.args.name)) (sym c.self.view_is) ∙ sym c.in_default.ensures.value), refl)
