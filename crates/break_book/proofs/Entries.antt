@@ -1,9 +1,8 @@
 -- The entries of a book by name and by position, and its breakpoints.
 use Rattle.std.proofs.Common.{◌≡◌, ℕ, zero, suc, ◌-◌, ◌<◌, ◌≤◌, Bool, true, false, cond, List, [], ◌∷◌, ◌++◌, length, get_or, map}
 use Rattle.std.proofs.Common.{insert, remove, Option, Some, None, Ok, Err, is_some, refl, sym, ap, ◌∙◌, subst, arith}
-use Rattle.std.specs.Prelude.{slice_get, if◌then◌else◌, nat_lt}
-use Rattle.std.specs.Prelude.{Result, OnOk, is_ok}
-use Rattle.std.specs.Option.{ok_or, option_map, option_map_or}
+use Rattle.std.specs.Prelude.{slice_get, position, if◌then◌else◌, nat_lt, Result, OnOk, is_ok}
+use Rattle.std.specs.Option.{option_map_or}
 use Rattle.std.specs.Map.{lookup}
 use Rattle.std.specs.Str.{bytes_eq}
 use Rattle.std.specs.List.{AllByRecursion, position_or_len}
@@ -18,22 +17,17 @@ use Rattle.least_cut.specs.Detectors.{DetectorState, conjuncts_of}
 use Rattle.dbg_base.specs.declared.refusal.Refusal.TheVariants.{BreakTaken, BreaksFull}
 use Rattle.dbg_base.specs.Breakpoints.{Breakpoint, named, without, with_mark, name_refusal}
 use Rattle.indexmap.specs.IndexMap.{insert_entry, move_index, index_before, set_value_at, shift_remove_entry}
-use Rattle.indexmap.proofs.MapLemmas.{Missing-position, absent_from_lookup, or_len-absent}
-use Rattle.break_book.specs.Books.{Kept, Entry, breakpoint_of, breakpoints_of, new_breakpoint, position_of, marked_at}
+use Rattle.indexmap.proofs.MapLemmas.{absent_from_lookup, or_len-absent}
+use Rattle.break_book.specs.Books.{Kept, Entry, breakpoint_of, breakpoints_of, new_breakpoint, marked_at, StandsAt}
 
 abbrev names_of : List Entry → List (List ℕ)
 names_of book = map (λ (entry : Entry). entry.0) book
 
--- what was asked for is there
-pub of_ok : {A E : Type 0} (r : Option A) (e : E) (x : A) → ok_or r e ≡ Ok x → r ≡ Some x
-of_ok None e x is = cc
-of_ok (Some y) e x is = let same : y ≡ x = cc in ap Some same
+-- where the entry of this name stands, from 0
+abbrev pub position_of : List ℕ → List Entry → Option ℕ
+position_of name book = position (bytes_eq name) (names_of book)
 
-pub of_err : {A E : Type 0} (r : Option A) (e f : E) → ok_or r e ≡ Err f → (r ≡ None) × (f ≡ e)
-of_err None e f is = let same : e ≡ f = cc in (refl, sym same)
-of_err (Some y) e f is = cc
-
-pub same_in : {A : Type 0} (x y : A) → Some x ≡ Some y → x ≡ y
+same_in : {A : Type 0} (x y : A) → Some x ≡ Some y → x ≡ y
 same_in x y is = cc
 
 none_in : {A : Type 0} (o : Option A) → is_some o ≡ false → o ≡ None
@@ -54,9 +48,6 @@ module _ (name : List ℕ) where
 
   pub not_named : (book : List Entry) → lookup (bytes_eq name) book ≡ None → named name (breakpoints_of book) ≡ None
   not_named book none = none_in (named name (breakpoints_of book)) (named_there book ∙ ap is_some none)
-
-  pub not_placed : (book : List Entry) → position_of name book ≡ None → named name (breakpoints_of book) ≡ None
-  not_placed book none = not_named book (Missing-position (bytes_eq name) book none).value
 
   pub not_found : (book : List Entry) → named name (breakpoints_of book) ≡ None → lookup (bytes_eq name) book ≡ None
   not_found book none = none_in (lookup (bytes_eq name) book) (sym (named_there book) ∙ ap is_some none)
@@ -95,118 +86,87 @@ module _ (name : List ℕ) where
       by true rest = refl
       by false rest = ap (λ (l : List Breakpoint). breakpoint_of entry ∷ l) rest
 
-  -- the entry of the name stands at this position
-  pub record Here (book : List Entry) (i : ℕ) : Type 0 where
-    pub kept : Kept
-    pub entry : slice_get book i ≡ Some (name, kept)
-    pub value : slice_get (map (λ (entry : Entry). entry.1) book) i ≡ Some kept
-    pub found : lookup (bytes_eq name) book ≡ Some kept
-    pub is : named name (breakpoints_of book) ≡ Some (breakpoint_of (name, kept))
-    pub marked : (armed : Bool) → breakpoints_of (marked_at i armed book) ≡ with_mark name armed (breakpoints_of book)
-    pub within : i < length book
+  -- the breakpoint stands at this position, and goes there among the others
+  pub record Here (book : List Entry) (i : ℕ) (kept : Kept) : Type 0 where
+    pub stands : StandsAt name book i kept
     pub place : i ≤ length (shift_remove_entry (bytes_eq name) book)
     pub whole : book ≡ insert (shift_remove_entry (bytes_eq name) book) i (name, kept)
 
-  here_first : (entry : Entry) (book : List Entry) → bytes_eq name entry.0 ≡ true → Here (entry ∷ book) 0
+  here_first : (entry : Entry) (book : List Entry) → bytes_eq name entry.0 ≡ true → Here (entry ∷ book) 0 entry.1
   here_first entry book same =
       let e : name ≡ entry.0 = (bytes_eq-Decides name entry.0).0 same in
       record {
-        kept = entry.1;
-        entry = λ i. Some (sym e i, entry.1);
-        value = refl;
-        found = ap (λ (b : Bool). cond b (Some entry.1) (lookup (bytes_eq name) book)) same;
-        is = ap (λ (b : Bool). if b then Some (breakpoint_of entry) else named name (breakpoints_of book)) same
-            ∙ (λ i. Some (breakpoint_of (sym e i, entry.1)));
-        marked = λ armed. sym (ap (λ (b : Bool).
-            if b then record { name = entry.0; conjuncts = (breakpoint_of entry).conjuncts; armed = armed } ∷ breakpoints_of book
-            else breakpoint_of entry ∷ with_mark name armed (breakpoints_of book)) same);
-        within = omega arith;
+        stands = record {
+          is = ap (λ (b : Bool). if b then Some (breakpoint_of entry) else named name (breakpoints_of book)) same
+              ∙ (λ i. Some (breakpoint_of (sym e i, entry.1)));
+          entry = λ i. Some (sym e i, entry.1);
+          within = omega arith;
+          detector = λ w are. are.0;
+          marked = λ armed. sym (ap (λ (b : Bool).
+              if b then record { name = entry.0; conjuncts = (breakpoint_of entry).conjuncts; armed = armed } ∷ breakpoints_of book
+              else breakpoint_of entry ∷ with_mark name armed (breakpoints_of book)) same);
+        };
         place = omega arith;
         whole = (λ i. (sym e i, entry.1) ∷ book)
             ∙ ap (λ (l : List Entry). (name, entry.1) ∷ l)
             (sym (ap (λ (b : Bool). cond b book (entry ∷ shift_remove_entry (bytes_eq name) book)) same));
       }
 
-  here_behind : (entry : Entry) (book : List Entry) (i : ℕ) → bytes_eq name entry.0 ≡ false → Here book i → Here (entry ∷ book) (suc i)
-  here_behind entry book i other here =
+  here_behind : (entry : Entry) (book : List Entry) (i : ℕ) (kept : Kept) → bytes_eq name entry.0 ≡ false → Here book i kept
+      → Here (entry ∷ book) (suc i) kept
+  here_behind entry book i kept other here =
       let rest = shift_remove_entry (bytes_eq name) book in
-      let less = here.within in
+      let less = here.stands.within in
       let fits = here.place in
       let all : shift_remove_entry (bytes_eq name) (entry ∷ book) ≡ entry ∷ rest =
       ap (λ (b : Bool). cond b book (entry ∷ rest)) other in
       record {
-        kept = here.kept;
-        entry = here.entry;
-        value = here.value;
-        found = ap (λ (b : Bool). cond b (Some entry.1) (lookup (bytes_eq name) book)) other ∙ here.found;
-        is = ap (λ (b : Bool). if b then Some (breakpoint_of entry) else named name (breakpoints_of book)) other ∙ here.is;
-        marked = λ armed. ap (λ (l : List Breakpoint). breakpoint_of entry ∷ l) (here.marked armed)
-            ∙ sym (ap (λ (b : Bool).
-            if b then record { name = entry.0; conjuncts = (breakpoint_of entry).conjuncts; armed = armed } ∷ breakpoints_of book
-            else breakpoint_of entry ∷ with_mark name armed (breakpoints_of book)) other);
-        within = omega (arith, less);
+        stands = record {
+          is = ap (λ (b : Bool). if b then Some (breakpoint_of entry) else named name (breakpoints_of book)) other ∙ here.stands.is;
+          entry = here.stands.entry;
+          within = omega (arith, less);
+          detector = λ w are. here.stands.detector w are.1;
+          marked = λ armed. ap (λ (l : List Breakpoint). breakpoint_of entry ∷ l) (here.stands.marked armed)
+              ∙ sym (ap (λ (b : Bool).
+              if b then record { name = entry.0; conjuncts = (breakpoint_of entry).conjuncts; armed = armed } ∷ breakpoints_of book
+              else breakpoint_of entry ∷ with_mark name armed (breakpoints_of book)) other);
+        };
         place = omega (arith, fits, ap (λ (l : List Entry). length l) all);
-        whole = ap (λ (l : List Entry). entry ∷ l) here.whole
-            ∙ ap (λ (l : List Entry). insert l (suc i) (name, here.kept)) (sym all);
+        whole = ap (λ (l : List Entry). entry ∷ l) here.whole ∙ ap (λ (l : List Entry). insert l (suc i) (name, kept)) (sym all);
       }
 
-  pub here : (book : List Entry) (i : ℕ) → position_of name book ≡ Some i → Here book i
-  here book i is = let at = position-Some (bytes_eq name) (names_of book) i [] is in from book i at.0 at.1 at.2
+  pub here : (book : List Entry) (i : ℕ) (kept : Kept) → position_of name book ≡ Some i → lookup (bytes_eq name) book ≡ Some kept
+      → Here book i kept
+  here book i kept is = let at = position-Some (bytes_eq name) (names_of book) i [] is in from book i at.0 at.1 at.2
     where
       from : (book : List Entry) (i : ℕ) → i < length (names_of book) → bytes_eq name (get_or (names_of book) i []) ≡ true
-          → ((k : ℕ) → k < i → bytes_eq name (get_or (names_of book) k []) ≡ false) → Here book i
-      from [] i less is before = let none : i < 0 = less in absurd (omega (arith, none))
-      from (entry ∷ book) zero less is before = here_first entry book is
-      from (entry ∷ book) (suc i) less is before =
-          here_behind entry book i (before 0 (omega arith))
-          (from book i (omega (arith, less)) is (λ k lt. before (suc k) (omega (arith, lt))))
-
--- the breakpoint at the position of its name
-pub named_at : (name : List ℕ) (book : List Entry) (i : ℕ) (kept : Kept) → position_of name book ≡ Some i
-    → slice_get (map (λ (entry : Entry). entry.1) book) i ≡ Some kept
-    → named name (breakpoints_of book) ≡ Some (breakpoint_of (name, kept))
-named_at name book i kept at value =
-    let spot = here name book i at in
-    spot.is ∙ ap (λ (k : Kept). Some (breakpoint_of (name, k))) (same_in spot.kept kept (sym spot.value ∙ value))
-
-pub found_at : (name : List ℕ) (book : List Entry) (i : ℕ) (kept : Kept) → position_of name book ≡ Some i
-    → lookup (bytes_eq name) book ≡ Some kept
-    → (named name (breakpoints_of book) ≡ Some (breakpoint_of (name, kept))) × (slice_get book i ≡ Some (name, kept))
-found_at name book i kept at found =
-    let spot = here name book i at in
-    let same : spot.kept ≡ kept = same_in spot.kept kept (sym spot.found ∙ found) in (
-      spot.is ∙ ap (λ (k : Kept). Some (breakpoint_of (name, k))) same,
-      spot.entry ∙ ap (λ (k : Kept). Some (name, k)) same,
-    )
-
--- what holds of all holds of the one at a position
-pub all_there : (P : Entry → Type 0) (book : List Entry) (i : ℕ) (entry : Entry) → slice_get book i ≡ Some entry → AllByRecursion P book
-    → P entry
-all_there P [] i entry at all = cc
-all_there P (e ∷ book) zero entry at all = subst P (same_in e entry at) all.0
-all_there P (e ∷ book) (suc i) entry at all = all_there P book i entry at all.1
-
-pub all_kept : (P : Kept → Type 0) (book : List Entry) (i : ℕ) (kept : Kept)
-    → slice_get (map (λ (entry : Entry). entry.1) book) i ≡ Some kept → AllByRecursion (λ entry. P entry.1) book → P kept
-all_kept P [] i kept at all = cc
-all_kept P (e ∷ book) zero kept at all = subst P (same_in e.1 kept at) all.0
-all_kept P (e ∷ book) (suc i) kept at all = all_kept P book i kept at all.1
+          → ((k : ℕ) → k < i → bytes_eq name (get_or (names_of book) k []) ≡ false) → lookup (bytes_eq name) book ≡ Some kept
+          → Here book i kept
+      from [] i less is before found = let none : i < 0 = less in absurd (omega (arith, none))
+      from (entry ∷ book) zero less is before found =
+          subst (Here (entry ∷ book) 0)
+          (same_in entry.1 kept (sym (ap (λ (b : Bool). cond b (Some entry.1) (lookup (bytes_eq name) book)) is) ∙ found))
+          (here_first entry book is)
+      from (entry ∷ book) (suc i) less is before found =
+          let other = before 0 (omega arith) in
+          here_behind entry book i kept other
+          (from book i (omega (arith, less)) is (λ k lt. before (suc k) (omega (arith, lt)))
+          (sym (ap (λ (b : Bool). cond b (Some entry.1) (lookup (bytes_eq name) book)) other) ∙ found))
 
 -- a name that may be set is not there
 free_name : (o : Option Breakpoint) (rest : Option Refusal) → (if is_some o then Some BreakTaken else rest) ≡ None → o ≡ None
 free_name None rest may = refl
 free_name (Some b) rest may = cc
 
-pub set_last : (name : List ℕ) (inside book new : List Entry) (d : DetectorState) (conjuncts : List Conjunct) → inside ≡ book
+pub set_last : (name : List ℕ) (book new : List Entry) (d : DetectorState) (conjuncts : List Conjunct)
     → name_refusal name (breakpoints_of book) ≡ None → conjuncts_of d ≡ conjuncts
-    → new ≡ insert_entry bytes_eq inside name (record { armed = true; detector = d })
+    → new ≡ insert_entry bytes_eq book name (record { armed = true; detector = d })
     → (new ≡ book ++ (name, record { armed = true; detector = d }) ∷ [])
     × (breakpoints_of new ≡ breakpoints_of book ++ new_breakpoint name conjuncts ∷ [])
-set_last name inside book new d conjuncts view may same is =
+set_last name book new d conjuncts may same is =
     let none : named name (breakpoints_of book) ≡ None = free_name (named name (breakpoints_of book)) _ may in
     let last : new ≡ book ++ (name, record { armed = true; detector = d }) ∷ [] =
-    is ∙ ap (λ (l : List Entry). insert_entry bytes_eq l name (record { armed = true; detector = d })) view
-    ∙ inserted name (record { armed = true; detector = d }) book none in (
+    is ∙ inserted name (record { armed = true; detector = d }) book none in (
       last,
       ap breakpoints_of last ∙ map_push breakpoint_of book (name, record { armed = true; detector = d })
           ∙ ap (λ (l : List Conjunct). breakpoints_of book ++ new_breakpoint name l ∷ []) same,
@@ -217,12 +177,13 @@ on_ok (Ok x) X is holds = holds
 on_ok (Err e) X is holds = cc
 
 -- why a name may not be set, by whether it is found
-pub refusal_by : (name : List ℕ) (book : List Entry) (found full : Bool) → found ≡ is_some (lookup (bytes_eq name) book)
-    → nat_lt (length book) BREAKPOINTS ≡ full
+pub refusal_by : (name : List ℕ) {inside book : List Entry} (found full : Bool) → inside ≡ book
+    → found ≡ is_some (lookup (bytes_eq name) inside) → nat_lt (length inside) BREAKPOINTS ≡ full
     → name_refusal name (breakpoints_of book) ≡ (if found then Some BreakTaken else (if full then None else Some BreaksFull))
-refusal_by name book found full is size = λ i.
-    if (named_there name book ∙ sym is) i then Some BreakTaken
-    else (if (ap (λ (n : ℕ). nat_lt n BREAKPOINTS) (length-map book breakpoint_of) ∙ size) i then None else Some BreaksFull)
+refusal_by name {inside} {book} found full view is size = subst (λ (l : List Entry). name_refusal name (breakpoints_of l)
+    ≡ (if found then Some BreakTaken else (if full then None else Some BreaksFull))) view (λ i.
+    if (named_there name inside ∙ sym is) i then Some BreakTaken
+    else (if (ap (λ (n : ℕ). nat_lt n BREAKPOINTS) (length-map inside breakpoint_of) ∙ size) i then None else Some BreaksFull))
 
 -- what a book is whose breakpoint of this name was taken out
 pub record IsCleared (name : List ℕ) (book new : List Entry) (i : ℕ) (kept : Kept) : Type 0 where
@@ -231,26 +192,22 @@ pub record IsCleared (name : List ℕ) (book new : List Entry) (i : ℕ) (kept :
   pub place : i ≤ length new
   pub whole : book ≡ insert new i (name, kept)
 
-pub cleared : (name : List ℕ) (book new : List Entry) (i : ℕ) (key : List ℕ) (kept : Kept) (taken : Option (ℕ × List ℕ × Kept))
-    → taken ≡ Some (i, key, kept) → option_map (λ p. p.0) taken ≡ position_of name book
-    → option_map (λ p. p.2) taken ≡ lookup (bytes_eq name) book → new ≡ shift_remove_entry (bytes_eq name) book
-    → IsCleared name book new i kept
-cleared name book new i key kept taken is index value entries =
-    let spot = here name book i (sym index ∙ ap (option_map (λ p. p.0)) is) in
-    let same : spot.kept ≡ kept = same_in spot.kept kept (sym spot.found ∙ sym value ∙ ap (option_map (λ p. p.2)) is) in
+pub cleared : (name : List ℕ) (book new : List Entry) (i : ℕ) (kept : Kept) → position_of name book ≡ Some i
+    → lookup (bytes_eq name) book ≡ Some kept → new ≡ shift_remove_entry (bytes_eq name) book → IsCleared name book new i kept
+cleared name book new i kept at found entries =
+    let spot = here name book i kept at found in
     subst (λ (l : List Entry). IsCleared name book l i kept) (sym entries)
-    (subst (IsCleared name book (shift_remove_entry (bytes_eq name) book) i) same
-    (record { is = spot.is; left = left name book; place = spot.place; whole = spot.whole }))
+    (record { is = spot.stands.is; left = left name book; place = spot.place; whole = spot.whole })
 
 -- a mark is written where the rest stays
-pub written : (book : List Entry) (i : ℕ) (kept : Kept) (armed : Bool)
-    → slice_get (map (λ (entry : Entry). entry.1) book) i ≡ Some kept
-    → set_value_at book i (record { armed = armed; detector = kept.detector }) ≡ marked_at i armed book
-written [] i kept armed at = cc
-written (entry ∷ book) zero kept armed at =
+pub written : (book : List Entry) (i : ℕ) (kept next : Kept) (armed : Bool)
+    → slice_get (map (λ (entry : Entry). entry.1) book) i ≡ Some kept → next ≡ record kept { armed = armed }
+    → set_value_at book i next ≡ marked_at i armed book
+written [] i kept next armed at is = cc
+written (entry ∷ book) zero kept next armed at is =
     let same : kept ≡ entry.1 = cc in
-    λ j. (entry.0, record { armed = armed; detector = (same j).detector }) ∷ book
-written (entry ∷ book) (suc i) kept armed at = ap (λ (l : List Entry). entry ∷ l) (written book i kept armed at)
+    λ j. (entry.0, (is ∙ (λ k. record (same k) { armed = armed })) j) ∷ book
+written (entry ∷ book) (suc i) kept next armed at is = ap (λ (l : List Entry). entry ∷ l) (written book i kept next armed at is)
 
 pub length_marked : (book : List Entry) (i : ℕ) (armed : Bool) → length (marked_at i armed book) ≡ length book
 length_marked [] i armed = refl

@@ -4,18 +4,18 @@ use Rattle.std.specs.Prelude.{MatchOption, ◌⊎◌}
 use Rattle.std.specs.Bool.{MatchBool}
 use Rattle.dbg_base.specs.Trees.{Program}
 use Rattle.dbg_base.specs.Histories.{History}
-use Rattle.dbg_base.specs.Predicates.{IsLeast, NoCut}
+use Rattle.dbg_base.specs.Predicates.{Conjunct, IsLeast, NoCut}
 use Rattle.dbg_base.specs.Breakpoints.{Breakpoint, HasCut, IsHaltedBy}
 use Rattle.dbg_base.specs.SystemStates.{history_of}
 use Rattle.causal_world.specs.Scenes.{Scene, IsWorldOf}
 use Rattle.least_cut.specs.Detectors.{conjuncts_of}
-use Rattle.break_book.specs.Books.{Kept, Entry, breakpoint_of, breakpoints_of, AreDetectorsOf, Halts, HaltsNot}
+use Rattle.break_book.specs.Books.{Kept, Entry, breakpoint_of, breakpoints_of, AreDetectorsOf, TellsCut, Halts, HaltsNot}
 
-pub match_true : (b : Bool) (A B : Type 0) → b ≡ true → A → MatchBool b A B
+match_true : (b : Bool) (A B : Type 0) → b ≡ true → A → MatchBool b A B
 match_true true A B e a = a
 match_true false A B e a = cc
 
-pub match_false : (b : Bool) (A B : Type 0) → b ≡ false → B → MatchBool b A B
+match_false : (b : Bool) (A B : Type 0) → b ≡ false → B → MatchBool b A B
 match_false true A B e a = cc
 match_false false A B e a = a
 
@@ -23,29 +23,18 @@ match_both : (b : Bool) (A B : Type 0) → A → B → MatchBool b A B
 match_both true A B x y = x
 match_both false A B x y = y
 
-pub when_true : (b : Bool) (A B : Type 0) → b ≡ true → MatchBool b A B → A
-when_true true A B e a = a
-when_true false A B e a = cc
-
-pub when_false : (b : Bool) (A B : Type 0) → b ≡ false → MatchBool b A B → B
-when_false true A B e a = cc
-when_false false A B e a = a
-
-pub when_none : {A : Type 0} (o : Option A) (N : Type 0) (S : A → Type 0) → is_some o ≡ false → MatchOption o N S → N
-when_none None N S is holds = holds
-when_none (Some x) N S is holds = cc
-
-pub when_some : {A : Type 0} (o : Option A) (N : Type 0) (S : A → Type 0) → is_some o ≡ true → MatchOption o N S → (x : A) × S x
-when_some None N S is holds = cc
-when_some (Some x) N S is holds = (x, holds)
+-- a cut that is found is one
+pub told_cut : (P : Program) (H : History) (conjuncts : List Conjunct) (found : Option (Bor (List ℕ)))
+    → MatchOption found (NoCut P H conjuncts) (λ cut. IsLeast P H conjuncts cut.now) → TellsCut P H conjuncts (is_some found)
+told_cut P H conjuncts None none = none
+told_cut P H conjuncts (Some cut) least = (cut.now, least)
 
 module _ (P : Program) (H : History) (kept : Kept) where
   -- an armed one does so where it has a cut
-  pub halts_by : (found : Option (Bor (List ℕ))) → kept.armed ≡ true
-      → MatchOption found (NoCut P H (conjuncts_of kept.detector)) (λ cut. IsLeast P H (conjuncts_of kept.detector) cut.now)
-      → MatchBool (is_some found) (Halts P H kept) (HaltsNot P H kept)
-  halts_by None armed none = inr none
-  halts_by (Some cut) armed least = (armed, cut.now, least)
+  pub halts_by : (has : Bool) → kept.armed ≡ true → TellsCut P H (conjuncts_of kept.detector) has
+      → MatchBool has (Halts P H kept) (HaltsNot P H kept)
+  halts_by true armed cut = (armed, cut.0, cut.1)
+  halts_by false armed none = inr none
 
   pub halts_here : (name : List ℕ) (rest : List Breakpoint) → Halts P H kept
       → IsHaltedBy P H (breakpoint_of (name, kept) ∷ rest) (Some name)

@@ -1,5 +1,5 @@
 -- What contracts see of a list of breakpoints, and what it is of a world.
-use Rattle.std.specs.Prelude.{◌≡◌, ℕ, zero, suc, Bool, true, false, List, [], ◌∷◌, map, position, Option, Some, None}
+use Rattle.std.specs.Prelude.{◌≡◌, ℕ, zero, suc, ◌<◌, Bool, true, false, List, [], ◌∷◌, length, map, slice_get, Option, Some, None}
 use Rattle.std.specs.Prelude.{if◌then◌else◌, ◌⊎◌}
 use Rattle.std.specs.Bool.{MatchBool}
 use Rattle.std.specs.List.{AllByRecursion, IsDistinct}
@@ -9,7 +9,7 @@ use Rattle.dbg_base.specs.declared.refusal.Refusal.TheVariants as refusals
 use Rattle.dbg_base.specs.Trees.{Program}
 use Rattle.dbg_base.specs.Histories.{History}
 use Rattle.dbg_base.specs.Predicates.{Conjunct, IsLeast, NoCut}
-use Rattle.dbg_base.specs.Breakpoints.{Breakpoint, HasCut}
+use Rattle.dbg_base.specs.Breakpoints.{Breakpoint, HasCut, named, with_mark}
 use Rattle.causal_world.specs.Scenes.{Scene}
 use Rattle.least_cut.specs.Detectors.{DetectorState, conjuncts_of, IsDetectorOf, HasRoomUpTo, IsGrown, IsShrunk, IsMoved}
 
@@ -55,6 +55,16 @@ AreShrunk book p w = AllByRecursion (λ entry. IsShrunk entry.1.detector p w) bo
 abbrev pub AreMoved : List Entry → Scene → Type 0
 AreMoved book w = AllByRecursion (λ entry. IsMoved entry.1.detector w) book
 
+-- the same breakpoint whatever its name, with a detector of each world of which it had one
+pub record IsRoomier (old new : Kept) : Type 0 where
+  pub same : (name : List ℕ) → breakpoint_of (name, new) ≡ breakpoint_of (name, old)
+  pub detectors : (w : Scene) → IsDetectorOf w old.detector → IsDetectorOf w new.detector
+
+-- the same breakpoint whatever its name, with a detector of the world
+pub record IsFollowed (w : Scene) (old new : Kept) : Type 0 where
+  pub same : (name : List ℕ) → breakpoint_of (name, new) ≡ breakpoint_of (name, old)
+  pub detector : IsDetectorOf w new.detector
+
 -- the same breakpoints, with detectors that are so of each world of which they were, and no less room
 pub record AreRoomier (old new : List Entry) : Type 0 where
   pub same : breakpoints_of new ≡ breakpoints_of old
@@ -65,15 +75,23 @@ pub record AreFollowed (w : Scene) (old new : List Entry) : Type 0 where
   pub same : breakpoints_of new ≡ breakpoints_of old
   pub detectors : AreDetectorsOf w new
 
--- where the breakpoint of this name stands, from 0
-abbrev pub position_of : List ℕ → List Entry → Option ℕ
-position_of name book = position (bytes_eq name) (map (λ entry. entry.0) book)
-
 -- the breakpoint at this position has this mark
 abbrev pub marked_at : ℕ → Bool → List Entry → List Entry
 marked_at position armed [] = []
 marked_at zero armed (entry ∷ book) = (entry.0, record entry.1 { armed = armed }) ∷ book
 marked_at (suc position) armed (entry ∷ book) = entry ∷ marked_at position armed book
+
+-- the breakpoint of this name stands at this position, from 0, where this is kept
+pub record StandsAt (name : List ℕ) (book : List Entry) (i : ℕ) (kept : Kept) : Type 0 where
+  pub is : named name (breakpoints_of book) ≡ Some (breakpoint_of (name, kept))
+  pub entry : slice_get book i ≡ Some (name, kept)
+  pub within : i < length book
+  pub detector : (w : Scene) → AreDetectorsOf w book → IsDetectorOf w kept.detector
+  pub marked : (armed : Bool) → breakpoints_of (marked_at i armed book) ≡ with_mark name armed (breakpoints_of book)
+
+-- whether a cut satisfies the conjuncts
+abbrev pub TellsCut : Program → History → List Conjunct → Bool → Type 0
+TellsCut P H conjuncts has = MatchBool has ((cut : List ℕ) × IsLeast P H conjuncts cut) (NoCut P H conjuncts)
 
 -- it is armed and has a cut
 abbrev pub Halts : Program → History → Kept → Type 0

@@ -14,7 +14,7 @@ ghost use Rattle.causal_world.specs.Scenes.{Scene, IsWorldOf};
 ghost use Rattle.least_cut.specs.Watches.{scan_of};
 ghost use Rattle.least_cut.specs.Detectors.{IsDetectorOf, one_more};
 ghost use Rattle.dbg_base.specs.Breakpoints as model;
-ghost use Rattle.break_book.specs.Books.{breakpoint_of, breakpoints_of, new_breakpoint, AreDetectorsOf, HasDistinctNames, position_of};
+ghost use Rattle.break_book.specs.Books.{breakpoint_of, breakpoints_of, new_breakpoint, AreDetectorsOf, HasDistinctNames, StandsAt};
 ghost use Rattle.break_book.specs.Books.{marked_at, arm_refusal, MayPass, CannotPass};
 
 mod following;
@@ -97,12 +97,8 @@ impl Book {
     {
         self.may_set(name)?;
         let detector = Detector::new(alloc, conjuncts, scan, world)?;
-        let breakpoint = Breakpoint {
-            armed: true,
-            detector,
-        };
         self.breaks
-            .insert(name, breakpoint)
+            .insert(name, Breakpoint::new(detector))
             .map_err(|_| Refusal::Memory)?;
         Ok(())
     }
@@ -117,10 +113,9 @@ impl Book {
         ensures kept { OnErr result (self.new ≡ self.old) }
         ensures of { (w : Scene) → AreDetectorsOf w self.old → AreDetectorsOf w self.new }
     {
-        let (position, _, breakpoint) = self
-            .breaks
-            .shift_remove_full(&name)
-            .ok_or(Refusal::UnknownBreak)?;
+        let Some((position, _, breakpoint)) = self.breaks.shift_remove_full(&name) else {
+            return Err(Refusal::UnknownBreak);
+        };
         Ok((position, breakpoint))
     }
 
@@ -155,8 +150,8 @@ impl Book {
         ensures kept { OnErr result (self.new ≡ self.old) }
         ensures of { (w : Scene) → AreDetectorsOf w self.old → AreDetectorsOf w self.new }
     {
-        let position = self.position(name).ok_or(Refusal::UnknownBreak)?;
-        if self.breaks[position].armed {
+        let (position, breakpoint) = self.entry(name)?;
+        if breakpoint.is_armed() {
             return Err(Refusal::AlreadyArmed);
         }
         self.mark(position, true);
@@ -174,12 +169,11 @@ impl Book {
         ensures kept { OnErr result (self.new ≡ self.old) }
         ensures of { (w : Scene) → AreDetectorsOf w self.old → AreDetectorsOf w self.new }
     {
-        let position = self.position(name).ok_or(Refusal::UnknownBreak)?;
-        let breakpoint = &self.breaks[position];
-        if !breakpoint.armed {
+        let (position, breakpoint) = self.entry(name)?;
+        if !breakpoint.is_armed() {
             return Err(Refusal::NotArmed);
         }
-        if breakpoint.detector.cut().is_none() {
+        if !breakpoint.has_cut() {
             return Err(Refusal::NoCut);
         }
         self.mark(position, false);
@@ -192,7 +186,7 @@ impl Book {
         ensures disarms { breakpoints_of self.new ≡ with_mark name false (breakpoints_of self.old) }
         ensures of { (w : Scene) → AreDetectorsOf w self.old → AreDetectorsOf w self.new }
     {
-        if let Some(position) = self.position(name) {
+        if let Ok((position, _)) = self.entry(name) {
             self.mark(position, false);
         }
     }
@@ -219,7 +213,7 @@ impl Book {
     {
         let mut marks = Vec::new(alloc);
         for (name, breakpoint) in self.breaks.iter() {
-            marks.push((*name, breakpoint.armed))?;
+            marks.push((*name, breakpoint.is_armed()))?;
         }
         Ok(Sequence::new(marks))
     }
@@ -231,22 +225,26 @@ impl Book {
         ensures position { IfSome result (λ found. slice_get self.now found.0 ≡ Some (name, found.1.now)) }
         ensures of { IfSome result (λ found. (w : Scene) → AreDetectorsOf w self.now → IsDetectorOf w found.1.now.detector) }
     {
-        let (position, _, breakpoint) = self.breaks.get_full(&name)?;
-        Some((position, breakpoint))
+        self.entry(name).ok()
     }
 
-    // The position of the breakpoint of this name.
-    fn position(&self, name: Name) -> Option<usize>
-        ensures { result ≡ position_of name self.now }
+    // The breakpoint of this name with its position, from 0. It is refused as `UnknownBreak` where there is none.
+    fn entry(&self, name: Name) -> Result<(usize, &Breakpoint), Refusal>
+        ensures found { IfOk result (λ found. StandsAt name self.now found.0 found.1.now) }
+        ensures refuses { IfErr result (λ refusal. (named name (breakpoints_of self.now) ≡ None) × (refusal ≡ UnknownBreak)) }
     {
-        self.breaks.get_index_of(&name)
+        let Some((position, _, found)) = self.breaks.get_full(&name) else {
+            return Err(Refusal::UnknownBreak);
+        };
+        Ok((position, found))
     }
 
     // The breakpoint at this position gets this mark.
     fn mark(&mut self, position: usize, armed: bool)
         requires { position < length self.old }
-        ensures { self.new ≡ marked_at position armed self.old }
+        ensures marks { self.new ≡ marked_at position armed self.old }
+        ensures of { (w : Scene) → AreDetectorsOf w self.old → AreDetectorsOf w self.new }
     {
-        self.breaks[position].armed = armed;
+        self.breaks[position].mark(armed);
     }
 }

@@ -1,5 +1,5 @@
 -- What the calls of a detector require, from what the calls of its world say.
-use Rattle.std.proofs.Common.{◌≡◌, ℕ, ◌+◌, ◌<◌, ◌≤◌, List, [], ◌∷◌, length, map, get_or, take, drop, refl, sym, ap, ◌∙◌, subst, inr, arith}
+use Rattle.std.proofs.Common.{◌≡◌, ℕ, ◌+◌, ◌<◌, ◌≤◌, List, [], length, get_or, take, sym, ap, ◌∙◌, subst, inr, arith}
 use Rattle.std.proofs.lemmas.List.{get_or-set_same, length-take-le, take-take}
 use Rattle.std.proofs.lemmas.Option.{slice_get-get_or}
 use Rattle.dbg_base.specs.declared.elimination.Elimination.{Elimination}
@@ -15,27 +15,16 @@ use Rattle.causal_world.proofs.Calls.{events_counted}
 use Rattle.causal_world.proofs.LineStates.{length_cut, cut_at, history_choice, history_redo}
 use Rattle.causal_world.proofs.Looking.{kinds_placed}
 use Rattle.causal_world.proofs.Unfiring.{without_with}
-use Rattle.least_cut.specs.Watches.{TruthLine, WatchState, WatchRoom}
+use Rattle.least_cut.specs.Watches.{TruthLine, WatchState}
 use Rattle.least_cut.specs.Searches.{IsTrailFrom, IsSettledAt, none_of}
 use Rattle.least_cut.specs.Detectors.{DetectorState, lines_of, HasRoomUpTo, IsDetectorOf, IsSameButRoom, IsGrown, IsShrunk}
-use Rattle.least_cut.specs.Detectors.{IsMoved, Begins, one_more}
-use Rattle.least_cut.proofs.Moving.{room_less, states_kept}
-
-lines_kept : (new old : List WatchRoom)
-    → map (λ (watch : WatchRoom). watch.state) new ≡ map (λ (watch : WatchRoom). watch.state) old
-    → map (λ (watch : WatchRoom). watch.state.line) new ≡ map (λ (watch : WatchRoom). watch.state.line) old
-lines_kept [] [] same = refl
-lines_kept [] (was ∷ old) same = cc
-lines_kept (watch ∷ new) [] same = cc
-lines_kept (watch ∷ new) (was ∷ old) same =
-    let state : watch.state ≡ was.state = ap (λ (l : List WatchState). get_or l 0 watch.state) same in
-    let rest = lines_kept new old (ap (λ (l : List WatchState). drop 1 l) same) in
-    λ i. (state i).line ∷ rest i
+use Rattle.least_cut.specs.Detectors.{IsMoved, Begins}
+use Rattle.least_cut.proofs.Moving.{room_less, states_kept, seen_kept}
 
 -- a detector stays one where it gets room
 pub roomier_detector : (w : Scene) (old new : DetectorState) → IsSameButRoom old new → IsDetectorOf w old → IsDetectorOf w new
 roomier_detector w old new same is =
-    let lines : lines_of old ≡ lines_of new = sym (lines_kept new.watches old.watches same.states) in
+    let lines : lines_of old ≡ lines_of new = sym (seen_kept (λ (s : WatchState). s.line) new.watches old.watches same.states) in
     record {
       search = record {
         watches = states_kept w new.watches old.watches same.states is.search.watches;

@@ -7,7 +7,11 @@ use Rattle.std.proofs.lemmas.Bool.{cases_eq}
 use Rattle.std.proofs.lemmas.List.{length-map, length-set, get_or-map, get_or-set_same, get_or-set_other, get_or_default}
 use Rattle.std.proofs.lemmas.List.Folds.{list_any_at, list_any_more}
 
-module _ {A B : Type 0} (f : A → B) (test : B → Bool) (xs : List A) (ys : List B) (seen : map f xs ≡ ys) (i : ℕ) where
+module _ {A B : Type 0} (f : A → B) (test : B → Bool) {xs inside : List A} {ys : List B} (items : xs ≡ inside)
+    (view : map f inside ≡ ys) (i : ℕ) where
+  seen : map f xs ≡ ys
+  seen = ap (λ (l : List A). map f l) items ∙ view
+
   -- one that passes the test is found
   pub found : (x : A) → x ≡ get_or xs i x → i < length xs → test (f x) ≡ true → true ≡ list_any test ys
   found x here lt passes =
@@ -56,11 +60,11 @@ pub record Became {A : Type 0} (R : A → A → Type 0) (old new : List A) (i : 
   pub each : (k : ℕ) (x : A) → k < i → k < length old → R (get_or old k x) (get_or new k x)
   pub others : (k : ℕ) (x : A) → i ≤ k → get_or new k x ≡ get_or old k x
 
-module _ {A : Type 0} (R : A → A → Type 0) where
+module _ {A : Type 0} {R : A → A → Type 0} {old new : List A} {i : ℕ} {x : A} (is : Became R old new i) (here : x ≡ get_or new i x)
+    (lt : i < length new) where
   -- one place more
-  pub became_more : (old new : List A) (i : ℕ) (x y : A) → Became R old new i → x ≡ get_or new i x → i < length new
-      → R x y → Became R old (set new i y) (i + 1)
-  became_more old new i x y is here lt r = record {
+  pub became_more : {y : A} → R x y → Became R old (set new i y) (i + 1)
+  became_more {y} r = record {
     len = length-set new i y ∙ is.len;
     each = λ k z less within.
         ⊎_elim
@@ -78,15 +82,14 @@ module _ {A : Type 0} (R : A → A → Type 0) where
   }
 
   -- what held of all at first holds of the one whose turn it is
-  pub at_turn : (P : A → Type 0) (old new : List A) (i : ℕ) (x : A) → Became R old new i → AllByRecursion P old → x ≡ get_or new i x
-      → i < length new → P x
-  at_turn P old new i x is all here lt =
+  pub at_turn : (P : A → Type 0) → AllByRecursion P old → P x
+  at_turn P all =
       subst P (sym (here ∙ is.others i x (omega arith))) (all_at P old i x all (omega (arith, lt, is.len)))
 
 -- the same by a relation that says less
-pub became_less : {A : Type 0} (R S : A → A → Type 0) → ((a b : A) → R a b → S a b) → (old new : List A) (i : ℕ) → Became R old new i
+pub became_less : {A : Type 0} {R S : A → A → Type 0} {old new : List A} {i : ℕ} → Became R old new i → ((a b : A) → R a b → S a b)
     → Became S old new i
-became_less R S less old new i is = record {
+became_less {A} {R} {S} {old} {new} {i} is less = record {
   len = is.len;
   each = λ k x lt within. less (get_or old k x) (get_or new k x) (is.each k x lt within);
   others = is.others;

@@ -1,23 +1,19 @@
 -- A detector as a process makes an event or takes its last one back.
-use Rattle.std.proofs.Common.{◌≡◌, ◌≢◌, ℕ, ◌-◌, ◌<◌, ◌≤◌, ◌⊎◌, min, List, [], ◌∷◌, length, map, get_or, take, sym, ap, ◌∙◌}
+use Rattle.std.proofs.Common.{◌≡◌, ◌≢◌, ℕ, ◌-◌, ◌<◌, ◌≤◌, ◌⊎◌, min, List, [], length, map, get_or, take, sym, ap, ◌∙◌}
 use Rattle.std.proofs.Common.{subst, ⊎_elim, inl, inr, arith}
 use Rattle.std.proofs.lemmas.Bool.{cases_eq, cases_lt}
 use Rattle.std.proofs.lemmas.List.{get_or-set_same, get_or-set_other, take_all, length-take-le, length-set, get_or_past}
 use Rattle.std.specs.List.{AllByRecursion}
 use Rattle.dbg_base.specs.Trees.{Program}
-use Rattle.dbg_base.specs.LocalStates.{no_state}
 use Rattle.dbg_base.specs.Histories.{History}
 use Rattle.dbg_base.specs.Frontiers.{choices_at}
 use Rattle.dbg_base.specs.Reversal.{without_last, without_back}
 use Rattle.dbg_base.specs.SystemStates.{place_at, history_of}
-use Rattle.event_rows.specs.Events.{past_of}
-use Rattle.event_rows.specs.Truths.{truths_along}
 use Rattle.causal_world.specs.Scenes.{Scene, IsWorldOf, IsEarlier}
 use Rattle.causal_world.proofs.Earlier.{earlier_world}
-use Rattle.causal_world.proofs.Remembered.{events_numbered}
-use Rattle.least_cut.specs.Watches.{TruthLine, WatchState, WatchRoom, conjunct_in, scan_of, IsWatchOf, AreAlong}
+use Rattle.least_cut.specs.Watches.{TruthLine, WatchRoom, scan_of, AreAlong}
 use Rattle.least_cut.specs.Searches.{IsSettledAt}
-use Rattle.least_cut.specs.Detectors.{DetectorState, conjuncts_of, lines_of, AreWatchesOf, HasRoomUpTo, IsSearchOf}
+use Rattle.least_cut.specs.Detectors.{DetectorState, conjuncts_of, lines_of, HasRoomUpTo, IsSearchOf}
 use Rattle.least_cut.specs.Detectors.{IsDetectorOf, GoesOn, DropsTo, Watches, IsLimit}
 use Rattle.least_cut.specs.Detectors.{WasOf}
 use Rattle.least_cut.proofs.Meanings.{IsHere, choices_placed}
@@ -61,18 +57,6 @@ module _ (H : History) (p : ℕ) where
       (let e = ap (λ (l : List ℕ). length l) line in omega (arith, e))))
       (cases_eq q p)
 
--- what is kept of a process with the same events
-kept_watch : (v w : Scene) (watch : WatchState) → IsWatchOf v watch → length v.state.places ≡ length w.state.places → v.starts ≡ w.starts
-    → get_or v.events watch.line.process [] ≡ get_or w.events watch.line.process [] → IsWatchOf w watch
-kept_watch v w watch is sizes starts events = record {
-  here = (let here = is.here in omega (arith, here, sizes));
-  line = is.line ∙ (λ i. record {
-    process = watch.line.process;
-    truths = truths_along (conjunct_in watch).expression (get_or (starts i) watch.line.process no_state) (events i);
-  });
-  env = is.env ∙ (λ i. past_of (get_or (starts i) watch.line.process no_state) (events i) (length (events i)));
-}
-
 -- Two worlds of one program, of which the second one has one event more, of process p.
 
 module _ (P : Program) (less more : Scene) (p : ℕ) (of : IsWorldOf P less) (other : IsWorldOf P more)
@@ -102,34 +86,6 @@ module _ (P : Program) (less more : Scene) (p : ℕ) (of : IsWorldOf P less) (ot
 
   pub same_sizes : length less.state.places ≡ length more.state.places
   same_sizes = of.state.places ∙ sym other.state.places
-
-  same_events : (q : ℕ) → q ≢ p → q < length P → get_or more.events q [] ≡ get_or less.events q []
-  same_events q apart here =
-      let old = events_numbered P less q of here in
-      let new = events_numbered P more q other here in
-      let n = length (get_or less.events q []) in
-      sym (take_all n (get_or more.events q []) (omega (arith, old, new, same_place q apart)))
-      ∙ one_earlier.events q n (omega arith) ∙ take_all n (get_or less.events q []) (omega arith)
-
-  -- what is kept of the other processes
-  pub more_watch : (watch : WatchState) → IsWatchOf less watch → watch.line.process ≢ p → IsWatchOf more watch
-  more_watch watch is apart =
-      let here = is.here in
-      kept_watch less more watch is same_sizes one_earlier.starts
-      (sym (same_events watch.line.process apart (omega (arith, here, of.state.places))))
-
-  pub less_watch : (watch : WatchState) → IsWatchOf more watch → watch.line.process ≢ p → IsWatchOf less watch
-  less_watch watch is apart =
-      let here = is.here in
-      kept_watch more less watch is (sym same_sizes) (sym one_earlier.starts)
-      (same_events watch.line.process apart (omega (arith, here, other.state.places)))
-
--- all of them
-pub others_kept : (v w : Scene) (p : ℕ) → ((watch : WatchState) → IsWatchOf v watch → watch.line.process ≢ p → IsWatchOf w watch)
-    → (watches : List WatchRoom) → AreWatchesOf v watches
-    → AllByRecursion (λ (watch : WatchRoom). watch.state.line.process ≢ p → IsWatchOf w watch.state) watches
-others_kept v w p kept [] all = tt
-others_kept v w p kept (watch ∷ watches) all = (kept watch.state all.0, others_kept v w p kept watches all.1)
 
 -- a smaller component keeps within a limit
 pub limit_less : (v w : Scene) (p m n : ℕ) → m ≤ n → IsLimit v w p n → IsLimit v w p m

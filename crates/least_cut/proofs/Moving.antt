@@ -203,17 +203,17 @@ states_kept w (watch ∷ new) (was ∷ old) same all =
     let state : was.state ≡ watch.state = ap (λ (l : List WatchState). get_or l 0 watch.state) (sym same) in
     (subst (IsWatchOf w) state all.0, states_kept w new old (ap (λ (l : List WatchState). drop 1 l) same) all.1)
 
--- and the conjuncts themselves
-pub conjuncts_kept : (new old : List WatchRoom)
+-- and whatever is seen of each of them alone
+pub seen_kept : {A : Type 0} (f : WatchState → A) (new old : List WatchRoom)
     → map (λ (watch : WatchRoom). watch.state) new ≡ map (λ (watch : WatchRoom). watch.state) old
-    → map (λ (watch : WatchRoom). conjunct_in watch.state) new ≡ map (λ (watch : WatchRoom). conjunct_in watch.state) old
-conjuncts_kept [] [] same = refl
-conjuncts_kept [] (was ∷ old) same = cc
-conjuncts_kept (watch ∷ new) [] same = cc
-conjuncts_kept (watch ∷ new) (was ∷ old) same =
+    → map (λ (watch : WatchRoom). f watch.state) new ≡ map (λ (watch : WatchRoom). f watch.state) old
+seen_kept f [] [] same = refl
+seen_kept f [] (was ∷ old) same = cc
+seen_kept f (watch ∷ new) [] same = cc
+seen_kept f (watch ∷ new) (was ∷ old) same =
     let state : watch.state ≡ was.state = ap (λ (l : List WatchState). get_or l 0 watch.state) same in
-    let rest = conjuncts_kept new old (ap (λ (l : List WatchState). drop 1 l) same) in
-    λ i. conjunct_in (state i) ∷ rest i
+    let rest = seen_kept f new old (ap (λ (l : List WatchState). drop 1 l) same) in
+    λ i. f (state i) ∷ rest i
 
 -- the cut of all events
 pub all_events : (w : Scene) → IsSomeWorld w → places w.kinds ≡ w.state.places

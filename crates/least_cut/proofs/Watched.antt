@@ -36,9 +36,9 @@ pub record HasRoomFor (places : List ℕ) (old new : WatchRoom) : Type 0 where
   pub room : HasTruthRoom places new
 
 -- all watches follow
-pub all_watched : (w : Scene) (old new : List WatchRoom) (i : ℕ) → length old ≤ i → Became (IsWatchedAgain w) old new i
+pub all_watched : {w : Scene} {old new : List WatchRoom} {i : ℕ} → Became (IsWatchedAgain w) old new i → length old ≤ i
     → AreWatched w old new
-all_watched w old new i all is = record {
+all_watched {w} {old} {new} {i} is all = record {
   watches = all_from (λ watch. IsWatchOf w watch.state) new
       (λ k x lt. (let r = is.each k x (omega (arith, lt, is.len)) (omega (arith, lt, is.len)) in r.is));
   conjuncts = same_map (λ (watch : WatchRoom). conjunct_in watch.state) new old is.len
@@ -47,8 +47,8 @@ all_watched w old new i all is = record {
 }
 
 -- no room is lost at any place
-pub roomier : (old new : List WatchRoom) (i : ℕ) → Became IsRoomier old new i → AreRoomier old new
-roomier old new i is = record {
+pub roomier : {old new : List WatchRoom} {i : ℕ} → Became IsRoomier old new i → AreRoomier old new
+roomier {old} {new} {i} is = record {
   states = same_map (λ (watch : WatchRoom). watch.state) new old is.len
       (λ k x lt. (let r = one k x lt in r.state));
   grows = λ places all. all_from (HasTruthRoom places) new (λ k x lt.
@@ -71,15 +71,15 @@ roomier old new i is = record {
         (cases_lt k i)
 
 -- all have room at the end
-pub all_room_at : (p states : ℕ) (old new : List WatchRoom) (i : ℕ) → length old ≤ i → Became (HasRoomAt p states) old new i
+pub all_room_at : {p states : ℕ} {old new : List WatchRoom} {i : ℕ} → Became (HasRoomAt p states) old new i → length old ≤ i
     → AllByRecursion (λ watch. watch.state.line.process ≡ p → states ≤ watch.room) new
-all_room_at p states old new i all is =
+all_room_at {p} {states} {old} {new} {i} is all =
     all_from (λ watch. watch.state.line.process ≡ p → states ≤ watch.room) new
     (λ k x lt. (let r = is.each k x (omega (arith, lt, is.len)) (omega (arith, lt, is.len)) in r.room))
 
-pub all_room_for : (places : List ℕ) (old new : List WatchRoom) (i : ℕ) → length old ≤ i → Became (HasRoomFor places) old new i
+pub all_room_for : {places : List ℕ} {old new : List WatchRoom} {i : ℕ} → Became (HasRoomFor places) old new i → length old ≤ i
     → AllByRecursion (HasTruthRoom places) new
-all_room_for places old new i all is =
+all_room_for {places} {old} {new} {i} is all =
     all_from (HasTruthRoom places) new
     (λ k x lt. (let r = is.each k x (omega (arith, lt, is.len)) (omega (arith, lt, is.len)) in r.room))
 

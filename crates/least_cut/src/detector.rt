@@ -1,7 +1,7 @@
 //! A detector: the least cut that satisfies a breakpoint, as far as the events go.
 
 ghost use Rattle.std.specs.Prelude.{◌≡◌, ℕ, ◌<◌, ◌≤◌, ◌+◌, [], length, map, IfOk, IfErr, IfSome, OnOk, MatchOption};
-ghost use Rattle.std.specs.Prelude.{◌≢◌, slice_index};
+ghost use Rattle.std.specs.Prelude.{slice_index};
 ghost use Rattle.std.specs.List.{AllByRecursion};
 ghost use Rattle.dbg_base.specs.Trees as tree;
 ghost use Rattle.dbg_base.specs.Calls.{conjunct_of};
@@ -10,7 +10,7 @@ ghost use Rattle.dbg_base.specs.Frontiers.{IsFrontier};
 ghost use Rattle.dbg_base.specs.Eliminations.{IsSound, reach};
 ghost use Rattle.dbg_base.specs.SystemStates.{place_at, history_of};
 ghost use Rattle.causal_world.specs.Scenes.{Scene, IsWorldOf};
-ghost use Rattle.least_cut.specs.Watches.{conjunct_in, scan_of, IsWatchOf, WasWatchOf};
+ghost use Rattle.least_cut.specs.Watches.{conjunct_in, scan_of, WasWatchOf};
 ghost use Rattle.dbg_base.specs.declared.refusal.Refusal.TheVariants.{Memory};
 ghost use Rattle.causal_world.specs.Worlds.{IsSomeWorld};
 ghost use Rattle.least_cut.specs.Searches as model;
@@ -114,23 +114,7 @@ fn reserve_each(watches: &mut Vec<Watch>, cut: &Cut) -> Result<(), AllocError>
     Ok(())
 }
 
-// What is known of the conjuncts of this process is that of the world.
-fn watch_at(watches: &mut Vec<Watch>, world: &World, pid: Pid)
-    requires world { IsSomeWorld world.now }
-    requires was { AllByRecursion (λ watch. WasWatchOf watch.state world.now) watches.old.items }
-    requires others { AllByRecursion (λ watch. watch.state.line.process ≢ pid.0 → IsWatchOf world.now watch.state) watches.old.items }
-    requires room { AllByRecursion (HasTruthRoom world.now.state.places) watches.old.items }
-    ensures { AreWatched world.now watches.old.items watches.new.items }
-{
-    for i in 0..watches.len() {
-        let watch = &mut watches[i];
-        if watch.pid() == pid {
-            watch.follow(world);
-        }
-    }
-}
-
-// What is known of all conjuncts is that of the world.
+// What is known of each conjunct is that of the world.
 fn watch_each(watches: &mut Vec<Watch>, world: &World)
     requires world { IsSomeWorld world.now }
     requires was { AllByRecursion (λ watch. WasWatchOf watch.state world.now) watches.old.items }
@@ -224,19 +208,8 @@ impl Detector {
         self.trail.reserve(steps.saturating_sub(self.trail.len()))
     }
 
-    // What is known of the conjuncts of this process is that of the world.
-    fn watch(&mut self, world: &World, pid: Pid)
-        requires world { IsSomeWorld world.now }
-        requires was { AllByRecursion (λ watch. WasWatchOf watch.state world.now) self.old.watches }
-        requires others { AllByRecursion (λ watch. watch.state.line.process ≢ pid.0 → IsWatchOf world.now watch.state) self.old.watches }
-        requires room { AllByRecursion (HasTruthRoom world.now.state.places) self.old.watches }
-        ensures { Watches world.now self.old self.new }
-    {
-        watch_at(&mut self.watches, world, pid);
-    }
-
-    // What is known of all conjuncts is that of the world.
-    fn watch_all(&mut self, world: &World)
+    // What is known of the conjuncts is that of the world.
+    fn watch(&mut self, world: &World)
         requires world { IsSomeWorld world.now }
         requires was { AllByRecursion (λ watch. WasWatchOf watch.state world.now) self.old.watches }
         requires room { AllByRecursion (HasTruthRoom world.now.state.places) self.old.watches }
@@ -278,7 +251,7 @@ impl Detector {
         ensures of { IsDetectorOf world.now self.new }
         ensures conjuncts { conjuncts_of self.new ≡ conjuncts_of self.old }
     {
-        self.watch(world, pid);
+        self.watch(world);
         if self.candidate(pid) != world.place(pid) {
             return;
         }
@@ -295,7 +268,7 @@ impl Detector {
     {
         let limit = self.limit(world, pid);
         self.drop_to(pid, limit);
-        self.watch(world, pid);
+        self.watch(world);
         self.run(world);
     }
 
@@ -310,7 +283,7 @@ impl Detector {
             let limit = self.limit(world, Pid(p));
             self.drop_to(Pid(p), limit);
         }
-        self.watch_all(world);
+        self.watch(world);
         self.run(world);
     }
 

@@ -42,8 +42,7 @@ fn reserve_each(
     ensures room { OnOk result (HaveRoomUpTo breaks.new.entries (one_more world.now pid.0)) }
 {
     for i in 0..breaks.len() {
-        let breakpoint = &mut breaks[i];
-        breakpoint.detector.reserve(world, pid, steps)?;
+        breaks[i].reserve(world, pid, steps)?;
     }
     Ok(())
 }
@@ -54,8 +53,7 @@ fn reserve_each_to(breaks: &mut IndexMap<Name, Breakpoint>, cut: &Cut) -> Result
     ensures room { OnOk result (HaveRoomUpTo breaks.new.entries cut.now) }
 {
     for i in 0..breaks.len() {
-        let breakpoint = &mut breaks[i];
-        breakpoint.detector.reserve_to(cut)?;
+        breaks[i].reserve_to(cut)?;
     }
     Ok(())
 }
@@ -67,8 +65,7 @@ fn grow_each(breaks: &mut IndexMap<Name, Breakpoint>, pid: Pid, world: &World)
     ensures { AreFollowed world.now breaks.old.entries breaks.new.entries }
 {
     for i in 0..breaks.len() {
-        let breakpoint = &mut breaks[i];
-        breakpoint.detector.grow(pid, world);
+        breaks[i].grow(pid, world);
     }
 }
 
@@ -78,8 +75,7 @@ fn shrink_each(breaks: &mut IndexMap<Name, Breakpoint>, pid: Pid, world: &World)
     ensures { AreFollowed world.now breaks.old.entries breaks.new.entries }
 {
     for i in 0..breaks.len() {
-        let breakpoint = &mut breaks[i];
-        breakpoint.detector.shrink(pid, world);
+        breaks[i].shrink(pid, world);
     }
 }
 
@@ -90,8 +86,7 @@ fn follow_each(breaks: &mut IndexMap<Name, Breakpoint>, world: &World)
     ensures { AreFollowed world.now breaks.old.entries breaks.new.entries }
 {
     for i in 0..breaks.len() {
-        let breakpoint = &mut breaks[i];
-        breakpoint.detector.follow(world);
+        breaks[i].follow(world);
     }
 }
 

@@ -1,7 +1,7 @@
-use Rattle.std.proofs.Common.{◌+◌, ◌<◌, length, refl, sym, ◌∙◌, arith}
+use Rattle.std.proofs.Common.{◌<◌, length, refl, sym, ◌∙◌, arith}
 use Rattle.std.proofs.lemmas.Bool.{eqb-false}
 use Rattle.least_cut.proofs.Each.{became_more, became_less}
-use Rattle.least_cut.proofs.Watched.{IsRoomier, HasRoomAt, roomier, all_room_at}
+use Rattle.least_cut.proofs.Watched.{IsRoomier, roomier, all_room_at}
 use Rattle.least_cut.proofs.detector.reserve_at.Goals as goal
 use Rattle.least_cut.proofs.detector.reserve_at.Goals.{then-eq+in_ok-reserve_to, else-eq}
 
@@ -10,36 +10,25 @@ loop-i-preserved c =
     let here : c.loop-i.i < length c.loop-i.watches.items =
     omega (arith, c.loop-i-test.true, c.loop-i.invariant.len, c.args.watches.now.ok.0, c.len-i-end.ensures) in
     elim c.if-eq.branch [
-      | then-eq+in_ok-reserve_to x ↦ rw x.watches-is (became_more (HasRoomAt c.args.pid.0 c.args.states) c.args.watches.now.items
-          c.loop-i.watches.items c.loop-i.i c.index_mut-watch.result.now x.reserve_to.new.self c.loop-i.invariant
-          c.index_mut-watch.ensures.value here (record {
-            kept = record { state = x.reserve_to.ensures.state; grows = x.reserve_to.ensures.grows };
-            room = λ same. x.in_ok-reserve_to.ensures.ok;
-          }))
-      | else-eq x ↦ rw x.watches-is (became_more (HasRoomAt c.args.pid.0 c.args.states) c.args.watches.now.items
-          c.loop-i.watches.items c.loop-i.i c.index_mut-watch.result.now c.index_mut-watch.result.now c.loop-i.invariant
-          c.index_mut-watch.ensures.value here (record {
-            kept = record { state = refl; grows = omega arith };
-            room = λ same. absurd (eqb-false c.pid.result.0 c.args.pid.0 (sym c.eq.ensures ∙ x.if-eq.false) (c.pid.ensures ∙ same));
-          }))
+      | then-eq+in_ok-reserve_to x ↦ rw x.watches-is (became_more c.loop-i.invariant c.index_mut-watch.ensures.value here (record {
+        kept = record { state = x.reserve_to.ensures.state; grows = x.reserve_to.ensures.grows };
+        room = λ same. x.in_ok-reserve_to.ensures.ok;
+      }))
+      | else-eq x ↦ rw x.watches-is (became_more c.loop-i.invariant c.index_mut-watch.ensures.value here (record {
+        kept = record { state = refl; grows = omega arith };
+        room = λ same. absurd (eqb-false c.pid.result.0 c.args.pid.0 (sym c.eq.ensures ∙ x.if-eq.false) (c.pid.ensures ∙ same));
+      }))
     ]
 
 pub returns-in_err-reserve_to-clause-each : goal.returns-in_err-reserve_to-clause-each
 returns-in_err-reserve_to-clause-each c =
-    roomier c.args.watches.now.items _ (c.loop-i.i + 1) (became_more IsRoomier c.args.watches.now.items c.loop-i.watches.items c.loop-i.i
-    c.index_mut-watch.result.now c.reserve_to.new.self
-    (became_less (HasRoomAt c.args.pid.0 c.args.states) IsRoomier (λ a b r. r.kept) c.args.watches.now.items c.loop-i.watches.items
-    c.loop-i.i c.loop-i.invariant) c.index_mut-watch.ensures.value
-    (omega (arith, c.loop-i-test.true, c.loop-i.invariant.len, c.args.watches.now.ok.0, c.len-i-end.ensures))
-    (record { state = c.reserve_to.ensures.state; grows = c.reserve_to.ensures.grows }))
+    let more : IsRoomier c.index_mut-watch.result.now c.reserve_to.new.self =
+    record { state = c.reserve_to.ensures.state; grows = c.reserve_to.ensures.grows } in
+    roomier (became_more (became_less c.loop-i.invariant (λ a b r. r.kept)) c.index_mut-watch.ensures.value
+    (omega (arith, c.loop-i-test.true, c.loop-i.invariant.len, c.args.watches.now.ok.0, c.len-i-end.ensures)) more)
 
 pub returns-clause-each : goal.returns-clause-each
-returns-clause-each c =
-    roomier c.args.watches.now.items c.loop-i.watches.items c.loop-i.i
-    (became_less (HasRoomAt c.args.pid.0 c.args.states) IsRoomier (λ a b r. r.kept) c.args.watches.now.items c.loop-i.watches.items
-    c.loop-i.i c.loop-i.invariant)
+returns-clause-each c = roomier (became_less c.loop-i.invariant (λ a b r. r.kept))
 
 pub returns-clause-ok : goal.returns-clause-ok
-returns-clause-ok c =
-    all_room_at c.args.pid.0 c.args.states c.args.watches.now.items c.loop-i.watches.items c.loop-i.i
-    (omega (arith, c.loop-i-test.false, c.args.watches.now.ok.0, c.len-i-end.ensures)) c.loop-i.invariant
+returns-clause-ok c = all_room_at c.loop-i.invariant (omega (arith, c.loop-i-test.false, c.args.watches.now.ok.0, c.len-i-end.ensures))

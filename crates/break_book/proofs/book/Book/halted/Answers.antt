@@ -1,8 +1,8 @@
 use Rattle.std.proofs.Common.{List, Some, None, refl, sym, subst}
 use Rattle.dbg_base.specs.Breakpoints.{IsHaltedBy}
 use Rattle.dbg_base.specs.SystemStates.{history_of}
-use Rattle.break_book.specs.Books.{Entry, breakpoints_of, AreDetectorsOf, Halts, HaltsNot}
-use Rattle.break_book.proofs.Halting.{when_true, when_false, halts_here, halts_behind}
+use Rattle.break_book.specs.Books.{Entry, breakpoints_of, AreDetectorsOf}
+use Rattle.break_book.proofs.Halting.{halts_here, halts_behind}
 use Rattle.break_book.proofs.book.Book.halted.Goals as goal
 
 pub returns-then-halts : goal.returns-then-halts
@@ -12,9 +12,8 @@ returns-then-halts c = λ w P are now.
     let kept = c.in-Some.breakpoint.now in
     let before = c.loop-name.invariant w P are now in
     let all = subst (AreDetectorsOf w) c.in-Some.ensures.steps before.0 in
-    let halts = when_true c.halts.result (Halts P H kept) (HaltsNot P H kept) c.if-halts.true (c.halts.ensures w P all.0 now) in
     before.1 (Some name) (subst (λ (l : List Entry). IsHaltedBy P H (breakpoints_of l) (Some name)) (sym c.in-Some.ensures.steps)
-    (halts_here P H kept name (breakpoints_of c.next.new.self) halts))
+    (halts_here P H kept name (breakpoints_of c.next.new.self) (c.if-halts.ensures w P all.0 now)))
 
 pub loop-name-preserved : goal.loop-name-preserved
 loop-name-preserved c = λ w P are now.
@@ -22,12 +21,11 @@ loop-name-preserved c = λ w P are now.
     let name = c.in-Some.name.now in
     let kept = c.in-Some.breakpoint.now in
     let before = c.loop-name.invariant w P are now in
-    let all = subst (AreDetectorsOf w) c.in-Some.ensures.steps before.0 in
-    let halts_not = when_false c.halts.result (Halts P H kept) (HaltsNot P H kept) c.if-halts.false (c.halts.ensures w P all.0 now) in (
+    let all = subst (AreDetectorsOf w) c.in-Some.ensures.steps before.0 in (
       all.1,
       λ halted later. before.1 halted
           (subst (λ (l : List Entry). IsHaltedBy P H (breakpoints_of l) halted) (sym c.in-Some.ensures.steps)
-          (halts_behind P H kept name (breakpoints_of c.next.new.self) halted halts_not later)),
+          (halts_behind P H kept name (breakpoints_of c.next.new.self) halted (c.if-halts.ensures w P all.0 now) later)),
     )
 
 pub returns : goal.returns

@@ -1,6 +1,7 @@
 use Rattle.least_cut.proofs.Each.{Became}
-use Rattle.break_book.proofs.Followed.{IsFollowed}
+use Rattle.break_book.specs.Books.{IsFollowed}
+use Rattle.break_book.proofs.Followed.{Stays}
 use Rattle.break_book.proofs.book.following.follow_each.Given as goal
 
 abbrev pub invariant-loop-i : goal.invariant-loop-i
-invariant-loop-i l = Became (IsFollowed l.world) l.fn.breaks.entries l.breaks.entries l.i
+invariant-loop-i l = Became (Stays (IsFollowed l.world)) l.fn.breaks.entries l.breaks.entries l.i

@@ -1,39 +1,21 @@
-use Rattle.std.proofs.Common.{Some, sym, ap, ◌∙◌, arith}
+use Rattle.std.proofs.Common.{arith}
 use Rattle.least_cut.specs.Detectors.{IsGrown, HasRoomUpTo}
 use Rattle.break_book.specs.Books.{Kept}
-use Rattle.break_book.proofs.Followed.{IsFollowed, turn, more, same_breakpoint, followed}
+use Rattle.break_book.proofs.Followed.{turn, more, followed}
 use Rattle.break_book.proofs.book.following.grow_each.Goals as goal
-
-pub index_mut-breakpoint-requires : goal.index_mut-breakpoint-requires
-index_mut-breakpoint-requires c = omega (arith, c.loop-i-test.true, c.len-i-end.ensures.len, c.loop-i.invariant.len)
 
 pub grow-requires-clause-grown : goal.grow-requires-clause-grown
 grow-requires-clause-grown c =
-    turn (IsFollowed c.args.world.now) c.args.breaks.now.entries c.loop-i.breaks.entries c.loop-i.i
-    (record { armed = c.breakpoint.inside.armed; detector = c.breakpoint.inside.detector }) c.loop-i.invariant
-    (c.index_mut-breakpoint.ensures.value ∙ ap Some (sym c.breakpoint.view_is))
-    (λ (kept : Kept). IsGrown kept.detector c.args.pid.0 c.args.world.now) c.requires.grown
+    turn c.loop-i.invariant c.index_mut.ensures.value (λ (kept : Kept). IsGrown kept.detector c.args.pid.0 c.args.world.now)
+    c.requires.grown
 
 pub grow-requires-clause-room : goal.grow-requires-clause-room
 grow-requires-clause-room c =
-    turn (IsFollowed c.args.world.now) c.args.breaks.now.entries c.loop-i.breaks.entries c.loop-i.i
-    (record { armed = c.breakpoint.inside.armed; detector = c.breakpoint.inside.detector }) c.loop-i.invariant
-    (c.index_mut-breakpoint.ensures.value ∙ ap Some (sym c.breakpoint.view_is))
-    (λ (kept : Kept). HasRoomUpTo kept.detector c.args.world.now.state.places) c.requires.room
+    turn c.loop-i.invariant c.index_mut.ensures.value (λ (kept : Kept). HasRoomUpTo kept.detector c.args.world.now.state.places)
+    c.requires.room
 
 pub loop-i-preserved : goal.loop-i-preserved
-loop-i-preserved c =
-    more (IsFollowed c.args.world.now) c.args.breaks.now.entries c.loop-i.breaks.entries c.loop-i.i
-    (record { armed = c.breakpoint.inside.armed; detector = c.breakpoint.inside.detector }) c.loop-i.invariant
-    (c.index_mut-breakpoint.ensures.value ∙ ap Some (sym c.breakpoint.view_is))
-    (record { armed = c.breakpoint.inside.armed; detector = c.grow.new.self })
-    (λ name. record {
-      same = same_breakpoint (record { armed = c.breakpoint.inside.armed; detector = c.breakpoint.inside.detector }) c.grow.new.self name
-          c.grow.ensures.conjuncts;
-      is = c.grow.ensures.of;
-    })
+loop-i-preserved c = more c.loop-i.invariant c.index_mut.ensures.value c.grow.ensures
 
 pub returns : goal.returns
-returns c =
-    followed c.args.world.now c.args.breaks.now.entries c.loop-i.breaks.entries c.loop-i.i
-    (omega (arith, c.loop-i-test.false, c.len-i-end.ensures.len)) c.loop-i.invariant
+returns c = followed c.loop-i.invariant (omega (arith, c.loop-i-test.false, c.len-i-end.ensures.len))

@@ -1,4 +1,4 @@
-use Rattle.std.proofs.Common.{◌≡◌, ℕ, List, true, map, sym, ap, subst, ◌∙◌}
+use Rattle.std.proofs.Common.{◌≡◌, ℕ, List, true, sym, ap, subst, ◌∙◌}
 use Rattle.dbg_base.specs.SystemStates.{history_of}
 use Rattle.dbg_base.specs.Predicates.{IsLeast}
 use Rattle.least_cut.specs.Watches.{WatchRoom}
@@ -13,19 +13,16 @@ returns-then-is_past c w P is of =
     let d = c.args.self.now in
     let p : ℕ = c.pid-pid.result.0 in
     let past : is_past_in (lines_of d) p c.candidate.result ≡ true =
-    sym (found (λ (watch : WatchRoom). watch.state.line) (is_past_at p c.candidate.result) c.deref-watch-items.result.now (lines_of d)
-    (ap (λ (l : List WatchRoom). map (λ (watch : WatchRoom). watch.state.line) l) c.deref-watch-items.ensures.value
-    ∙ ap (λ (s : DetectorState). lines_of s) c.self.view_is)
-    c.loop-watch.watch-index c.watch-item.result c.watch-item.is c.loop-watch-test.true (sym c.is_past.ensures ∙ c.if-is_past.true)) in
+    sym (found (λ (watch : WatchRoom). watch.state.line) (is_past_at p c.candidate.result) c.deref-watch-items.ensures.value
+    (ap lines_of c.self.view_is) c.loop-watch.watch-index c.watch-item.result c.watch-item.is c.loop-watch-test.true
+    (sym c.is_past.ensures ∙ c.if-is_past.true)) in
     told_none P w of d is p (subst (λ (n : ℕ). is_past_in (lines_of d) p n ≡ true) c.candidate.ensures past)
 
 pub loop-watch-preserved : goal.loop-watch-preserved
 loop-watch-preserved c =
     let d = c.args.self.now in
-    none_more (λ (watch : WatchRoom). watch.state.line) (is_own_past d.candidates) c.deref-watch-items.result.now (lines_of d)
-    (ap (λ (l : List WatchRoom). map (λ (watch : WatchRoom). watch.state.line) l) c.deref-watch-items.ensures.value
-    ∙ ap (λ (s : DetectorState). lines_of s) c.self.view_is)
-    c.loop-watch.watch-index c.watch-item.result c.watch-item.is c.loop-watch-test.true
+    none_more (λ (watch : WatchRoom). watch.state.line) (is_own_past d.candidates) c.deref-watch-items.ensures.value
+    (ap lines_of c.self.view_is) c.loop-watch.watch-index c.watch-item.result c.watch-item.is c.loop-watch-test.true
     (own_false d.candidates c.watch-item.result.state.line c.pid-pid.result.0 c.candidate.result c.pid-pid.ensures c.candidate.ensures
     (sym c.is_past.ensures ∙ c.if-is_past.false))
     c.loop-watch.invariant
@@ -33,10 +30,8 @@ loop-watch-preserved c =
 pub returns : goal.returns
 returns c w P is of =
     let d = c.args.self.now in
-    let none = none_left (λ (watch : WatchRoom). watch.state.line) (is_own_past d.candidates) c.deref-watch-items.result.now (lines_of d)
-    (ap (λ (l : List WatchRoom). map (λ (watch : WatchRoom). watch.state.line) l) c.deref-watch-items.ensures.value
-    ∙ ap (λ (s : DetectorState). lines_of s) c.self.view_is)
-    c.loop-watch.watch-index c.loop-watch-test.false c.loop-watch.invariant in
+    let none = none_left (λ (watch : WatchRoom). watch.state.line) (is_own_past d.candidates) c.deref-watch-items.ensures.value
+    (ap lines_of c.self.view_is) c.loop-watch.watch-index c.loop-watch-test.false c.loop-watch.invariant in
     subst (λ (tuple : List ℕ). IsLeast P (history_of w.state) (conjuncts_of d) tuple)
     (sym (ap (λ (s : DetectorState). s.candidates) c.self.view_is))
     (told_least P w of d is (own_none d.candidates (lines_of d) (sym none)))

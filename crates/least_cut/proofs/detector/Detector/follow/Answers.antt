@@ -44,14 +44,14 @@ loop-p-preserved c =
           (cases_eq q c.loop-p.p);
     }
 
-pub watch_all-requires-clause-was : goal.watch_all-requires-clause-was
-watch_all-requires-clause-was c =
+pub watch-requires-clause-was : goal.watch-requires-clause-was
+watch-requires-clause-was c =
     let g = c.requires.moved in
     were_watches g.1 c.args.world.now c.loop-p.self.watches (g.0, g.2.of) (along_of g.0 g.1 c.args.world.now g.2.of g.2.now g.3)
     (c.loop-p.invariant.search g.1 g.2.detector.search).watches
 
-pub watch_all-requires-clause-room : goal.watch_all-requires-clause-room
-watch_all-requires-clause-room c =
+pub watch-requires-clause-room : goal.watch-requires-clause-room
+watch-requires-clause-room c =
     subst (AllByRecursion (HasTruthRoom c.args.world.now.state.places)) (sym c.loop-p.invariant.watches) c.requires.room.truths
 
 pub run-requires-clause-search : goal.run-requires-clause-search
@@ -63,7 +63,7 @@ run-requires-clause-search c =
     let now : IsSearchOf v old = c.loop-p.invariant.search v g.2.detector.search in
     let all = c.loop-p-test.false in
     let size = candidates_sized v old now in
-    moved_search g.0 v w old c.watch_all.new.self g.2.of g.2.now (along_of g.0 v w g.2.of g.2.now g.3) now c.watch_all.ensures
+    moved_search g.0 v w old c.watch.new.self g.2.of g.2.now (along_of g.0 v w g.2.of g.2.now g.3) now c.watch.ensures
     (λ q. ⊎_elim
     (λ (here : q < c.loop-p.p). c.loop-p.invariant.limits v (g.0, g.2.of) g.2.detector.search q here)
     (λ (past : c.loop-p.p ≤ q). limit_past v w old.candidates q (omega (
@@ -86,4 +86,4 @@ run-requires-clause-search c =
 pub returns-clause-conjuncts : goal.returns-clause-conjuncts
 returns-clause-conjuncts c =
     let seen : List WatchRoom → List Conjunct = λ l. map (λ (watch : WatchRoom). conjunct_in watch.state) l in
-    ap seen c.run.ensures.on.watches ∙ c.watch_all.ensures.conjuncts ∙ ap seen c.loop-p.invariant.watches
+    ap seen c.run.ensures.on.watches ∙ c.watch.ensures.conjuncts ∙ ap seen c.loop-p.invariant.watches

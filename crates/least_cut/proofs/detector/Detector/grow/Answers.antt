@@ -1,6 +1,6 @@
 use Rattle.std.proofs.Common.{◌∙◌, sym, inl, inr}
 use Rattle.least_cut.proofs.Moving.{were_watches}
-use Rattle.least_cut.proofs.Growing.{more_watch, others_kept, one_earlier, grown_search, grown_settled, settled_alone}
+use Rattle.least_cut.proofs.Growing.{one_earlier, grown_search, grown_settled, settled_alone}
 use Rattle.least_cut.proofs.detector.Detector.grow.Goals as goal
 
 pub watch-requires-clause-was : goal.watch-requires-clause-was
@@ -8,12 +8,6 @@ watch-requires-clause-was c =
     let g = c.requires.grown in
     were_watches g.1 c.args.world.now c.args.self.now.watches (g.0, g.2.of)
     (inl (one_earlier g.0 g.1 c.args.world.now c.args.pid.0 g.2.of g.2.now g.4)) g.2.detector.search.watches
-
-pub watch-requires-clause-others : goal.watch-requires-clause-others
-watch-requires-clause-others c =
-    let g = c.requires.grown in
-    others_kept g.1 c.args.world.now c.args.pid.0 (more_watch g.0 g.1 c.args.world.now c.args.pid.0 g.2.of g.2.now g.4)
-    c.args.self.now.watches g.2.detector.search.watches
 
 pub settle-requires-clause-search : goal.settle-requires-clause-search
 settle-requires-clause-search c =

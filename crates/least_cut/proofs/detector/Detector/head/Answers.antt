@@ -1,7 +1,7 @@
-use Rattle.std.proofs.Common.{◌≡◌, ℕ, Bool, true, false, List, map, sym, ap, subst, ◌∙◌, if◌then◌else◌}
+use Rattle.std.proofs.Common.{◌≡◌, ℕ, Bool, true, false, sym, ap, subst, ◌∙◌, if◌then◌else◌}
 use Rattle.dbg_base.specs.declared.said.Head.TheVariants.{At, Past}
 use Rattle.least_cut.specs.Watches.{WatchRoom}
-use Rattle.least_cut.specs.Detectors.{DetectorState, lines_of}
+use Rattle.least_cut.specs.Detectors.{lines_of}
 use Rattle.least_cut.proofs.Each.{found, none_more, none_left}
 use Rattle.least_cut.proofs.Truths.{is_past_at}
 use Rattle.least_cut.proofs.Telling.{other_line}
@@ -11,11 +11,8 @@ use Rattle.least_cut.proofs.detector.Detector.head.Goals.{else-pid-p-via-then-pi
 pub returns-then-is_past : goal.returns-then-is_past
 returns-then-is_past c =
     ap (λ (past : Bool). if past then Past else At c.args.n)
-    (found (λ (watch : WatchRoom). watch.state.line) (is_past_at c.args.p c.args.n) c.deref-watch-items.result.now
-    (lines_of c.args.self.now)
-    (ap (λ (l : List WatchRoom). map (λ (watch : WatchRoom). watch.state.line) l) c.deref-watch-items.ensures.value
-    ∙ ap (λ (d : DetectorState). lines_of d) c.self.view_is)
-    c.loop-watch.watch-index c.watch-item.result c.watch-item.is c.loop-watch-test.true
+    (found (λ (watch : WatchRoom). watch.state.line) (is_past_at c.args.p c.args.n) c.deref-watch-items.ensures.value
+    (ap lines_of c.self.view_is) c.loop-watch.watch-index c.watch-item.result c.watch-item.is c.loop-watch-test.true
     (subst (λ (p : ℕ). is_past_at p c.args.n c.watch-item.result.state.line ≡ true) c.if-pid-p.true
     (sym c.is_past.ensures ∙ c.if-is_past.true)))
 
@@ -28,17 +25,12 @@ loop-watch-preserved c =
           subst (λ (p : ℕ). is_past_at p c.args.n line ≡ false) w.if-pid-p.true (sym w.is_past.ensures ∙ w.if-is_past.false)
       | else-pid-p-via-else-pid-p w ↦ other_line line c.pid-pid.result.0 c.args.p c.args.n c.pid-pid.ensures w.if-pid-p.false
     ] in
-    none_more (λ (watch : WatchRoom). watch.state.line) (is_past_at c.args.p c.args.n) c.deref-watch-items.result.now
-    (lines_of c.args.self.now)
-    (ap (λ (l : List WatchRoom). map (λ (watch : WatchRoom). watch.state.line) l) c.deref-watch-items.ensures.value
-    ∙ ap (λ (d : DetectorState). lines_of d) c.self.view_is)
-    c.loop-watch.watch-index c.watch-item.result c.watch-item.is c.loop-watch-test.true fails c.loop-watch.invariant
+    none_more (λ (watch : WatchRoom). watch.state.line) (is_past_at c.args.p c.args.n) c.deref-watch-items.ensures.value
+    (ap lines_of c.self.view_is) c.loop-watch.watch-index c.watch-item.result c.watch-item.is c.loop-watch-test.true fails
+    c.loop-watch.invariant
 
 pub returns : goal.returns
 returns c =
     ap (λ (past : Bool). if past then Past else At c.args.n)
-    (none_left (λ (watch : WatchRoom). watch.state.line) (is_past_at c.args.p c.args.n) c.deref-watch-items.result.now
-    (lines_of c.args.self.now)
-    (ap (λ (l : List WatchRoom). map (λ (watch : WatchRoom). watch.state.line) l) c.deref-watch-items.ensures.value
-    ∙ ap (λ (d : DetectorState). lines_of d) c.self.view_is)
-    c.loop-watch.watch-index c.loop-watch-test.false c.loop-watch.invariant)
+    (none_left (λ (watch : WatchRoom). watch.state.line) (is_past_at c.args.p c.args.n) c.deref-watch-items.ensures.value
+    (ap lines_of c.self.view_is) c.loop-watch.watch-index c.loop-watch-test.false c.loop-watch.invariant)

@@ -1,31 +1,23 @@
-use Rattle.std.proofs.Common.{List, map, sym, ap, ◌∙◌}
+use Rattle.std.proofs.Common.{sym, ap, ◌∙◌}
 use Rattle.least_cut.specs.Watches.{WatchRoom}
-use Rattle.least_cut.specs.Detectors.{DetectorState, lines_of}
+use Rattle.least_cut.specs.Detectors.{lines_of}
 use Rattle.least_cut.proofs.Each.{found, none_more, none_left}
 use Rattle.least_cut.proofs.Truths.{is_past_at}
 use Rattle.least_cut.proofs.detector.Detector.is_past.Goals as goal
 
 pub returns-then-is_past : goal.returns-then-is_past
 returns-then-is_past c =
-    found (λ (watch : WatchRoom). watch.state.line) (is_past_at c.args.pid.0 c.args.n) c.deref-watch-items.result.now
-    (lines_of c.args.self.now)
-    (ap (λ (l : List WatchRoom). map (λ (watch : WatchRoom). watch.state.line) l) c.deref-watch-items.ensures.value
-    ∙ ap (λ (d : DetectorState). lines_of d) c.self.view_is)
-    c.loop-watch.watch-index c.watch-item.result c.watch-item.is c.loop-watch-test.true (sym c.is_past.ensures ∙ c.if-is_past.true)
+    found (λ (watch : WatchRoom). watch.state.line) (is_past_at c.args.pid.0 c.args.n) c.deref-watch-items.ensures.value
+    (ap lines_of c.self.view_is) c.loop-watch.watch-index c.watch-item.result c.watch-item.is c.loop-watch-test.true
+    (sym c.is_past.ensures ∙ c.if-is_past.true)
 
 pub returns : goal.returns
 returns c =
-    none_left (λ (watch : WatchRoom). watch.state.line) (is_past_at c.args.pid.0 c.args.n) c.deref-watch-items.result.now
-    (lines_of c.args.self.now)
-    (ap (λ (l : List WatchRoom). map (λ (watch : WatchRoom). watch.state.line) l) c.deref-watch-items.ensures.value
-    ∙ ap (λ (d : DetectorState). lines_of d) c.self.view_is)
-    c.loop-watch.watch-index c.loop-watch-test.false c.loop-watch.invariant
+    none_left (λ (watch : WatchRoom). watch.state.line) (is_past_at c.args.pid.0 c.args.n) c.deref-watch-items.ensures.value
+    (ap lines_of c.self.view_is) c.loop-watch.watch-index c.loop-watch-test.false c.loop-watch.invariant
 
 pub loop-watch-preserved : goal.loop-watch-preserved
 loop-watch-preserved c =
-    none_more (λ (watch : WatchRoom). watch.state.line) (is_past_at c.args.pid.0 c.args.n) c.deref-watch-items.result.now
-    (lines_of c.args.self.now)
-    (ap (λ (l : List WatchRoom). map (λ (watch : WatchRoom). watch.state.line) l) c.deref-watch-items.ensures.value
-    ∙ ap (λ (d : DetectorState). lines_of d) c.self.view_is)
-    c.loop-watch.watch-index c.watch-item.result c.watch-item.is c.loop-watch-test.true (sym c.is_past.ensures ∙ c.if-is_past.false)
-    c.loop-watch.invariant
+    none_more (λ (watch : WatchRoom). watch.state.line) (is_past_at c.args.pid.0 c.args.n) c.deref-watch-items.ensures.value
+    (ap lines_of c.self.view_is) c.loop-watch.watch-index c.watch-item.result c.watch-item.is c.loop-watch-test.true
+    (sym c.is_past.ensures ∙ c.if-is_past.false) c.loop-watch.invariant

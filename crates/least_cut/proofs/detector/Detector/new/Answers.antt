@@ -5,7 +5,7 @@ use Rattle.cut_core.specs.ConsistentCuts.{places}
 use Rattle.causal_world.proofs.Looking.{kinds_placed}
 use Rattle.least_cut.specs.Watches.{WatchRoom, conjunct_in}
 use Rattle.least_cut.specs.Detectors.{HasRoomUpTo}
-use Rattle.least_cut.proofs.Moving.{search_begins, conjuncts_kept}
+use Rattle.least_cut.proofs.Moving.{search_begins, seen_kept}
 use Rattle.least_cut.proofs.detector.Detector.new.Goals as goal
 
 pub run-requires-clause-search : goal.run-requires-clause-search
@@ -23,5 +23,5 @@ run-requires-clause-search c =
 pub returns-clause-conjuncts : goal.returns-clause-conjuncts
 returns-clause-conjuncts c =
     let seen : List WatchRoom → List Conjunct = λ l. map (λ (watch : WatchRoom). conjunct_in watch.state) l in
-    ap seen c.run.ensures.on.watches ∙ conjuncts_kept c.reserve_to.new.self.watches _ c.reserve_to.ensures.same.states
+    ap seen c.run.ensures.on.watches ∙ seen_kept conjunct_in c.reserve_to.new.self.watches _ c.reserve_to.ensures.same.states
     ∙ c.in_ok-watches.ensures.conjuncts

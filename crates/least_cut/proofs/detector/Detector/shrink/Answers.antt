@@ -1,7 +1,7 @@
 use Rattle.std.proofs.Common.{subst, sym, inr}
 use Rattle.least_cut.specs.Detectors.{AreWatchesOf}
 use Rattle.least_cut.proofs.Moving.{were_watches}
-use Rattle.least_cut.proofs.Growing.{less_watch, others_kept, one_earlier, shrunk_room, shrunk_search}
+use Rattle.least_cut.proofs.Growing.{one_earlier, shrunk_room, shrunk_search}
 use Rattle.least_cut.proofs.detector.Detector.shrink.Goals as goal
 
 pub watch-requires-clause-was : goal.watch-requires-clause-was
@@ -10,12 +10,6 @@ watch-requires-clause-was c =
     were_watches g.1 c.args.world.now c.drop_to.new.self.watches (g.0, g.2.of)
     (inr (one_earlier g.0 c.args.world.now g.1 c.args.pid.0 g.2.now g.2.of g.3))
     (subst (AreWatchesOf g.1) (sym c.drop_to.ensures.watches) g.2.detector.search.watches)
-
-pub watch-requires-clause-others : goal.watch-requires-clause-others
-watch-requires-clause-others c =
-    let g = c.requires.shrunk in
-    others_kept g.1 c.args.world.now c.args.pid.0 (less_watch g.0 c.args.world.now g.1 c.args.pid.0 g.2.now g.2.of g.3)
-    c.drop_to.new.self.watches (subst (AreWatchesOf g.1) (sym c.drop_to.ensures.watches) g.2.detector.search.watches)
 
 pub watch-requires-clause-room : goal.watch-requires-clause-room
 watch-requires-clause-room c =
