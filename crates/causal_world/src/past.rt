@@ -55,7 +55,8 @@ fn kind_of(exchange: Exchange) -> Kind
     }
 }
 
-// The event whose clock the process's next event joins with its own: its process, and its number from 1.
+// The event whose clock the process's next event, which is of this kind, takes up: the one that sent the message that it receives, else
+// the process's last one. Its process, and its number from 1, or 0 where there is none.
 fn cause(tally: &Tally, pid: Pid, kind: Kind) -> (Pid, u32)
     requires here { pid.0 < length tally.now.kinds }
     requires few { length (slice_index_or tally.now.kinds pid.0 []) < EVENTS }
