@@ -3,8 +3,6 @@ use Rattle.std.proofs.Common.{◌≡◌, ◌⊎◌, ℕ, zero, suc, ◌<◌, Boo
 use Rattle.std.proofs.Common.{is_some, Result, Ok, Err, refl, sym, ap, ◌∙◌, subst, inl, inr, arith}
 use Rattle.std.specs.Prelude.{nat_le}
 use Rattle.dbg_base.specs.declared.call.Conjunct as conjunct
-use Rattle.dbg_base.specs.declared.call.Plan.TheVariants as plans
-use Rattle.dbg_base.specs.declared.call.Call.TheVariants as calls
 use Rattle.dbg_base.specs.declared.refusal.Refusal.{Refusal}
 use Rattle.dbg_base.specs.declared.refusal.Refusal.TheVariants.{BadLine, Memory}
 use Rattle.dbg_base.specs.Calls.{conjunct_of}
@@ -12,8 +10,7 @@ use Rattle.dbg_base.specs.Trees.{Program}
 use Rattle.dbg_base.specs.CommandLines.{Part, BreakLine, seat_word, name_word, next_word, after_word, without_blanks, predicate_front}
 use Rattle.dbg_base.specs.CommandLines.{is_apart, with_part, map_ok, part_then, part_at, parts_within, break_line_of}
 use Rattle.dbg_base.specs.Requests.{ReadsParts, AsksBreak, break_parts, break_request}
-use Rattle.command_line.specs.declared.line.Line.{Line}
-use Rattle.command_line.specs.Lines.{IsBreakParsed, parts_of}
+use Rattle.command_line.specs.Lines.{IsBreakParsed, break_asked, parts_of}
 use Rattle.command_line.proofs.BreakLines.{goes_on, parts_behind}
 
 -- a name has a byte
@@ -125,13 +122,9 @@ module _ (P : Program) (seat bytes : List ℕ) where
       abbrev IsRead : Result (List conjunct.Conjunct) Refusal → List Part → Type 0
       IsRead result parts = ReadsParts P [] parts (map_ok (map conjunct_of) result) ⊎ (result ≡ Err Memory)
 
-      abbrev request_of : Result (List conjunct.Conjunct) Refusal → Result (Option Line) Refusal
-      request_of result =
-          map_ok (λ conjuncts. Some (record { seat = place; call = calls.Give (plans.Break name conjuncts) })) result
-
       asks_for : (first : Part) (others : List Part) → parts_of rest ≡ Some (first ∷ others)
           → (result : Result (List conjunct.Conjunct) Refusal) → IsRead result (first ∷ others)
-          → IsBreakParsed P (break_parts seat bytes) (request_of result)
+          → IsBreakParsed P (break_parts seat bytes) (map_ok (break_asked place name) result)
       asks_for first others e (Ok conjuncts) (inl reads) =
           let made = map conjunct_of conjuncts in
           let known = Ok (break_request (record { seat = place; name = name; first = first; others = others }) made) in
@@ -154,7 +147,7 @@ module _ (P : Program) (seat bytes : List ℕ) where
 
       asks_by : (parts : List Part) → parts_of rest ≡ Some parts → Begins parts
           → (result : Result (List conjunct.Conjunct) Refusal) → IsRead result parts
-          → IsBreakParsed P (break_parts seat bytes) (request_of result)
+          → IsBreakParsed P (break_parts seat bytes) (map_ok (break_asked place name) result)
       asks_by parts e begun result reads =
           let same = sym begun.same in
           asks_for begun.first begun.others (e ∙ ap (λ (found : List Part). Some found) same) result
@@ -163,7 +156,7 @@ module _ (P : Program) (seat bytes : List ℕ) where
       -- all parts have their form, and were read
       pub asks_break : is_some (parts_of rest) ≡ true → (result : Result (List conjunct.Conjunct) Refusal)
           → ((parts : List Part) → parts_of rest ≡ Some parts → IsRead result parts)
-          → IsBreakParsed P (break_parts seat bytes) (request_of result)
+          → IsBreakParsed P (break_parts seat bytes) (map_ok (break_asked place name) result)
       asks_break formed result reads =
           let found = has_parts (parts_of rest) formed in
           asks_by found.0 found.1 (begin found.0 found.1) result (reads found.0 found.1)

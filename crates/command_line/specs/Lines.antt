@@ -5,6 +5,8 @@ use Rattle.std.specs.List.{list_any}
 use Rattle.std.specs.Option.{option_map}
 use Rattle.dbg_base.specs.declared.call.Call as call
 use Rattle.dbg_base.specs.declared.call.Conjunct as conjunct
+use Rattle.dbg_base.specs.declared.call.Plan.TheVariants as plans
+use Rattle.dbg_base.specs.declared.call.Call.TheVariants as calls
 use Rattle.dbg_base.specs.declared.fault.ProgFault.{ProgFault}
 use Rattle.dbg_base.specs.declared.refusal.Refusal.{Refusal}
 use Rattle.dbg_base.specs.declared.refusal.Refusal.TheVariants.{BadPredicate, Memory}
@@ -27,6 +29,10 @@ asked line = (line.seat, call_of line.call)
 
 abbrev pub requested : Request → ℕ × Option Call
 requested request = (request.seat, Some request.call)
+
+-- the line that sets a breakpoint of these conjuncts
+abbrev pub break_asked : ℕ → List ℕ → List conjunct.Conjunct → Option Line
+break_asked seat name conjuncts = Some (record { seat = seat; call = calls.Give (plans.Break name conjuncts) })
 
 -- the line of the code is what the line of the model asks for
 pub record IsParsed (P : Program) (line : List ℕ) (result : Result (Option Line) Refusal) : Type 0 where

@@ -6,7 +6,7 @@ ghost use Rattle.dbg_base.specs.Calls.{conjunct_of};
 ghost use Rattle.dbg_base.specs.CommandLines.{Part, closed_front, predicate_front, is_apart, with_part, map_ok, named_process};
 ghost use Rattle.dbg_base.specs.Requests.{ReadsParts, break_parts};
 ghost use Rattle.proc_lang.specs.Programs.{program_of};
-ghost use Rattle.command_line.specs.Lines.{parts_of, stands_in, ReadsNamed, IsBreakParsed};
+ghost use Rattle.command_line.specs.Lines.{parts_of, stands_in, break_asked, ReadsNamed, IsBreakParsed};
 
 use crate::line::{
     Line, after_blanks, is_blank, name_word, named_process, next_word, seat_word, word_length,
@@ -155,6 +155,23 @@ fn read_parts(alloc: Global, program: &Program, bytes: &[u8]) -> Result<Sequence
     }
 }
 
+// The line that sets a breakpoint of these conjuncts, where they were read.
+fn line_of(
+    seat: u32,
+    name: Name,
+    read: Result<Sequence<Conjunct>, Refusal>,
+) -> Result<Option<Line>, Refusal>
+    ensures { result ≡ map_ok (break_asked seat name) read }
+{
+    match read {
+        Ok(conjuncts) => {
+            let call = Call::Give(Plan::Break(name, conjuncts));
+            Ok(Some(Line { seat, call }))
+        }
+        Err(refusal) => Err(refusal),
+    }
+}
+
 // What a line that sets a breakpoint asks for, where these are its seat and the bytes behind its command word.
 pub(crate) fn parse_break(
     alloc: Global,
@@ -177,11 +194,5 @@ pub(crate) fn parse_break(
     if !are_parts(rest) {
         return Err(Refusal::BadLine);
     }
-    match read_parts(alloc, program, rest) {
-        Ok(conjuncts) => {
-            let call = Call::Give(Plan::Break(name, conjuncts));
-            Ok(Some(Line { seat, call }))
-        }
-        Err(refusal) => Err(refusal),
-    }
+    line_of(seat, name, read_parts(alloc, program, rest))
 }

@@ -1,9 +1,10 @@
-use Rattle.std.proofs.Common.{◌≡◌, ◌<◌, Ok, Err, None, Some, length, is_some, true, false, arith, sym, ap, ◌∙◌}
+use Rattle.std.proofs.Common.{◌≡◌, ◌<◌, None, Some, length, is_some, true, false, arith, sym, ap, ◌∙◌, subst}
 use Rattle.std.proofs.lemmas.Bool.Decides.{nat_tests}
 use Rattle.std.proofs.lemmas.Grind.{common_steps}
 use Rattle.dbg_base.specs.CommandLines.{seat_word, name_word}
 use Rattle.proc_lang.specs.Programs.{program_of}
-use Rattle.command_line.specs.Lines.{parts_of}
+use Rattle.dbg_base.specs.Requests.{break_parts}
+use Rattle.command_line.specs.Lines.{parts_of, IsBreakParsed}
 use Rattle.command_line.proofs.BreakAsked.{no_seat, no_name, no_part, no_form, asks_break}
 use Rattle.command_line.proofs.break_line.parse_break.Goals as goal
 
@@ -31,22 +32,16 @@ returns-then-not-are_parts c =
     no_form (program_of c.args.program.now) c.args.seat.now c.args.bytes.now c.in-Some-name_word.name c.next_word.result.1.now
     (ap name_word (sym c.next_word.ensures.word) ∙ named) c.next_word.ensures.rest none
 
-pub returns-in-Ok : goal.returns-in-Ok
-returns-in-Ok c =
-    let seated : seat_word c.args.seat.now ≡ Some c.in-Some.seat = grind (arith, common_steps) in
+pub returns : goal.returns
+returns c =
+    let P = program_of c.args.program.now in
+    let seat = c.args.seat.now in
+    let bytes = c.args.bytes.now in
+    let seated : seat_word seat ≡ Some c.in-Some.seat = grind (arith, common_steps) in
     let named : name_word c.next_word.result.0.now ≡ Some c.in-Some-name_word.name = grind (arith, common_steps) in
     let some : 0 < length c.next_word-2.result.0.now = grind (arith, nat_tests) in
     let formed : is_some (parts_of c.next_word.result.1.now) ≡ true = grind (arith, common_steps) in
-    asks_break (program_of c.args.program.now) c.args.seat.now c.args.bytes.now c.in-Some-name_word.name c.next_word.result.1.now
+    subst (IsBreakParsed P (break_parts seat bytes)) (sym c.line_of.ensures)
+    (asks_break P seat bytes c.in-Some-name_word.name c.next_word.result.1.now
     (ap name_word (sym c.next_word.ensures.word) ∙ named) c.next_word.ensures.rest c.in-Some.seat seated
-    (omega (arith, some, ap length c.next_word-2.ensures.word)) formed (Ok c.in-Ok.conjuncts) c.in-Ok.ensures
-
-pub returns-in-Err : goal.returns-in-Err
-returns-in-Err c =
-    let seated : seat_word c.args.seat.now ≡ Some c.in-Some.seat = grind (arith, common_steps) in
-    let named : name_word c.next_word.result.0.now ≡ Some c.in-Some-name_word.name = grind (arith, common_steps) in
-    let some : 0 < length c.next_word-2.result.0.now = grind (arith, nat_tests) in
-    let formed : is_some (parts_of c.next_word.result.1.now) ≡ true = grind (arith, common_steps) in
-    asks_break (program_of c.args.program.now) c.args.seat.now c.args.bytes.now c.in-Some-name_word.name c.next_word.result.1.now
-    (ap name_word (sym c.next_word.ensures.word) ∙ named) c.next_word.ensures.rest c.in-Some.seat seated
-    (omega (arith, some, ap length c.next_word-2.ensures.word)) formed (Err c.in-Err.refusal) c.in-Err.ensures
+    (omega (arith, some, ap length c.next_word-2.ensures.word)) formed c.read_parts.result c.read_parts.ensures)
