@@ -6,15 +6,26 @@ use std::alloc::{AllocError, Global};
 use std::convert::AsStr;
 
 static ABOUT: &str =
-    "Steps through programs of processes that send each other messages, one command at a time";
+    "A debugger for processes that send each other messages: steps them, takes events back, halts at bad global states";
 
-static EXAMPLE: &str =
+static GUIDE: &str =
     "The text comes from standard input: a program, a line `%%`, and for `run` command lines behind it.
+
+Command lines, each behind a seat from 1 to 16:
+  step P K, next P, redo P       make an event of the process P
+  undo P, rollback P N, goto B   take events back
+  break B P E [P E ..]           set the breakpoint B, which halts where E holds in P, and so on for each pair
+  arm B, pass B, clear B         let B halt again, let it halt no longer, remove it
+  vars P, chan P Q, clock P, place P, can P, cut B, why B, breaks
+                                 show what there is
 
 Example of a text for `run`:
   process a { var x = 0; when (x < 3) : x := (x + 1); }
   %%
+  1 break two a (x = 2)
   1 next a
+  1 next a
+  1 undo a
   1 vars a";
 
 fn command<'a>(alloc: Global) -> Result<Command<'a>, AllocError> {
@@ -26,7 +37,7 @@ fn command<'a>(alloc: Global) -> Result<Command<'a>, AllocError> {
     );
     Command::new(alloc, "rdbg")
         .about(ABOUT)
-        .after_help(EXAMPLE)
+        .after_help(GUIDE)
         .subcommand_required(true)
         .subcommand(run)?
         .subcommand(check)
