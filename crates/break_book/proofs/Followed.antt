@@ -6,13 +6,11 @@ use Rattle.std.specs.List.{AllByRecursion}
 use Rattle.std.proofs.lemmas.Bool.{cases_lt}
 use Rattle.causal_world.specs.Scenes.{Scene}
 use Rattle.indexmap.specs.IndexMap.{set_value_at}
-use Rattle.least_cut.specs.Watches.{conjunct_in}
 use Rattle.least_cut.specs.Detectors.{DetectorState, HasRoomUpTo, IsDetectorOf, IsSameButRoom}
 use Rattle.least_cut.proofs.Each.{Became, became_more, became_less, at_turn, all_at, all_from, same_map}
-use Rattle.least_cut.proofs.Moving.{seen_kept}
 use Rattle.least_cut.proofs.Callers.{roomier_detector}
 use Rattle.break_book.proofs.Callers.{all_map}
-use Rattle.break_book.specs.Books.{Kept, Entry, breakpoint_of, AreDetectorsOf, HaveRoomUpTo, IsRoomier, IsFollowed, AreRoomier, AreFollowed}
+use Rattle.break_book.specs.Books.{Kept, Entry, breakpoint_of, shown_in, AreDetectorsOf, HaveRoomUpTo, IsRoomier, IsFollowed, AreRoomier, AreFollowed}
 
 -- the entry at a place where this is kept
 pub record There (book : List Entry) (i : ℕ) (kept : Kept) : Type 0 where
@@ -72,8 +70,10 @@ roomier_one {armed} {before} {after} view same =
     subst (λ (k : Kept). IsRoomier k (record { armed = armed; detector = after })) view (record {
       same = λ name i. record {
         name = name;
-        conjuncts = seen_kept conjunct_in after.watches before.watches same.states i;
         armed = armed;
+        watches = same.states i;
+        candidates = same.candidates i;
+        trail = same.trail i;
       };
       detectors = λ w is. roomier_detector w before after same is;
     })
@@ -96,8 +96,9 @@ followed {w} {old} {new} {i} is all = record {
 -- no detector is lost at any place
 pub roomier : {old new : List Entry} {i : ℕ} → Became (Stays IsRoomier) old new i → AreRoomier old new
 roomier {old} {new} {i} is = record {
-  same = same_map breakpoint_of new old is.len
-      (λ k x lt. (let r = one k x lt in same_breakpoint (get_or old k x) (get_or new k x) r.name r.is.same));
+  same = same_map shown_in new old is.len
+      (λ k x lt. (let r = one k x lt in
+      r.is.same (get_or new k x).0 ∙ ap (λ (n : List ℕ). shown_in (n, (get_or old k x).1)) r.name));
   detectors = λ w all. all_from (λ (entry : Entry). IsDetectorOf w entry.1.detector) new (λ k x lt.
       let here : k < length old = omega (arith, lt, is.len) in
       let r = one k x here in

@@ -9,7 +9,7 @@ use Rattle.dbg_base.specs.Breakpoints.{Breakpoint, HasCut, IsHaltedBy}
 use Rattle.dbg_base.specs.SystemStates.{history_of}
 use Rattle.causal_world.specs.Scenes.{Scene, IsWorldOf}
 use Rattle.least_cut.specs.Detectors.{conjuncts_of}
-use Rattle.break_book.specs.Books.{Kept, Entry, breakpoint_of, breakpoints_of, AreDetectorsOf, TellsCut, Halts, HaltsNot}
+use Rattle.break_book.specs.Books.{Kept, Entry, breakpoint_of, breakpoints_of, AreDetectorsOf, TellsWhether, Halts, HaltsNot}
 
 match_true : (b : Bool) (A B : Type 0) → b ≡ true → A → MatchBool b A B
 match_true true A B e a = a
@@ -25,13 +25,13 @@ match_both false A B x y = y
 
 -- a cut that is found is one
 pub told_cut : (P : Program) (H : History) (conjuncts : List Conjunct) (found : Option (Bor (List ℕ)))
-    → MatchOption found (NoCut P H conjuncts) (λ cut. IsLeast P H conjuncts cut.now) → TellsCut P H conjuncts (is_some found)
+    → MatchOption found (NoCut P H conjuncts) (λ cut. IsLeast P H conjuncts cut.now) → TellsWhether P H conjuncts (is_some found)
 told_cut P H conjuncts None none = none
 told_cut P H conjuncts (Some cut) least = (cut.now, least)
 
 module _ (P : Program) (H : History) (kept : Kept) where
   -- an armed one does so where it has a cut
-  pub halts_by : (has : Bool) → kept.armed ≡ true → TellsCut P H (conjuncts_of kept.detector) has
+  pub halts_by : (has : Bool) → kept.armed ≡ true → TellsWhether P H (conjuncts_of kept.detector) has
       → MatchBool has (Halts P H kept) (HaltsNot P H kept)
   halts_by true armed cut = (armed, cut.0, cut.1)
   halts_by false armed none = inr none

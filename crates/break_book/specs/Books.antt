@@ -6,12 +6,14 @@ use Rattle.std.specs.List.{AllByRecursion, IsDistinct}
 use Rattle.std.specs.Str.{bytes_eq}
 use Rattle.dbg_base.specs.declared.refusal.Refusal.{Refusal}
 use Rattle.dbg_base.specs.declared.refusal.Refusal.TheVariants as refusals
+use Rattle.dbg_base.specs.declared.elimination.Elimination.{Elimination}
 use Rattle.dbg_base.specs.Trees.{Program}
 use Rattle.dbg_base.specs.Histories.{History}
 use Rattle.dbg_base.specs.Predicates.{Conjunct, IsLeast, NoCut}
 use Rattle.dbg_base.specs.Breakpoints.{Breakpoint, HasCut, named, with_mark}
 use Rattle.causal_world.specs.Scenes.{Scene}
-use Rattle.least_cut.specs.Detectors.{DetectorState, conjuncts_of, IsDetectorOf, HasRoomUpTo, IsGrown, IsShrunk, IsMoved}
+use Rattle.least_cut.specs.Watches.{WatchState}
+use Rattle.least_cut.specs.Detectors.{DetectorState, states_of, conjuncts_of, IsDetectorOf, HasRoomUpTo, IsGrown, IsShrunk, IsMoved}
 
 -- what is kept of a breakpoint beside its name
 pub record Kept : Type 0 where
@@ -21,6 +23,27 @@ pub record Kept : Type 0 where
 abbrev pub Entry : Type 0
 Entry = List ℕ × Kept
 
+-- what calls show of it: all but the room of its detector
+pub record Shown : Type 0 where
+  pub name : List ℕ
+  pub armed : Bool
+  pub watches : List WatchState
+  pub candidates : List ℕ
+  pub trail : List Elimination
+
+abbrev pub shown_in : Entry → Shown
+shown_in entry = record {
+  name = entry.0;
+  armed = entry.1.armed;
+  watches = states_of entry.1.detector;
+  candidates = entry.1.detector.candidates;
+  trail = entry.1.detector.trail;
+}
+
+abbrev pub shown_of : List Entry → List Shown
+shown_of book = map shown_in book
+
+-- the breakpoint that it is
 abbrev pub breakpoint_of : Entry → Breakpoint
 breakpoint_of entry = record { name = entry.0; conjuncts = conjuncts_of entry.1.detector; armed = entry.1.armed }
 
@@ -55,9 +78,9 @@ AreShrunk book p w = AllByRecursion (λ entry. IsShrunk entry.1.detector p w) bo
 abbrev pub AreMoved : List Entry → Scene → Type 0
 AreMoved book w = AllByRecursion (λ entry. IsMoved entry.1.detector w) book
 
--- the same breakpoint whatever its name, with a detector of each world of which it had one
+-- the same whatever its name, but for the room, with a detector of each world of which it had one
 pub record IsRoomier (old new : Kept) : Type 0 where
-  pub same : (name : List ℕ) → breakpoint_of (name, new) ≡ breakpoint_of (name, old)
+  pub same : (name : List ℕ) → shown_in (name, new) ≡ shown_in (name, old)
   pub detectors : (w : Scene) → IsDetectorOf w old.detector → IsDetectorOf w new.detector
 
 -- the same breakpoint whatever its name, with a detector of the world
@@ -65,9 +88,9 @@ pub record IsFollowed (w : Scene) (old new : Kept) : Type 0 where
   pub same : (name : List ℕ) → breakpoint_of (name, new) ≡ breakpoint_of (name, old)
   pub detector : IsDetectorOf w new.detector
 
--- the same breakpoints, with detectors that are so of each world of which they were, and no less room
+-- the same breakpoints, but for the room, with detectors that are so of each world of which they were
 pub record AreRoomier (old new : List Entry) : Type 0 where
-  pub same : breakpoints_of new ≡ breakpoints_of old
+  pub same : shown_of new ≡ shown_of old
   pub detectors : (w : Scene) → AreDetectorsOf w old → AreDetectorsOf w new
 
 -- the same breakpoints, with detectors of the world
@@ -90,8 +113,8 @@ pub record StandsAt (name : List ℕ) (book : List Entry) (i : ℕ) (kept : Kept
   pub marked : (armed : Bool) → breakpoints_of (marked_at i armed book) ≡ with_mark name armed (breakpoints_of book)
 
 -- whether a cut satisfies the conjuncts
-abbrev pub TellsCut : Program → History → List Conjunct → Bool → Type 0
-TellsCut P H conjuncts has = MatchBool has ((cut : List ℕ) × IsLeast P H conjuncts cut) (NoCut P H conjuncts)
+abbrev pub TellsWhether : Program → History → List Conjunct → Bool → Type 0
+TellsWhether P H conjuncts has = MatchBool has ((cut : List ℕ) × IsLeast P H conjuncts cut) (NoCut P H conjuncts)
 
 -- it is armed and has a cut
 abbrev pub Halts : Program → History → Kept → Type 0

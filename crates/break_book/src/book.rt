@@ -12,7 +12,7 @@ ghost use Rattle.dbg_base.specs.SystemStates.{history_of};
 ghost use Rattle.dbg_base.specs.Views.{mark_of};
 ghost use Rattle.causal_world.specs.Scenes.{Scene, IsWorldOf};
 ghost use Rattle.least_cut.specs.Watches.{scan_of};
-ghost use Rattle.least_cut.specs.Detectors.{IsDetectorOf, one_more};
+ghost use Rattle.least_cut.specs.Detectors.{IsDetectorOf};
 ghost use Rattle.dbg_base.specs.Breakpoints as model;
 ghost use Rattle.break_book.specs.Books.{breakpoint_of, breakpoints_of, new_breakpoint, AreDetectorsOf, HasDistinctNames, StandsAt};
 ghost use Rattle.break_book.specs.Books.{marked_at, arm_refusal, MayPass, CannotPass};
@@ -103,12 +103,15 @@ impl Book {
         Ok(())
     }
 
-    /// Takes the breakpoint of this name out, and hands it out with its position, from 0. It is refused, and changes nothing, as
-    /// `UnknownBreak` where there is none. It takes no memory.
+    /// Takes the breakpoint of this name out, and hands it out with its position, from 0. Then the name is free, and there is a place
+    /// for one more, as `restore_at` asks. It is refused, and changes nothing, as `UnknownBreak` where there is none. It takes no
+    /// memory.
     pub fn clear(&mut self, name: Name) -> Result<(usize, Breakpoint), Refusal>
         ensures clears { IfOk result (λ taken. (named name (breakpoints_of self.old) ≡ Some (breakpoint_of (name, taken.1)))
             × (breakpoints_of self.new ≡ without name (breakpoints_of self.old))) }
         ensures position { IfOk result (λ taken. (taken.0 ≤ length self.new) × (self.old ≡ insert self.new taken.0 (name, taken.1))) }
+        ensures free { OnOk result (named name (breakpoints_of self.new) ≡ None) }
+        ensures few { OnOk result (length self.new < BREAKPOINTS) }
         ensures refuses { IfErr result (λ refusal. (named name (breakpoints_of self.old) ≡ None) × (refusal ≡ UnknownBreak)) }
         ensures kept { OnErr result (self.new ≡ self.old) }
         ensures of { (w : Scene) → AreDetectorsOf w self.old → AreDetectorsOf w self.new }

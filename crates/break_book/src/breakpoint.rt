@@ -7,7 +7,7 @@ ghost use Rattle.dbg_base.specs.SystemStates.{history_of};
 ghost use Rattle.causal_world.specs.Scenes.{Scene, IsWorldOf};
 ghost use Rattle.least_cut.specs.Searches as model;
 ghost use Rattle.least_cut.specs.Detectors.{conjuncts_of, IsDetectorOf, HasRoomUpTo, IsGrown, IsShrunk, IsMoved, one_more};
-ghost use Rattle.break_book.specs.Books.{TellsCut, Halts, HaltsNot, IsRoomier, IsFollowed};
+ghost use Rattle.break_book.specs.Books.{TellsWhether, Halts, HaltsNot, IsRoomier, IsFollowed};
 
 use causal_world::World;
 use dbg_base::{Cut, Pid};
@@ -69,7 +69,7 @@ impl Breakpoint {
     // Whether it has a cut.
     pub(crate) fn has_cut(&self) -> bool
         ensures { (w : Scene) (P : tree.Program) → IsDetectorOf w self.now.detector → IsWorldOf P w
-            → TellsCut P (history_of w.state) (conjuncts_of self.now.detector) result }
+            → TellsWhether P (history_of w.state) (conjuncts_of self.now.detector) result }
     {
         self.detector().cut().is_some()
     }

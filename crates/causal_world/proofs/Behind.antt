@@ -1,9 +1,10 @@
--- Events taken back until the places are those of a cut.
-use Rattle.std.proofs.Common.{◌≡◌, ℕ, zero, suc, ◌+◌, ◌-◌, ◌<◌, ◌≤◌, ◌==◌, cond, ℤ, List, [], ◌∷◌, length}
-use Rattle.std.proofs.Common.{get_or, set, take, sum, Option, Some, None, refl, sym, ap, ◌∙◌, subst, arith}
+-- The last event of a process behind a cut: what it took from a channel its kind says, and without it the sum of the places is one less.
+use Rattle.std.proofs.Common.{◌≡◌, ℕ, ◌≤◌, ◌⊎◌, inl, inr, Bool, true, false, ◌&&◌, cond, refl, arith, zero, suc, ◌+◌, ◌-◌, ◌<◌, ◌==◌, ℤ}
+use Rattle.std.proofs.Common.{List, [], ◌∷◌, length, get_or, set, take, sum, Option, Some, None, sym, ap, ◌∙◌, subst}
+use Rattle.std.specs.Prelude.{if◌then◌else◌}
+use Rattle.std.specs.Option.{option_map}
 use Rattle.std.proofs.lemmas.List.{length-map, length-set, length-take-le, map-set, get_or-map}
 use Rattle.std.proofs.lemmas.List.Sums.{sum_by-cons, sum_by-set}
-use Rattle.std.specs.Option.{option_map}
 use Rattle.dbg_base.specs.Trees.{Action, Local, Sends, Receives, Command, Program, command_of}
 use Rattle.dbg_base.specs.LocalStates.{LocalState}
 use Rattle.dbg_base.specs.Configurations.{Configuration, state_in}
@@ -15,17 +16,34 @@ use Rattle.cut_core.specs.declared.kind.Kind.{Kind}
 use Rattle.cut_core.specs.Kinds.{gets_from}
 use Rattle.cut_core.specs.ConsistentCuts.{places}
 use Rattle.event_rows.specs.EventValues.{EventValue}
+use Rattle.histories.proofs.LineStates.{history_undo}
 use Rattle.causal_world.specs.Pasts.{kind_at, kind_of_action, kind_of_command, kinds_of, with_kind, without_kind}
 use Rattle.causal_world.specs.Scenes.{Scene, IsWorldOf, message_for, exchange_for, event_by, event_if}
 use Rattle.causal_world.specs.Room.{puts_before}
 use Rattle.causal_world.specs.Worlds.{last_event}
-use Rattle.causal_world.proofs.Ones.{one_at_most}
-use Rattle.causal_world.proofs.LineStates.{history_undo}
-use Rattle.causal_world.proofs.Back.{history_without}
+use Rattle.causal_world.proofs.Going.{history_without}
 use Rattle.causal_world.proofs.Standing.{last_made}
 use Rattle.causal_world.proofs.Clocking.{one_longer}
-use Rattle.causal_world.proofs.KindsOf.{kinds_more, kinds_less}
+use Rattle.causal_world.proofs.Records.{kinds_more, kinds_less}
 use Rattle.causal_world.proofs.Calls.{kinds_there}
+
+-- One where two tests hold, and else nothing.
+
+pub one_at_most : (a b : Bool) → (if a && b then 1 else 0) ≤ cond a 1 0
+one_at_most true true = omega arith
+one_at_most true false = omega arith
+one_at_most false b = omega arith
+
+pub one_of_both : (a b : Bool) → a ≡ true → b ≡ true → ◌≡◌ {A = ℕ} (if a && b then 1 else 0) 1
+one_of_both true true e f = refl
+one_of_both true false e f = cc
+one_of_both false b e f = cc
+
+pub none_of_one : (a b : Bool) → (a ≡ false) ⊎ (b ≡ false) → ◌≡◌ {A = ℕ} (if a && b then 1 else 0) 0
+none_of_one true true (inl e) = cc
+none_of_one true true (inr e) = cc
+none_of_one true false e = refl
+none_of_one false b e = refl
 
 -- What the last event took is what its kind says.
 

@@ -1,9 +1,10 @@
--- Clocks of processes as events are added and taken back.
-use Rattle.std.proofs.Common.{◌≡◌, ◌≢◌, ℕ, zero, suc, ◌+◌, ◌-◌, ◌<◌, ◌≤◌, min, cond, List, [], ◌∷◌, length, get_or}
-use Rattle.std.proofs.Common.{take, refl, sym, ap, ◌∙◌, subst, ⊎_elim, arith, count_by}
+-- Clocks of processes as events are added and taken back: the smaller of two consistent cuts is one, so a clock is within the first
+-- events that have it, and later events do not change it.
+use Rattle.std.proofs.Common.{◌≡◌, ◌≢◌, ℕ, zero, suc, ◌+◌, ◌-◌, ◌<◌, ◌≤◌, min, cond, List, [], ◌∷◌, length, get_or, take, refl, sym, ap}
+use Rattle.std.proofs.Common.{◌∙◌, subst, ⊎_elim, arith, count_by}
 use Rattle.std.proofs.lemmas.Bool.{cases_eq, cases_lt, eq-eqb}
-use Rattle.std.proofs.lemmas.List.{length-set, length_push, length-take-le, get_or-set_same, get_or-set_other, take-append-le}
-use Rattle.std.proofs.lemmas.List.{take_all, take-take}
+use Rattle.std.proofs.lemmas.List.{length-set, length_push, length-take-le, get_or-set_same, get_or-set_other, take-append-le, take_all}
+use Rattle.std.proofs.lemmas.List.{take-take}
 use Rattle.std.proofs.lemmas.List.Sums.{sum_by_push}
 use Rattle.dbg_base.specs.Cuts.{IsAtMost}
 use Rattle.dbg_base.specs.Reversal.{without_back}
@@ -15,8 +16,8 @@ use Rattle.cut_core.specs.Tallies.{sent_by, got_by}
 use Rattle.cut_core.specs.ConsistentCuts.{IsConsistentCut, places}
 use Rattle.cut_core.proofs.Cutting.{none_sent}
 use Rattle.cut_core.proofs.Raising.{place_at}
+use Rattle.histories.proofs.Lists.{push_same, push_other, length-push}
 use Rattle.causal_world.specs.Pasts.{with_kind, without_kind, IsWhole, IsClockOf}
-use Rattle.causal_world.proofs.Pushes.{push_same, push_other, length-push}
 
 -- no fewer of more events
 pub sent_grows : (kinds : List (List Kind)) (i j m n : ℕ) → m ≤ n → sent_by kinds i j m ≤ sent_by kinds i j n

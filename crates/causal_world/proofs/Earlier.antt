@@ -1,6 +1,7 @@
--- Worlds that know what others know, and perhaps less.
-use Rattle.std.proofs.Common.{◌≡◌, ◌≢◌, ℕ, zero, suc, ◌-◌, ◌<◌, ◌≤◌, List, [], ◌∷◌, length, get_or, set, take, map, sum}
-use Rattle.std.proofs.Common.{Option, Some, None, refl, sym, ap, ◌∙◌, subst, ⊎_elim, arith}
+-- Worlds that know what others know, and perhaps less: where the history of the one begins with that of the other, the further events are
+-- taken back one after the other, and each leaves an earlier world.
+use Rattle.std.proofs.Common.{◌≡◌, ◌≢◌, ℕ, zero, suc, ◌-◌, ◌<◌, ◌≤◌, List, [], ◌∷◌, length, get_or, set, take, map, sum, Option, Some}
+use Rattle.std.proofs.Common.{None, refl, sym, ap, ◌∙◌, subst, ⊎_elim, arith}
 use Rattle.std.proofs.lemmas.Bool.{cases_eq, cases_lt}
 use Rattle.std.proofs.lemmas.List.{length-set, length-take, take-take, take_all, take-map, get_or-take, get_or-set_same, get_or-set_other}
 use Rattle.std.proofs.lemmas.List.{get_or_past, ext_get_or}
@@ -15,22 +16,20 @@ use Rattle.cut_core.specs.declared.kind.Kind.{Kind}
 use Rattle.cut_core.specs.ConsistentCuts.{places}
 use Rattle.cut_core.proofs.Raising.{place_at as place_of}
 use Rattle.event_rows.specs.EventValues.{EventValue}
+use Rattle.histories.proofs.Ends.{IsWaiting}
+use Rattle.histories.proofs.LineStates.{history_undo, length_cut}
+use Rattle.histories.proofs.Undoing.{waits}
 use Rattle.causal_world.specs.Pasts.{kind_at, kinds_of, row_at}
 use Rattle.causal_world.specs.Scenes.{Scene, IsWorldOf, IsEarlier, unmade}
 use Rattle.causal_world.specs.Worlds.{last_event}
-use Rattle.causal_world.proofs.Back.{goes_back, history_without}
+use Rattle.causal_world.proofs.Going.{goes_back, history_without}
 use Rattle.causal_world.proofs.Behind.{last_kind, sum_without}
 use Rattle.causal_world.proofs.Calls.{kinds_there, events_counted}
 use Rattle.causal_world.proofs.Clocking.{Continues, cut_more}
-use Rattle.causal_world.proofs.Ends.{IsWaiting}
-use Rattle.causal_world.proofs.KindsOf.{kinds_at, length_at, length_kinds, whole_kinds, cut_consistent}
-use Rattle.causal_world.proofs.LineStates.{history_undo, length_cut}
-use Rattle.causal_world.proofs.Remembered.{events_numbered}
+use Rattle.causal_world.proofs.Records.{kinds_at, length_at, length_kinds, whole_kinds, cut_consistent, some_undo}
+use Rattle.causal_world.proofs.Sames.{events_numbered, same_past}
 use Rattle.causal_world.proofs.Reversing.{choices_counted}
-use Rattle.causal_world.proofs.RollingBack.{some_undo}
-use Rattle.causal_world.proofs.Sames.{same_past}
 use Rattle.causal_world.proofs.Standing.{last_made, nothing_to_undo}
-use Rattle.causal_world.proofs.Undone.{waits}
 
 -- Lists.
 

@@ -1,23 +1,64 @@
--- A command that fires makes an event, and leads to where that event leads.
-use Rattle.std.proofs.Common.{◌≡◌, ℕ, ℤ, List, [], ◌∷◌, ◌++◌, set, drop, Option, Some, None, Result, Ok, Err}
-use Rattle.std.proofs.Common.{refl, sym, ap, ◌∙◌, subst}
-use Rattle.std.specs.Prelude.{IfOk}
-use Rattle.std.specs.Prelude.{slice_get}
+-- What a command would do is found out before anything changes: the commands of a process are tried one after the other, and one that
+-- fires makes an event, and leads to where that event leads.
+use Rattle.std.proofs.Common.{◌≡◌, ℕ, zero, suc, ◌+◌, ◌<◌, List, [], ◌∷◌, length, drop, Option, Some, Result, Ok, Err, refl, sym, ap, ◌∙◌}
+use Rattle.std.proofs.Common.{add-one, arith, ℤ, ◌++◌, set, None, subst}
+use Rattle.std.specs.Prelude.{slice_get, IfOk}
 use Rattle.std.specs.Option.{option_map}
+use Rattle.dbg_base.specs.Trees.{Program, Command, process_of, Tree, Action, Local, Sends, Receives}
+use Rattle.dbg_base.specs.Configurations.{Configuration, state_in, channel_of, with_channel}
+use Rattle.dbg_base.specs.Firing.{fire_command, fire_if, fire, truth_of, Effect, assigned, with_set, effect_by, effect_of, after_effect}
+use Rattle.dbg_base.specs.Firing.{complete, receive, proceed, counted}
+use Rattle.dbg_base.specs.Choices.{fires_first, lowest_from, lowest_enabled}
 use Rattle.dbg_base.specs.declared.refusal.Refusal.{Refusal}
 use Rattle.dbg_base.specs.declared.refusal.Refusal.TheVariants.{Fault}
-use Rattle.dbg_base.specs.Trees.{Tree, Action, Local, Sends, Receives, Command}
 use Rattle.dbg_base.specs.Evaluation.{evaluate, number_of}
 use Rattle.dbg_base.specs.LocalStates.{LocalState}
-use Rattle.dbg_base.specs.Configurations.{Configuration, state_in, channel_of, with_channel}
-use Rattle.dbg_base.specs.Firing.{truth_of, Effect, assigned, with_set, effect_by, effect_of, after_effect, complete}
-use Rattle.dbg_base.specs.Firing.{receive, proceed, fire_if, counted}
 use Rattle.event_rows.specs.EventValues.{EventValue}
 use Rattle.event_rows.specs.Settings.{new_values, settings_of}
 use Rattle.event_rows.proofs.Undone.{new_values_of}
+use Rattle.histories.proofs.Moves.{guard_true, completed, effect_sent}
 use Rattle.causal_world.specs.Deciding.{TakesFront, Takes, MakesEvent, DecidesBy, Decides}
 use Rattle.causal_world.specs.Scenes.{message_for, exchange_for, event_by, event_of, event_if, with_done}
-use Rattle.causal_world.proofs.Moves.{guard_true, completed, effect_sent}
+
+-- Commands that are tried one after the other.
+
+drop_there : {A : Type 0} (xs : List A) (k : ℕ) → k < length xs → (x : A) × (slice_get xs k ≡ Some x) × (drop k xs ≡ x ∷ drop (suc k) xs)
+drop_there [] k lt = absurd (omega arith)
+drop_there (x ∷ xs) zero lt = (x, refl, refl)
+drop_there (x ∷ xs) (suc k) lt = drop_there xs k (omega arith)
+
+-- the commands from the k-th on begin with the k-th
+lowest_next : (P : Program) (c : Configuration) (p k : ℕ) → k < length (process_of P p).commands
+    → lowest_from k (drop k (process_of P p).commands) c p
+    ≡ fires_first (fire P c p k) k (lowest_from (k + 1) (drop (k + 1) (process_of P p).commands) c p)
+lowest_next P c p k lt =
+    let there = drop_there (process_of P p).commands k lt in
+    let fired : fire P c p k ≡ fire_command there.0 c p = ap (λ (o : Option Command). fire_if o c p) there.1 in
+    ap (λ (xs : List Command). lowest_from k xs c p) there.2
+    ∙ ap (λ (r : Result Configuration Refusal). fires_first r k (lowest_from (k + 1) (drop (suc k) (process_of P p).commands) c p))
+    (sym fired)
+    ∙ ap (λ (n : ℕ). fires_first (fire P c p k) k (lowest_from (k + 1) (drop n (process_of P p).commands) c p)) (sym (add-one k))
+
+-- no command before the k-th fires
+abbrev pub NoneBefore : Program → Configuration → ℕ → ℕ → Type 0
+NoneBefore P c p k = lowest_from k (drop k (process_of P p).commands) c p ≡ lowest_enabled P c p
+
+-- the k-th fires
+pub first_is : (P : Program) (c d : Configuration) (p k : ℕ) → k < length (process_of P p).commands → NoneBefore P c p k
+    → fire P c p k ≡ Ok d → lowest_enabled P c p ≡ Some k
+first_is P c d p k lt before fires =
+    sym before ∙ lowest_next P c p k lt
+    ∙ ap (λ (r : Result Configuration Refusal). fires_first r k (lowest_from (k + 1) (drop (k + 1) (process_of P p).commands) c p)) fires
+
+-- nor does the k-th
+pub passes_next : (P : Program) (c : Configuration) (p k : ℕ) (refusal : Refusal) → k < length (process_of P p).commands
+    → NoneBefore P c p k → fire P c p k ≡ Err refusal → NoneBefore P c p (k + 1)
+passes_next P c p k refusal lt before fires =
+    sym (lowest_next P c p k lt
+    ∙ ap (λ (r : Result Configuration Refusal). fires_first r k (lowest_from (k + 1) (drop (k + 1) (process_of P p).commands) c p)) fires)
+    ∙ before
+
+-- A command that fires makes an event, and leads to where that event leads.
 
 -- What an effect leads to is what its event leads to.
 

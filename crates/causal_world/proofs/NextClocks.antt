@@ -1,6 +1,7 @@
--- The clock of the next event of a process.
-use Rattle.std.proofs.Common.{◌≡◌, ◌≢◌, ℕ, zero, suc, ◌+◌, ◌-◌, ◌<◌, ◌≤◌, ◌⊎◌, inl, inr, max, cond, true, false, List, [], ◌∷◌}
-use Rattle.std.proofs.Common.{length, get_or, take, count_by, Bool, refl, sym, ap, ◌∙◌, subst, ⊎_elim, arith}
+-- The clock of the next event of a process: count by count the larger of its last clock and of that of its cause, with its own count one
+-- more. It is a consistent cut with the event, and each such cut has at least as much.
+use Rattle.std.proofs.Common.{◌≡◌, ◌≢◌, ℕ, zero, suc, ◌+◌, ◌-◌, ◌<◌, ◌≤◌, ◌⊎◌, inl, inr, max, cond, true, false, List, [], ◌∷◌, length}
+use Rattle.std.proofs.Common.{get_or, take, count_by, Bool, refl, sym, ap, ◌∙◌, subst, ⊎_elim, arith}
 use Rattle.std.proofs.lemmas.Bool.{cases_eq, cases_lt, eq-eqb, ne_eqb}
 use Rattle.std.proofs.lemmas.List.{length-set, get_or-set_same, get_or-set_other}
 use Rattle.std.proofs.lemmas.Option.{get_or_from_slice_get}
@@ -10,11 +11,11 @@ use Rattle.cut_core.specs.declared.kind.Kind.TheVariants as does
 use Rattle.cut_core.specs.Kinds.{sends_to, gets_from}
 use Rattle.cut_core.specs.Tallies.{sent_by, got_by}
 use Rattle.cut_core.specs.ConsistentCuts.{IsConsistentCut}
-use Rattle.clock_rows.specs.Clocks.{join, next_row}
 use Rattle.cut_core.proofs.Counted.{count_before, count_below}
+use Rattle.clock_rows.specs.Clocks.{join, next_row}
 use Rattle.clock_rows.proofs.Joins.{length_join}
+use Rattle.histories.proofs.Lists.{push_other}
 use Rattle.causal_world.specs.Pasts.{with_kind, IsWhole, IsClockOf, IsSender, IsOwnLast, IsCause}
-use Rattle.causal_world.proofs.Pushes.{push_other}
 use Rattle.causal_world.proofs.Clocking.{Continues, continues_more, one_longer, got_more, sent_grows, got_grows, same_sent, cut_more}
 use Rattle.causal_world.proofs.Clocking.{kept_clock}
 

@@ -1,9 +1,10 @@
--- Events taken back in turn, until the places are those of a cut.
-use Rattle.std.proofs.Common.{◌≡◌, ◌≢◌, ℕ, suc, ◌+◌, ◌<◌, ◌≤◌, ◌⊎◌, inr, ◌==◌, ◌&&◌, cond, ℤ, List, [], ◌∷◌, ◌++◌, length}
-use Rattle.std.proofs.Common.{get_or, take, count_by, sum, Some, Ok, Err, refl, sym, ap, ◌∙◌, subst, ⊎_elim, arith}
+-- Events taken back in turn, until the places are those of a cut: on the way the cut stays consistent, and each channel keeps room for
+-- what is still put back. Where no process behind the cut may undo, none is behind it.
+use Rattle.std.proofs.Common.{◌≡◌, ◌≢◌, ℕ, suc, ◌+◌, ◌<◌, ◌≤◌, ◌⊎◌, inr, ◌==◌, ◌&&◌, cond, ℤ, List, [], ◌∷◌, ◌++◌, length, get_or, take}
+use Rattle.std.proofs.Common.{count_by, sum, Some, Ok, Err, refl, sym, ap, ◌∙◌, subst, ⊎_elim, arith}
+use Rattle.std.specs.Prelude.{if◌then◌else◌}
 use Rattle.std.proofs.lemmas.Bool.{cases_eq, eq-eqb, ne_eqb}
 use Rattle.std.proofs.lemmas.List.{length-map, length-set, length-take-le, get_or-set_other, ext_get_or}
-use Rattle.std.specs.Prelude.{if◌then◌else◌}
 use Rattle.dbg_base.specs.declared.refusal.Refusal.{Refusal}
 use Rattle.dbg_base.specs.declared.refusal.Refusal.TheVariants.{NothingToUndo, Consequence}
 use Rattle.dbg_base.specs.Choices.{CannotUndo}
@@ -15,26 +16,24 @@ use Rattle.cut_core.specs.declared.kind.Kind.{Kind}
 use Rattle.cut_core.specs.Kinds.{gets_from}
 use Rattle.cut_core.specs.Tallies.{got_by}
 use Rattle.cut_core.specs.ConsistentCuts.{IsConsistentCut, places}
-use Rattle.fifo_grid.specs.Grids.{GridState, room_at}
 use Rattle.event_rows.specs.declared.exchange.Exchange.{Exchange}
 use Rattle.event_rows.specs.declared.exchange.Exchange.TheVariants.{Nothing, Sent, Took}
 use Rattle.event_rows.specs.EventValues.{EventValue}
+use Rattle.fifo_grid.specs.Grids.{GridState, room_at}
+use Rattle.histories.proofs.Sizes.{IsSquare, square_play}
+use Rattle.histories.proofs.Cutting.{line_at}
 use Rattle.causal_world.specs.declared.rolled.Taken.{Taken}
 use Rattle.causal_world.specs.Pasts.{without_kind}
 use Rattle.causal_world.specs.Scenes.{Scene, IsWorldOf, unmade}
 use Rattle.causal_world.specs.Room.{HasRoomBefore, HasRoomBack, puts_before}
 use Rattle.causal_world.specs.Worlds.{IsSomeWorld, LastExchange, last_event}
 use Rattle.causal_world.specs.Rollings.{unmade_all, AreTakenBack, IsRolledFrom, CanTakeBack, IsNextBack}
-use Rattle.causal_world.proofs.Ones.{one_of_both, none_of_one}
-use Rattle.causal_world.proofs.Squares.{IsSquare, square_play}
+use Rattle.causal_world.proofs.Behind.{one_of_both, none_of_one, LastKind, last_kind, placed, sum_strict, sum_without}
 use Rattle.causal_world.proofs.Clocking.{got_grows, got_more, one_shorter, continues_less, cut_less, same_got}
 use Rattle.causal_world.proofs.Standing.{undoable_by}
-use Rattle.causal_world.proofs.Cutting.{line_at}
-use Rattle.causal_world.proofs.Pasts.{has_events}
-use Rattle.causal_world.proofs.RollingBack.{some_undo}
-use Rattle.causal_world.proofs.KindsOf.{cut_consistent}
+use Rattle.causal_world.proofs.ClockRows.{has_events}
+use Rattle.causal_world.proofs.Records.{some_undo, cut_consistent}
 use Rattle.causal_world.proofs.Calls.{kinds_there, events_counted, can_take}
-use Rattle.causal_world.proofs.Behind.{LastKind, last_kind, placed, sum_strict, sum_without}
 
 -- Lists of events that were taken back.
 

@@ -1,6 +1,7 @@
--- What a world of a program has: the sizes of its lists, and what the events of each process end with.
-use Rattle.std.proofs.Common.{◌≡◌, ◌≢◌, ℕ, zero, suc, ◌-◌, ◌<◌, ◌≤◌, ◌⊎◌, ℤ, List, [], ◌∷◌, ◌++◌, length, get_or, take, replicate}
-use Rattle.std.proofs.Common.{Option, Some, None, Result, Ok, Err, refl, sym, ap, ◌∙◌, subst, ⊎_elim, inl, inr, arith}
+-- What a world of a program has: the sizes of its lists, and what the events of each process end with. So its last event may be taken
+-- back where its message is on its channel, and where not, the receiver needs it.
+use Rattle.std.proofs.Common.{◌≡◌, ◌≢◌, ℕ, zero, suc, ◌-◌, ◌<◌, ◌≤◌, ◌⊎◌, ℤ, List, [], ◌∷◌, ◌++◌, length, get_or, take, replicate, Option}
+use Rattle.std.proofs.Common.{Some, None, Result, Ok, Err, refl, sym, ap, ◌∙◌, subst, ⊎_elim, inl, inr, arith}
 use Rattle.std.specs.Prelude.{slice_get}
 use Rattle.std.proofs.lemmas.Bool.{cases_eq}
 use Rattle.std.proofs.lemmas.List.{length-replicate, length-map, length-take-le, length_push, get_or_past, get_or-set_same}
@@ -20,21 +21,19 @@ use Rattle.dbg_base.specs.Choices.{IsNeeded, last_target}
 use Rattle.event_rows.specs.declared.exchange.Exchange.{Exchange}
 use Rattle.event_rows.specs.declared.exchange.Exchange.TheVariants.{Nothing, Sent, Took}
 use Rattle.event_rows.specs.EventValues.{EventValue}
-use Rattle.causal_world.specs.Scenes.{Scene, message_for, exchange_for, event_if, event_at, with_event, events_from, events_of}
-use Rattle.causal_world.specs.Scenes.{IsWorldOf, unmade}
+use Rattle.histories.proofs.Joining.{first_step, length-choices_of}
+use Rattle.histories.proofs.Lists.{within_or_past, push_same, push_other, none_in_replicate}
+use Rattle.histories.proofs.Sizes.{square_play}
+use Rattle.histories.proofs.Undoing.{message_left}
+use Rattle.histories.proofs.LineStates.{events_at, history_undo, length_cut}
+use Rattle.histories.proofs.Moves.{effect_sent}
+use Rattle.histories.proofs.Ends.{some_left}
+use Rattle.causal_world.specs.Scenes.{Scene, message_for, exchange_for, event_if, event_at, with_event, events_from, events_of, IsWorldOf}
+use Rattle.causal_world.specs.Scenes.{unmade}
 use Rattle.causal_world.specs.Worlds.{last_event, NotReceived, Received, LastExchange, Undoable}
-use Rattle.causal_world.proofs.Bubbling.{first_step}
-use Rattle.causal_world.proofs.Grids.{within_or_past}
-use Rattle.causal_world.proofs.Pushes.{push_same, push_other, none_in_replicate}
-use Rattle.causal_world.proofs.Histories.{length-choices_of}
-use Rattle.causal_world.proofs.Squares.{square_play}
-use Rattle.causal_world.proofs.Undone.{message_left}
-use Rattle.causal_world.proofs.LineStates.{events_at, history_undo, length_cut}
-use Rattle.causal_world.proofs.Moves.{effect_sent}
 use Rattle.causal_world.proofs.Happenings.{done_by, makes}
 use Rattle.causal_world.proofs.Records.{events_step}
-use Rattle.causal_world.proofs.Lasts.{some_left}
-use Rattle.causal_world.proofs.Back.{sized, length_events, length_with, history_without, get_last, goes_back}
+use Rattle.causal_world.proofs.Going.{sized, length_events, length_with, history_without, get_last, goes_back}
 
 -- Sizes.
 

@@ -1,15 +1,14 @@
 //! What a command would do, found out before anything changes.
 
 ghost use Rattle.std.specs.Prelude.{◌≡◌, ◌+◌, ◌<◌, length, IfOk, Some, slice_index_or};
-ghost use Rattle.dbg_base.specs.Trees.{process_of};
-ghost use Rattle.dbg_base.specs.Configurations.{Configuration, state_in, channel_of};
+ghost use Rattle.dbg_base.specs.Configurations.{Configuration};
 ghost use Rattle.dbg_base.specs.Firing.{fire, fire_command, proceed};
 ghost use Rattle.proc_lang.specs.Programs.{program_of};
 ghost use Rattle.proc_lang.specs.ProcessTrees.{action_tree, command_tree};
 ghost use Rattle.causal_world.specs.Scenes.{exchange_for, event_if, event_at};
 ghost use Rattle.causal_world.specs.Deciding.{Takes, MakesEvent, Decides, Finds};
 
-use dbg_base::{Choice, Direction, Pid, Refusal};
+use dbg_base::{Choice, Direction, Pid, Refusal, count_of};
 use event_rows::{Event, Exchange};
 use fifo_grid::Grid;
 use local_eval::{Env, EvalError, effect, guard};
@@ -33,12 +32,7 @@ fn taken(action: &Action, envs: &[Env], grid: &Grid, pid: Pid) -> Result<Option<
 fn one_more(counts: &[u32], other: Pid) -> Result<u32, AllocError>
     ensures { IfOk result (λ count. count ≡ slice_index_or counts.now other.0 0 + 1) }
 {
-    counts
-        .get(other.0 as usize)
-        .copied()
-        .unwrap_or(0)
-        .checked_add(1)
-        .ok_or(AllocError)
+    count_of(counts, other).checked_add(1).ok_or(AllocError)
 }
 
 // What the action sends or takes, with how many messages that makes.

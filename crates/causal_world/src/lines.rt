@@ -5,7 +5,7 @@ ghost use Rattle.dbg_base.specs.declared.limits.TheConstants.{EVENTS};
 ghost use Rattle.dbg_base.specs.SystemStates.{line_of, place_at, redo_line, last_choice, after_choice, after_redo, after_undo};
 ghost use Rattle.causal_world.specs.Scenes.{restored};
 
-use dbg_base::{Choice, Pid};
+use dbg_base::{Choice, Pid, count_of};
 use std::alloc::{AllocError, Global};
 use std::marker::Model;
 
@@ -91,7 +91,7 @@ impl Lines {
     pub(crate) fn place(&self, pid: Pid) -> u32
         ensures { result ≡ place_at self.now pid.0 }
     {
-        self.places.get(pid.0 as usize).copied().unwrap_or(0)
+        count_of(&self.places, pid)
     }
 
     /// The places of all processes. It is refused only where memory runs out.
@@ -131,6 +131,7 @@ impl Lines {
     }
 
     /// The line is cut at its place, the choice is appended, and the place moves on. Where memory runs out nothing changes.
+    #[tactic(auto, using(dbg_base::proofs::Places::one_place))]
     pub(crate) fn append(&mut self, pid: Pid, choice: Choice) -> Result<(), AllocError>
         requires line { pid.0 < length self.old.lines }
         requires place { pid.0 < length self.old.places }
@@ -166,6 +167,7 @@ impl Lines {
     }
 
     /// The place moves back, and the choices from there on are these again. Where memory runs out nothing changes.
+    #[tactic(auto, using(dbg_base::proofs::Places::one_place))]
     pub(crate) fn restore(&mut self, pid: Pid, choices: &[u32]) -> Result<(), AllocError>
         requires line { pid.0 < length self.old.lines }
         requires place { pid.0 < length self.old.places }

@@ -1,7 +1,7 @@
 //! What is kept of the events of each process.
 
 ghost use Rattle.std.specs.Prelude.{◌≡◌, ◌≢◌, ℕ, ◌-◌, ◌<◌, ◌≤◌, ◌++◌, [], length, replicate, map, IfOk, OnOk, IsSome, ◌↔◌, Some};
-ghost use Rattle.std.specs.Prelude.{slice_get, slice_index, slice_index_or, slice_set};
+ghost use Rattle.std.specs.Prelude.{slice_get, slice_index_or};
 ghost use Rattle.std.specs.Option.{option_map, option_to_list};
 ghost use Rattle.dbg_base.specs.declared.limits.TheConstants.{EVENTS};
 ghost use Rattle.dbg_base.specs.LocalStates.{start_among};

@@ -1,8 +1,8 @@
 //! Events taken back in turn, each where nothing that is left depends on it.
 
-ghost use Rattle.std.specs.Prelude.{◌≡◌, ℕ, ◌+◌, ◌<◌, ◌≤◌, ◌++◌, ◌⊎◌, [], length, sum, IfOk, OnOk, IfSome, MatchOption, Some};
+ghost use Rattle.std.specs.Prelude.{◌≡◌, ℕ, ◌+◌, ◌<◌, ◌≤◌, ◌⊎◌, [], length, sum, IfOk, OnOk, IfSome, MatchOption, Some};
 ghost use Rattle.std.specs.Prelude.{slice_index, slice_index_or, IsTrue, false};
-ghost use Rattle.std.specs.Vec.{vec_len, vec_capacity};
+ghost use Rattle.std.specs.Vec.{vec_capacity};
 ghost use Rattle.dbg_base.specs.Trees as tree;
 ghost use Rattle.dbg_base.specs.SystemStates.{SystemState, history_of, place_at, after_undo, after_rollback};
 ghost use Rattle.dbg_base.specs.Reversal.{MayUndo};
@@ -20,18 +20,11 @@ use crate::lines::Lines;
 use crate::past::Past;
 use crate::rolled::Taken;
 use cut_core::Tally;
-use dbg_base::{Pid, Refusal};
+use dbg_base::{Pid, Refusal, count_of};
 use event_rows::{Event, Exchange};
 use fifo_grid::Grid;
 use local_eval::Env;
 use std::alloc::AllocError;
-
-/// The count of this process in a cut, 0 where it is not there.
-pub(crate) fn count_of(cut: &[u32], pid: Pid) -> u32
-    ensures { result ≡ slice_index cut.now pid.0 }
-{
-    cut.get(pid.0 as usize).copied().unwrap_or(0)
-}
 
 /// How many events there are behind the cut. Where that is more than memory could hold, it is refused as such.
 pub(crate) fn behind(tally: &Tally, cut: &[u32]) -> Result<usize, AllocError>

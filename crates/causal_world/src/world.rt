@@ -6,33 +6,31 @@ ghost use Rattle.std.specs.Option.{option_map};
 ghost use Rattle.dbg_base.specs.declared.limits.TheConstants.{EVENTS};
 ghost use Rattle.dbg_base.specs.declared.refusal.Refusal.TheVariants.{Memory};
 ghost use Rattle.dbg_base.specs.Trees as tree;
-ghost use Rattle.dbg_base.specs.Configurations.{start_of, values_of, channel_of};
+ghost use Rattle.dbg_base.specs.Configurations.{values_of, channel_of};
 ghost use Rattle.dbg_base.specs.SystemStates.{opening_state, line_of, place_at, redo_line, history_of, last_choice};
-ghost use Rattle.dbg_base.specs.SystemStates.{after_choice, after_redo, after_undo, after_rollback};
+ghost use Rattle.dbg_base.specs.SystemStates.{after_choice, after_redo};
 ghost use Rattle.dbg_base.specs.Clocks.{IsClock};
-ghost use Rattle.dbg_base.specs.Choices.{step_choice, next_choice, redo_choice, CannotUndo};
-ghost use Rattle.dbg_base.specs.Reversal.{MayUndo, IsRollback};
+ghost use Rattle.dbg_base.specs.Choices.{step_choice, next_choice, redo_choice};
+ghost use Rattle.dbg_base.specs.Reversal.{IsRollback};
 ghost use Rattle.cut_core.specs.ConsistentCuts.{IsConsistentCut};
 ghost use Rattle.proc_lang.specs.Programs.{program_of};
 ghost use Rattle.causal_world.specs.Pasts.{AreClocksOf, row_at};
-ghost use Rattle.causal_world.specs.Scenes.{IsWorldOf, made, unmade};
-ghost use Rattle.causal_world.specs.Worlds.{CanMake, IsSomeWorld, Undoable};
+ghost use Rattle.causal_world.specs.Scenes.{IsWorldOf, made};
+ghost use Rattle.causal_world.specs.Worlds.{CanMake, IsSomeWorld};
 ghost use Rattle.dbg_base.specs.LocalStates.{no_state};
 ghost use Rattle.event_rows.specs.Events.{past_of};
 
 mod backward;
 mod forth;
 
-use crate::channels::{make_room_before, received};
 use crate::deciding::{lowest, try_choice};
-use crate::events::{happen, make_room, revert};
+use crate::events::{happen, make_room};
 use crate::lines::Lines;
 use crate::past::Past;
 use crate::rolled::Cutoff;
-use crate::rolling::count_of;
 use cut_core::{Tally, greatest_below};
 use dbg_base::limits::EVENTS;
-use dbg_base::{Choice, Cut, Pid, Refusal, Sequence};
+use dbg_base::{Choice, Cut, Pid, Refusal, Sequence, count_of};
 use event_rows::{Event, Rows};
 use fifo_grid::Grid;
 use local_eval::Env;
@@ -231,7 +229,7 @@ impl World {
     }
 
     /// The place of a process in its line: how many events it has. It is 0 where there is no such process. It takes no memory, as all
-    /// readers but `vars` and `channel` do.
+    /// readers do but `vars`, `channel`, `clock` and `rollback_cut`.
     pub fn place(&self, pid: Pid) -> u32
         ensures { result ≡ place_at self.now.state pid.0 }
     {

@@ -3,11 +3,11 @@ use Rattle.std.proofs.Common.{◌≡◌, ℕ, ◌+◌, ◌-◌, ◌*◌, ◌/◌
 use Rattle.std.proofs.Common.{sym, ap, ◌∙◌, arith, length-drop, add-one, subst}
 use Rattle.std.proofs.lemmas.List.{take_all, length-set, length-replicate}
 use Rattle.std.proofs.Math.Nat.{div-eq-sub-div, div-mul-le_self, mul-le-mul_left, mul-div_cancel}
-use Rattle.clock_rows.specs.Clocks.{pieces, join, next_row, last_row, IsWhole}
+use Rattle.clock_rows.specs.Clocks.{pieces, join, next_row, last_row, AreWholeRows}
 use Rattle.clock_rows.proofs.Pieces.{length_pieces, pieces_more, pieces_less, piece_at}
 use Rattle.clock_rows.proofs.Joins.{length_join}
 
-module _ (n len : ℕ) (rows : IsWhole n len) where
+module _ (n len : ℕ) (rows : AreWholeRows n len) where
   pub count_less : (len - n) / n + 1 ≡ len / n
   count_less = sym (div-eq-sub-div rows.wide rows.has_first)
 
@@ -31,7 +31,7 @@ module _ (n len : ℕ) (rows : IsWhole n len) where
       let all : len ≡ len / n * n = rows.whole in
       omega arith
 
-  pub whole_more : IsWhole n (len + n)
+  pub whole_more : AreWholeRows n (len + n)
   whole_more = record {
     wide = rows.wide;
     has_first = omega arith;
@@ -42,7 +42,7 @@ module _ (n len : ℕ) (rows : IsWhole n len) where
         omega arith;
   }
 
-  pub whole_less : 1 < len / n → IsWhole n (len - n)
+  pub whole_less : 1 < len / n → AreWholeRows n (len - n)
   whole_less lt = record {
     wide = rows.wide;
     has_first = let two : 1 * n + n ≤ len = within 1 lt in omega arith;
@@ -92,10 +92,10 @@ module _ (n len : ℕ) (rows : IsWhole n len) where
     left : after ≡ len - n
     left = omega (arith, rows.has_first)
 
-    pub whole_popped : (list : List ℕ) → 1 < length (pieces n (len / n) list) → IsWhole n after
+    pub whole_popped : (list : List ℕ) → 1 < length (pieces n (len / n) list) → AreWholeRows n after
     whole_popped list many =
         let two : 1 < len / n = omega (arith, length_pieces n (len / n) list) in
-        subst (λ (k : ℕ). IsWhole n k) (sym left) (whole_less two)
+        subst (λ (k : ℕ). AreWholeRows n k) (sym left) (whole_less two)
 
     pub rows_popped : (list kept : List ℕ) → kept ≡ take (m - n) list
         → pieces n (after / n) kept ≡ take (length (pieces n (len / n) list) - 1) (pieces n (len / n) list)
@@ -108,10 +108,10 @@ module _ (n len : ℕ) (rows : IsWhole n len) where
     pub last_from : last_row (pieces n (len / n) list) ≡ drop (m - n) list
     last_from = last_is list long ∙ ap (λ (k : ℕ). drop (k - n) list) (sym same)
 
-    pub whole_pushed : after ≡ len + length joined → IsWhole n after
+    pub whole_pushed : after ≡ len + length joined → AreWholeRows n after
     whole_pushed more =
         let by_n : len + n ≡ after = omega arith in
-        subst (λ (k : ℕ). IsWhole n k) by_n whole_more
+        subst (λ (k : ℕ). AreWholeRows n k) by_n whole_more
 
     pub rows_pushed : (kept : List ℕ) → after ≡ len + length joined → kept ≡ list ++ next_row own (drop (m - n) list) joined
         → pieces n (after / n) kept ≡ pieces n (len / n) list ++ next_row own (last_row (pieces n (len / n) list)) joined ∷ []

@@ -32,7 +32,7 @@ pieces n zero list = []
 pieces n (suc k) list = take n list ∷ pieces n k (drop n list)
 
 -- so many counts are whole rows, at least one, of so many counts each
-pub record IsWhole (width len : ℕ) : Type 0 where
+pub record AreWholeRows (width len : ℕ) : Type 0 where
   pub wide : 0 < width
   pub has_first : width ≤ len
   pub whole : len ≡ len / width * width

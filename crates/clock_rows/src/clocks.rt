@@ -68,6 +68,7 @@ impl Clocks {
     }
 
     /// The n-th row of the process, from 0, where both are there. It takes no memory.
+    #[tactic(auto, using(crate::proofs::Widths::one_line))]
     pub fn row(&self, pid: Pid, n: u32) -> &[u32]
         requires there { pid.0 < length self.now.rows }
         requires row { n < length (slice_index_or self.now.rows pid.0 []) }
@@ -80,6 +81,7 @@ impl Clocks {
 
     /// Makes room for so many more rows of the process, and does nothing where it is not there. No room is lost, and no row changes,
     /// also where it is refused, which is only where memory runs out.
+    #[tactic(auto, using(crate::proofs::Widths::one_line))]
     pub fn reserve(&mut self, pid: Pid, more: usize) -> Result<(), AllocError>
         ensures rows { self.new.rows ≡ self.old.rows }
         ensures grows { (a : ℕ) → slice_index_or self.old.room a 0 ≤ slice_index_or self.new.room a 0 }
@@ -94,6 +96,7 @@ impl Clocks {
 
     /// The row of the process's next event goes to the end of its rows, where there is room: component by component the larger of its
     /// last row and the given one, which has one count for each process, with the process's own count one more. It takes no memory.
+    #[tactic(auto, using(crate::proofs::Widths::one_line))]
     pub fn push(&mut self, pid: Pid, joined: &[u32])
         requires room { 0 < slice_index_or self.old.room pid.0 0 }
         requires len { length joined.now ≡ length self.old.rows }
@@ -107,6 +110,7 @@ impl Clocks {
     }
 
     /// As `push` does with the n-th row of the source, which may be the process itself.
+    #[tactic(auto, using(crate::proofs::Widths::one_line))]
     pub fn push_joined(&mut self, pid: Pid, source: Pid, n: u32)
         requires room { 0 < slice_index_or self.old.room pid.0 0 }
         requires there { source.0 < length self.old.rows }
@@ -125,6 +129,7 @@ impl Clocks {
     }
 
     /// The last row of the process is taken off, where it has more than its first. No room is lost, and it takes no memory.
+    #[tactic(auto, using(crate::proofs::Widths::one_line))]
     pub fn pop(&mut self, pid: Pid)
         requires { 1 < length (slice_index_or self.old.rows pid.0 []) }
         ensures rows { self.new.rows ≡ slice_set self.old.rows pid.0

@@ -17,7 +17,7 @@ pub(crate) struct Line {
 impl Model for Line {
     ghost use Rattle.std.specs.Prelude.{◌-◌, ◌/◌};
     ghost use Rattle.std.specs.Vec.{vec_len, vec_capacity};
-    ghost use Rattle.clock_rows.specs.Clocks.{LineState, IsWhole, pieces};
+    ghost use Rattle.clock_rows.specs.Clocks.{LineState, AreWholeRows, pieces};
 
     ghost Value = { LineState };
 
@@ -27,7 +27,7 @@ impl Model for Line {
       room = (vec_capacity line.counts - vec_len line.counts) / line.width;
     } };
 
-    ghost invariant = { λ line. IsWhole line.width (vec_len line.counts) };
+    ghost invariant = { λ line. AreWholeRows line.width (vec_len line.counts) };
 }
 
 // Behind the counts goes the join of those from `start` on and the given ones, with the count at `own` one more.

@@ -7,9 +7,8 @@ use Rattle.std.proofs.lemmas.Bool.Decides.{nat_tests}
 use Rattle.std.proofs.lemmas.List.{length-take, length-drop}
 use Rattle.std.proofs.lemmas.List.Sums.{prefix_len-le-length}
 use Rattle.dbg_base.specs.CommandLines.{Part, is_blank, without_blanks, word_front, next_word, after_word, closed_front, predicate_front}
-use Rattle.dbg_base.specs.CommandLines.{is_apart, name_word, with_part, part_then, part_at, parts_within}
-use Rattle.command_line.specs.Lines.{parts_of}
-use Rattle.command_line.proofs.Words.{is_inner, word_length_is, word_taken}
+use Rattle.dbg_base.specs.CommandLines.{is_apart, name_word, with_part, part_then, part_at, parts_within, parts_in}
+use Rattle.command_line.proofs.FirstWords.{is_inner, word_length_is, word_taken}
 
 -- these bytes stand at the front of those
 abbrev IsFront : List ℕ → List ℕ → Type 0
@@ -106,7 +105,7 @@ parts_more (suc n) (suc m) bytes low high =
     (parts_more n m rest (omega (arith, less)) (omega (arith, less))))
 
 -- there is a word
-pub goes_on : (n : ℕ) (x y : Option (List Part)) → 0 < n → cond (nat_le n 0) x y ≡ y
+goes_on : (n : ℕ) (x y : Option (List Part)) → 0 < n → cond (nat_le n 0) x y ≡ y
 goes_on zero x y some = absurd (omega arith)
 goes_on (suc n) x y some =
     let e : nat_le (suc n) 0 ≡ false = grind (arith, nat_tests) in
@@ -123,7 +122,7 @@ pub has_part : (bytes name text rest : List ℕ) → 0 < length (next_word bytes
     → text ≡ predicate_front (without_blanks (after_word bytes))
     → rest ≡ drop (length (predicate_front (without_blanks (after_word bytes)))) (without_blanks (after_word bytes))
     → 0 < length text → is_apart rest ≡ true
-    → (length rest < length bytes) × (parts_of bytes ≡ with_part (name, text) (parts_of rest))
+    → (length rest < length bytes) × (parts_in bytes ≡ with_part (name, text) (parts_in rest))
 has_part bytes name text rest word named text_is rest_is some apart =
     let begun = without_blanks (after_word bytes) in
     let front = predicate_front begun in
@@ -139,9 +138,3 @@ has_part bytes name text rest word named text_is rest_is some apart =
           ∙ ap (with_part (name, text))
           (parts_more (length bytes) (suc (length rest)) rest (omega (arith, less, ap length rest_is)) (omega arith)),
     )
-
--- the parts behind a name
-pub parts_behind : (bytes : List ℕ) → 0 < length (next_word bytes)
-    → parts_within (length bytes) (after_word bytes) ≡ parts_of (after_word bytes)
-parts_behind bytes some =
-    parts_more (length bytes) (suc (length (after_word bytes))) (after_word bytes) (behind_shorter bytes some) (omega arith)

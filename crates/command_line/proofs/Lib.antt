@@ -1,8 +1,7 @@
-pub mod Words
+pub mod FirstWords
 pub mod Digits
 pub mod Places
 pub mod BreakLines
 pub mod PartsRead
-pub mod BreakAsked
-pub mod LineCalls
-pub mod WholeLines
+pub mod Asked
+pub mod LineRefusals

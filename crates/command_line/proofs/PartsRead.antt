@@ -10,9 +10,9 @@ use Rattle.dbg_base.specs.Calls.{conjunct_of}
 use Rattle.dbg_base.specs.Checks.{ReadsPredicate}
 use Rattle.dbg_base.specs.Predicates.{Conjunct}
 use Rattle.dbg_base.specs.Trees.{Tree, Program}
-use Rattle.dbg_base.specs.CommandLines.{Part, named_process, with_part, map_ok}
+use Rattle.dbg_base.specs.CommandLines.{Part, named_process, with_part, parts_in, map_ok}
 use Rattle.dbg_base.specs.Requests.{ReadsPart, ReadsParts, with_conjunct}
-use Rattle.command_line.specs.Lines.{parts_of, stands_in, ReadsNamed}
+use Rattle.command_line.specs.Lines.{stands_in, ReadsNamed}
 
 abbrev IsOutcome : Result Conjunct Refusal → Result Conjunct Refusal → Type 0
 IsOutcome made known = made ≡ known
@@ -53,8 +53,8 @@ pub record Leaves (P : Program) (parts left : List Part) (before : List ℕ) (ma
 pub record ReadSoFar (P : Program) (all rest : List ℕ) (made : List conjunct.Conjunct) : Type 0 where
   pub before : List ℕ
   pub same : (p : ℕ) → list_any (λ q. eqb q p) before ≡ stands_in made p
-  pub leaves : (parts : List Part) → parts_of all ≡ Some parts
-      → (left : List Part) × (parts_of rest ≡ Some left) × Leaves P parts left before (map conjunct_of made)
+  pub leaves : (parts : List Part) → parts_in all ≡ Some parts
+      → (left : List Part) × (parts_in rest ≡ Some left) × Leaves P parts left before (map conjunct_of made)
 
 behind_nothing : (others : Result (List Conjunct) Refusal) → others ≡ behind [] others
 behind_nothing (Ok others) = refl
@@ -154,9 +154,9 @@ behind_more made c (Ok others) = ap (λ (all : List Conjunct). Ok all) (map_more
 behind_more made c (Err refusal) = refl
 
 module _ (P : Program) (all rest : List ℕ) (made : List conjunct.Conjunct) (so_far : ReadSoFar P all rest made) where
-  module _ (parts : List Part) (whole : parts_of all ≡ Some parts) where
+  module _ (parts : List Part) (whole : parts_in all ≡ Some parts) where
     -- no part is left
-    pub all_read : parts_of rest ≡ Some [] → ReadsParts P [] parts (Ok (map conjunct_of made))
+    pub all_read : parts_in rest ≡ Some [] → ReadsParts P [] parts (Ok (map conjunct_of made))
     all_read e =
         let left = so_far.leaves parts whole in
         let nothing : [] ≡ left.0 = cc in
@@ -164,21 +164,21 @@ module _ (P : Program) (all rest : List ℕ) (made : List conjunct.Conjunct) (so
         (left.2.onward (Ok []) (subst (λ (l : List Part). ReadsParts P so_far.before l (Ok [])) nothing refl))
 
     -- what is left has its form
-    pub has_form : {A : Type 0} → parts_of rest ≡ None → A
+    pub has_form : {A : Type 0} → parts_in rest ≡ None → A
     has_form e = let left = so_far.leaves parts whole in absurd (let no_parts : None ≡ Some left.0 = sym e ∙ left.1 in cc)
 
     -- the next part is refused
-    refused_next : (name text more : List ℕ) (refusal : Refusal) → parts_of rest ≡ with_part (name, text) (parts_of more)
+    refused_next : (name text more : List ℕ) (refusal : Refusal) → parts_in rest ≡ with_part (name, text) (parts_in more)
         → ReadsNamed P (stands_in made) (named_process P name) text (Err refusal) → ReadsParts P [] parts (Err refusal)
     refused_next name text more refusal e h =
         let left = so_far.leaves parts whole in
-        let two = splits (name, text) (parts_of more) left.0 (sym e ∙ left.1) in
+        let two = splits (name, text) (parts_in more) left.0 (sym e ∙ left.1) in
         left.2.onward (Err refusal)
         (subst (λ (l : List Part). ReadsParts P so_far.before l (Err refusal)) two.2
         (refuses_part P so_far.before (stands_in made) so_far.same _ (named_process P name) text refusal h))
 
   -- the next part was read
-  read_next : (name text more : List ℕ) (c : conjunct.Conjunct) → parts_of rest ≡ with_part (name, text) (parts_of more)
+  read_next : (name text more : List ℕ) (c : conjunct.Conjunct) → parts_in rest ≡ with_part (name, text) (parts_in more)
       → ReadsNamed P (stands_in made) (named_process P name) text (Ok (conjunct_of c)) → ReadSoFar P all more (made ++ c ∷ [])
   read_next name text more c e h =
       let is = accepts P (stands_in made) (named_process P name) text (conjunct_of c) h in
@@ -188,7 +188,7 @@ module _ (P : Program) (all rest : List ℕ) (made : List conjunct.Conjunct) (so
         same = λ p. ap (λ (b : Bool). eqb c.pid.0 p || b) (so_far.same p) ∙ sym (stands_more made c p);
         leaves = λ parts whole.
             let left = so_far.leaves parts whole in
-            let two = splits (name, text) (parts_of more) left.0 (sym e ∙ left.1) in (
+            let two = splits (name, text) (parts_in more) left.0 (sym e ∙ left.1) in (
               two.0,
               two.1,
               record {
@@ -210,7 +210,7 @@ module _ (P : Program) (all rest : List ℕ) (made : List conjunct.Conjunct) (so
       }
 
   module _ (name text more : List ℕ) (slice : List conjunct.Conjunct) (is_slice : slice ≡ made)
-      (e : parts_of rest ≡ with_part (name, text) (parts_of more)) where
+      (e : parts_in rest ≡ with_part (name, text) (parts_in more)) where
     -- the same of a slice, where memory may run out
     pub read_more : (c : conjunct.Conjunct) (items : List conjunct.Conjunct) → items ≡ made ++ c ∷ []
         → ReadsNamed P (stands_in slice) (named_process P name) text (Ok (conjunct_of c))
@@ -222,7 +222,7 @@ module _ (P : Program) (all rest : List ℕ) (made : List conjunct.Conjunct) (so
     read_more c items pushed (inr no_memory) = cc
 
     pub refused_more : (refusal : Refusal) → ReadsNamed P (stands_in slice) (named_process P name) text (Err refusal)
-        ⊎ (◌≡◌ {A = Result conjunct.Conjunct Refusal} (Err refusal) (Err Memory)) → (parts : List Part) → parts_of all ≡ Some parts
+        ⊎ (◌≡◌ {A = Result conjunct.Conjunct Refusal} (Err refusal) (Err Memory)) → (parts : List Part) → parts_in all ≡ Some parts
         → ReadsParts P [] parts (Err refusal) ⊎ (◌≡◌ {A = Result (List conjunct.Conjunct) Refusal} (Err refusal) (Err Memory))
     refused_more refusal (inl h) parts whole =
         inl (refused_next parts whole name text more refusal e (subst (λ (m : List conjunct.Conjunct).

@@ -1,54 +1,51 @@
 -- Command lines of the code, as the model says them.
-use Rattle.std.specs.Prelude.{◌≡◌, ◌⊎◌, ℕ, suc, Bool, ◌==◌, List, length, Option, Some, Result, Ok, Err}
+use Rattle.std.specs.Prelude.{◌≡◌, ◌⊎◌, ℕ, Bool, true, false, ◌==◌, List, ◌∷◌, Option, Some, Result, Ok, Err, codes}
 use Rattle.std.specs.Bool.{MatchBool}
 use Rattle.std.specs.List.{list_any}
 use Rattle.std.specs.Option.{option_map}
 use Rattle.dbg_base.specs.declared.call.Call as call
 use Rattle.dbg_base.specs.declared.call.Conjunct as conjunct
-use Rattle.dbg_base.specs.declared.call.Plan.TheVariants as plans
-use Rattle.dbg_base.specs.declared.call.Call.TheVariants as calls
 use Rattle.dbg_base.specs.declared.fault.ProgFault.{ProgFault}
 use Rattle.dbg_base.specs.declared.refusal.Refusal.{Refusal}
-use Rattle.dbg_base.specs.declared.refusal.Refusal.TheVariants.{BadPredicate, Memory}
-use Rattle.dbg_base.specs.Calls.{Call, call_of}
+use Rattle.dbg_base.specs.declared.refusal.Refusal.TheVariants.{BadLine, UnknownProcess, BadPredicate, Memory}
+use Rattle.dbg_base.specs.Calls.{call_of}
 use Rattle.dbg_base.specs.Checks.{ReadsPredicate, IsPredicateFault}
 use Rattle.dbg_base.specs.Predicates.{Conjunct}
 use Rattle.dbg_base.specs.Trees.{Tree, Program}
-use Rattle.dbg_base.specs.CommandLines.{Request, Part, BreakLine, parts_within, map_ok}
-use Rattle.dbg_base.specs.Requests.{AsksBreak}
-use Rattle.dbg_base.specs.Shell.{AsksOrRefuses}
+use Rattle.dbg_base.specs.CommandLines.{Request, Part, map_ok, name_word, next_word, after_word, parts_in}
+use Rattle.dbg_base.specs.Requests.{AsksBreak, AsksCall, AsksOrRefuses, IsBreakLine}
 use Rattle.command_line.specs.declared.line.Line.{Line}
 
--- the call of the code, where there is one
-abbrev pub called : Result call.Call Refusal → Result (Option Call) Refusal
-called = map_ok call_of
-
 -- a line of the code, with its call as the model's
-abbrev pub asked : Line → ℕ × Option Call
-asked line = (line.seat, call_of line.call)
+abbrev pub requested : Line → Request
+requested line = record { seat = line.seat; call = call_of line.call }
 
-abbrev pub requested : Request → ℕ × Option Call
-requested request = (request.seat, Some request.call)
+-- the line asks for this
+abbrev pub IsParsed : Program → List ℕ → Result (Option Line) Refusal → Type 0
+IsParsed P line result = AsksOrRefuses P line (map_ok (option_map requested) result)
 
--- the line that sets a breakpoint of these conjuncts
-abbrev pub break_asked : ℕ → List ℕ → List conjunct.Conjunct → Option Line
-break_asked seat name conjuncts = Some (record { seat = seat; call = calls.Give (plans.Break name conjuncts) })
+-- Why the line may be refused: its shape, a process, a predicate, and want of memory where it sets a breakpoint.
+abbrev pub IsLineRefusal : List ℕ → Refusal → Type 0
+IsLineRefusal line BadLine = Unit {0}
+IsLineRefusal line UnknownProcess = Unit {0}
+IsLineRefusal line BadPredicate = Unit {0}
+IsLineRefusal line Memory = IsBreakLine line
+IsLineRefusal line refusal = ⊥
 
--- the line of the code is what the line of the model asks for
-pub record IsParsed (P : Program) (line : List ℕ) (result : Result (Option Line) Refusal) : Type 0 where
-  pub known : Result (Option Request) Refusal
-  pub asks : AsksOrRefuses P line known
-  pub same : map_ok (option_map asked) result ≡ map_ok (option_map requested) known
+-- the command asks for this, or it sets a breakpoint and is refused for want of memory
+abbrev pub IsCommandParsed : Program → List ℕ → Result call.Call Refusal → Type 0
+IsCommandParsed P bytes result =
+    AsksCall P bytes (map_ok call_of result) ⊎ ((next_word bytes ≡ codes "break") × (result ≡ Err Memory))
 
--- the same for a line that sets a breakpoint
-pub record IsBreakParsed (P : Program) (line : Option BreakLine) (result : Result (Option Line) Refusal) : Type 0 where
-  pub known : Result (Option Request) Refusal
-  pub asks : AsksBreak P line known ⊎ (known ≡ Err Memory)
-  pub same : map_ok (option_map asked) result ≡ map_ok (option_map requested) known
+-- and for the one that sets a breakpoint, behind its word
+abbrev pub IsBreakParsed : Program → List ℕ → Result call.Call Refusal → Type 0
+IsBreakParsed P bytes result =
+    AsksBreak P (name_word (next_word bytes)) (parts_in (after_word bytes)) (map_ok call_of result) ⊎ (result ≡ Err Memory)
 
--- the parts of these bytes, however many
-abbrev pub parts_of : List ℕ → Option (List Part)
-parts_of bytes = parts_within (suc (length bytes)) bytes
+-- there is a part, and all have their form
+abbrev pub has_parts : Option (List Part) → Bool
+has_parts (Some (part ∷ parts)) = true
+has_parts found = false
 
 -- the process has one of these conjuncts
 abbrev pub stands_in : List conjunct.Conjunct → ℕ → Bool

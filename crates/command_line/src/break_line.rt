@@ -1,16 +1,14 @@
-//! The line that sets a breakpoint.
+//! The command that sets a breakpoint.
 
 ghost use Rattle.std.specs.Prelude.{◌≡◌, ◌⊎◌, ◌<◌, Err, IfOk, IfErr, List, MatchOption, Some, None, [], drop, is_some, length, map};
 ghost use Rattle.dbg_base.specs.declared.refusal.Refusal.TheVariants.{BadLine, Memory};
 ghost use Rattle.dbg_base.specs.Calls.{conjunct_of};
-ghost use Rattle.dbg_base.specs.CommandLines.{Part, closed_front, predicate_front, is_apart, with_part, map_ok, named_process};
-ghost use Rattle.dbg_base.specs.Requests.{ReadsParts, break_parts};
+ghost use Rattle.dbg_base.specs.CommandLines.{Part, closed_front, predicate_front, is_apart, with_part, parts_in, map_ok, named_process};
+ghost use Rattle.dbg_base.specs.Requests.{ReadsParts};
 ghost use Rattle.proc_lang.specs.Programs.{program_of};
-ghost use Rattle.command_line.specs.Lines.{parts_of, stands_in, break_asked, ReadsNamed, IsBreakParsed};
+ghost use Rattle.command_line.specs.Lines.{has_parts, stands_in, ReadsNamed, IsBreakParsed};
 
-use crate::line::{
-    Line, after_blanks, is_blank, name_word, named_process, next_word, seat_word, word_length,
-};
+use crate::words::{after_blanks, is_blank, name_word, named_process, next_word, word_length};
 use dbg_base::{Call, Conjunct, Name, Pid, Plan, Refusal, Sequence};
 use proc_lang::{ProgError, Program, parse_predicate};
 use std::alloc::Global;
@@ -70,9 +68,9 @@ fn is_apart(bytes: &[u8]) -> bool
 
 // The first part, a name and the text of a predicate, and the bytes behind it, or None where no word is left.
 fn next_part(bytes: &[u8]) -> Result<Option<((Name, &[u8]), &[u8])>, Refusal>
-    ensures part { IfOk result (λ found. MatchOption found (parts_of bytes.now ≡ Some []) (λ part. (length part.1.now < length bytes.now)
-        × (parts_of bytes.now ≡ with_part (part.0.0, part.0.1.now) (parts_of part.1.now)))) }
-    ensures refuses { IfErr result (λ refusal. (refusal ≡ BadLine) × (parts_of bytes.now ≡ None)) }
+    ensures part { IfOk result (λ found. MatchOption found (parts_in bytes.now ≡ Some []) (λ part. (length part.1.now < length bytes.now)
+        × (parts_in bytes.now ≡ with_part (part.0.0, part.0.1.now) (parts_in part.1.now)))) }
+    ensures refuses { IfErr result (λ refusal. (refusal ≡ BadLine) × (parts_in bytes.now ≡ None)) }
 {
     let (word, rest) = next_word(bytes);
     if word.is_empty() {
@@ -91,7 +89,7 @@ fn next_part(bytes: &[u8]) -> Result<Option<((Name, &[u8]), &[u8])>, Refusal>
 
 // Whether all parts have their form.
 fn are_parts(bytes: &[u8]) -> bool
-    ensures { result ≡ is_some (parts_of bytes.now) }
+    ensures { result ≡ is_some (parts_in bytes.now) }
 {
     let mut rest = bytes;
     loop {
@@ -100,6 +98,16 @@ fn are_parts(bytes: &[u8]) -> bool
             Ok(None) => return true,
             Err(_) => return false,
         }
+    }
+}
+
+// Whether there is a part, and all have their form.
+fn has_parts(bytes: &[u8]) -> bool
+    ensures { result ≡ has_parts (parts_in bytes.now) }
+{
+    match next_part(bytes) {
+        Ok(Some((_, behind))) => are_parts(behind),
+        Ok(None) | Err(_) => false,
     }
 }
 
@@ -135,7 +143,7 @@ fn read_part(
 
 // The parts as conjuncts, where all have their form.
 fn read_parts(alloc: Global, program: &Program, bytes: &[u8]) -> Result<Sequence<Conjunct>, Refusal>
-    ensures { (parts : List Part) → parts_of bytes.now ≡ Some parts
+    ensures { (parts : List Part) → parts_in bytes.now ≡ Some parts
         → ReadsParts (program_of program.now) [] parts (map_ok (map conjunct_of) result) ⊎ (result ≡ Err Memory) }
 {
     let mut made = Vec::new(alloc);
@@ -155,44 +163,15 @@ fn read_parts(alloc: Global, program: &Program, bytes: &[u8]) -> Result<Sequence
     }
 }
 
-// The line that sets a breakpoint of these conjuncts, where they were read.
-fn line_of(
-    seat: u32,
-    name: Name,
-    read: Result<Sequence<Conjunct>, Refusal>,
-) -> Result<Option<Line>, Refusal>
-    ensures { result ≡ map_ok (break_asked seat name) read }
+// The call that sets a breakpoint: what is behind its command word is a name, and then parts.
+pub(crate) fn parse_break(alloc: Global, program: &Program, bytes: &[u8]) -> Result<Call, Refusal>
+    ensures { IsBreakParsed (program_of program.now) bytes.now result }
 {
-    match read {
-        Ok(conjuncts) => {
-            let call = Call::Give(Plan::Break(name, conjuncts));
-            Ok(Some(Line { seat, call }))
-        }
-        Err(refusal) => Err(refusal),
-    }
-}
-
-// What a line that sets a breakpoint asks for, where these are its seat and the bytes behind its command word.
-pub(crate) fn parse_break(
-    alloc: Global,
-    program: &Program,
-    seat: &[u8],
-    bytes: &[u8],
-) -> Result<Option<Line>, Refusal>
-    ensures { IsBreakParsed (program_of program.now) (break_parts seat.now bytes.now) result }
-{
-    let Some(seat) = seat_word(seat) else {
-        return Err(Refusal::BadLine);
-    };
     let (word, rest) = next_word(bytes);
-    let Some(name) = name_word(word) else {
-        return Err(Refusal::BadLine);
-    };
-    if next_word(rest).0.is_empty() {
+    let name = name_word(word).ok_or(Refusal::BadLine)?;
+    if !has_parts(rest) {
         return Err(Refusal::BadLine);
     }
-    if !are_parts(rest) {
-        return Err(Refusal::BadLine);
-    }
-    line_of(seat, name, read_parts(alloc, program, rest))
+    let conjuncts = read_parts(alloc, program, rest)?;
+    Ok(Call::Give(Plan::Break(name, conjuncts)))
 }

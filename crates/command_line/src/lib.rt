@@ -3,6 +3,8 @@
 #![tactic(auto)]
 
 mod break_line;
+mod command;
 mod line;
+mod words;
 
 pub use line::{Line, parse_line, without_return};

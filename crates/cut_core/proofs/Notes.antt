@@ -2,7 +2,7 @@
 use Rattle.std.proofs.Common.{◌≡◌, ℕ, ◌+◌, ◌-◌, ◌<◌, ◌≤◌, List, [], ◌∷◌, ◌++◌, length, get_or, set, take, map, min}
 use Rattle.std.proofs.Common.{sym, ap, subst, ◌∙◌, arith}
 use Rattle.std.proofs.lemmas.List.{length-map, length-set, length_push}
-use Rattle.dbg_base.proofs.Places.{changed_at, seen_at, related_after}
+use Rattle.dbg_base.proofs.Places.{changed_at, seen_at, grown_at}
 use Rattle.cut_core.specs.declared.kind.Kind.{Kind}
 use Rattle.cut_core.specs.Places.{PlacesState, AreListed, HasRoom, own_list}
 use Rattle.cut_core.proofs.Listed.{listed_more, listed_less}
@@ -64,4 +64,5 @@ module _ (x : Kind) (lists : List PlacesState) (s m : ℕ) (list y : PlacesState
         room_kept kinds spare (map (λ (list : PlacesState). list.room) lists) room has after more
         (map (λ (list : PlacesState). list.room) (set lists s y)) (omega arith) le
         (length-map (set lists s y) (λ (list : PlacesState). list.room) ∙ long ∙ sym (length-map lists (λ (list : PlacesState). list.room)))
-        (related_after (λ (a b : ℕ). a ≤ b) (λ (b : ℕ). omega arith) (λ (list : PlacesState). list.room) 0 lists s list y here there grows)
+        (λ r. grown_at (λ (list : PlacesState). list.room) lists s y r
+        (omega (arith, grows, seen_at (λ (list : PlacesState). list.room) lists s list here there 0)))

@@ -1,25 +1,14 @@
 //! Cuts that keep the cause of each message that was received.
 
-ghost use Rattle.std.specs.Prelude.{◌≡◌, ◌≢◌, ℕ, ◌+◌, ◌-◌, ◌<◌, ◌≤◌, List, [], length, min, sum, slice_index, slice_index_or};
+ghost use Rattle.std.specs.Prelude.{◌≡◌, ℕ, ◌+◌, ◌-◌, ◌<◌, List, [], length, min, sum, slice_index, slice_index_or};
 ghost use Rattle.std.specs.Prelude.{false, IfOk, IsTrue, IsSome, IfSome, ◌↔◌, MatchOption};
-ghost use Rattle.cut_core.specs.Tallies.{sent_by, got_by};
 ghost use Rattle.dbg_base.specs.Cuts.{IsAtMost};
 ghost use Rattle.cut_core.specs.ConsistentCuts.{IsConsistentCut, IsWithin, IsLowered, HasOrphan, places};
 
 use crate::kind::Kind;
 use crate::tally::Tally;
-use dbg_base::{Cut, Pid};
+use dbg_base::{Cut, Pid, count_of};
 use std::alloc::{AllocError, Global};
-
-// The count of this process, which is 0 where it is not there.
-fn count_of(counts: &[u32], pid: Pid) -> u32
-    ensures { result ≡ slice_index counts.now pid.0 }
-{
-    match counts.get(pid.0 as usize) {
-        Some(count) => *count,
-        None => 0,
-    }
-}
 
 impl Tally {
     // Whether the second process has received more from the first than that one has sent to it, up to these counts.

@@ -102,6 +102,7 @@ fn empty_lists(alloc: Global, lists: usize) -> Result<Vec<Places>, AllocError>
 }
 
 // Makes room for so many more places in each list.
+#[tactic(auto, using(dbg_base::proofs::Places::one_place))]
 fn reserve_each(lists: &mut Vec<Places>, more: usize) -> Result<(), AllocError>
     ensures places { map (λ list. list.places) lists.new.items ≡ map (λ list. list.places) lists.old.items }
     ensures grows { (s : ℕ) → slice_index (map (λ list. list.room) lists.old.items) s

@@ -100,6 +100,7 @@ impl Tally {
 
     /// Makes room for so many more events of the process, and does nothing where it is not there. No room is lost, and no event
     /// changes, also where it is refused: where memory runs out, or where the process had more events than a `u32` counts.
+    #[tactic(auto, using(dbg_base::proofs::Places::one_place))]
     pub fn reserve(&mut self, pid: Pid, more: usize) -> Result<(), AllocError>
         ensures kinds { self.new.kinds ≡ self.old.kinds }
         ensures grows { (a : ℕ) → slice_index_or self.old.room a 0 ≤ slice_index_or self.new.room a 0 }
@@ -113,6 +114,7 @@ impl Tally {
     }
 
     /// One more event of the process, where there is room. It takes no memory.
+    #[tactic(auto, using(dbg_base::proofs::Places::one_place))]
     pub fn note(&mut self, pid: Pid, kind: Kind)
         requires { 0 < slice_index_or self.old.room pid.0 0 }
         ensures kinds { self.new.kinds ≡ slice_set self.old.kinds pid.0 (slice_index_or self.old.kinds pid.0 [] ++ kind ∷ []) }
@@ -123,6 +125,7 @@ impl Tally {
     }
 
     /// The last event of the process is taken out. Where there is none, nothing changes. It takes no memory.
+    #[tactic(auto, using(dbg_base::proofs::Places::one_place))]
     pub fn unnote(&mut self, pid: Pid)
         ensures kinds { self.new.kinds ≡ slice_set self.old.kinds pid.0
             (take (length (slice_index_or self.old.kinds pid.0 []) - 1) (slice_index_or self.old.kinds pid.0 [])) }

@@ -1,81 +1,99 @@
 -- Worked rows of command lines, computed from the definitions.
-use Rattle.std.proofs.Common.{◌≡◌, ℕ, List, [], ◌∷◌, Option, Some, None, Result, Ok, Err, true, false, refl}
+use Rattle.std.proofs.Common.{◌≡◌, ℕ, List, [], ◌∷◌, Some, None, Ok, Err, refl}
 use Rattle.std.specs.Prelude.{codes}
 use Rattle.dbg_base.specs.declared.refusal.Refusal.{Refusal}
 use Rattle.dbg_base.specs.declared.refusal.Refusal.TheVariants.{UnknownProcess, BadLine}
-use Rattle.dbg_base.specs.Calls.{Give, Step, Next, Rollback, Goto, Pass, Ask, Vars, Chan, Clock, Why, Breaks}
-use Rattle.dbg_base.specs.CommandLines.{Request, words_of, without_return, line_of_words, next_word, after_word, closed_front}
-use Rattle.dbg_base.specs.CommandLines.{predicate_front, parts_within}
+use Rattle.dbg_base.specs.Calls.{Call, Give, Step, Next, Rollback, Goto, Ask, Vars, Chan, Clock, Why, Breaks}
+use Rattle.dbg_base.specs.CommandLines.{next_word, after_word, predicate_front, parts_in}
+use Rattle.dbg_base.specs.Requests.{Asks}
 use Rattle.dbg_base.proofs.Rows.{system}
 
--- what a line that sets no breakpoint asks for
-abbrev asked : List ℕ → Result (Option Request) Refusal
-asked line = line_of_words system (words_of (without_return line))
+-- the seat asks for this call
+abbrev AsksFor : List ℕ → ℕ → Call → Type 0
+AsksFor line seat call = Asks system line (Ok (Some (record { seat = seat; call = call })))
 
-reads_next : asked (codes "1 next a") ≡ Ok (Some (record { seat = 1; call = Give (Next 0) }))
-reads_next = refl
+-- the line is refused
+abbrev IsRefused : List ℕ → Refusal → Type 0
+IsRefused line refusal = Asks system line (Err refusal)
 
-reads_vars : asked (codes "  16 vars b ") ≡ Ok (Some (record { seat = 16; call = Ask (Vars 1) }))
-reads_vars = refl
+reads_next : AsksFor (codes "1 next a") 1 (Give (Next 0))
+reads_next = (_, refl, refl)
 
-unknown_process : asked (codes "1 next d") ≡ Err UnknownProcess
-unknown_process = refl
+reads_vars : AsksFor (codes "  16 vars b ") 16 (Ask (Vars 1))
+reads_vars = (_, refl, refl)
 
-no_seat : asked (codes "01x next a") ≡ Err BadLine
+unknown_process : IsRefused (codes "1 next d") UnknownProcess
+unknown_process = (_, refl, refl)
+
+no_seat : IsRefused (codes "01x next a") BadLine
 no_seat = refl
 
-seat_too_large : asked (codes "17 next a") ≡ Err BadLine
+seat_too_large : IsRefused (codes "17 next a") BadLine
 seat_too_large = refl
 
 -- the shape of the whole line comes before the names in it
-unknown_word : asked (codes "1 jump d") ≡ Err BadLine
-unknown_word = refl
+unknown_word : IsRefused (codes "1 jump d") BadLine
+unknown_word = (_, refl, refl)
 
-one_word_too_many : asked (codes "1 next d a") ≡ Err BadLine
-one_word_too_many = refl
+one_word_too_many : IsRefused (codes "1 next d a") BadLine
+one_word_too_many = (_, refl, refl)
 
-reads_step : asked (codes "2 step b 1") ≡ Ok (Some (record { seat = 2; call = Give (Step 1 1) }))
-reads_step = refl
+seat_alone : IsRefused (codes "1 ") BadLine
+seat_alone = (_, refl, refl)
 
-reads_clock : asked (codes "1 clock b") ≡ Ok (Some (record { seat = 1; call = Ask (Clock 1) }))
-reads_clock = refl
+-- a bad seat makes the line a bad one, whatever follows
+no_seat_of_break : IsRefused (codes "0 break k d (x = 1)") BadLine
+no_seat_of_break = refl
 
-reads_rollback : asked (codes "2 rollback b 0") ≡ Ok (Some (record { seat = 2; call = Give (Rollback 1 0) }))
-reads_rollback = refl
+-- and so does a part without its form, whichever processes stand before it
+break_without_form : IsRefused (codes "1 break k d (x = 1) b") BadLine
+break_without_form = (_, refl, refl)
 
-reads_chan : asked (codes "1 chan a b") ≡ Ok (Some (record { seat = 1; call = Ask (Chan 0 1) }))
-reads_chan = refl
+break_without_process : IsRefused (codes "1 break k d (x = 1)") UnknownProcess
+break_without_process = (_, (_, refl, refl), refl)
 
-no_receiver : asked (codes "1 chan a d") ≡ Err UnknownProcess
-no_receiver = refl
+reads_step : AsksFor (codes "2 step b 1") 2 (Give (Step 1 1))
+reads_step = (_, refl, refl)
 
-no_number : asked (codes "1 step d x") ≡ Err BadLine
-no_number = refl
+reads_clock : AsksFor (codes "1 clock b") 1 (Ask (Clock 1))
+reads_clock = (_, refl, refl)
 
-no_place : asked (codes "1 rollback d x") ≡ Err BadLine
-no_place = refl
+reads_rollback : AsksFor (codes "2 rollback b 0") 2 (Give (Rollback 1 0))
+reads_rollback = (_, refl, refl)
 
-no_process_to_roll_back : asked (codes "1 rollback d 0") ≡ Err UnknownProcess
-no_process_to_roll_back = refl
+reads_chan : AsksFor (codes "1 chan a b") 1 (Ask (Chan 0 1))
+reads_chan = (_, refl, refl)
 
-blank_line : asked (codes "   ") ≡ Ok None
+no_receiver : IsRefused (codes "1 chan a d") UnknownProcess
+no_receiver = (_, refl, refl)
+
+no_number : IsRefused (codes "1 step d x") BadLine
+no_number = (_, refl, refl)
+
+no_place : IsRefused (codes "1 rollback d x") BadLine
+no_place = (_, refl, refl)
+
+no_process_to_roll_back : IsRefused (codes "1 rollback d 0") UnknownProcess
+no_process_to_roll_back = (_, refl, refl)
+
+blank_line : Asks system (codes "   ") (Ok None)
 blank_line = refl
 
 -- about a breakpoint, of any name
-reads_goto : asked (codes "1 goto d") ≡ Ok (Some (record { seat = 1; call = Give (Goto (codes "d")) }))
-reads_goto = refl
+reads_goto : AsksFor (codes "1 goto d") 1 (Give (Goto (codes "d")))
+reads_goto = (_, refl, refl)
 
-reads_why : asked (codes "3 why a") ≡ Ok (Some (record { seat = 3; call = Ask (Why (codes "a")) }))
-reads_why = refl
+reads_why : AsksFor (codes "3 why a") 3 (Ask (Why (codes "a")))
+reads_why = (_, refl, refl)
 
-reads_breaks : asked (codes "1 breaks") ≡ Ok (Some (record { seat = 1; call = Ask Breaks }))
-reads_breaks = refl
+reads_breaks : AsksFor (codes "1 breaks") 1 (Ask Breaks)
+reads_breaks = (_, refl, refl)
 
-breaks_has_no_argument : asked (codes "1 breaks k") ≡ Err BadLine
-breaks_has_no_argument = refl
+breaks_has_no_argument : IsRefused (codes "1 breaks k") BadLine
+breaks_has_no_argument = (_, refl, refl)
 
-no_name : asked (codes "1 pass K") ≡ Err BadLine
-no_name = refl
+no_name : IsRefused (codes "1 pass K") BadLine
+no_name = (_, refl, refl)
 
 -- words one by one
 first_of_words : next_word (codes "  break k ") ≡ codes "break"
@@ -95,18 +113,18 @@ front_without_parentheses : predicate_front (codes "true) b (") ≡ codes "true)
 front_without_parentheses = refl
 
 -- the parts of a line
-two_parts : parts_within 12 (codes " a (x) b y ") ≡ Some ((codes "a", codes "(x)") ∷ (codes "b", codes "y") ∷ [])
+two_parts : parts_in (codes " a (x) b y ") ≡ Some ((codes "a", codes "(x)") ∷ (codes "b", codes "y") ∷ [])
 two_parts = refl
 
-no_part : parts_within 2 (codes "  ") ≡ Some []
+no_part : parts_in (codes "  ") ≡ Some []
 no_part = refl
 
 -- a process without a predicate, a predicate that is followed by no blank, and a process that is no name
-part_without_predicate : parts_within 9 (codes "a (x) b ") ≡ None
+part_without_predicate : parts_in (codes "a (x) b ") ≡ None
 part_without_predicate = refl
 
-parts_not_apart : parts_within 9 (codes "a (x)b y") ≡ None
+parts_not_apart : parts_in (codes "a (x)b y") ≡ None
 parts_not_apart = refl
 
-part_without_name : parts_within 9 (codes "a x 2b y") ≡ None
+part_without_name : parts_in (codes "a x 2b y") ≡ None
 part_without_name = refl

@@ -1,5 +1,5 @@
 -- Calls: what a seat can ask of a session, by the numbers of processes and without the places in memory that calls of the code have.
-use Rattle.std.specs.Prelude.{ℕ, List, Option, Some, None, map}
+use Rattle.std.specs.Prelude.{ℕ, List, map}
 use Rattle.dbg_base.specs.declared.call.Plan as plan
 use Rattle.dbg_base.specs.declared.call.Plan.TheVariants as plans
 use Rattle.dbg_base.specs.declared.call.Query as query
@@ -34,8 +34,10 @@ pub data Query : Type 0 where
   Why : (name : List ℕ) → Query
   Breaks : Query
 
+-- a command, the command that takes back the last one, or a question
 pub data Call : Type 0 where
   Give : (plan : Plan) → Call
+  Back : Call
   Ask : (query : Query) → Call
 
 abbrev pub conjunct_of : conjunct.Conjunct → Conjunct
@@ -65,29 +67,8 @@ query_of (queries.CutOf name) = CutOf name
 query_of (queries.Why name) = Why name
 query_of queries.Breaks = Breaks
 
--- the same for a call, and none for one that no line gives yet
-abbrev pub call_of : call.Call → Option Call
-call_of (calls.Give given) = Some (Give (plan_of given))
-call_of (calls.Ask asked) = Some (Ask (query_of asked))
-call_of calls.Back = None
-
--- the query that a call of the code asks, if it asks one
-abbrev pub asked_query : call.Call → Option query.Query
-asked_query (calls.Ask asked) = Some asked
-asked_query given = None
-
--- a query as the code has it
-abbrev pub query_told : Query → query.Query
-query_told (Vars p) = queries.Vars (record { 0 = p })
-query_told (Chan i j) = queries.Chan (record { 0 = i }) (record { 0 = j })
-query_told (Clock p) = queries.Clock (record { 0 = p })
-query_told (Place p) = queries.Place (record { 0 = p })
-query_told (Can p) = queries.Can (record { 0 = p })
-query_told (CutOf name) = queries.CutOf name
-query_told (Why name) = queries.Why name
-query_told Breaks = queries.Breaks
-
--- the query of a call that asks
-abbrev pub asked_by : Call → Option query.Query
-asked_by (Give given) = None
-asked_by (Ask asked) = Some (query_told asked)
+-- the same for a call
+abbrev pub call_of : call.Call → Call
+call_of (calls.Give given) = Give (plan_of given)
+call_of calls.Back = Back
+call_of (calls.Ask asked) = Ask (query_of asked)

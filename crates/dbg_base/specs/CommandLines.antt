@@ -1,13 +1,13 @@
 -- Command lines: what a line asks for, or why it is refused.
 use Rattle.std.specs.Prelude.{ℕ, zero, suc, ◌+◌, ◌-◌, Bool, true, ◌&&◌, ◌||◌, ◌==◌, List, [], ◌∷◌, length, drop, Option, Some}
-use Rattle.std.specs.Prelude.{None, ok_or, Result, Ok, Err, nat_le, nat_lt}
+use Rattle.std.specs.Prelude.{None, ok_or, Result, Ok, Err, nat_le}
 use Rattle.std.specs.Prelude.{codes, if◌then◌else◌}
 use Rattle.std.specs.Option.{option_map, option_and_then}
 use Rattle.std.specs.Str.{bytes_eq}
 use Rattle.std.specs.Str.Parse.{digits_value}
 use Rattle.dbg_base.specs.declared.refusal.Refusal.{Refusal}
 use Rattle.dbg_base.specs.declared.refusal.Refusal.TheVariants.{UnknownProcess, BadLine}
-use Rattle.dbg_base.specs.declared.limits.TheConstants.{LINE_BYTES, NAME_BYTES, SEATS}
+use Rattle.dbg_base.specs.declared.limits.TheConstants.{NAME_BYTES, SEATS}
 use Rattle.dbg_base.specs.Names.{place_of}
 use Rattle.dbg_base.specs.Calls.{Call, Give, Step, Next, Undo, Redo, Rollback, Goto, Clear, Arm, Pass}
 use Rattle.dbg_base.specs.Calls.{Ask, Vars, Chan, Clock, Place, Can, CutOf, Why, Breaks}
@@ -91,15 +91,10 @@ abbrev pub named_call : Program → List ℕ → List ℕ → Option Call → Re
 named_call P word name (Some call) = Ok call
 named_call P word name None = process_call word (named_process P name)
 
--- goes on with a name, and a word that is none makes the line a bad one
-abbrev pub with_name : Option (List ℕ) → (List ℕ → Result Call Refusal) → Result Call Refusal
-with_name None go = Err BadLine
-with_name (Some name) go = go name
-
--- the same with a number
-abbrev pub with_number : Option ℕ → (ℕ → Result Call Refusal) → Result Call Refusal
-with_number None go = Err BadLine
-with_number (Some number) go = go number
+-- goes on with what a word is, and a word that is no such thing makes the line a bad one
+abbrev pub with_word : {X : Type 0} → Option X → (X → Result Call Refusal) → Result Call Refusal
+with_word None go = Err BadLine
+with_word (Some x) go = go x
 
 -- goes on with two processes, of which the first that is missing is told
 abbrev pub with_both : (ℕ → ℕ → Call) → Result ℕ Refusal → Result ℕ Refusal → Result Call Refusal
@@ -108,16 +103,16 @@ with_both call (Ok first) second = map_ok (call first) second
 
 -- the process makes the command of this number
 abbrev pub step_call : Program → List ℕ → List ℕ → Result Call Refusal
-step_call P process choice = with_number (number_word choice) (λ k. map_ok (λ p. Give (Step p k)) (named_process P process))
+step_call P process choice = with_word (number_word choice) (λ k. map_ok (λ p. Give (Step p k)) (named_process P process))
 
 -- the process is rolled back to this number of events
 abbrev pub rollback_call : Program → List ℕ → List ℕ → Result Call Refusal
-rollback_call P process place = with_number (number_word place) (λ n. map_ok (λ p. Give (Rollback p n)) (named_process P process))
+rollback_call P process place = with_word (number_word place) (λ n. map_ok (λ p. Give (Rollback p n)) (named_process P process))
 
 -- the messages from a process to another
 abbrev pub chan_call : Program → List ℕ → List ℕ → Result Call Refusal
 chan_call P source target =
-    with_name (name_word target) (λ name. with_both (λ i j. Ask (Chan i j)) (named_process P source) (named_process P name))
+    with_word (name_word target) (λ name. with_both (λ i j. Ask (Chan i j)) (named_process P source) (named_process P name))
 
 -- the call of a word that is about a process and one of its commands or places, or about a sender and a receiver
 abbrev pub pair_call : Program → List ℕ → List ℕ → List ℕ → Result Call Refusal
@@ -128,28 +123,18 @@ pair_call P word first second =
     else Err BadLine))
 
 -- The call of a command word and its arguments. The shape of all of them comes first, and then what they name.
-abbrev pub call_of_words : Program → List (List ℕ) → Result Call Refusal
-call_of_words P (word ∷ []) = if bytes_eq word (codes "breaks") then Ok (Ask Breaks) else Err BadLine
-call_of_words P (word ∷ argument ∷ []) = with_name (name_word argument) (λ name. named_call P word name (break_call word name))
-call_of_words P (word ∷ first ∷ second ∷ []) = with_name (name_word first) (λ name. pair_call P word name second)
-call_of_words P words = Err BadLine
+abbrev pub call_of_words : Program → List ℕ → List (List ℕ) → Result Call Refusal
+call_of_words P word [] = if bytes_eq word (codes "breaks") then Ok (Ask Breaks) else Err BadLine
+call_of_words P word (argument ∷ []) = with_word (name_word argument) (λ name. named_call P word name (break_call word name))
+call_of_words P word (first ∷ second ∷ []) = with_word (name_word first) (λ name. pair_call P word name second)
+call_of_words P word arguments = Err BadLine
 
 -- a call, and the seat that makes it
 pub record Request : Type 0 where
   pub seat : ℕ
   pub call : Call
 
--- a seat's call, where there is such a seat
-abbrev pub by_seat : Option ℕ → Result Call Refusal → Result (Option Request) Refusal
-by_seat None call = Err BadLine
-by_seat (Some seat) call = map_ok (λ made. Some (record { seat = seat; call = made })) call
-
--- a blank line asks for nothing
-abbrev pub line_of_words : Program → List (List ℕ) → Result (Option Request) Refusal
-line_of_words P [] = Ok None
-line_of_words P (seat ∷ words) = by_seat (seat_word seat) (call_of_words P words)
-
--- A line that sets a breakpoint: the bytes of a predicate count, blanks and all.
+-- A command that sets a breakpoint: the bytes of a predicate count, blanks and all.
 
 -- the bytes without the blanks at their front
 abbrev pub without_blanks : List ℕ → List ℕ
@@ -210,14 +195,6 @@ parts_within (suc n) bytes =
     if nat_le (length (next_word bytes)) 0 then Some []
     else part_at (name_word (next_word bytes)) (without_blanks (after_word bytes)) (parts_within n)
 
--- a line that sets a breakpoint: its seat, its name, and at least one process with a predicate
-pub record BreakLine : Type 0 where
-  pub seat : ℕ
-  pub name : List ℕ
-  pub first : Part
-  pub others : List Part
-
-abbrev pub break_line_of : Option ℕ → Option (List ℕ) → Option (List Part) → Option BreakLine
-break_line_of (Some seat) (Some name) (Some (first ∷ others)) =
-    Some (record { seat = seat; name = name; first = first; others = others })
-break_line_of seat name parts = None
+-- the same, however many: there are no more of them than bytes
+abbrev pub parts_in : List ℕ → Option (List Part)
+parts_in bytes = parts_within (suc (length bytes)) bytes

@@ -31,4 +31,5 @@ pub mod Checks
 pub mod CommandLines
 pub mod Requests
 pub mod Replies
+pub mod Fits
 pub mod Shell

@@ -1,7 +1,9 @@
 -- Predicates of a global state: conjunctions of local ones.
-use Rattle.std.specs.Prelude.{◌≡◌, ℕ, List, Bool, true, false, Option, Some, None, slice_index}
+use Rattle.std.specs.Prelude.{◌≡◌, ℕ, List, Bool, true, false, ◌&&◌, Option, Some, None, length, nat_lt, slice_index}
 use Rattle.std.specs.List.{AllByRecursion}
+use Rattle.dbg_base.specs.declared.expr.Sort.TheVariants as sort
 use Rattle.dbg_base.specs.Trees.{Tree, Program}
+use Rattle.dbg_base.specs.WellFormed.{is_fit, bounds_of}
 use Rattle.dbg_base.specs.LocalStates.{LocalState}
 use Rattle.dbg_base.specs.Evaluation.{evaluate}
 use Rattle.dbg_base.specs.Firing.{truth_of}
@@ -12,6 +14,10 @@ use Rattle.dbg_base.specs.Cuts.{IsConsistent, IsAtMost}
 pub record Conjunct : Type 0 where
   pub process : ℕ
   pub expression : Tree
+
+-- the expression is a predicate of process p, which is there: it gives a truth value, and what it names is there
+abbrev pub is_predicate : Program → ℕ → Tree → Bool
+is_predicate P p tree = nat_lt p (length P) && is_fit (bounds_of P p) sort.Truth tree
 
 -- a truth value that is there and true
 abbrev pub is_known_true : Option Bool → Bool

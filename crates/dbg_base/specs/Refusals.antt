@@ -7,28 +7,28 @@ use Rattle.dbg_base.specs.declared.refusal.Refusal.TheVariants.{UnknownBreak, No
 use Rattle.dbg_base.specs.declared.refusal.Refusal.TheVariants.{ProcessFull, BreaksFull, JournalFull, Memory, BadLine, BadPredicate}
 use Rattle.dbg_base.specs.declared.refusal.Refusal.TheVariants.{NoneEnabled}
 
-abbrev pub number_of : Refusal → ℕ
-number_of UnknownProcess = 1
-number_of UnknownChoice = 2
-number_of GuardFalse = 3
-number_of Fault = 4
-number_of ChannelEmpty = 5
-number_of NothingToUndo = 6
-number_of (Consequence q) = 7
-number_of NothingToRedo = 8
-number_of (Halted b) = 9
-number_of BadPlace = 10
-number_of BreakTaken = 11
-number_of UnknownBreak = 12
-number_of NoCut = 13
-number_of NotArmed = 14
-number_of AlreadyArmed = 15
-number_of NothingBack = 16
-number_of (OtherSeat s) = 17
-number_of ProcessFull = 18
-number_of BreaksFull = 19
-number_of JournalFull = 20
-number_of Memory = 21
-number_of BadLine = 22
-number_of BadPredicate = 23
-number_of NoneEnabled = 24
+abbrev pub refusal_number : Refusal → ℕ
+refusal_number UnknownProcess = 1
+refusal_number UnknownChoice = 2
+refusal_number GuardFalse = 3
+refusal_number Fault = 4
+refusal_number ChannelEmpty = 5
+refusal_number NothingToUndo = 6
+refusal_number (Consequence q) = 7
+refusal_number NothingToRedo = 8
+refusal_number (Halted b) = 9
+refusal_number BadPlace = 10
+refusal_number BreakTaken = 11
+refusal_number UnknownBreak = 12
+refusal_number NoCut = 13
+refusal_number NotArmed = 14
+refusal_number AlreadyArmed = 15
+refusal_number NothingBack = 16
+refusal_number (OtherSeat s) = 17
+refusal_number ProcessFull = 18
+refusal_number BreaksFull = 19
+refusal_number JournalFull = 20
+refusal_number Memory = 21
+refusal_number BadLine = 22
+refusal_number BadPredicate = 23
+refusal_number NoneEnabled = 24

@@ -2,9 +2,6 @@
 use Rattle.std.specs.Prelude.{ℕ, ℤ, Bool, true, false, List, [], ◌∷◌, ◌++◌, map, Option, Some, None, Result, Ok, Err, codes}
 use Rattle.std.specs.List.{flat_map, zip}
 use Rattle.std.specs.Fmt.{decimal, signed_decimal}
-use Rattle.dbg_base.specs.declared.ids.Pid.{Pid}
-use Rattle.dbg_base.specs.declared.call.Query.{Query}
-use Rattle.dbg_base.specs.declared.call.Query.TheVariants.{Vars, Chan, Clock, Place, Can, CutOf, Why, Breaks}
 use Rattle.dbg_base.specs.declared.said.Said.{Said}
 use Rattle.dbg_base.specs.declared.said.Said.TheVariants.{Accepted, Answered, Refused}
 use Rattle.dbg_base.specs.declared.said.Done.{Done}
@@ -15,7 +12,8 @@ use Rattle.dbg_base.specs.declared.said.Answer.{Answer}
 use Rattle.dbg_base.specs.declared.said.Answer.TheVariants.{Values, Messages, Counts, PlaceOf, CanUndo, CutIs, Frontier, Marks}
 use Rattle.dbg_base.specs.declared.refusal.Refusal.{Refusal}
 use Rattle.dbg_base.specs.declared.refusal.Refusal.TheVariants.{Consequence, Halted, OtherSeat}
-use Rattle.dbg_base.specs.Refusals.{number_of}
+use Rattle.dbg_base.specs.Calls.{Query, Vars, Chan, Clock, Place, Can, CutOf, Why, Breaks, Call, Ask}
+use Rattle.dbg_base.specs.Refusals.{refusal_number}
 use Rattle.dbg_base.specs.Trees.{Program, process_of, names_of}
 
 -- words, each with a space before it
@@ -28,8 +26,8 @@ joined [] = []
 joined (word ∷ words) = word ++ spaced words
 
 -- the name of a process
-abbrev pub name_of : Program → Pid → List ℕ
-name_of P pid = (process_of P pid.0).name
+abbrev pub name_of : Program → ℕ → List ℕ
+name_of P p = (process_of P p).name
 
 -- a name with what belongs to it
 abbrev pub pair_word : List ℕ × List ℕ → List ℕ
@@ -44,8 +42,8 @@ abbrev pub count_words : Program → List ℕ → List (List ℕ)
 count_words P counts = pair_words (names_of P) (map decimal counts)
 
 -- a value for each variable of the process
-abbrev pub value_words : Program → Pid → List ℤ → List (List ℕ)
-value_words P pid values = pair_words (map (λ variable. variable.0) (process_of P pid.0).variables) (map signed_decimal values)
+abbrev pub value_words : Program → ℕ → List ℤ → List (List ℕ)
+value_words P p values = pair_words (map (λ variable. variable.0) (process_of P p).variables) (map signed_decimal values)
 
 -- a count, or that there is none further
 abbrev pub head_text : Head → List ℕ
@@ -67,14 +65,14 @@ mark_word m = m.0 ++ codes " " ++ mark_text m.1
 
 -- the name or the seat that a refusal carries
 abbrev pub carried_words : Program → Refusal → List (List ℕ)
-carried_words P (Consequence pid) = name_of P pid ∷ []
+carried_words P (Consequence pid) = name_of P pid.0 ∷ []
 carried_words P (Halted name) = name ∷ []
 carried_words P (OtherSeat seat) = decimal seat ∷ []
 carried_words P refusal = []
 
 -- the number of a refusal, and what it carries
 abbrev pub refusal_words : Program → Refusal → List (List ℕ)
-refusal_words P refusal = decimal (number_of refusal) ∷ carried_words P refusal
+refusal_words P refusal = decimal (refusal_number refusal) ∷ carried_words P refusal
 
 -- the line that refuses a call
 abbrev pub refusal_text : Program → Refusal → List ℕ
@@ -82,8 +80,8 @@ refusal_text P refusal = joined (codes "no" ∷ refusal_words P refusal)
 
 -- what a command did
 abbrev pub done_words : Program → Done → List (List ℕ)
-done_words P (Played pid choice) = name_of P pid ∷ decimal choice.0 ∷ []
-done_words P (Undone pid choice) = name_of P pid ∷ decimal choice.0 ∷ []
+done_words P (Played pid choice) = name_of P pid.0 ∷ decimal choice.0 ∷ []
+done_words P (Undone pid choice) = name_of P pid.0 ∷ decimal choice.0 ∷ []
 done_words P (Places cut) = count_words P cut
 done_words P Plain = []
 
@@ -91,26 +89,6 @@ done_words P Plain = []
 abbrev pub halted_words : Option (List ℕ) → List (List ℕ)
 halted_words None = []
 halted_words (Some name) = codes "halted" ∷ name ∷ []
-
--- the words of a query, which its answer repeats
-abbrev pub query_words : Program → Query → List (List ℕ)
-query_words P (Vars pid) = codes "vars" ∷ name_of P pid ∷ []
-query_words P (Chan source target) = codes "chan" ∷ name_of P source ∷ name_of P target ∷ []
-query_words P (Clock pid) = codes "clock" ∷ name_of P pid ∷ []
-query_words P (Place pid) = codes "place" ∷ name_of P pid ∷ []
-query_words P (Can pid) = codes "can" ∷ name_of P pid ∷ []
-query_words P (CutOf name) = codes "cut" ∷ name ∷ []
-query_words P (Why name) = codes "why" ∷ name ∷ []
-query_words P Breaks = codes "breaks" ∷ []
-
--- the process that a query is about
-abbrev pub subject_of : Query → Pid
-subject_of (Vars pid) = pid
-subject_of (Chan source target) = source
-subject_of (Clock pid) = pid
-subject_of (Place pid) = pid
-subject_of (Can pid) = pid
-subject_of query = record { 0 = 0 }
 
 -- a breakpoint's cut, if it has one
 abbrev pub cut_words : Program → Option (List ℕ) → List (List ℕ)
@@ -122,24 +100,25 @@ abbrev pub can_words : Program → Result (Unit {0}) Refusal → List (List ℕ)
 can_words P (Ok done) = codes "yes" ∷ []
 can_words P (Err refusal) = codes "no" ∷ refusal_words P refusal
 
--- what was answered, behind the words of the query
+-- The words that answer a question: those of the question, and then what was answered. No other answer fits the question.
 abbrev pub answer_words : Program → Query → Answer → List (List ℕ)
-answer_words P query (Values values) = value_words P (subject_of query) values
-answer_words P query (Messages messages) = map signed_decimal messages
-answer_words P query (Counts cut) = count_words P cut
-answer_words P query (PlaceOf at line) = decimal at ∷ codes "of" ∷ decimal line ∷ []
-answer_words P query (CanUndo outcome) = can_words P outcome
-answer_words P query (CutIs cut) = cut_words P cut
-answer_words P query (Frontier heads) = head_words P heads
-answer_words P query (Marks marks) = map mark_word marks
+answer_words P (Vars p) (Values values) = codes "vars" ∷ name_of P p ∷ value_words P p values
+answer_words P (Chan i j) (Messages messages) = codes "chan" ∷ name_of P i ∷ name_of P j ∷ map signed_decimal messages
+answer_words P (Clock p) (Counts cut) = codes "clock" ∷ name_of P p ∷ count_words P cut
+answer_words P (Place p) (PlaceOf at line) = codes "place" ∷ name_of P p ∷ decimal at ∷ codes "of" ∷ decimal line ∷ []
+answer_words P (Can p) (CanUndo outcome) = codes "can" ∷ name_of P p ∷ can_words P outcome
+answer_words P (CutOf name) (CutIs cut) = codes "cut" ∷ name ∷ cut_words P cut
+answer_words P (Why name) (Frontier heads) = codes "why" ∷ name ∷ head_words P heads
+answer_words P Breaks (Marks marks) = codes "breaks" ∷ map mark_word marks
+answer_words P query answer = []
 
--- the words of the line that answers a question, or a command
-abbrev pub reply_words : Program → Option Query → Said → List (List ℕ)
-reply_words P query (Accepted reply) = codes "ok" ∷ (done_words P reply.done ++ halted_words reply.halted)
-reply_words P (Some query) (Answered given) = query_words P query ++ answer_words P query given
-reply_words P None (Answered given) = []
-reply_words P query (Refused refusal) = codes "no" ∷ refusal_words P refusal
+-- the words of the line that answers a call
+abbrev pub reply_words : Program → Call → Said → List (List ℕ)
+reply_words P call (Accepted reply) = codes "ok" ∷ (done_words P reply.done ++ halted_words reply.halted)
+reply_words P (Ask query) (Answered given) = answer_words P query given
+reply_words P call (Answered given) = []
+reply_words P call (Refused refusal) = codes "no" ∷ refusal_words P refusal
 
 -- and its text
-abbrev pub reply_text : Program → Option Query → Said → List ℕ
-reply_text P query said = joined (reply_words P query said)
+abbrev pub reply_text : Program → Call → Said → List ℕ
+reply_text P call said = joined (reply_words P call said)

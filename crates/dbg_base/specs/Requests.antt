@@ -1,18 +1,18 @@
--- What a command line asks for, or why the line is refused: a line that sets a breakpoint has predicates in it, and all others are words.
-use Rattle.std.specs.Prelude.{◌≡◌, ◌⊎◌, ℕ, ◌==◌, List, [], ◌∷◌, length, Option, Some, None, Result, Ok, Err, nat_lt, codes}
+-- What a command line asks for, or why the line is refused.
+use Rattle.std.specs.Prelude.{◌≡◌, ◌⊎◌, ℕ, ◌==◌, ◌≤◌, List, [], ◌∷◌, length, Option, Some, None, Result, Ok, Err, nat_le, nat_lt, codes}
 use Rattle.std.specs.Bool.{MatchBool}
 use Rattle.std.specs.List.{list_any}
 use Rattle.std.specs.Str.{bytes_eq}
 use Rattle.dbg_base.specs.declared.fault.ProgFault.{ProgFault}
 use Rattle.dbg_base.specs.declared.refusal.Refusal.{Refusal}
-use Rattle.dbg_base.specs.declared.refusal.Refusal.TheVariants.{BadLine, BadPredicate}
+use Rattle.dbg_base.specs.declared.refusal.Refusal.TheVariants.{BadLine, BadPredicate, Memory}
 use Rattle.dbg_base.specs.declared.limits.TheConstants.{LINE_BYTES}
 use Rattle.dbg_base.specs.Trees.{Tree, Program}
 use Rattle.dbg_base.specs.Predicates.{Conjunct}
 use Rattle.dbg_base.specs.Checks.{ReadsPredicate, IsPredicateFault}
-use Rattle.dbg_base.specs.Calls.{Give, Break}
-use Rattle.dbg_base.specs.CommandLines.{Request, Part, BreakLine, words_of, without_return, seat_word, name_word, named_process, map_ok}
-use Rattle.dbg_base.specs.CommandLines.{line_of_words, next_word, after_word, parts_within, break_line_of}
+use Rattle.dbg_base.specs.Calls.{Call, Give, Break}
+use Rattle.dbg_base.specs.CommandLines.{Request, Part, words_of, without_return, seat_word, name_word, named_process, map_ok}
+use Rattle.dbg_base.specs.CommandLines.{call_of_words, next_word, after_word, parts_in}
 
 -- a conjunct before others
 abbrev pub with_conjunct : ℕ → Tree → Result (List Conjunct) Refusal → Result (List Conjunct) Refusal
@@ -35,28 +35,43 @@ ReadsParts P before [] result = result ≡ Ok []
 ReadsParts P before (part ∷ parts) result =
     ReadsPart P before (named_process P part.0) part.1 (λ p others. ReadsParts P (p ∷ before) parts others) result
 
--- the request of a line that sets a breakpoint
-abbrev pub break_request : BreakLine → List Conjunct → Option Request
-break_request line conjuncts = Some (record { seat = line.seat; call = Give (Break line.name conjuncts) })
+-- the call that sets a breakpoint of this name, with at least one part
+abbrev pub AsksBreak : Program → Option (List ℕ) → Option (List Part) → Result Call Refusal → Type 0
+AsksBreak P (Some name) (Some (part ∷ parts)) result =
+    (conjuncts : Result (List Conjunct) Refusal) × ReadsParts P [] (part ∷ parts) conjuncts
+    × (result ≡ map_ok (λ made. Give (Break name made)) conjuncts)
+AsksBreak P name parts result = result ≡ Err BadLine
 
-abbrev pub AsksBreak : Program → Option BreakLine → Result (Option Request) Refusal → Type 0
-AsksBreak P None result = result ≡ Err BadLine
-AsksBreak P (Some line) result =
-    (conjuncts : Result (List Conjunct) Refusal) × ReadsParts P [] (line.first ∷ line.others) conjuncts
-    × (result ≡ map_ok (break_request line) conjuncts)
+-- The call of a command, or why it is refused: what is behind the word `break` is a name and parts, and what is behind all other words
+-- is words.
+abbrev pub AsksCall : Program → List ℕ → Result Call Refusal → Type 0
+AsksCall P bytes result =
+    MatchBool (bytes_eq (next_word bytes) (codes "break"))
+    (AsksBreak P (name_word (next_word (after_word bytes))) (parts_in (after_word (after_word bytes))) result)
+    (result ≡ call_of_words P (next_word bytes) (words_of (after_word bytes)))
 
--- the line behind its seat and its word
-abbrev pub break_parts : List ℕ → List ℕ → Option BreakLine
-break_parts seat bytes =
-    break_line_of (seat_word seat) (name_word (next_word bytes)) (parts_within (length bytes) (after_word bytes))
+-- a seat's call, and where there is no such seat the line is a bad one, whatever follows
+abbrev pub AsksBy : Program → Option ℕ → List ℕ → Result (Option Request) Refusal → Type 0
+AsksBy P None bytes result = result ≡ Err BadLine
+AsksBy P (Some seat) bytes result =
+    (call : Result Call Refusal) × AsksCall P bytes call × (result ≡ map_ok (λ made. Some (record { seat = seat; call = made })) call)
+
+-- a blank line asks for nothing, and else the first word is the seat, and what is behind it a command
+abbrev pub AsksWithin : Program → List ℕ → Result (Option Request) Refusal → Type 0
+AsksWithin P bytes result =
+    MatchBool (nat_le (length (next_word bytes)) 0) (result ≡ Ok None) (AsksBy P (seat_word (next_word bytes)) (after_word bytes) result)
 
 -- What a line asks for, nothing for a blank one, or why the line is refused. The line is without its line end, and may
 -- have a carriage return at its end, which its length counts.
-abbrev pub AsksWithin : Program → List ℕ → Result (Option Request) Refusal → Type 0
-AsksWithin P bytes result =
-    MatchBool (bytes_eq (next_word (after_word bytes)) (codes "break"))
-    (AsksBreak P (break_parts (next_word bytes) (after_word (after_word bytes))) result) (result ≡ line_of_words P (words_of bytes))
-
 abbrev pub Asks : Program → List ℕ → Result (Option Request) Refusal → Type 0
 Asks P line result =
     MatchBool (nat_lt LINE_BYTES (length line)) (result ≡ Err BadLine) (AsksWithin P (without_return line) result)
+
+-- The line is no longer than may be, and its second word sets a breakpoint: such a line alone takes memory.
+pub record IsBreakLine (line : List ℕ) : Type 0 where
+  pub short : length line ≤ LINE_BYTES
+  pub word : next_word (after_word (without_return line)) ≡ codes "break"
+
+-- what a line asks for, or a line that sets a breakpoint is refused for want of memory
+abbrev pub AsksOrRefuses : Program → List ℕ → Result (Option Request) Refusal → Type 0
+AsksOrRefuses P line asked = Asks P line asked ⊎ (IsBreakLine line × (asked ≡ Err Memory))

@@ -15,8 +15,8 @@ abbrev pub without_last : History → ℕ → History
 without_last H p = slice_set H p (without_back (slice_index_or H p []))
 
 -- the last choice of process p
-abbrev pub last_choice : History → ℕ → ℕ
-last_choice H p = slice_index (slice_index_or H p []) (length (slice_index_or H p []) - 1)
+abbrev pub choice_at_end : History → ℕ → ℕ
+choice_at_end H p = slice_index (slice_index_or H p []) (length (slice_index_or H p []) - 1)
 
 -- Process p may take its last choice back: it has one, and the history without it is possible.
 pub record MayUndo (P : Program) (H : History) (p : ℕ) : Type 0 where
@@ -60,7 +60,7 @@ unmoved_if P H c p (Some command) = unmoved P H c p command.action
 -- The last choice of process p is taken back: its local state is as it was one choice before, and so is the channel that it changed.
 abbrev pub unfire : Program → History → Configuration → ℕ → Configuration
 unfire P H c p =
-    with_state (unmoved_if P H c p (command_of P p (last_choice H p))) p (local_state P H p (length (slice_index_or H p []) - 1))
+    with_state (unmoved_if P H c p (command_of P p (choice_at_end H p))) p (local_state P H p (length (slice_index_or H p []) - 1))
 
 -- processes that take back their last choices, one after the other, each of them permitted in its turn
 abbrev pub IsPermitted : Program → History → List ℕ → Type 0

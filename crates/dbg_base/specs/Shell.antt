@@ -6,18 +6,18 @@ use Rattle.std.specs.Str.{bytes_eq}
 use Rattle.std.specs.Fmt.{decimal}
 use Rattle.dbg_base.specs.declared.said.Said.{Said}
 use Rattle.dbg_base.specs.declared.refusal.Refusal.{Refusal}
-use Rattle.dbg_base.specs.declared.refusal.Refusal.TheVariants.{Memory}
+use Rattle.dbg_base.specs.declared.refusal.Refusal.TheVariants.{Memory, BadLine}
 use Rattle.dbg_base.specs.declared.limits.TheConstants.{INPUT_BYTES}
 use Rattle.dbg_base.specs.Trees.{Program}
 use Rattle.dbg_base.specs.declared.fault.ProgFault.{ProgFault}
 use Rattle.dbg_base.specs.Faults.{kind_number}
 use Rattle.dbg_base.specs.Checks.{Reads, IsFault}
-use Rattle.dbg_base.specs.Calls.{Call, Give, Ask, asked_by}
+use Rattle.dbg_base.specs.Calls.{Call, Give, Back, Ask}
 use Rattle.dbg_base.specs.ModelStates.{ModelState, opening}
 use Rattle.dbg_base.specs.Acts.{Refuses, Acts}
 use Rattle.dbg_base.specs.Views.{Answers}
 use Rattle.dbg_base.specs.CommandLines.{Request, without_return}
-use Rattle.dbg_base.specs.Requests.{Asks}
+use Rattle.dbg_base.specs.Requests.{AsksOrRefuses}
 use Rattle.dbg_base.specs.Replies.{joined, reply_text, refusal_text}
 
 -- The whole lines of some bytes, without their line ends, and the bytes behind the last line end.
@@ -84,9 +84,11 @@ parts_of (line ∷ lines) =
 abbrev pub as_line : List ℕ → List ℕ
 as_line text = text ++ 10 ∷ []
 
--- A seat's call was made at M, was answered so, and left M'. What is said may depend on the seat.
+-- A seat's call was made at M, was answered so, and left M'. What is said may depend on the seat. No commands are kept that could be
+-- taken back, and no line asks for it: it is refused as a bad line.
 abbrev pub Says : Program → ℕ → Call → ModelState → Said → ModelState → Type 0
 Says P seat (Give plan) M said M' = Acts P plan M said M'
+Says P seat Back M said M' = Refuses BadLine M said M'
 Says P seat (Ask query) M said M' = Answers P M query said × (M' ≡ M)
 
 -- a call was answered at M, or refused for want of memory, which changes nothing
@@ -98,11 +100,7 @@ abbrev pub AnswersParsed : Program → Result (Option Request) Refusal → Model
 AnswersParsed P (Err refusal) M out M' = (out ≡ as_line (refusal_text P refusal)) × (M' ≡ M)
 AnswersParsed P (Ok None) M out M' = (out ≡ []) × (M' ≡ M)
 AnswersParsed P (Ok (Some request)) M out M' =
-    (said : Said) × SaysOrRefuses P request.seat request.call M said M' × (out ≡ as_line (reply_text P (asked_by request.call) said))
-
--- the line asks for this, or it is refused for want of memory
-abbrev pub AsksOrRefuses : Program → List ℕ → Result (Option Request) Refusal → Type 0
-AsksOrRefuses P line asked = Asks P line asked ⊎ (asked ≡ Err Memory)
+    (said : Said) × SaysOrRefuses P request.seat request.call M said M' × (out ≡ as_line (reply_text P request.call said))
 
 abbrev pub AnswersLine : Program → List ℕ → ModelState → List ℕ → ModelState → Type 0
 AnswersLine P line M out M' =
@@ -133,6 +131,11 @@ no_end_text input = if is_too_long input then too_long_text else no_end_line_tex
 -- how a program fault is told
 abbrev pub fault_text : ProgFault → List ℕ
 fault_text fault = as_line (joined (codes "program refused" ∷ decimal (kind_number fault.kind) ∷ codes "at" ∷ decimal fault.at ∷ []))
+
+-- how many processes and commands a program has
+abbrev pub size_text : ℕ → ℕ → List ℕ
+size_text processes commands =
+    as_line (joined (codes "ok" ∷ decimal processes ∷ codes "processes" ∷ decimal commands ∷ codes "commands" ∷ []))
 
 -- the program was read, and each line behind it was answered in turn
 abbrev pub AnswersCommands : List ℕ → Parts → List ℕ → Type 0

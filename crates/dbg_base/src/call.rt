@@ -1,8 +1,8 @@
 //! What a seat may ask of a session.
 
-ghost use Rattle.std.specs.Prelude.{◌≡◌, map};
-ghost use Rattle.dbg_base.specs.Calls.{conjunct_of};
-ghost use Rattle.dbg_base.specs.Copies.{IsCopy, IsSamePlan, IsSameCall};
+ghost use Rattle.std.specs.Prelude.{◌≡◌, map, Ok};
+ghost use Rattle.dbg_base.specs.Calls.{conjunct_of, plan_of, call_of};
+ghost use Rattle.dbg_base.specs.Copies.{IsCopy};
 
 use crate::expr::Expr;
 use crate::ids::{Choice, Pid};
@@ -69,7 +69,7 @@ pub enum Plan {
 impl Plan {
     /// The same command once more. It is refused only as `Memory`, where that runs out.
     pub fn copy(&self) -> Result<Plan, Refusal>
-        ensures { IsCopy result (λ made. IsSamePlan self.now made) }
+        ensures { IsCopy result (λ made. plan_of made ≡ plan_of self.now) }
     {
         match self {
             Plan::Step(pid, choice) => Ok(Plan::Step(*pid, *choice)),
@@ -110,7 +110,7 @@ pub enum Query {
 impl Query {
     /// The same question once more. It takes no memory, and is not refused.
     pub fn copy(&self) -> Result<Query, Refusal>
-        ensures { IsCopy result (λ made. made ≡ self.now) }
+        ensures { result ≡ Ok self.now }
     {
         Ok(*self)
     }
@@ -130,7 +130,7 @@ pub enum Call {
 impl Call {
     /// The same call once more. It is refused only as `Memory`, where that runs out.
     pub fn copy(&self) -> Result<Call, Refusal>
-        ensures { IsCopy result (λ made. IsSameCall self.now made) }
+        ensures { IsCopy result (λ made. call_of made ≡ call_of self.now) }
     {
         match self {
             Call::Give(plan) => Ok(Call::Give(plan.copy()?)),

@@ -14,6 +14,13 @@ pub struct Pid(pub u32);
 #[derive(Clone, Copy, Debug, PartialEq, Eq, PartialOrd, Ord)]
 pub struct Choice(pub u32);
 
+/// The count of a process among these, which is 0 where it is not there. It takes no memory.
+pub fn count_of(counts: &[u32], pid: Pid) -> u32
+    ensures { result ≡ slice_index counts.now pid.0 }
+{
+    counts.get(pid.0 as usize).copied().unwrap_or(0)
+}
+
 /// One count of events for each process, in program order.
 #[derive(Debug, Drop)]
 pub struct Cut {
@@ -47,10 +54,7 @@ impl Cut {
     pub fn count(&self, pid: Pid) -> u32
         ensures { result ≡ slice_index self.now pid.0 }
     {
-        match self.counts.get(pid.0 as usize) {
-            Some(count) => *count,
-            None => 0,
-        }
+        count_of(self.counts(), pid)
     }
 
     /// Sets the count of a process that is there. It takes no memory.
@@ -59,14 +63,6 @@ impl Cut {
         ensures { self.new ≡ slice_set self.old pid.0 count }
     {
         self.counts[pid.0 as usize] = count;
-    }
-
-    /// Gives the counts back. It takes no memory.
-    pub fn into_counts(self) -> Vec<u32>
-        ensures { result.items ≡ self }
-    {
-        let Cut { counts } = self;
-        counts
     }
 
     /// The same cut once more. It is refused only as `Memory`, where that runs out.

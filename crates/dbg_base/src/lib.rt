@@ -20,7 +20,7 @@ pub use call::{Call, Conjunct, Plan, Query, copy_conjuncts};
 pub use elimination::{Cause, Elimination};
 pub use expr::{Direction, Expr, Operator, Sort};
 pub use fault::{FaultKind, ProgFault};
-pub use ids::{Choice, Cut, Pid};
+pub use ids::{Choice, Cut, Pid, count_of};
 pub use name::Name;
 pub use refusal::Refusal;
 pub use said::{Answer, Done, Head, Reply, Said};

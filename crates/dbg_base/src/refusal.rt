@@ -1,7 +1,7 @@
 //! Why a call was refused.
 
 ghost use Rattle.std.specs.Prelude.{◌≡◌};
-ghost use Rattle.dbg_base.specs.Refusals.{number_of};
+ghost use Rattle.dbg_base.specs.Refusals.{refusal_number};
 ghost use Rattle.dbg_base.specs.declared.refusal.Refusal.TheVariants.{Memory};
 
 use crate::ids::Pid;
@@ -64,7 +64,7 @@ pub enum Refusal {
 impl Refusal {
     /// The number by which the refusal is told, from 1 to 24. It takes no memory.
     pub fn number(&self) -> u32
-        ensures { result ≡ number_of self.now }
+        ensures { result ≡ refusal_number self.now }
     {
         match self {
             Refusal::UnknownProcess => 1,

@@ -27,7 +27,7 @@ use Rattle.dbg_base.specs.Predicates.{Conjunct, IsLeast}
 use Rattle.cut_core.specs.declared.kind.Kind.{Kind}
 use Rattle.cut_core.specs.ConsistentCuts.{IsConsistentCut}
 use Rattle.causal_world.specs.Scenes.{Scene, IsWorldOf}
-use Rattle.causal_world.proofs.KindsOf.{consistent_cut}
+use Rattle.causal_world.proofs.Records.{consistent_cut}
 use Rattle.break_book.specs.Books.{breakpoints_of}
 use Rattle.dbg_command.specs.Tables.{TableState, state_of}
 

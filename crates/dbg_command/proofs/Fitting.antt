@@ -5,7 +5,7 @@ use Rattle.std.specs.Prelude.{◌==◌, ◌||◌, ◌&&◌, not, nat_lt, Option,
 use Rattle.std.specs.List.{list_any, AllByRecursion}
 use Rattle.std.proofs.lemmas.Bool.{ltb-true}
 use Rattle.dbg_base.specs.declared.refusal.Refusal.{Refusal}
-use Rattle.dbg_base.specs.Predicates.{Conjunct}
+use Rattle.dbg_base.specs.Predicates.{Conjunct, is_predicate}
 use Rattle.std.proofs.Common.{rules, drop_of_length-le}
 use Rattle.std.proofs.lemmas.Bool.{lt-ltb, le-ltb}
 use Rattle.std.proofs.lemmas.List.{drop_more}
@@ -45,18 +45,23 @@ module _ (P : Program) (cs : List given.Conjunct) (i : ℕ) (are : AreFitting P 
   refused_unknown none = sym in_front ∙ search (le-ltb x.pid.0 (length P) none, rules)
 
   module _ (known : x.pid.0 < length P) where
-    pub refused_unfit : is_fit (bounds_of P x.pid.0) sort.Truth (tree_of x.expr) ≡ false
-        → conjuncts_refusal P [] (map conjunct_of cs) ≡ Some BadPredicate
-    refused_unfit unfit = sym in_front ∙ search (lt-ltb x.pid.0 (length P) known, unfit, rules)
+    -- its process is there, so it is a predicate where it fits
+    fit : is_predicate P x.pid.0 (tree_of x.expr) ≡ is_fit (bounds_of P x.pid.0) sort.Truth (tree_of x.expr)
+    fit = ap (λ (b : Bool). b && is_fit (bounds_of P x.pid.0) sort.Truth (tree_of x.expr)) (lt-ltb x.pid.0 (length P) known)
+
+    pub refused_unfit : is_predicate P x.pid.0 (tree_of x.expr) ≡ false → conjuncts_refusal P [] (map conjunct_of cs) ≡ Some BadPredicate
+    refused_unfit is =
+        let unfit = sym fit ∙ is in sym in_front ∙ search (lt-ltb x.pid.0 (length P) known, unfit, rules)
 
     pub refused_twice : list_any (λ (c : given.Conjunct). c.pid.0 == x.pid.0) (take i cs) ≡ true
         → conjuncts_refusal P [] (map conjunct_of cs) ≡ Some BadPredicate
     refused_twice twice =
         let seen = are.seen x.pid.0 ∙ twice in sym in_front ∙ search (lt-ltb x.pid.0 (length P) known, seen, rules)
 
-    pub more_fitting : is_fit (bounds_of P x.pid.0) sort.Truth (tree_of x.expr) ≡ true
+    pub more_fitting : is_predicate P x.pid.0 (tree_of x.expr) ≡ true
         → list_any (λ (c : given.Conjunct). c.pid.0 == x.pid.0) (take i cs) ≡ false → AreFitting P cs (i + 1)
-    more_fitting fit once =
+    more_fitting is once =
+        let fits = sym fit ∙ is in
         let seen = are.seen x.pid.0 ∙ once in
         record {
           before = x.pid.0 ∷ are.before;
@@ -64,7 +69,7 @@ module _ (P : Program) (cs : List given.Conjunct) (i : ℕ) (are : AreFitting P 
               ap (λ (b : Bool). (x.pid.0 == p) || b) (are.seen p) ∙ or_turned (x.pid.0 == p) _
               ∙ ap (λ (c : given.Conjunct). list_any (λ (d : given.Conjunct). d.pid.0 == p) (take i cs) || (c.pid.0 == p)) here
               ∙ sym (list_any_more (λ (d : given.Conjunct). d.pid.0 == p) cs i x lt);
-          rest = search (lt-ltb x.pid.0 (length P) known, seen, fit, in_front, rules);
+          rest = search (lt-ltb x.pid.0 (length P) known, seen, fits, in_front, rules);
         }
 
 pub all_fitting : (P : Program) (cs : List given.Conjunct) (i : ℕ) → AreFitting P cs i → length cs ≤ i

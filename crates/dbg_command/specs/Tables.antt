@@ -20,11 +20,19 @@ use Rattle.dbg_base.specs.Acts.{Acts, Refuses}
 use Rattle.dbg_base.specs.Views.{Answers}
 use Rattle.causal_world.specs.Scenes.{Scene, IsWorldOf}
 use Rattle.least_cut.specs.Detectors.{one_more}
-use Rattle.break_book.specs.Books.{Entry, breakpoints_of, new_breakpoint, AreDetectorsOf, HaveRoomUpTo}
+use Rattle.break_book.specs.Books.{Entry, Shown, shown_of, breakpoints_of, new_breakpoint, AreDetectorsOf, HaveRoomUpTo}
 
 pub record TableState : Type 0 where
   pub world : Scene
   pub book : List Entry
+
+-- what calls show of it: all but the room of its detectors
+pub record TableShown : Type 0 where
+  pub world : Scene
+  pub book : List Shown
+
+abbrev pub shown : TableState → TableShown
+shown t = record { world = t.world; book = shown_of t.book }
 
 -- the state of the model that it stands for
 abbrev pub state_of : TableState → ModelState

@@ -1,19 +1,22 @@
 //! What a table tells.
 
-ghost use Rattle.dbg_base.specs.Trees as tree;
 ghost use Rattle.dbg_base.specs.Calls as model;
-ghost use Rattle.dbg_base.specs.Calls.{query_of};
 ghost use Rattle.proc_lang.specs.Programs.{program_of};
-ghost use Rattle.dbg_command.specs.Tables.{IsTableOf, AnswersOrRefuses, IsCutOf, state_of};
+ghost use Rattle.dbg_command.specs.Tables.{IsTableOf, AnswersOrRefuses, state_of};
 
 use crate::table::{Table, known};
-use dbg_base::{Answer, Cut, Name, Pid, Query, Refusal};
+use dbg_base::{Answer, Name, Pid, Refusal};
 use proc_lang::Program;
 use std::alloc::Global;
 
 impl Table {
     // The values of the process's variables.
-    fn values(&self, alloc: Global, program: &Program, pid: Pid) -> Result<Answer, Refusal>
+    pub(crate) fn values(
+        &self,
+        alloc: Global,
+        program: &Program,
+        pid: Pid,
+    ) -> Result<Answer, Refusal>
         requires { IsTableOf (program_of program.now) self.now }
         ensures { AnswersOrRefuses (program_of program.now) (state_of self.now) (model.Vars pid.0) result }
     {
@@ -22,7 +25,7 @@ impl Table {
     }
 
     // The messages on their way from the source to the target.
-    fn messages(
+    pub(crate) fn messages(
         &self,
         alloc: Global,
         program: &Program,
@@ -38,7 +41,12 @@ impl Table {
     }
 
     // The clock of the process's present state.
-    fn clock(&self, alloc: Global, program: &Program, pid: Pid) -> Result<Answer, Refusal>
+    pub(crate) fn clock(
+        &self,
+        alloc: Global,
+        program: &Program,
+        pid: Pid,
+    ) -> Result<Answer, Refusal>
         requires { IsTableOf (program_of program.now) self.now }
         ensures { AnswersOrRefuses (program_of program.now) (state_of self.now) (model.Clock pid.0) result }
     {
@@ -49,7 +57,7 @@ impl Table {
     }
 
     // The process's place and the length of its line.
-    fn place(&self, program: &Program, pid: Pid) -> Result<Answer, Refusal>
+    pub(crate) fn place(&self, program: &Program, pid: Pid) -> Result<Answer, Refusal>
         ensures { AnswersOrRefuses (program_of program.now) (state_of self.now) (model.Place pid.0) result }
     {
         known(program, pid)?;
@@ -60,7 +68,7 @@ impl Table {
     }
 
     // Whether the process's last event may be undone.
-    fn can(&self, program: &Program, pid: Pid) -> Result<Answer, Refusal>
+    pub(crate) fn can(&self, program: &Program, pid: Pid) -> Result<Answer, Refusal>
         requires { IsTableOf (program_of program.now) self.now }
         ensures { AnswersOrRefuses (program_of program.now) (state_of self.now) (model.Can pid.0) result }
     {
@@ -68,21 +76,8 @@ impl Table {
         Ok(Answer::CanUndo(self.world().can_undo(pid)))
     }
 
-    // The least cut of the breakpoint of this name, if it has one.
-    pub(crate) fn cut_of(&self, name: Name) -> Result<Option<Cut>, Refusal>
-        ensures { (P : tree.Program) → IsTableOf P self.now → IsCutOf P (state_of self.now) name result }
-    {
-        let Some((_, breakpoint)) = self.book().find(name) else {
-            return Err(Refusal::UnknownBreak);
-        };
-        match breakpoint.detector().cut() {
-            Some(cut) => Ok(Some(cut.copy()?)),
-            None => Ok(None),
-        }
-    }
-
-    // That cut, as an answer.
-    fn cut(&self, program: &Program, name: Name) -> Result<Answer, Refusal>
+    // The least cut of the breakpoint of this name, as an answer.
+    pub(crate) fn cut(&self, program: &Program, name: Name) -> Result<Answer, Refusal>
         requires { IsTableOf (program_of program.now) self.now }
         ensures { AnswersOrRefuses (program_of program.now) (state_of self.now) (model.CutOf name) result }
     {
@@ -93,7 +88,12 @@ impl Table {
     }
 
     // The frontier of the breakpoint of this name.
-    fn frontier(&self, alloc: Global, program: &Program, name: Name) -> Result<Answer, Refusal>
+    pub(crate) fn frontier(
+        &self,
+        alloc: Global,
+        program: &Program,
+        name: Name,
+    ) -> Result<Answer, Refusal>
         requires { IsTableOf (program_of program.now) self.now }
         ensures { AnswersOrRefuses (program_of program.now) (state_of self.now) (model.Why name) result }
     {
@@ -104,26 +104,9 @@ impl Table {
     }
 
     // The breakpoints in order, with their marks.
-    fn marks(&self, alloc: Global, program: &Program) -> Result<Answer, Refusal>
+    pub(crate) fn marks(&self, alloc: Global, program: &Program) -> Result<Answer, Refusal>
         ensures { AnswersOrRefuses (program_of program.now) (state_of self.now) model.Breaks result }
     {
         Ok(Answer::Marks(self.book().list(alloc)?))
-    }
-
-    /// Answers a question. It is refused as its kind says, or as `Memory`, where that runs out.
-    pub fn ask(&self, alloc: Global, program: &Program, query: &Query) -> Result<Answer, Refusal>
-        requires { IsTableOf (program_of program.now) self.now }
-        ensures { AnswersOrRefuses (program_of program.now) (state_of self.now) (query_of query.now) result }
-    {
-        match query {
-            Query::Vars(pid) => self.values(alloc, program, *pid),
-            Query::Chan(source, target) => self.messages(alloc, program, *source, *target),
-            Query::Clock(pid) => self.clock(alloc, program, *pid),
-            Query::Place(pid) => self.place(program, *pid),
-            Query::Can(pid) => self.can(program, *pid),
-            Query::CutOf(name) => self.cut(program, *name),
-            Query::Why(name) => self.frontier(alloc, program, *name),
-            Query::Breaks => self.marks(alloc, program),
-        }
     }
 }

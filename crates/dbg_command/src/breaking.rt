@@ -9,7 +9,7 @@ ghost use Rattle.dbg_base.specs.Trees as tree;
 ghost use Rattle.dbg_base.specs.Calls as model;
 ghost use Rattle.dbg_base.specs.Calls.{conjunct_of};
 ghost use Rattle.proc_lang.specs.Programs.{program_of};
-ghost use Rattle.dbg_command.specs.Tables.{IsTableOf, ActsOrRefuses, Adds, state_of};
+ghost use Rattle.dbg_command.specs.Tables.{IsTableOf, ActsOrRefuses, Adds, shown, state_of};
 
 use crate::conjuncts::fitting;
 use crate::table::Table;
@@ -54,6 +54,7 @@ impl Table {
         ensures of { IsTableOf (program_of program.now) self.new }
         ensures acts { ActsOrRefuses (program_of program.now) (model.Break name (map conjunct_of conjuncts.now)) (state_of self.old) result
             (state_of self.new) }
+        ensures kept { OnErr result (shown self.new ≡ shown self.old) }
     {
         if conjuncts.items().is_empty() {
             return Err(Refusal::BadPredicate);
@@ -69,6 +70,7 @@ impl Table {
         ensures of { (P : tree.Program) → IsTableOf P self.old → IsTableOf P self.new }
         ensures acts { (P : tree.Program) → IsTableOf P self.old
             → ActsOrRefuses P (model.Clear name) (state_of self.old) result (state_of self.new) }
+        ensures kept { OnErr result (shown self.new ≡ shown self.old) }
     {
         let _cleared = self.book.clear(name)?;
         Ok(self.reply(Done::Plain))
@@ -80,6 +82,7 @@ impl Table {
         ensures of { (P : tree.Program) → IsTableOf P self.old → IsTableOf P self.new }
         ensures acts { (P : tree.Program) → IsTableOf P self.old
             → ActsOrRefuses P (model.Arm name) (state_of self.old) result (state_of self.new) }
+        ensures kept { OnErr result (shown self.new ≡ shown self.old) }
     {
         self.book.arm(name)?;
         Ok(self.reply(Done::Plain))
@@ -91,6 +94,7 @@ impl Table {
         ensures of { (P : tree.Program) → IsTableOf P self.old → IsTableOf P self.new }
         ensures acts { (P : tree.Program) → IsTableOf P self.old
             → ActsOrRefuses P (model.Pass name) (state_of self.old) result (state_of self.new) }
+        ensures kept { OnErr result (shown self.new ≡ shown self.old) }
     {
         self.book.pass(name)?;
         Ok(self.reply(Done::Plain))

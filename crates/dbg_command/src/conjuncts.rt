@@ -1,7 +1,7 @@
 //! Which conjuncts a breakpoint may have.
 
-ghost use Rattle.std.specs.Prelude.{◌≡◌, ◌==◌, ◌<◌, [], length, map, None, Some, OnOk, IfErr};
-ghost use Rattle.std.specs.List.{list_any, AllByRecursion};
+ghost use Rattle.std.specs.Prelude.{◌≡◌, ◌==◌, ◌<◌, [], map, None, Some, OnOk, IfErr};
+ghost use Rattle.std.specs.List.{list_any};
 ghost use Rattle.dbg_base.specs.Calls.{conjunct_of};
 ghost use Rattle.dbg_base.specs.Acts.{conjuncts_refusal};
 ghost use Rattle.proc_lang.specs.Programs.{program_of};

@@ -3,6 +3,7 @@
 
 mod asking;
 mod breaking;
+mod calls;
 mod conjuncts;
 mod playing;
 mod table;

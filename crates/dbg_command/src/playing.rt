@@ -1,13 +1,13 @@
 //! The commands by which a process makes an event: step, next, redo.
 
-ghost use Rattle.std.specs.Prelude.{◌≡◌};
+ghost use Rattle.std.specs.Prelude.{◌≡◌, OnErr};
 ghost use Rattle.dbg_base.specs.declared.said.Done.TheVariants.{Played};
 ghost use Rattle.dbg_base.specs.Trees as tree;
 ghost use Rattle.dbg_base.specs.Calls as model;
 ghost use Rattle.proc_lang.specs.Programs.{program_of};
 ghost use Rattle.causal_world.specs.Scenes.{IsWorldOf};
 ghost use Rattle.break_book.specs.Books.{AreGrown, HaveRoomUpTo};
-ghost use Rattle.dbg_command.specs.Tables.{IsTableOf, ActsOrRefuses, Replies, state_of};
+ghost use Rattle.dbg_command.specs.Tables.{IsTableOf, ActsOrRefuses, Replies, shown, state_of};
 
 use crate::table::Table;
 use dbg_base::{Choice, Done, Pid, Refusal, Reply};
@@ -39,6 +39,7 @@ impl Table {
         requires { IsTableOf (program_of program.now) self.old }
         ensures of { IsTableOf (program_of program.now) self.new }
         ensures acts { ActsOrRefuses (program_of program.now) (model.Step pid.0 choice.0) (state_of self.old) result (state_of self.new) }
+        ensures kept { OnErr result (shown self.new ≡ shown self.old) }
     {
         self.ready(alloc, program, pid)?;
         let _cutoff = self.world.step(alloc, program, pid, choice)?;
@@ -55,6 +56,7 @@ impl Table {
         requires { IsTableOf (program_of program.now) self.old }
         ensures of { IsTableOf (program_of program.now) self.new }
         ensures acts { ActsOrRefuses (program_of program.now) (model.Next pid.0) (state_of self.old) result (state_of self.new) }
+        ensures kept { OnErr result (shown self.new ≡ shown self.old) }
     {
         self.ready(alloc, program, pid)?;
         let (choice, _cutoff) = self.world.next(alloc, program, pid)?;
@@ -71,6 +73,7 @@ impl Table {
         requires { IsTableOf (program_of program.now) self.old }
         ensures of { IsTableOf (program_of program.now) self.new }
         ensures acts { ActsOrRefuses (program_of program.now) (model.Redo pid.0) (state_of self.old) result (state_of self.new) }
+        ensures kept { OnErr result (shown self.new ≡ shown self.old) }
     {
         self.ready(alloc, program, pid)?;
         let choice = self.world.redo(alloc, program, pid)?;

@@ -3,15 +3,14 @@
 ghost use Rattle.std.specs.Prelude.{◌≡◌, ◌<◌, length, IfOk, IfErr, OnOk, None};
 ghost use Rattle.dbg_base.specs.declared.refusal.Refusal.TheVariants.{Memory};
 ghost use Rattle.dbg_base.specs.Trees as tree;
-ghost use Rattle.dbg_base.specs.Calls.{plan_of};
 ghost use Rattle.dbg_base.specs.ModelStates.{opening, IsHalted};
 ghost use Rattle.proc_lang.specs.Programs.{program_of};
-ghost use Rattle.break_book.specs.Books.{breakpoints_of};
-ghost use Rattle.dbg_command.specs.Tables.{IsTableOf, IsReady, Unready, UnknownIn, HaltedAt, ActsOrRefuses, Replies, state_of};
+ghost use Rattle.break_book.specs.Books.{breakpoints_of, shown_of};
+ghost use Rattle.dbg_command.specs.Tables.{IsTableOf, IsReady, Unready, UnknownIn, HaltedAt, Replies, shown, state_of, IsCutOf};
 
 use break_book::Book;
 use causal_world::World;
-use dbg_base::{Done, Pid, Plan, Refusal, Reply};
+use dbg_base::{Cut, Done, Name, Pid, Refusal, Reply};
 use proc_lang::Program;
 use std::alloc::Global;
 use std::marker::Model;
@@ -106,6 +105,7 @@ impl Table {
         ensures of { IsTableOf (program_of program.now) self.new }
         ensures world { self.new.world ≡ self.old.world }
         ensures breakpoints { breakpoints_of self.new.book ≡ breakpoints_of self.old.book }
+        ensures shown { shown_of self.new.book ≡ shown_of self.old.book }
         ensures ready { OnOk result (IsReady (program_of program.now) pid.0 self.new) }
         ensures refuses { IfErr result (Unready (program_of program.now) pid.0 (state_of self.old)) }
     {
@@ -114,23 +114,16 @@ impl Table {
         self.book.reserve(alloc, &self.world, pid)
     }
 
-    /// Gives a command. It is refused, and changes nothing, as its kind says, or as `Memory`, where that runs out.
-    pub fn give(&mut self, alloc: Global, program: &Program, plan: &Plan) -> Result<Reply, Refusal>
-        requires { IsTableOf (program_of program.now) self.old }
-        ensures of { IsTableOf (program_of program.now) self.new }
-        ensures acts { ActsOrRefuses (program_of program.now) (plan_of plan.now) (state_of self.old) result (state_of self.new) }
+    // The least cut of the breakpoint of this name, if it has one.
+    pub(crate) fn cut_of(&self, name: Name) -> Result<Option<Cut>, Refusal>
+        ensures { (P : tree.Program) → IsTableOf P self.now → IsCutOf P (state_of self.now) name result }
     {
-        match plan {
-            Plan::Step(pid, choice) => self.step(alloc, program, *pid, *choice),
-            Plan::Next(pid) => self.next(alloc, program, *pid),
-            Plan::Undo(pid) => self.undo(alloc, program, *pid),
-            Plan::Redo(pid) => self.redo(alloc, program, *pid),
-            Plan::Rollback(pid, n) => self.rollback(alloc, program, *pid, *n),
-            Plan::Goto(name) => self.go_to(alloc, *name),
-            Plan::Break(name, conjuncts) => self.set_break(alloc, program, *name, conjuncts),
-            Plan::Clear(name) => self.clear(*name),
-            Plan::Arm(name) => self.arm(*name),
-            Plan::Pass(name) => self.pass(*name),
+        let Some((_, breakpoint)) = self.book().find(name) else {
+            return Err(Refusal::UnknownBreak);
+        };
+        match breakpoint.detector().cut() {
+            Some(cut) => Ok(Some(cut.copy()?)),
+            None => Ok(None),
         }
     }
 }

@@ -1,10 +1,11 @@
 //! The commands that take events back: undo, rollback, goto.
 
+ghost use Rattle.std.specs.Prelude.{◌≡◌, OnErr};
 ghost use Rattle.dbg_base.specs.Trees as tree;
 ghost use Rattle.dbg_base.specs.Calls as model;
 ghost use Rattle.proc_lang.specs.Programs.{program_of};
 ghost use Rattle.cut_core.specs.ConsistentCuts.{IsConsistentCut};
-ghost use Rattle.dbg_command.specs.Tables.{IsTableOf, ActsOrRefuses, GoesBack, state_of};
+ghost use Rattle.dbg_command.specs.Tables.{IsTableOf, ActsOrRefuses, GoesBack, shown, state_of};
 
 use crate::table::{Table, known};
 use dbg_base::{Cut, Done, Name, Pid, Refusal, Reply};
@@ -22,6 +23,7 @@ impl Table {
         requires { IsTableOf (program_of program.now) self.old }
         ensures of { IsTableOf (program_of program.now) self.new }
         ensures acts { ActsOrRefuses (program_of program.now) (model.Undo pid.0) (state_of self.old) result (state_of self.new) }
+        ensures kept { OnErr result (shown self.new ≡ shown self.old) }
     {
         known(program, pid)?;
         let choice = self.world.last(pid).ok_or(Refusal::NothingToUndo)?;
@@ -36,6 +38,7 @@ impl Table {
         requires cut { IsConsistentCut self.old.world.kinds cut }
         ensures of { (P : tree.Program) → IsTableOf P self.old → IsTableOf P self.new }
         ensures back { (P : tree.Program) → IsTableOf P self.old → GoesBack P (state_of self.old) cut result (state_of self.new) }
+        ensures kept { OnErr result (shown self.new ≡ shown self.old) }
     {
         let _rolled = self.world.roll_to(alloc, &cut)?;
         self.book.follow(&self.world);
@@ -53,6 +56,7 @@ impl Table {
         requires { IsTableOf (program_of program.now) self.old }
         ensures of { IsTableOf (program_of program.now) self.new }
         ensures acts { ActsOrRefuses (program_of program.now) (model.Rollback pid.0 n) (state_of self.old) result (state_of self.new) }
+        ensures kept { OnErr result (shown self.new ≡ shown self.old) }
     {
         known(program, pid)?;
         if n > self.world.place(pid) {
@@ -68,6 +72,7 @@ impl Table {
         ensures of { (P : tree.Program) → IsTableOf P self.old → IsTableOf P self.new }
         ensures acts { (P : tree.Program) → IsTableOf P self.old
             → ActsOrRefuses P (model.Goto name) (state_of self.old) result (state_of self.new) }
+        ensures kept { OnErr result (shown self.new ≡ shown self.old) }
     {
         match self.cut_of(name) {
             Ok(Some(cut)) => self.roll_to(alloc, cut),

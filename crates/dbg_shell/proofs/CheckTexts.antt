@@ -5,16 +5,16 @@ use Rattle.std.proofs.lemmas.List.{append-nil}
 use Rattle.std.proofs.lemmas.List.Sums.{sum_by-append}
 use Rattle.dbg_base.specs.Trees.{Program, process_of}
 use Rattle.dbg_base.specs.Checks.{Reads, IsFault}
-use Rattle.dbg_base.specs.Shell.{Parts, is_too_long, too_long_text, fault_text}
+use Rattle.dbg_base.specs.Shell.{Parts, is_too_long, too_long_text, fault_text, size_text}
 use Rattle.dbg_base.specs.declared.fault.ProgFault.{ProgFault}
 use Rattle.dbg_shell.specs.declared.framing.Span.{Span}
-use Rattle.dbg_shell.specs.declared.outcome.Served.{Served}
-use Rattle.dbg_shell.specs.declared.outcome.Served.TheVariants as outcomes
+use Rattle.reply_lines.specs.declared.outcome.Served.{Served}
+use Rattle.reply_lines.specs.declared.outcome.Served.TheVariants as outcomes
 use Rattle.dbg_shell.specs.declared.program_text.TextEnd.{TextEnd}
 use Rattle.dbg_shell.specs.declared.program_text.TextEnd.TheVariants as ends
 use Rattle.dbg_shell.specs.Spans.{MayBe}
 use Rattle.dbg_shell.specs.Serving.{Splits, SplitsAny}
-use Rattle.dbg_shell.specs.Checking.{size_text, command_count, ChecksText, ChecksParts, ChecksInput}
+use Rattle.dbg_shell.specs.Checking.{command_count, ChecksText, ChecksParts, ChecksInput}
 use Rattle.dbg_shell.proofs.InputTexts.{all_from_start, text_from_start, split_here}
 
 take_on : (P : Program) (i : ℕ) → i < length P → take (i + 1) P ≡ take i P ++ process_of P i ∷ []

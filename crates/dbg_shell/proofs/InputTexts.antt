@@ -1,5 +1,5 @@
 -- What a run over the input writes.
-use Rattle.std.proofs.Common.{◌≡◌, ℕ, ◌-◌, ◌≤◌, Bool, true, false, List, [], length, take, drop, Option, Some, None, refl, sym}
+use Rattle.std.proofs.Common.{◌≡◌, ℕ, ◌-◌, ◌≤◌, Bool, true, false, List, [], ◌++◌, length, take, drop, Option, Some, None, refl, sym}
 use Rattle.std.proofs.Common.{ap, ◌∙◌, subst, inl, inr, arith}
 use Rattle.std.specs.Prelude.{slice_range, IfSome, IfOk, IfErr, Result, Ok, Err}
 use Rattle.std.proofs.KnownBytes.{Appends-nil}
@@ -11,15 +11,16 @@ use Rattle.dbg_base.specs.ModelStates.{opening}
 use Rattle.dbg_base.specs.Shell.{Parts, lines_of, parts_of, read_lines, lines_within, is_too_long, AnswersLines, AnswersParts, TextOfParts}
 use Rattle.dbg_base.specs.Shell.{WholeText, fault_text, too_long_text, no_end_line_text}
 use Rattle.dbg_shell.specs.declared.framing.Span.{Span}
-use Rattle.dbg_shell.specs.declared.outcome.Served.{Served}
-use Rattle.dbg_shell.specs.declared.outcome.ServeFault.{ServeFault}
-use Rattle.dbg_shell.specs.declared.outcome.ServeFault.TheVariants.{Read, Write}
-use Rattle.dbg_shell.specs.declared.outcome.Served.TheVariants as outcomes
+use Rattle.reply_lines.specs.declared.outcome.Served.{Served}
+use Rattle.reply_lines.specs.declared.outcome.ServeFault.{ServeFault}
+use Rattle.reply_lines.specs.declared.outcome.ServeFault.TheVariants.{Read, Write}
+use Rattle.reply_lines.specs.declared.outcome.Served.TheVariants as outcomes
 use Rattle.dbg_shell.specs.declared.program_text.TextEnd.{TextEnd}
 use Rattle.dbg_shell.specs.declared.program_text.TextEnd.TheVariants as ends
 use Rattle.dbg_shell.specs.Spans.{lines_from, KeepsInput, MayBe, Narrows}
 use Rattle.dbg_shell.specs.Serving.{EndsParts, ServesInput, BreaksInput, RepliesTo, ServesLines, StopsLines, BreaksLines, Splits, SplitsAny}
-use Rattle.dbg_shell.specs.Serving.{end_of}
+use Rattle.dbg_shell.specs.Serving.{ReadsText, ReadsProgram, end_of}
+use Rattle.dbg_shell.specs.declared.framing.TheConstants.{CHUNK}
 use Rattle.dbg_shell.proofs.UnderWay.{goes_on}
 use Rattle.dbg_shell.proofs.Known.{Ending, Done, Cut, DoneKnown, CutKnown, done_known, cut_known, whole_is}
 
@@ -128,8 +129,14 @@ module _ (bytes : List ℕ) (ended : Bool) (begin new : ℕ) (end : TextEnd) (be
       breaks_program first (Some xs) None (Err fault) old out empty keeps wrote = absurd keeps
       breaks_program first (Some xs) (Some ys) (Err fault) old out empty keeps wrote =
           λ is_read.
-          let broken : BreaksLines P more over new old out = wrote is_read in
-          (more, ys, refl, whole_is first more xs ys empty keeps, (broken.wrote.0, text_so_far old out broken, broken.wrote.2))
+          let broken : BreaksLines P more over new old out = wrote is_read in (
+            more,
+            ys,
+            refl,
+            whole_is first more xs ys empty keeps,
+            broken.under_way.within,
+            (broken.wrote.0, text_so_far old out broken, broken.wrote.2),
+          )
 
     -- the program text has a fault
     module _ (text : List ℕ) (span : Span) (is : end ≡ ends.Before span) (seen : span.from ≤ length bytes → text ≡ take span.from bytes)
@@ -158,12 +165,12 @@ module _ (bytes : List ℕ) (ended : Bool) (begin new : ℕ) (end : TextEnd) (be
 pub breaks_before : (first : List ℕ) (known : Option (List ℕ)) (bytes : List ℕ) (left : Option (List ℕ)) (begin : ℕ)
     (r : Result Served ServeFault)
     (old : Option (List ℕ)) → first ≡ [] → begin ≡ 0 → KeepsInput first known bytes left
-    → parts_of (lines_of (drop begin bytes)).whole ≡ None
+    → parts_of (lines_of (drop begin bytes)).whole ≡ None → length bytes ≤ INPUT_BYTES
     → BreaksKnown known left r old old
-breaks_before first known bytes left begin (Ok served) old empty begun keeps none = tt
-breaks_before first None bytes left begin (Err fault) old empty begun keeps none = λ is_read. tt
-breaks_before first (Some xs) bytes None begin (Err fault) old empty begun keeps none = absurd keeps
-breaks_before first (Some xs) bytes (Some ys) begin (Err fault) old empty begun keeps none =
+breaks_before first known bytes left begin (Ok served) old empty begun keeps none few = tt
+breaks_before first None bytes left begin (Err fault) old empty begun keeps none few = λ is_read. tt
+breaks_before first (Some xs) bytes None begin (Err fault) old empty begun keeps none few = absurd keeps
+breaks_before first (Some xs) bytes (Some ys) begin (Err fault) old empty begun keeps none few =
     let nowhere : parts_of (lines_of bytes).whole ≡ None =
     subst (λ (n : ℕ). parts_of (lines_of (drop n bytes)).whole ≡ None) begun none in
     λ is_read. (
@@ -171,5 +178,36 @@ breaks_before first (Some xs) bytes (Some ys) begin (Err fault) old empty begun 
       ys,
       refl,
       whole_is first bytes xs ys empty keeps,
+      few,
       ([], subst (λ (o : Option Parts). AnswersParts o []) (sym nowhere) refl, Appends-nil old),
     )
+
+-- nothing was read
+pub nothing_read : (known : Option (List ℕ)) → IfSome known (λ input. ReadsProgram input known)
+nothing_read None = tt
+nothing_read (Some xs) = ([], [], xs, refl, refl, (let none : 0 ≤ CHUNK = omega arith in none), refl)
+
+-- what was read for the program text, as the input has it
+pub program_read : (first : List ℕ) (known : Option (List ℕ)) (bytes : List ℕ) (left : Option (List ℕ)) (begin : ℕ) → first ≡ []
+    → begin ≡ 0 → KeepsInput first known bytes left → ReadsText first begin bytes → IfSome known (λ input. ReadsProgram input left)
+program_read first None bytes left begin empty begun keeps text = tt
+program_read first (Some xs) bytes None begin empty begun keeps text = absurd keeps
+program_read first (Some xs) bytes (Some ys) begin empty begun keeps (inl same) =
+    let none : 0 ≤ CHUNK = omega arith in (
+      [],
+      [],
+      ys,
+      refl,
+      whole_is first bytes xs ys empty keeps ∙ ap (λ (t : List ℕ). t ++ ys) (same ∙ empty),
+      none,
+      refl,
+    )
+program_read first (Some xs) bytes (Some ys) begin empty begun keeps (inr read) = (
+  read.0,
+  read.1,
+  ys,
+  refl,
+  whole_is first bytes xs ys empty keeps ∙ ap (λ (t : List ℕ). t ++ ys) read.2,
+  read.3,
+  subst (λ (n : ℕ). parts_of (lines_of (drop n read.0)).whole ≡ None) begun read.4,
+)

@@ -1,11 +1,11 @@
 -- What was written, told of whatever the input may be, where the reader's bytes are known.
 use Rattle.std.proofs.Common.{◌≡◌, ℕ, Bool, List, [], ◌++◌, Option, Some, None, sym, ap, ◌∙◌, subst}
 use Rattle.std.specs.Prelude.{IfSome, IfOk, IfErr, Result, Ok, Err}
-use Rattle.dbg_shell.specs.declared.outcome.Served.{Served}
-use Rattle.dbg_shell.specs.declared.outcome.ServeFault.{ServeFault}
-use Rattle.dbg_shell.specs.declared.outcome.ServeFault.TheVariants.{Write}
+use Rattle.reply_lines.specs.declared.outcome.Served.{Served}
+use Rattle.reply_lines.specs.declared.outcome.ServeFault.{ServeFault}
+use Rattle.reply_lines.specs.declared.outcome.ServeFault.TheVariants.{Write}
 use Rattle.dbg_shell.specs.Spans.{MayBe, ReadsOn}
-use Rattle.dbg_shell.specs.Writing.{Writes}
+use Rattle.reply_lines.specs.Writing.{Writes}
 use Rattle.dbg_shell.specs.Serving.{WritesSome, WritesFront}
 
 -- how a run ended, and what it wrote

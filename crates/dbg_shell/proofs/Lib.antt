@@ -1,10 +1,9 @@
-pub mod Writing
-pub mod Pairs
 pub mod Reading
 pub mod LineEnds
 pub mod UnderWay
 pub mod Splits
 pub mod Requests
+pub mod SomeAnswers
 pub mod LineReplies
 pub mod Known
 pub mod InputTexts

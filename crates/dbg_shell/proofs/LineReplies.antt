@@ -1,28 +1,27 @@
 -- What the command lines are answered with.
 use Rattle.std.proofs.Common.{◌≡◌, ℕ, ◌≤◌, Bool, true, false, List, [], ◌∷◌, ◌++◌, length, Option, refl, sym, ap, ◌∙◌, subst}
-use Rattle.std.proofs.Common.{inr, append_assoc, arith}
+use Rattle.std.proofs.Common.{append_assoc, arith}
 use Rattle.std.specs.Prelude.{slice_range, IfOk, IfErr, Result, Ok, Err}
 use Rattle.std.specs.Io.KnownBytes.{Appends}
 use Rattle.std.proofs.lemmas.List.{append-nil}
 use Rattle.std.proofs.KnownBytes.{Appends-nil, Appends-trans}
-use Rattle.dbg_base.specs.declared.refusal.Refusal.TheVariants.{Memory}
 use Rattle.dbg_base.specs.Trees.{Program}
 use Rattle.dbg_base.specs.ModelStates.{ModelState, opening}
-use Rattle.dbg_base.specs.Replies.{refusal_text}
-use Rattle.dbg_base.specs.Shell.{AnswersLine, AnswersLines, as_line, is_too_long, end_text, too_long_text}
+use Rattle.dbg_base.specs.Shell.{AnswersLine, AnswersLines, is_too_long, end_text, too_long_text}
 use Rattle.dbg_shell.specs.declared.framing.Span.{Span}
 use Rattle.dbg_shell.specs.declared.framing.Next.{Next}
 use Rattle.dbg_shell.specs.declared.framing.Next.TheVariants as nexts
-use Rattle.dbg_shell.specs.declared.outcome.Served.{Served}
-use Rattle.dbg_shell.specs.declared.outcome.ServeFault.{ServeFault}
-use Rattle.dbg_shell.specs.declared.outcome.ServeFault.TheVariants.{Read, Write}
-use Rattle.dbg_shell.specs.declared.outcome.Served.TheVariants as ends
+use Rattle.reply_lines.specs.declared.outcome.Served.{Served}
+use Rattle.reply_lines.specs.declared.outcome.ServeFault.{ServeFault}
+use Rattle.reply_lines.specs.declared.outcome.ServeFault.TheVariants.{Read, Write}
+use Rattle.reply_lines.specs.declared.outcome.Served.TheVariants as ends
 use Rattle.dbg_shell.specs.Spans.{lines_from, Tells, TellsAny, MayBe, Narrows, IsUnderWay}
-use Rattle.dbg_shell.specs.Writing.{AppendsFront, Writes}
+use Rattle.reply_lines.specs.Writing.{AppendsFront, Writes}
 use Rattle.dbg_shell.specs.Serving.{WritesAnswer, WritesSome, WritesFront, RepliesTo, ServesLines, StopsLines, BreaksLines}
 use Rattle.dbg_shell.proofs.Splits.{told_of}
 use Rattle.dbg_shell.proofs.UnderWay.{goes_on, none_left}
-use Rattle.dbg_shell.proofs.Writing.{front_then, front_longer}
+use Rattle.dbg_shell.proofs.SomeAnswers.{some_answers}
+use Rattle.reply_lines.proofs.Writing.{front_then, front_longer}
 
 -- Some lines were answered, and what answers the lines from here on completes the answers to all of them.
 pub record Answered (P : Program) (whole : List ℕ) (from at : ℕ) (M : ModelState) (old new : Option (List ℕ)) : Type 0 where
@@ -71,13 +70,6 @@ answered_ends P whole from at M a b c text answered none written same = (
   Appends-trans a b c answered.text text
       answered.written written,
 )
-
-some_answers : (P : Program) (lines : List (List ℕ)) (M : ModelState) → (out : List ℕ) × (M' : ModelState) × AnswersLines P lines M out M'
-some_answers P [] M = ([], M, (refl, refl))
-some_answers P (line ∷ lines) M =
-    let out = as_line (refusal_text P Memory) in
-    let others = some_answers P lines M in
-    (out ++ others.0, others.1, (out, others.0, M, (Err Memory, inr refl, (refl, refl)), others.2, refl))
 
 regrouped : (x y z w : List ℕ) → x ++ y ++ (z ++ w) ≡ x ++ (y ++ z) ++ w
 regrouped x y z w = append_assoc x y (z ++ w) ∙ ap (λ (t : List ℕ). x ++ t) (sym (append_assoc y z w)) ∙ sym (append_assoc x (y ++ z) w)

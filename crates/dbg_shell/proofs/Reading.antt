@@ -1,7 +1,7 @@
 -- Steps of reading, one behind the other.
-use Rattle.std.proofs.Common.{◌≡◌, ℕ, Bool, List, Option, sym, subst}
+use Rattle.std.proofs.Common.{◌≡◌, ℕ, Bool, List, Option, sym, subst, inr}
 use Rattle.std.proofs.KnownBytes.{Keeps-refl, Keeps-trans}
-use Rattle.dbg_shell.specs.Spans.{EndsWith, ReadsOn}
+use Rattle.dbg_shell.specs.Spans.{EndsWith, ReadsOn, ReadsOnce, ReadsAsNeeded, IsUnderWay}
 
 module _ {old : List ℕ} {was : Bool} {before : Option (List ℕ)} where
   -- nothing was read yet
@@ -22,3 +22,16 @@ module _ {old : List ℕ} {was : Bool} {before : Option (List ℕ)} where
     reads_same {new = new} {ended = ended} same as_well =
         subst (λ (bytes : List ℕ). ReadsOn old was before bytes ended left) (sym same)
         (subst (λ (end : Bool). ReadsOn old was before middle end left) (sym as_well) first)
+
+-- one read more, where no line was ready
+pub needs_more : {first : List ℕ} {was : Bool} {known : Option (List ℕ)} {old : List ℕ} {over : Bool} {left : Option (List ℕ)} {new : List ℕ}
+    {at : ℕ} → ReadsOn first was known old over left → IsUnderWay old over at → ReadsOnce old new → ReadsAsNeeded first was new at
+needs_more {old = old} {over = over} reads way once = inr (record {
+  front = old;
+  last = once.last;
+  over = over;
+  whole = once.whole;
+  few = once.few;
+  under_way = way;
+  narrows = reads.narrows;
+})

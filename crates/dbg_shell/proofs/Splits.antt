@@ -9,8 +9,8 @@ use Rattle.dbg_shell.specs.declared.framing.Span.{Span}
 use Rattle.dbg_shell.specs.declared.framing.Next.{Next}
 use Rattle.dbg_shell.specs.declared.framing.Next.TheVariants as nexts
 use Rattle.dbg_shell.specs.declared.program_text.TextEnd.TheVariants as ends
-use Rattle.dbg_shell.specs.Spans.{lines_from, AdvancesAt, Tells, TellsAny, MayBe, Narrows, IsUnderWay}
-use Rattle.dbg_shell.specs.Serving.{with_text, Splits, SplitsAny}
+use Rattle.dbg_shell.specs.Spans.{lines_from, AdvancesAt, Tells, TellsAny, MayBe, Narrows, ReadsAsNeeded, IsUnderWay}
+use Rattle.dbg_shell.specs.Serving.{with_text, Splits, SplitsAny, ReadsText}
 use Rattle.dbg_shell.proofs.UnderWay.{goes_on, none_left}
 
 slice_on : (xs : List ℕ) (a b c : ℕ) → a ≤ b → b ≤ c → slice_range xs a c ≡ slice_range xs a b ++ slice_range xs b c
@@ -155,3 +155,16 @@ splits_not_yet before was bytes ended from at so_far narrows way =
     let begun : from ≤ at = here.begun in
     let held : at ≤ length bytes = way.begun in
     ap parts_of (sym (on.whole from (omega arith))) ∙ no_parts on.input from at here (none_left bytes ended at way)
+
+-- where more is read, the bytes before have no end line
+pub reads_for_text : (first old : List ℕ) (was : Bool) (new : List ℕ) (from at : ℕ) → ReadsText first from old → SoFarAny old was from at
+    → ReadsAsNeeded old was new at → ReadsText first from new
+reads_for_text first old was new from at text so_far (inl same) = subst (ReadsText first from) (sym same) text
+reads_for_text first old was new from at text so_far (inr read) =
+    inr (
+      read.front,
+      read.last,
+      read.whole,
+      read.few,
+      splits_not_yet old was read.front read.over from at so_far read.narrows read.under_way,
+    )

@@ -2,13 +2,14 @@
 -- known of whatever the input may be is known of these.
 use Rattle.std.proofs.Common.{◌≡◌, ℕ, suc, ◌+◌, ◌-◌, ◌<◌, ◌≤◌, Bool, true, false, eqb, cond, List, [], ◌∷◌, ◌++◌, length, take, drop}
 use Rattle.std.proofs.Common.{replicate, refl, sym, ap, ◌∙◌, arith}
-use Rattle.std.specs.Prelude.{nat_lt, OnErr, Result, Ok, Err}
+use Rattle.std.specs.Prelude.{nat_lt, IfErr, OnErr, Result, Ok, Err}
 use Rattle.std.proofs.lemmas.Bool.Decides.{nat_tests}
 use Rattle.std.proofs.lemmas.List.{drop-append-le, length-append, length-drop, length-replicate, take-append-drop}
 use Rattle.std.proofs.lemmas.List.Folds.{list_all-append}
 use Rattle.std.proofs.Math.Seq.{take-append-add}
 use Rattle.dbg_base.specs.declared.limits.TheConstants.{INPUT_BYTES}
 use Rattle.dbg_base.specs.Shell.{Lines, lines_of, byte_before, lines_within}
+use Rattle.reply_lines.specs.declared.outcome.ServeFault.{ServeFault}
 use Rattle.dbg_shell.specs.Spans.{is_inside, is_unended, lines_from, MayBe, IsUnderWay}
 use Rattle.dbg_shell.proofs.LineEnds.{no_line_of}
 use Rattle.proc_lang.proofs.Runs.{and_first}
@@ -98,3 +99,8 @@ none_left bytes ended at way = (goes_on bytes ended at way).whole at way.begun
 pub where_failed : {A E P : Type 0} (r : Result A E) → P → OnErr r P
 where_failed (Ok x) p = tt
 where_failed (Err e) p = p
+
+-- and where it has failed by a fault of this kind
+pub where_fault : {A P : Type 0} (r : Result A ServeFault) (kind : ServeFault) → P → IfErr r (λ fault. fault ≡ kind → P)
+where_fault (Ok x) kind p = tt
+where_fault (Err fault) kind p = λ is. p

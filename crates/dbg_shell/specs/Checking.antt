@@ -1,19 +1,12 @@
 -- What the check of a program text writes.
-use Rattle.std.specs.Prelude.{◌≡◌, ℕ, List, [], ◌∷◌, Option, Some, None, codes, sum_by, length, ◌⊎◌}
+use Rattle.std.specs.Prelude.{◌≡◌, ℕ, List, Option, Some, None, sum_by, length, ◌⊎◌}
 use Rattle.std.specs.Bool.{MatchBool}
-use Rattle.std.specs.Fmt.{decimal}
 use Rattle.dbg_base.specs.Trees.{Program}
 use Rattle.dbg_base.specs.declared.fault.ProgFault.{ProgFault}
 use Rattle.dbg_base.specs.Checks.{Reads, IsFault}
-use Rattle.dbg_base.specs.Replies.{joined}
-use Rattle.dbg_base.specs.Shell.{Parts, parts_of, read_lines, as_line, is_too_long, too_long_text, fault_text}
-use Rattle.dbg_shell.specs.declared.outcome.Served.{Served}
-use Rattle.dbg_shell.specs.declared.outcome.Served.TheVariants.{Done, Refused, TooLong}
-
--- how many processes and commands a program has
-abbrev pub size_text : ℕ → ℕ → List ℕ
-size_text processes commands =
-    as_line (joined (codes "ok" ∷ decimal processes ∷ codes "processes" ∷ decimal commands ∷ codes "commands" ∷ []))
+use Rattle.dbg_base.specs.Shell.{Parts, parts_of, read_lines, is_too_long, too_long_text, fault_text, size_text}
+use Rattle.reply_lines.specs.declared.outcome.Served.{Served}
+use Rattle.reply_lines.specs.declared.outcome.Served.TheVariants.{Done, Refused, TooLong}
 
 -- how many commands all its processes have
 abbrev pub command_count : Program → ℕ

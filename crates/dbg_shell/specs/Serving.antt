@@ -9,14 +9,15 @@ use Rattle.dbg_base.specs.ModelStates.{ModelState, opening}
 use Rattle.dbg_base.specs.Shell.{Parts, lines_of, parts_of, read_lines, is_too_long, AnswersLine, AnswersLines, end_text}
 use Rattle.dbg_base.specs.Shell.{WholeText, Text}
 use Rattle.dbg_base.specs.declared.fault.ProgFault.{ProgFault}
-use Rattle.dbg_shell.specs.declared.outcome.Served.{Served}
-use Rattle.dbg_shell.specs.declared.outcome.ServeFault.{ServeFault}
-use Rattle.dbg_shell.specs.declared.outcome.Served.TheVariants.{Done, Refused, TooLong}
+use Rattle.dbg_shell.specs.declared.framing.TheConstants.{CHUNK}
+use Rattle.reply_lines.specs.declared.outcome.Served.{Served}
+use Rattle.reply_lines.specs.declared.outcome.ServeFault.{ServeFault}
+use Rattle.reply_lines.specs.declared.outcome.Served.TheVariants.{Done, Refused, TooLong}
 use Rattle.dbg_shell.specs.declared.program_text.TextEnd.{TextEnd}
 use Rattle.dbg_shell.specs.declared.program_text.TextEnd.TheVariants.{Before}
 use Rattle.dbg_shell.specs.declared.program_text.TextEnd.TheVariants as ends
 use Rattle.dbg_shell.specs.Spans.{lines_from, MayBe, IsUnderWay}
-use Rattle.dbg_shell.specs.Writing.{AppendsFront, Writes}
+use Rattle.reply_lines.specs.Writing.{AppendsFront, Writes}
 
 -- how a run ends whose program was read
 abbrev pub end_of : List ℕ → Served
@@ -52,10 +53,25 @@ WritesFront old new IsOut = (out : List ℕ) × IsOut out × AppendsFront old ne
 abbrev pub ReadsFew : List ℕ → Option (List ℕ) → Type 0
 ReadsFew input left = (bytes rest : List ℕ) × (left ≡ Some rest) × (input ≡ bytes ++ rest) × (length bytes ≤ INPUT_BYTES + 1)
 
--- The reader failed behind some bytes of the input, and what was written is the replies to the whole lines among these.
+-- The reader failed behind some bytes of the input, no more than may be, and what was written is the replies to the whole lines among
+-- these.
 abbrev pub BreaksInput : List ℕ → Option (List ℕ) → Option (List ℕ) → Option (List ℕ) → Type 0
 BreaksInput input left old new =
-    (bytes rest : List ℕ) × (left ≡ Some rest) × (input ≡ bytes ++ rest) × WritesSome old new (WholeText bytes)
+    (bytes rest : List ℕ) × (left ≡ Some rest) × (input ≡ bytes ++ rest) × (length bytes ≤ INPUT_BYTES)
+    × WritesSome old new (WholeText bytes)
+
+-- The bytes from a place on were read for the program text: each time the reader was asked, no line ended the text yet, and what it gave
+-- last is little.
+abbrev pub ReadsText : List ℕ → ℕ → List ℕ → Type 0
+ReadsText old from new =
+    (new ≡ old)
+    ⊎ ((front last : List ℕ) × (new ≡ front ++ last) × (length last ≤ CHUNK) × (parts_of (lines_of (drop from front)).whole ≡ None))
+
+-- No more of the input was read than its program text asks for: before the last read no line ended the text, and that gave little.
+abbrev pub ReadsProgram : List ℕ → Option (List ℕ) → Type 0
+ReadsProgram input left =
+    (front last rest : List ℕ) × (left ≡ Some rest) × (input ≡ front ++ last ++ rest) × (length last ≤ CHUNK)
+    × (parts_of (lines_of front).whole ≡ None)
 
 -- a text in front of a program text
 abbrev pub with_text : List ℕ → Parts → Parts

@@ -5,6 +5,7 @@ use Rattle.std.specs.List.{list_all}
 use Rattle.std.specs.Io.KnownBytes.{Keeps, prepend_known, IsAtEnd}
 use Rattle.dbg_base.specs.declared.limits.TheConstants.{INPUT_BYTES}
 use Rattle.dbg_base.specs.Shell.{lines_within, is_too_long}
+use Rattle.dbg_shell.specs.declared.framing.TheConstants.{CHUNK}
 use Rattle.dbg_shell.specs.declared.framing.Next.{Next}
 use Rattle.dbg_shell.specs.declared.framing.Next.TheVariants.{Line, End, TooLong}
 
@@ -68,3 +69,23 @@ pub record ReadsOn (old : List ℕ) (was : Bool) (before : Option (List ℕ)) (n
   pub keeps : KeepsInput old before new after
   pub ends : EndsWith ended after
   pub narrows : Narrows old was new ended
+
+-- The last of these bytes came at once: when the reader was asked for them, no line was ready from this place on.
+pub record LastRead (old : List ℕ) (was : Bool) (new : List ℕ) (at : ℕ) : Type 0 where
+  pub front : List ℕ
+  pub last : List ℕ
+  pub over : Bool
+  pub whole : new ≡ front ++ last
+  pub few : length last ≤ CHUNK
+  pub under_way : IsUnderWay front over at
+  pub narrows : Narrows old was front over
+
+-- the reader is asked only where no line is ready
+abbrev pub ReadsAsNeeded : List ℕ → Bool → List ℕ → ℕ → Type 0
+ReadsAsNeeded old was new at = (new ≡ old) ⊎ LastRead old was new at
+
+-- one read appends at most so many bytes
+pub record ReadsOnce (old new : List ℕ) : Type 0 where
+  pub last : List ℕ
+  pub whole : new ≡ old ++ last
+  pub few : length last ≤ CHUNK

@@ -3,17 +3,16 @@
 ghost use Rattle.std.specs.Prelude.{◌≡◌, ◌≢◌, IfOk, IfErr, IfSome};
 ghost use Rattle.std.specs.Io.KnownBytes.{Keeps};
 ghost use Rattle.proc_lang.specs.Programs.{program_of};
-ghost use Rattle.dbg_shell.specs.declared.outcome.ServeFault.TheVariants.{Write};
-ghost use Rattle.dbg_shell.specs.declared.outcome.Served.{Served};
-ghost use Rattle.dbg_shell.specs.Serving.{WritesSome, WritesFront, ReadsFew};
+ghost use Rattle.reply_lines.specs.declared.outcome.ServeFault.TheVariants.{Write};
+ghost use Rattle.reply_lines.specs.declared.outcome.Served.{Served};
+ghost use Rattle.dbg_shell.specs.Serving.{WritesSome, WritesFront, ReadsFew, ReadsProgram};
 ghost use Rattle.dbg_shell.specs.Checking.{command_count, ChecksText, ChecksInput};
 
 use crate::framing::Input;
-use crate::notices::{tell_fault, tell_size, tell_too_long};
-use crate::outcome::{ServeFault, Served};
 use crate::program_text::{TextEnd, read_program_text};
 use dbg_base::Pid;
 use proc_lang::{ProgError, Program, parse_program};
+use reply_lines::{ServeFault, Served, tell_fault, tell_size, tell_too_long};
 use std::alloc::Global;
 use std::io::{Read, Write};
 
@@ -57,8 +56,9 @@ pub fn check<R: Read, W: Write>(
         (λ input. (served : Served) × WritesFront (W.contents writer.old) (W.contents writer.new) (ChecksInput input served))) }
     // A fault of the reader, and want of memory, write nothing.
     ensures silent { IfErr result (λ fault. fault ≢ Write → Keeps (W.contents writer.old) (W.contents writer.new)) }
-    // However it ends, at most 1,048,577 bytes were read.
+    // However it ends, at most 1,048,577 bytes were read, and no more than the program text asks for.
     ensures few { IfSome (R.remaining reader.old) (λ input. ReadsFew input (R.remaining reader.new)) }
+    ensures program { IfSome (R.remaining reader.old) (λ input. ReadsProgram input (R.remaining reader.new)) }
 {
     let mut input = Input::new(alloc)?;
     match read_program_text(&mut input, reader)? {

@@ -3,14 +3,15 @@
 ghost use Rattle.std.specs.Prelude.{◌≡◌, ◌+◌, ◌<◌, ◌≤◌, [], true, false, min, take, vec_len, vec_capacity, length, slice_range, OnOk};
 ghost use Rattle.std.specs.Prelude.{OnErr, MatchOption, IfOk, IfErr, IfSome, ◌⊎◌};
 ghost use Rattle.std.specs.List.{prefix_len};
-ghost use Rattle.dbg_shell.specs.Spans.{AdvancesAt, is_inside, is_unended, TellsAny, EndsWith, ReadsOn, IsUnderWay};
+ghost use Rattle.dbg_shell.specs.Spans.{AdvancesAt, is_inside, is_unended, TellsAny, EndsWith, ReadsOn, ReadsOnce, ReadsAsNeeded};
+ghost use Rattle.dbg_shell.specs.Spans.{IsUnderWay};
 ghost use Rattle.dbg_shell.specs.declared.framing.TheConstants.{ROOM};
 ghost use Rattle.dbg_shell.specs.declared.framing.Next.TheVariants.{End};
-ghost use Rattle.dbg_shell.specs.declared.outcome.ServeFault.TheVariants.{Read};
+ghost use Rattle.reply_lines.specs.declared.outcome.ServeFault.TheVariants.{Read};
 ghost use Rattle.dbg_base.specs.declared.limits.TheConstants.{INPUT_BYTES};
 
-use crate::outcome::ServeFault;
 use dbg_base::limits::INPUT_BYTES;
+use reply_lines::ServeFault;
 use std::alloc::{AllocError, Global};
 use std::io::Read;
 
@@ -117,6 +118,7 @@ impl Input {
         ensures tells { IfOk result (TellsAny self.new.bytes.items self.new.ended self.old.at self.new.at) }
         ensures fault { IfErr result (λ fault. fault ≡ Read) }
         ensures under_way { OnErr result (IsUnderWay self.new.bytes.items self.new.ended self.old.at) }
+        ensures needed { ReadsAsNeeded self.old.bytes.items self.old.ended self.new.bytes.items self.old.at }
     {
         loop {
             if let Some(next) = self.ready() {
@@ -198,6 +200,7 @@ impl Input {
         ensures more { OnOk result ((self.new.ended ≡ true) × (vec_len self.new.bytes ≡ vec_len self.old.bytes)
             ⊎ (self.new.ended ≡ false) × (vec_len self.old.bytes < vec_len self.new.bytes)) }
         ensures kept { OnErr result ((self.new.bytes ≡ self.old.bytes) × (self.new.ended ≡ self.old.ended)) }
+        ensures once { ReadsOnce self.old.bytes.items self.new.bytes.items }
         ensures fault { IfErr result (λ fault. fault ≡ Read) }
     {
         let mut chunk = [0u8; CHUNK];

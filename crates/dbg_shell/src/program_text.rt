@@ -1,15 +1,16 @@
 //! The program text, which stands in front of the input.
 
-ghost use Rattle.std.specs.Prelude.{◌≡◌, true, drop, None, IfOk, IfErr, OnErr};
+ghost use Rattle.std.specs.Prelude.{◌≡◌, ◌≤◌, true, drop, length, None, IfOk, IfErr, OnErr};
+ghost use Rattle.dbg_base.specs.declared.limits.TheConstants.{INPUT_BYTES};
 ghost use Rattle.dbg_base.specs.Shell.{is_end_line, lines_of, parts_of};
 ghost use Rattle.dbg_shell.specs.Spans.{EndsWith, ReadsOn};
-ghost use Rattle.dbg_shell.specs.Serving.{SplitsAny};
+ghost use Rattle.dbg_shell.specs.Serving.{SplitsAny, ReadsText};
 ghost use Rattle.dbg_shell.specs.declared.program_text.TextEnd.TheVariants.{End};
-ghost use Rattle.dbg_shell.specs.declared.outcome.ServeFault.TheVariants.{Read};
+ghost use Rattle.reply_lines.specs.declared.outcome.ServeFault.TheVariants.{Read};
 
 use crate::framing::{Input, Next, Span};
-use crate::outcome::ServeFault;
 use command_line::without_return;
+use reply_lines::ServeFault;
 use std::io::Read;
 
 /// Where the program text ends.
@@ -41,6 +42,8 @@ pub(crate) fn read_program_text<R: Read>(
     ensures stopped { IfOk result (λ end. end ≡ End → input.new.ended ≡ true) }
     ensures splits { IfOk result (SplitsAny input.new.bytes.items input.new.ended input.old.at input.new.at) }
     ensures none { OnErr result (parts_of (lines_of (drop input.old.at input.new.bytes.items)).whole ≡ None) }
+    ensures few { OnErr result (length input.new.bytes.items ≤ INPUT_BYTES) }
+    ensures needed { ReadsText input.old.bytes.items input.old.at input.new.bytes.items }
     ensures fault { IfErr result (λ fault. fault ≡ Read) }
 {
     loop {

@@ -1,25 +1,27 @@
 //! A program text and the command lines behind it.
 
-ghost use Rattle.std.specs.Prelude.{◌≡◌, IfOk, IfErr, IfSome};
+ghost use Rattle.std.specs.Prelude.{◌≡◌, ◌≢◌, IfOk, IfErr, IfSome};
 ghost use Rattle.std.specs.Io.KnownBytes.{Keeps};
 ghost use Rattle.dbg_base.specs.ModelStates.{opening};
 ghost use Rattle.proc_lang.specs.Programs.{program_of};
 ghost use Rattle.dbg_command.specs.Tables.{IsTableOf, state_of};
-ghost use Rattle.dbg_shell.specs.declared.outcome.ServeFault.TheVariants.{Memory, Read, Write};
-ghost use Rattle.dbg_shell.specs.declared.outcome.Served.{Served};
+ghost use Rattle.reply_lines.specs.declared.outcome.ServeFault.TheVariants.{Memory, Read, Write};
+ghost use Rattle.reply_lines.specs.declared.outcome.Served.{Served};
 ghost use Rattle.dbg_shell.specs.Spans.{EndsWith, ReadsOn};
-ghost use Rattle.dbg_shell.specs.Serving.{ServesInput, BreaksInput, ReadsFew, WritesAnswer, WritesSome, WritesFront};
+ghost use Rattle.reply_lines.specs.declared.outcome.Served.TheVariants.{Refused};
+ghost use Rattle.dbg_shell.specs.Serving.{ServesInput, BreaksInput, ReadsFew, ReadsProgram, WritesAnswer, WritesSome, WritesFront};
 ghost use Rattle.dbg_shell.specs.Serving.{ServesLines, StopsLines, BreaksLines};
 
 use crate::framing::{Input, Next};
-use crate::notices::{hand_on, tell_fault, tell_no_end_line, tell_too_long};
-use crate::outcome::{ServeFault, Served};
 use crate::program_text::{TextEnd, read_program_text};
-use crate::reply::{print_refusal, print_reply};
 use crate::session::answer;
 use command_line::parse_line;
 use dbg_command::Table;
 use proc_lang::{ProgError, Program, parse_program};
+use reply_lines::{
+    ServeFault, Served, hand_on, print_refusal, print_reply, tell_fault, tell_no_end_line,
+    tell_too_long,
+};
 use std::alloc::Global;
 use std::io::{Read, Write};
 
@@ -77,6 +79,9 @@ fn serve_lines<R: Read, W: Write>(
     ensures broken { IfErr result (λ fault. fault ≡ Read → BreaksLines (program_of program.now) input.new.bytes.items input.new.ended
         input.old.at (W.contents writer.old) (W.contents writer.new)) }
     ensures memory { IfErr result (λ fault. fault ≡ Memory → Keeps (W.contents writer.old) (W.contents writer.new)) }
+    ensures untouched { IfErr result (λ fault. fault ≡ Memory → (input.new.bytes.items ≡ input.old.bytes.items)
+        × (R.remaining reader.new ≡ R.remaining reader.old)) }
+    ensures ends { IfOk result (λ served. served ≢ Refused) }
 {
     let mut table = open(alloc, program)?;
     loop {
@@ -109,8 +114,13 @@ pub fn serve<R: Read, W: Write>(
     // Where the reader fails, what is written is the replies to the whole lines before it.
     ensures broken { IfErr result (λ fault. fault ≡ Read → IfSome (R.remaining reader.old)
         (λ input. BreaksInput input (R.remaining reader.new) (W.contents writer.old) (W.contents writer.new))) }
-    // Where memory to begin is wanting, nothing is written.
+    // Where memory to begin is wanting, nothing is written, and no command line is read.
     ensures memory { IfErr result (λ fault. fault ≡ Memory → Keeps (W.contents writer.old) (W.contents writer.new)) }
+    ensures begun { IfErr result (λ fault. fault ≡ Memory → IfSome (R.remaining reader.old)
+        (λ input. ReadsProgram input (R.remaining reader.new))) }
+    // Where the program is refused, no command line is read either.
+    ensures refused { IfOk result (λ served. served ≡ Refused → IfSome (R.remaining reader.old)
+        (λ input. ReadsProgram input (R.remaining reader.new))) }
     // However it ends, at most 1,048,577 bytes were read.
     ensures few { IfSome (R.remaining reader.old) (λ input. ReadsFew input (R.remaining reader.new)) }
 {

@@ -1,8 +1,7 @@
 //! A session: what a table says to the call of a seat.
 
-ghost use Rattle.std.specs.Prelude.{◌≡◌, Some};
-ghost use Rattle.dbg_base.specs.Calls as model;
 ghost use Rattle.dbg_base.specs.Calls.{call_of};
+ghost use Rattle.dbg_base.specs.Fits.{FitsCall};
 ghost use Rattle.dbg_base.specs.Shell.{SaysOrRefuses};
 ghost use Rattle.proc_lang.specs.Programs.{program_of};
 ghost use Rattle.dbg_command.specs.Tables.{IsTableOf, state_of};
@@ -18,8 +17,9 @@ use std::alloc::Global;
 pub(crate) fn answer(table: &mut Table, alloc: Global, program: &Program, line: &Line) -> Said
     requires { IsTableOf (program_of program.now) table.old }
     ensures of { IsTableOf (program_of program.now) table.new }
-    ensures says { (known : model.Call) → call_of line.now.call ≡ Some known
-        → SaysOrRefuses (program_of program.now) line.now.seat known (state_of table.old) result (state_of table.new) }
+    ensures says { SaysOrRefuses (program_of program.now) line.now.seat (call_of line.now.call) (state_of table.old) result
+        (state_of table.new) }
+    ensures fits { FitsCall (program_of program.now) (call_of line.now.call) result }
 {
     match &line.call {
         Call::Give(plan) => match table.give(alloc, program, plan) {

@@ -1,6 +1,6 @@
 //! Calls of a world and a detector that go on and back together, each of which says what the next one requires.
 
-ghost use Rattle.std.specs.Prelude.{◌≡◌, ℕ, ◌<◌, ◌≤◌, length, map, IfOk, OnOk};
+ghost use Rattle.std.specs.Prelude.{◌<◌, length, map, IfOk, OnOk};
 ghost use Rattle.std.specs.List.{AllByRecursion};
 ghost use Rattle.dbg_base.specs.Calls.{conjunct_of};
 ghost use Rattle.proc_lang.specs.Programs.{program_of};
@@ -28,8 +28,8 @@ pub fn conjunct(
     }
 }
 
-// Refuses conjuncts of processes that the program does not have.
-fn known_all(program: &Program, conjuncts: &[Conjunct]) -> Result<(), Refusal>
+/// Refuses conjuncts of processes that the program does not have.
+pub fn known_all(program: &Program, conjuncts: &[Conjunct]) -> Result<(), Refusal>
     ensures { OnOk result (AllByRecursion (λ conjunct. conjunct.process < length (program_of program.now))
         (map conjunct_of conjuncts.now)) }
 {

@@ -1,12 +1,12 @@
 //! The events of all processes.
 
-ghost use Rattle.std.specs.Prelude.{◌≡◌, ℕ, ◌+◌, ◌-◌, ◌<◌, ◌≤◌, ◌++◌, ◌∷◌, [], Bool, false, length, map, take, replicate, slice_get};
+ghost use Rattle.std.specs.Prelude.{◌≡◌, ℕ, ◌+◌, ◌-◌, ◌<◌, ◌≤◌, ◌++◌, ◌∷◌, [], length, map, take, replicate, slice_get};
 ghost use Rattle.std.specs.Prelude.{slice_set, slice_index_or, IfOk, OnOk, IsSome, IsTrue, ◌↔◌};
 ghost use Rattle.std.specs.Option.{option_map, option_to_list};
 ghost use Rattle.dbg_base.specs.Trees.{tree_of};
 ghost use Rattle.dbg_base.specs.LocalStates.{no_state, start_among};
 ghost use Rattle.proc_lang.specs.Programs.{program_of};
-ghost use Rattle.event_rows.specs.Events.{after_event, after_events, past_of, advanced, retreated};
+ghost use Rattle.event_rows.specs.Events.{after_events, past_of, advanced, retreated};
 ghost use Rattle.event_rows.specs.Truths as model;
 ghost use Rattle.dbg_base.specs.Predicates.{holds};
 
@@ -136,6 +136,7 @@ impl Rows {
 
     /// Makes room for so many more events of the process, and does nothing where it is not there. No room is lost, and no event
     /// changes, also where it is refused, which is only where memory runs out.
+    #[tactic(auto, using(dbg_base::proofs::Places::one_place))]
     pub fn reserve(&mut self, pid: Pid, more: usize) -> Result<(), AllocError>
         ensures starts { self.new.starts ≡ self.old.starts }
         ensures events { self.new.events ≡ self.old.events }
@@ -150,6 +151,7 @@ impl Rows {
     }
 
     /// The event goes to the end of those of the process, where there is room. It takes no memory.
+    #[tactic(auto, using(dbg_base::proofs::Places::one_place))]
     pub fn push(&mut self, pid: Pid, event: Event)
         requires { 0 < slice_index_or self.old.room pid.0 0 }
         ensures starts { self.new.starts ≡ self.old.starts }
@@ -161,6 +163,7 @@ impl Rows {
     }
 
     /// The last event of the process is taken out. Where there is none, nothing changes. It takes no memory.
+    #[tactic(auto, using(dbg_base::proofs::Places::one_place))]
     pub fn pop(&mut self, pid: Pid) -> Option<Event>
         ensures starts { self.new.starts ≡ self.old.starts }
         ensures last { slice_index_or self.old.events pid.0 [] ≡ slice_index_or self.new.events pid.0 [] ++ option_to_list result }
@@ -176,13 +179,13 @@ impl Rows {
         line.pop()
     }
 
-    // The start of the process once more. It is refused where memory runs out, and where the process is not there.
+    // The start of the process once more; where the process is not there, a local state without variables.
     fn start(&self, pid: Pid) -> Result<Env, AllocError>
         ensures { IfOk result (λ env. env ≡ slice_index_or self.now.starts pid.0 no_state) }
     {
         match self.starts.get(pid.0 as usize) {
             Some(start) => start.copy(),
-            None => Err(AllocError),
+            None => Ok(Env::none(*self.starts.allocator())),
         }
     }
 
@@ -196,8 +199,8 @@ impl Rows {
         }
     }
 
-    /// The local state of the process after its first n events, or after all where there are fewer. It is refused where memory runs
-    /// out, and where the process is not there.
+    /// The local state of the process after its first n events, or after all where there are fewer; of a process that is not there, a
+    /// local state without variables. It is refused only where memory runs out.
     pub fn past(&self, pid: Pid, n: usize) -> Result<Env, AllocError>
         ensures { IfOk result (λ env. env
             ≡ past_of (slice_index_or self.now.starts pid.0 no_state) (slice_index_or self.now.events pid.0 []) n) }
@@ -229,7 +232,8 @@ impl Rows {
     }
 
     /// For each n from 0 to the number of the process's events, whether the expression is true after the first n of them; where its
-    /// evaluation faults it is not. It is refused where memory runs out, and where the process is not there.
+    /// evaluation faults it is not. A process that is not there has no event, and a start without variables. It is refused only where
+    /// memory runs out.
     pub fn truths(&self, alloc: Global, pid: Pid, expr: &Expr) -> Result<Sequence<bool>, AllocError>
         ensures { IfOk result (λ truths. truths ≡ model.truths_along (tree_of expr.now) (slice_index_or self.now.starts pid.0 no_state)
             (slice_index_or self.now.events pid.0 [])) }

@@ -1,11 +1,11 @@
 //! The messages between all processes.
 
 ghost use Rattle.std.specs.Prelude.{◌≡◌, ℕ, ◌-◌, ◌<◌, ◌≤◌, ◌++◌, ◌∷◌, [], length, take, drop, replicate, slice_get, slice_index_or};
-ghost use Rattle.std.specs.Prelude.{map, IfOk, OnOk, IsSome, IsTrue, ◌↔◌};
+ghost use Rattle.std.specs.Prelude.{map, IfOk, OnOk, MatchOption, IsSome, IsTrue, ◌↔◌};
 ghost use Rattle.std.specs.Option.{option_to_list};
 ghost use Rattle.fifo_grid.specs.Grids.{messages_at, with_messages, room_at, with_room};
 
-use crate::row::Row;
+use crate::queue::Queue;
 use dbg_base::{Pid, Sequence};
 use std::alloc::{AllocError, Global};
 use std::marker::Model;
@@ -14,7 +14,7 @@ use std::marker::Model;
 /// each: how many messages more it takes without memory.
 #[derive(Debug, Drop)]
 pub struct Grid {
-    rows: Vec<Row>,
+    rows: Vec<Vec<Queue>>,
 }
 
 impl Model for Grid {
@@ -24,18 +24,30 @@ impl Model for Grid {
     ghost Value = { GridState };
 
     ghost view = { λ grid. record {
-      channels = map (λ row. row.messages) grid.rows.items;
-      room = map (λ row. row.room) grid.rows.items;
+      channels = map (λ row. map (λ queue. queue.messages) row.items) grid.rows.items;
+      room = map (λ row. map (λ queue. queue.room) row.items) grid.rows.items;
     } };
 }
 
+// No message to any of so many processes.
+fn empty_row(alloc: Global, processes: u32) -> Result<Vec<Queue>, AllocError>
+    ensures { IfOk result (λ row. map (λ queue. queue.messages) row.items ≡ replicate processes []) }
+{
+    let mut row = Vec::new(alloc);
+    for _ in 0..processes {
+        row.push(Queue::new(alloc))?;
+    }
+    Ok(row)
+}
+
 // No message from any of so many processes to any of so many.
-fn empty_rows(alloc: Global, processes: u32) -> Result<Vec<Row>, AllocError>
-    ensures { IfOk result (λ rows. map (λ row. row.messages) rows.items ≡ replicate processes (replicate processes [])) }
+fn empty_rows(alloc: Global, processes: u32) -> Result<Vec<Vec<Queue>>, AllocError>
+    ensures { IfOk result (λ rows. map (λ row. map (λ queue. queue.messages) row.items) rows.items
+        ≡ replicate processes (replicate processes [])) }
 {
     let mut rows = Vec::new(alloc);
     for _ in 0..processes {
-        rows.push(Row::new(alloc, processes)?)?;
+        rows.push(empty_row(alloc, processes)?)?;
     }
     Ok(rows)
 }
@@ -56,8 +68,19 @@ impl Grid {
             ↔ ((from.0 < length self.now.channels) × (to.0 < length (slice_index_or self.now.channels from.0 []))) }
     {
         match self.rows.get(from.0 as usize) {
-            Some(row) => row.has(to.0 as usize),
+            Some(row) => (to.0 as usize) < row.len(),
             None => false,
+        }
+    }
+
+    // The messages from the first process to the second, where both are there.
+    fn queue(&self, from: Pid, to: Pid) -> Option<&Queue>
+        ensures { MatchOption result (messages_at self.now.channels from.0 to.0 ≡ [])
+            (λ queue. queue.now.messages ≡ messages_at self.now.channels from.0 to.0) }
+    {
+        match self.rows.get(from.0 as usize) {
+            Some(row) => row.get(to.0 as usize),
+            None => None,
         }
     }
 
@@ -65,8 +88,8 @@ impl Grid {
     pub fn len(&self, from: Pid, to: Pid) -> usize
         ensures { result ≡ length (messages_at self.now.channels from.0 to.0) }
     {
-        match self.rows.get(from.0 as usize) {
-            Some(row) => row.len(to.0 as usize),
+        match self.queue(from, to) {
+            Some(queue) => queue.len(),
             None => 0,
         }
     }
@@ -75,8 +98,8 @@ impl Grid {
     pub fn front(&self, from: Pid, to: Pid) -> Option<i64>
         ensures { result ≡ slice_get (messages_at self.now.channels from.0 to.0) 0 }
     {
-        match self.rows.get(from.0 as usize) {
-            Some(row) => row.front(to.0 as usize),
+        match self.queue(from, to) {
+            Some(queue) => queue.front(),
             None => None,
         }
     }
@@ -85,66 +108,71 @@ impl Grid {
     pub fn items(&self, alloc: Global, from: Pid, to: Pid) -> Result<Sequence<i64>, AllocError>
         ensures { IfOk result (λ messages. messages ≡ messages_at self.now.channels from.0 to.0) }
     {
-        match self.rows.get(from.0 as usize) {
-            Some(row) => row.items(alloc, to.0 as usize),
+        match self.queue(from, to) {
+            Some(queue) => queue.items(alloc),
             None => Ok(Sequence::new(Vec::new(alloc))),
         }
     }
 
     /// Makes room for so many more messages from the first process to the second, and does nothing where either is not there. No
     /// room is lost, and no message changes, also where it is refused, which is only where memory runs out.
+    #[tactic(auto, using(crate::proofs::Cells::one_cell))]
     pub fn reserve(&mut self, from: Pid, to: Pid, more: usize) -> Result<(), AllocError>
         ensures messages { self.new.channels ≡ self.old.channels }
         ensures grows { (a b : ℕ) → room_at self.old.room a b ≤ room_at self.new.room a b }
         ensures ok { OnOk result (from.0 < length self.old.channels → to.0 < length (slice_index_or self.old.channels from.0 [])
             → more ≤ room_at self.new.room from.0 to.0) }
     {
-        if from.0 as usize >= self.rows.len() {
+        if !self.has(from, to) {
             return Ok(());
         }
-        let row = &mut self.rows[from.0 as usize];
-        row.reserve(to.0 as usize, more)
+        let queue = &mut self.rows[from.0 as usize][to.0 as usize];
+        queue.reserve(more)
     }
 
     /// The message goes to the back of those from the first process to the second, where there is room. It takes no memory.
+    #[tactic(auto, using(crate::proofs::Cells::one_cell))]
     pub fn push_back(&mut self, from: Pid, to: Pid, message: i64)
         requires { 0 < room_at self.old.room from.0 to.0 }
         ensures messages { self.new.channels ≡ with_messages self.old.channels from.0 to.0
             (messages_at self.old.channels from.0 to.0 ++ message ∷ []) }
         ensures room { self.new.room ≡ with_room self.old.room from.0 to.0 (room_at self.old.room from.0 to.0 - 1) }
     {
-        let row = &mut self.rows[from.0 as usize];
-        row.push_back(to.0 as usize, message);
+        let queue = &mut self.rows[from.0 as usize][to.0 as usize];
+        queue.push_back(message);
     }
 
     /// The message goes to the front of those from the first process to the second, where there is room: it takes a `pop_front` back.
     /// It takes no memory.
+    #[tactic(auto, using(crate::proofs::Cells::one_cell))]
     pub fn unpop_front(&mut self, from: Pid, to: Pid, message: i64)
         requires { 0 < room_at self.old.room from.0 to.0 }
         ensures messages { self.new.channels ≡ with_messages self.old.channels from.0 to.0
             (message ∷ messages_at self.old.channels from.0 to.0) }
         ensures room { self.new.room ≡ with_room self.old.room from.0 to.0 (room_at self.old.room from.0 to.0 - 1) }
     {
-        let row = &mut self.rows[from.0 as usize];
-        row.unpop_front(to.0 as usize, message);
+        let queue = &mut self.rows[from.0 as usize][to.0 as usize];
+        queue.unpop_front(message);
     }
 
     /// The front message from the first process to the second is taken. Where there is none, nothing changes. It takes no memory.
+    #[tactic(auto, using(crate::proofs::Cells::one_cell))]
     pub fn pop_front(&mut self, from: Pid, to: Pid) -> Option<i64>
         ensures front { result ≡ slice_get (messages_at self.old.channels from.0 to.0) 0 }
         ensures messages { self.new.channels ≡ with_messages self.old.channels from.0 to.0
             (drop 1 (messages_at self.old.channels from.0 to.0)) }
         ensures grows { (a b : ℕ) → room_at self.old.room a b ≤ room_at self.new.room a b }
     {
-        if from.0 as usize >= self.rows.len() {
+        if !self.has(from, to) {
             return None;
         }
-        let row = &mut self.rows[from.0 as usize];
-        row.pop_front(to.0 as usize)
+        let queue = &mut self.rows[from.0 as usize][to.0 as usize];
+        queue.pop_front()
     }
 
     /// The back message from the first process to the second is taken: it takes a `push_back` back. Where there is none, nothing
     /// changes. It takes no memory.
+    #[tactic(auto, using(crate::proofs::Cells::one_cell))]
     pub fn unpush_back(&mut self, from: Pid, to: Pid) -> Option<i64>
         ensures back { messages_at self.old.channels from.0 to.0
             ≡ messages_at self.new.channels from.0 to.0 ++ option_to_list result }
@@ -153,10 +181,10 @@ impl Grid {
         ensures some { IsSome result ↔ (0 < length (messages_at self.old.channels from.0 to.0)) }
         ensures grows { (a b : ℕ) → room_at self.old.room a b ≤ room_at self.new.room a b }
     {
-        if from.0 as usize >= self.rows.len() {
+        if !self.has(from, to) {
             return None;
         }
-        let row = &mut self.rows[from.0 as usize];
-        row.unpush_back(to.0 as usize)
+        let queue = &mut self.rows[from.0 as usize][to.0 as usize];
+        queue.unpush_back()
     }
 }

@@ -5,6 +5,5 @@
 
 mod grid;
 mod queue;
-mod row;
 
 pub use grid::Grid;

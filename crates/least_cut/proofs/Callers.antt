@@ -10,11 +10,10 @@ use Rattle.dbg_base.specs.Eliminations.{reach_from}
 use Rattle.dbg_base.specs.SystemStates.{SystemState, line_of, place_at, history_of, after_choice, after_redo, after_undo, after_rollback}
 pub use Rattle.cut_core.specs.ConsistentCuts.{IsConsistentCut}
 use Rattle.causal_world.specs.Scenes.{Scene, IsWorldOf}
-use Rattle.causal_world.proofs.Back.{history_without}
-use Rattle.causal_world.proofs.Calls.{events_counted}
-use Rattle.causal_world.proofs.LineStates.{length_cut, cut_at, history_choice, history_redo}
-use Rattle.causal_world.proofs.Looking.{kinds_placed}
-use Rattle.causal_world.proofs.Unfiring.{without_with}
+use Rattle.causal_world.proofs.Going.{history_without}
+use Rattle.causal_world.proofs.Calls.{events_counted, kinds_placed}
+use Rattle.histories.proofs.LineStates.{length_cut, cut_at, history_choice, history_redo}
+use Rattle.histories.proofs.Undoing.{without_with}
 use Rattle.least_cut.specs.Watches.{TruthLine, WatchState}
 use Rattle.least_cut.specs.Searches.{IsTrailFrom, IsSettledAt, none_of}
 use Rattle.least_cut.specs.Detectors.{DetectorState, lines_of, HasRoomUpTo, IsDetectorOf, IsSameButRoom, IsGrown, IsShrunk}

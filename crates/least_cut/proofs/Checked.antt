@@ -16,7 +16,7 @@ use Rattle.cut_core.specs.declared.kind.Kind.{Kind}
 use Rattle.causal_world.specs.Scenes.{Scene, IsWorldOf}
 use Rattle.causal_world.specs.Worlds.{IsSomeWorld}
 use Rattle.causal_world.specs.Pasts.{row_at}
-use Rattle.causal_world.proofs.Looking.{kinds_placed}
+use Rattle.causal_world.proofs.Calls.{kinds_placed}
 use Rattle.least_cut.specs.Watches.{TruthLine, scan_of}
 use Rattle.least_cut.specs.Searches.{IsDue, IsStep, IsTrailFrom, none_of}
 use Rattle.least_cut.proofs.Meanings.{IsHere, same_start, trail_sound, sound_trail}

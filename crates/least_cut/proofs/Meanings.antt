@@ -19,9 +19,9 @@ use Rattle.dbg_base.specs.Eliminations.{is_ruled_out, IsCaused, eliminated, IsSo
 use Rattle.dbg_base.proofs.Searching.{HasClocks}
 use Rattle.causal_world.specs.Scenes.{Scene, IsWorldOf}
 use Rattle.causal_world.specs.Pasts.{row_at}
-use Rattle.causal_world.proofs.LineStates.{length_cut}
-use Rattle.causal_world.proofs.Looking.{row_is_clock, same_part}
-use Rattle.causal_world.proofs.Remembered.{remembered, events_numbered}
+use Rattle.histories.proofs.LineStates.{length_cut}
+use Rattle.causal_world.proofs.Calls.{row_is_clock, same_part}
+use Rattle.causal_world.proofs.Sames.{remembered, events_numbered}
 use Rattle.causal_world.proofs.Reversing.{choices_counted}
 use Rattle.least_cut.specs.Watches.{TruthLine, truth_line, scan_of}
 use Rattle.least_cut.specs.Searches.{is_false_in, IsDue, IsTrailFrom, none_of, IsSettledAt, steps_up_to}

@@ -14,9 +14,8 @@ use Rattle.event_rows.specs.EventValues.{EventValue}
 use Rattle.event_rows.specs.Events.{after_events, past_of}
 use Rattle.causal_world.specs.Scenes.{Scene, IsWorldOf, IsEarlier}
 use Rattle.causal_world.specs.Worlds.{IsSomeWorld}
-use Rattle.causal_world.proofs.Calls.{events_counted}
-use Rattle.causal_world.proofs.Looking.{kinds_placed}
-use Rattle.causal_world.proofs.Remembered.{events_numbered}
+use Rattle.causal_world.proofs.Calls.{events_counted, kinds_placed}
+use Rattle.causal_world.proofs.Sames.{events_numbered}
 use Rattle.least_cut.specs.Watches.{TruthLine, WatchRoom, conjunct_in, truth_line, scan_of, AreAlong, WasWatchOf}
 use Rattle.least_cut.specs.Searches.{is_false_in, IsTrailFrom, none_of, steps_up_to}
 use Rattle.least_cut.specs.Detectors.{DetectorState, conjuncts_of, lines_of, AreWatchesOf, HasTruthRoom, HasRoomUpTo, IsSearchOf}

@@ -18,8 +18,8 @@ use Rattle.dbg_base.proofs.Searching.{reach_size, within_reach, few_steps, most_
 use Rattle.causal_world.specs.Scenes.{Scene, IsWorldOf}
 use Rattle.causal_world.specs.Worlds.{IsSomeWorld}
 use Rattle.causal_world.specs.Pasts.{row_at}
-use Rattle.causal_world.proofs.Looking.{row_is_clock}
-use Rattle.causal_world.proofs.Owns.{own_part}
+use Rattle.causal_world.proofs.Calls.{row_is_clock}
+use Rattle.histories.proofs.Chains.{own_part}
 use Rattle.least_cut.specs.Watches.{TruthLine, WatchRoom}
 use Rattle.least_cut.specs.Searches.{IsStep, IsTrailFrom, PassesPart, none_of, steps_up_to}
 use Rattle.least_cut.specs.Detectors.{DetectorState, conjuncts_of, lines_of, HasTruthRoom, IsSearchOf, GoesOn, AreWatchesOf}

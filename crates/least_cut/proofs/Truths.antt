@@ -18,8 +18,8 @@ use Rattle.event_rows.specs.Truths.{truths_along}
 use Rattle.event_rows.proofs.Pasts.{past_more, truths_more}
 use Rattle.causal_world.specs.Scenes.{Scene, IsEarlier}
 use Rattle.causal_world.specs.Worlds.{IsSomeWorld}
-use Rattle.causal_world.proofs.Looking.{kinds_placed}
-use Rattle.causal_world.proofs.Remembered.{events_numbered}
+use Rattle.causal_world.proofs.Calls.{kinds_placed}
+use Rattle.causal_world.proofs.Sames.{events_numbered}
 use Rattle.least_cut.specs.Watches.{TruthLine, WatchState, conjunct_in, IsWatchOf, IsAdvanced, AreAlong}
 
 -- what is looked for in one line

@@ -1,6 +1,6 @@
 //! A detector: the least cut that satisfies a breakpoint, as far as the events go.
 
-ghost use Rattle.std.specs.Prelude.{◌≡◌, ℕ, ◌<◌, ◌≤◌, ◌+◌, [], length, map, IfOk, IfErr, IfSome, OnOk, MatchOption};
+ghost use Rattle.std.specs.Prelude.{◌≡◌, ◌<◌, ◌≤◌, ◌+◌, length, map, IfOk, IfErr, IfSome, OnOk, MatchOption};
 ghost use Rattle.std.specs.Prelude.{slice_index};
 ghost use Rattle.std.specs.List.{AllByRecursion};
 ghost use Rattle.dbg_base.specs.Trees as tree;
@@ -8,7 +8,7 @@ ghost use Rattle.dbg_base.specs.Calls.{conjunct_of};
 ghost use Rattle.dbg_base.specs.Predicates.{IsLeast, NoCut};
 ghost use Rattle.dbg_base.specs.Frontiers.{IsFrontier};
 ghost use Rattle.dbg_base.specs.Eliminations.{IsSound, reach};
-ghost use Rattle.dbg_base.specs.SystemStates.{place_at, history_of};
+ghost use Rattle.dbg_base.specs.SystemStates.{history_of};
 ghost use Rattle.causal_world.specs.Scenes.{Scene, IsWorldOf};
 ghost use Rattle.least_cut.specs.Watches.{conjunct_in, scan_of, WasWatchOf};
 ghost use Rattle.dbg_base.specs.declared.refusal.Refusal.TheVariants.{Memory};

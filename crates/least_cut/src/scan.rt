@@ -115,8 +115,8 @@ impl Model for Scan {
 }
 
 impl Scan {
-    /// Evaluates each conjunct in each local state of its process, which is there. One that faults is not true. It is refused only as
-    /// `Memory`, where that runs out.
+    /// Evaluates each conjunct in each local state of its process; a process that is not there has one, without variables. One that
+    /// faults is not true. It is refused only as `Memory`, where that runs out.
     pub fn of(alloc: Global, world: &World, conjuncts: &[Conjunct]) -> Result<Scan, Refusal>
         ensures scan { IfOk result (λ scan. scan ≡ scan_of world.now (map conjunct_of conjuncts.now)) }
         ensures refuses { IfErr result (λ refusal. refusal ≡ Memory) }

@@ -11,7 +11,7 @@ use crate::scan::Truths;
 use causal_world::World;
 use dbg_base::{Conjunct, Expr, Pid, Refusal};
 use local_eval::{Env, guard};
-use std::alloc::{AllocError, Global};
+use std::alloc::AllocError;
 use std::marker::Model;
 
 /// A conjunct, where it is true, and the last local state of its process. Contracts see this, and how many truths there may be without

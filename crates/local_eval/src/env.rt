@@ -2,7 +2,7 @@
 
 ghost use Rattle.std.specs.Prelude.{◌≡◌, ◌<◌, ◌↔◌, [], length, replicate, Some, IsTrue, IfOk, slice_get, slice_set};
 ghost use Rattle.dbg_base.specs.Trees.{process_of};
-ghost use Rattle.dbg_base.specs.LocalStates.{counts_of, start_values, start_state};
+ghost use Rattle.dbg_base.specs.LocalStates.{counts_of, no_state, start_values, start_state};
 ghost use Rattle.dbg_base.specs.Configurations.{start_of};
 ghost use Rattle.proc_lang.specs.Programs.{program_of};
 
@@ -49,6 +49,17 @@ fn no_messages(alloc: Global, processes: u32) -> Result<Vec<u32>, AllocError>
 }
 
 impl Env {
+    /// The local state of a process that is not there: no variable, and no count. It takes no memory.
+    pub fn none(alloc: Global) -> Env
+        ensures { result ≡ no_state }
+    {
+        Env {
+            values: Vec::new(alloc),
+            sent: Vec::new(alloc),
+            got: Vec::new(alloc),
+        }
+    }
+
     /// The start of a process: its initial values, none where the program has no such process, and no message sent to or received
     /// from any process of the program. It is refused only where memory runs out.
     pub fn start(alloc: Global, program: &Program, pid: Pid) -> Result<Env, AllocError>

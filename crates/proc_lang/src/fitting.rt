@@ -1,11 +1,10 @@
 //! Whether an expression is a predicate of a process.
 
 ghost use Rattle.std.specs.Prelude.{◌≡◌};
-ghost use Rattle.dbg_base.specs.declared.expr.Sort.TheVariants as sort;
 ghost use Rattle.dbg_base.specs.Trees.{tree_of};
 ghost use Rattle.dbg_base.specs.Sorts.{is_same_sort};
-ghost use Rattle.dbg_base.specs.WellFormed.{tree_sort, is_other, fits_within, is_fit};
-ghost use Rattle.dbg_base.specs.WellFormed as model;
+ghost use Rattle.dbg_base.specs.WellFormed.{tree_sort, is_other, fits_within};
+ghost use Rattle.dbg_base.specs.Predicates.{is_predicate};
 ghost use Rattle.proc_lang.specs.Programs.{program_of};
 ghost use Rattle.proc_lang.specs.Scopes.{bounds_of};
 
@@ -68,15 +67,16 @@ fn fits_within(bounds: Bounds, expr: &Expr) -> bool
     }
 }
 
-/// Is the expression a predicate of this process? It is where it gives a truth value, its operands give what is asked of them, and the
-/// variables and processes that it names are there, the processes other than this one. It takes no memory.
+/// Is the expression a predicate of this process? It is where the process is there, the expression gives a truth value, its operands
+/// give what is asked of them, and the variables and processes that it names are there, the processes other than this one. It takes
+/// no memory.
 pub fn fits(program: &Program, pid: Pid, expr: &Expr) -> bool
-    ensures { result ≡ is_fit (model.bounds_of (program_of program.now) pid.0) sort.Truth (tree_of expr.now) }
+    ensures { result ≡ is_predicate (program_of program.now) pid.0 (tree_of expr.now) }
 {
     let bounds = Bounds {
         processes: program.processes(),
         own: pid,
         variables: program.variables(pid),
     };
-    gives(expr, Sort::Truth) && fits_within(bounds, expr)
+    pid.0 < bounds.processes && gives(expr, Sort::Truth) && fits_within(bounds, expr)
 }

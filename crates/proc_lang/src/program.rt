@@ -31,7 +31,7 @@ impl Program {
         self.processes.get(pid.0 as usize)
     }
 
-    /// How many processes the program has, 1 to 32. It takes no memory, as all readers do.
+    /// How many processes the program has, at most 32; one that was read has at least one. It takes no memory, as all readers do.
     pub fn processes(&self) -> u32
         ensures value { result ≡ length (program_of self.now) }
         ensures few { result ≤ PROCESSES }

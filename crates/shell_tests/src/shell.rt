@@ -4,6 +4,7 @@ mod break_lines;
 mod breakpoints;
 mod examples;
 mod faults;
+mod fits;
 mod jobs;
 mod lines;
 mod many_breakpoints;

@@ -6,7 +6,7 @@ ghost use Rattle.causal_world.specs.Scenes.{Scene};
 ghost use Rattle.causal_world.specs.Worlds.{IsSomeWorld};
 ghost use Rattle.least_cut.specs.Searches as model;
 ghost use Rattle.least_cut.specs.Detectors.{one_more};
-ghost use Rattle.break_book.specs.Books.{breakpoints_of, AreDetectorsOf, HaveRoomUpTo, AreGrown, AreShrunk, AreMoved};
+ghost use Rattle.break_book.specs.Books.{breakpoints_of, shown_of, AreDetectorsOf, HaveRoomUpTo, AreGrown, AreShrunk, AreMoved};
 ghost use Rattle.break_book.specs.Books.{AreRoomier, AreFollowed};
 
 use super::Book;
@@ -91,14 +91,14 @@ fn follow_each(breaks: &mut IndexMap<Name, Breakpoint>, world: &World)
 }
 
 impl Book {
-    /// Makes room for one event more of the process, which is there. Nothing changes that is seen, also where it is refused, which is
-    /// only as `Memory`, where that runs out.
+    /// Makes room for one event more of the process, which is there. Nothing changes that any call shows, also where it is refused,
+    /// which is only as `Memory`, where that runs out.
     pub fn reserve(&mut self, alloc: Global, world: &World, pid: Pid) -> Result<(), Refusal>
         requires world { IsSomeWorld world.now }
         requires process { pid.0 < length world.now.state.places }
         requires of { AreDetectorsOf world.now self.old }
         ensures of { AreDetectorsOf world.now self.new }
-        ensures same { breakpoints_of self.new ≡ breakpoints_of self.old }
+        ensures same { shown_of self.new ≡ shown_of self.old }
         ensures room { OnOk result (HaveRoomUpTo self.new (one_more world.now pid.0)) }
         ensures refuses { IfErr result (λ refusal. refusal ≡ Memory) }
     {
@@ -110,11 +110,11 @@ impl Book {
         Ok(())
     }
 
-    /// Makes room for as many events as the cut has. Nothing changes that is seen, also where it is refused, which is only as `Memory`,
-    /// where that runs out.
+    /// Makes room for as many events as the cut has. Nothing changes that any call shows, also where it is refused, which is only as
+    /// `Memory`, where that runs out.
     pub fn reserve_to(&mut self, cut: &Cut) -> Result<(), Refusal>
         ensures of { (w : Scene) → AreDetectorsOf w self.old → AreDetectorsOf w self.new }
-        ensures same { breakpoints_of self.new ≡ breakpoints_of self.old }
+        ensures same { shown_of self.new ≡ shown_of self.old }
         ensures room { OnOk result (HaveRoomUpTo self.new cut.now) }
         ensures refuses { IfErr result (λ refusal. refusal ≡ Memory) }
     {

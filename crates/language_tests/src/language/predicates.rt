@@ -296,6 +296,11 @@ fn what_an_expression_names_is_there(rt: HostRuntime) -> Result<(), Fail> {
     assert!(rt; !fits(&program, Pid(1), &is_zero(alloc, Expr::Sent(Pid(1)))?));
     assert!(rt; !fits(&program, Pid(1), &is_zero(alloc, Expr::Variable(1))?));
     assert!(rt; !fits(&program, Pid(2), &is_zero(alloc, Expr::Variable(0))?));
+    assert!(rt; fits(&program, Pid(2), &Expr::Truth(true)));
+    assert!(rt;
+        !fits(&program, Pid(3), &Expr::Truth(true)),
+        "a fourth process"
+    );
     Ok(())
 }
 

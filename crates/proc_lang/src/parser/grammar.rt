@@ -1,6 +1,6 @@
 //! What the grammar names: expressions, variables, commands, processes and programs.
 
-ghost use Rattle.std.specs.Prelude.{◌≡◌, ◌<◌, ◌≤◌, [], map, length, codes, OnOk};
+ghost use Rattle.std.specs.Prelude.{◌<◌, ◌≤◌, [], map, length, codes, OnOk};
 ghost use Rattle.proc_lang.specs.Scanning.{placed_of};
 ghost use Rattle.proc_lang.specs.Writing.{phrase_of, variable_of, action_of, assignment_of, command_of, process_of};
 ghost use Rattle.proc_lang.specs.Parsing.{is_word_token, read_expression, read_count, read_parentheses, read_not, read_negate};

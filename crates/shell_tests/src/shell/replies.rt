@@ -1,3 +1,4 @@
+use super::fits::fits_call;
 use super::two;
 use dbg_base::{
     Answer, Call, Choice, Cut, Done, Head, Name, Pid, Plan, Query, Refusal, Reply, Said, Sequence,
@@ -22,6 +23,7 @@ fn cut(alloc: Global, counts: &[u32]) -> Result<Cut, AllocError> {
 fn expect(rt: &impl Abort, alloc: Global, call: Call, said: Said, want: &str) {
     let program = two(rt, alloc);
     let mut writer = Vec::new(alloc);
+    assert!(rt; fits_call(&program, &call, &said), "at {want:?}");
     let outcome = print_reply(&program, &call, &said, &mut writer);
     assert!(rt; outcome.is_ok(), "at {want:?}");
     assert_eq!(rt; writer.as_slice(), want.as_bytes(), "at {want:?}");
@@ -131,14 +133,6 @@ fn queries_of_processes_are_answered(rt: HostRuntime) -> Result<(), Fail> {
         Query::Vars(Pid(1)),
         Answer::Values(values),
         "vars b y=-9223372036854775808 n=2\n",
-    );
-    let none = Sequence::new(Vec::new(alloc));
-    ask(
-        &rt,
-        alloc,
-        Query::Vars(Pid(0)),
-        Answer::Values(none),
-        "vars a\n",
     );
     let chan = Query::Chan(Pid(0), Pid(1));
     let messages = Sequence::new(vec![in alloc; 1i64, -2]?);

@@ -5,7 +5,7 @@ use Rattle.std.specs.List.{count_by}
 use Rattle.fifo_grid.specs.Grids.{room_at}
 use Rattle.causal_world.specs.Pasts.{HasRoomFor}
 use Rattle.causal_world.specs.Room.{puts_of, is_of}
-use Rattle.causal_world.proofs.Again.{HasRoomFrom, room_whole}
+use Rattle.causal_world.proofs.Inverses.{HasRoomFrom, room_whole}
 use Rattle.causal_world.proofs.making.make_room_forth.Goals as goal
 
 pub loop-p-preserved : goal.loop-p-preserved

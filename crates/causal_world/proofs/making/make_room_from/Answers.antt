@@ -2,7 +2,7 @@ use Rattle.std.proofs.Common.{◌≡◌, ℕ, ◌≤◌, sym, ap, ◌∙◌, sub
 use Rattle.fifo_grid.specs.Grids.{GridState, room_at}
 use Rattle.event_rows.specs.declared.exchange.Exchange.{Exchange}
 use Rattle.causal_world.specs.Room.{HasRoomsAfter}
-use Rattle.causal_world.proofs.Again.{room_from_next}
+use Rattle.causal_world.proofs.Inverses.{room_from_next}
 use Rattle.causal_world.proofs.making.make_room_from.Goals as goal
 use Rattle.causal_world.proofs.making.make_room_from.Goals.{then-one-pid+in_ok-make_room_after, else-one-pid}
 

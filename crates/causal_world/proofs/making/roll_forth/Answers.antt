@@ -11,7 +11,7 @@ use Rattle.causal_world.specs.Worlds.{CanMake}
 use Rattle.causal_world.specs.Rollings.{IsRolled, IsRolledFrom, unmade_all}
 use Rattle.causal_world.proofs.Calls.{can_here, can_keep, can_few, can_whole, next_few, same_scene}
 use Rattle.causal_world.proofs.Reversing.{channels_there}
-use Rattle.causal_world.proofs.Again.{Again, again, room_for_last, room_behind, room_one, room_each}
+use Rattle.causal_world.proofs.Inverses.{Again, again, room_for_last, room_behind, room_one, room_each}
 use Rattle.causal_world.proofs.making.roll_forth.Goals as goal
 use Rattle.causal_world.proofs.making.roll_forth.Goals.{In-Some}
 

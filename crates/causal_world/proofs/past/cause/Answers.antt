@@ -3,7 +3,7 @@ use Rattle.cut_core.specs.declared.kind.Kind.{Kind}
 use Rattle.cut_core.specs.Tallies.{got_by}
 use Rattle.causal_world.specs.Pasts.{IsWhole, with_kind, IsCause}
 use Rattle.causal_world.proofs.Clocking.{has_sender}
-use Rattle.causal_world.proofs.Pasts.{sender, got_few}
+use Rattle.causal_world.proofs.ClockRows.{sender, got_few}
 use Rattle.causal_world.proofs.past.cause.Goals as goal
 
 pub send_event-requires-clause-enough : goal.send_event-requires-clause-enough

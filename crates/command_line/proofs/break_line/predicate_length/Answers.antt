@@ -1,5 +1,5 @@
 use Rattle.std.proofs.Common.{length, ap, sym, ◌∙◌}
-use Rattle.command_line.proofs.Words.{word_length_is}
+use Rattle.command_line.proofs.FirstWords.{word_length_is}
 use Rattle.command_line.proofs.BreakLines.{predicate_is_word}
 use Rattle.command_line.proofs.break_line.predicate_length.Goals as goal
 

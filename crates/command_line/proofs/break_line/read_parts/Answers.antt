@@ -4,7 +4,7 @@ use Rattle.dbg_base.specs.Calls.{conjunct_of}
 use Rattle.dbg_base.specs.CommandLines.{with_part}
 use Rattle.dbg_base.specs.Requests.{ReadsParts}
 use Rattle.proc_lang.specs.Programs.{program_of}
-use Rattle.command_line.specs.Lines.{parts_of}
+use Rattle.dbg_base.specs.CommandLines.{parts_in}
 use Rattle.command_line.proofs.PartsRead.{ReadSoFar, none_read, all_read, has_form, refused_more, read_more}
 use Rattle.command_line.proofs.break_line.read_parts.Goals as goal
 
@@ -15,20 +15,20 @@ loop-name-init c =
 
 pub returns-in-Ok-None : goal.returns-in-Ok-None
 returns-in-Ok-None c = λ parts whole.
-    let e : parts_of c.loop-name.rest.now ≡ Some [] = search rules in
+    let e : parts_in c.loop-name.rest.now ≡ Some [] = search rules in
     inl (subst (λ (made : List conjunct.Conjunct). ReadsParts (program_of c.args.program.now) [] parts (Ok (map conjunct_of made)))
     (sym c.new.ensures) (all_read (program_of c.args.program.now) c.args.bytes.now c.loop-name.rest.now c.loop-name.made.items
     c.loop-name.invariant parts whole e))
 
 pub returns-in-Err : goal.returns-in-Err
 returns-in-Err c = λ parts whole.
-    let e : parts_of c.loop-name.rest.now ≡ None = search rules in
+    let e : parts_in c.loop-name.rest.now ≡ None = search rules in
     has_form (program_of c.args.program.now) c.args.bytes.now c.loop-name.rest.now c.loop-name.made.items c.loop-name.invariant
     parts whole e
 
 pub returns-in-Err-read_part : goal.returns-in-Err-read_part
 returns-in-Err-read_part c =
-    let e : parts_of c.loop-name.rest.now ≡ with_part (c.in-Ok-Some.name, c.in-Ok-Some.text.now) (parts_of c.in-Ok-Some.behind.now) =
+    let e : parts_in c.loop-name.rest.now ≡ with_part (c.in-Ok-Some.name, c.in-Ok-Some.text.now) (parts_in c.in-Ok-Some.behind.now) =
     search rules in
     refused_more (program_of c.args.program.now) c.args.bytes.now c.loop-name.rest.now c.loop-name.made.items c.loop-name.invariant
     c.in-Ok-Some.name c.in-Ok-Some.text.now c.in-Ok-Some.behind.now c.as_slice.result.now c.as_slice.ensures.value e
@@ -36,7 +36,7 @@ returns-in-Err-read_part c =
 
 pub loop-name-preserved : goal.loop-name-preserved
 loop-name-preserved c =
-    let e : parts_of c.loop-name.rest.now ≡ with_part (c.in-Ok-Some.name, c.in-Ok-Some.text.now) (parts_of c.in-Ok-Some.behind.now) =
+    let e : parts_in c.loop-name.rest.now ≡ with_part (c.in-Ok-Some.name, c.in-Ok-Some.text.now) (parts_in c.in-Ok-Some.behind.now) =
     search rules in
     let pushed : c.push.new.self.items ≡ c.loop-name.made.items ++ c.in-Ok.conjunct ∷ [] = search rules in
     read_more (program_of c.args.program.now) c.args.bytes.now c.loop-name.rest.now c.loop-name.made.items c.loop-name.invariant

@@ -1,5 +1,5 @@
 use Rattle.std.proofs.Common.{◌≡◌, ◌-◌, length, get_or, arith}
-use Rattle.command_line.proofs.Words.{return_dropped, return_missing}
+use Rattle.command_line.proofs.FirstWords.{return_dropped, return_missing}
 use Rattle.command_line.proofs.line.without_return.Goals as goal
 
 pub returns-in-len1-up : goal.returns-in-len1-up

@@ -1,5 +1,5 @@
 use Rattle.dbg_base.specs.Shell.{too_long_text}
-use Rattle.dbg_shell.specs.declared.outcome.Served.TheVariants as outcomes
+use Rattle.reply_lines.specs.declared.outcome.Served.TheVariants as outcomes
 use Rattle.dbg_shell.specs.Checking.{ChecksText, ChecksInput}
 use Rattle.dbg_shell.proofs.Known.{known_may, told_done, told_cut, leads_done, leads_cut}
 use Rattle.dbg_shell.proofs.CheckTexts.{text_before, text_whole, too_long_here}

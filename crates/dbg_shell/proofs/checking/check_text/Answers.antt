@@ -4,8 +4,9 @@ use Rattle.dbg_base.specs.Shell.{fault_text}
 use Rattle.proc_lang.specs.declared.fault.ProgError.{ProgError}
 use Rattle.proc_lang.specs.declared.program.Program.{Program}
 use Rattle.proc_lang.specs.Answering.{IfBad}
-use Rattle.dbg_shell.specs.declared.outcome.Served.TheVariants as outcomes
-use Rattle.dbg_shell.specs.Checking.{size_text, ChecksText}
+use Rattle.reply_lines.specs.declared.outcome.Served.TheVariants as outcomes
+use Rattle.dbg_base.specs.Shell.{size_text}
+use Rattle.dbg_shell.specs.Checking.{ChecksText}
 use Rattle.dbg_shell.proofs.Known.{line_done, line_cut}
 use Rattle.dbg_shell.proofs.CheckTexts.{size_here, fault_here}
 use Rattle.dbg_shell.proofs.checking.check_text.Goals as goal

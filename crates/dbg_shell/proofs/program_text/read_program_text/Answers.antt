@@ -1,12 +1,13 @@
 use Rattle.std.proofs.Common.{sym, ◌∙◌}
 use Rattle.dbg_shell.proofs.UnderWay.{where_failed}
 use Rattle.dbg_shell.proofs.Reading.{reads_then}
-use Rattle.dbg_shell.proofs.Splits.{so_far_goes_on, splits_here, splits_nowhere, splits_too_late, splits_not_yet}
+use Rattle.dbg_shell.proofs.Splits.{reads_for_text, so_far_goes_on, splits_here, splits_nowhere, splits_too_late, splits_not_yet}
 use Rattle.dbg_shell.proofs.program_text.read_program_text.Goals as goal
 
 pub loop-span-preserved : goal.loop-span-preserved
 loop-span-preserved g c = record {
   reads = reads_then c.loop-span.invariant.reads c.next_line.ensures.reads;
+  needed = reads_for_text _ _ _ _ _ _ c.loop-span.invariant.needed c.loop-span.invariant.so_far c.next_line.ensures.needed;
   so_far = so_far_goes_on _ _ _ _ _ _ _ _ c.loop-span.invariant.so_far c.next_line.ensures.reads.narrows c.in_ok-span.ensures.tells
       c.line.result.now c.in-Line.span c.in-Line.is c.line.ensures c.in_ok-span.ensures.advances
       (sym c.is_end_line.ensures ∙ c.if-is_end_line.false);
@@ -32,3 +33,19 @@ pub returns-in-TooLong-clause-splits : goal.returns-in-TooLong-clause-splits
 returns-in-TooLong-clause-splits g c =
     splits_too_late _ _ _ _ _ _ c.next_line.new.self.at _ c.loop-span.invariant.so_far c.next_line.ensures.reads.narrows
     c.in_ok-span.ensures.tells c.in-TooLong.is
+
+pub returns-in_err-span-clause-needed : goal.returns-in_err-span-clause-needed
+returns-in_err-span-clause-needed g c =
+    reads_for_text _ _ _ _ _ _ c.loop-span.invariant.needed c.loop-span.invariant.so_far c.next_line.ensures.needed
+
+pub returns-then-is_end_line-clause-needed : goal.returns-then-is_end_line-clause-needed
+returns-then-is_end_line-clause-needed g c =
+    reads_for_text _ _ _ _ _ _ c.loop-span.invariant.needed c.loop-span.invariant.so_far c.next_line.ensures.needed
+
+pub returns-in-End-clause-needed : goal.returns-in-End-clause-needed
+returns-in-End-clause-needed g c =
+    reads_for_text _ _ _ _ _ _ c.loop-span.invariant.needed c.loop-span.invariant.so_far c.next_line.ensures.needed
+
+pub returns-in-TooLong-clause-needed : goal.returns-in-TooLong-clause-needed
+returns-in-TooLong-clause-needed g c =
+    reads_for_text _ _ _ _ _ _ c.loop-span.invariant.needed c.loop-span.invariant.so_far c.next_line.ensures.needed

@@ -1,6 +1,7 @@
 use Rattle.std.proofs.Common.{◌-◌}
 use Rattle.dbg_base.specs.declared.limits.TheConstants.{INPUT_BYTES}
 use Rattle.dbg_shell.specs.Spans.{ReadsOn}
+use Rattle.dbg_shell.specs.Serving.{ReadsText}
 use Rattle.dbg_shell.proofs.Splits.{SoFarAny}
 use Rattle.dbg_shell.proofs.program_text.read_program_text.Given as goal
 
@@ -8,6 +9,7 @@ abbrev pub invariant-loop-span : goal.invariant-loop-span
 invariant-loop-span g l = record {
   reads : ReadsOn l.fn.input.bytes.items l.fn.input.ended (g.R.Read.remaining l.fn.reader) l.input.bytes.items l.input.ended
       (g.R.Read.remaining l.reader);
+  needed : ReadsText l.fn.input.bytes.items l.fn.input.at l.input.bytes.items;
   so_far : SoFarAny l.input.bytes.items l.input.ended l.fn.input.at l.input.at;
 }
 

@@ -5,18 +5,22 @@ use Rattle.dbg_base.specs.Shell.{fault_text, no_end_line_text, too_long_text}
 use Rattle.proc_lang.specs.declared.fault.ProgError.{ProgError}
 use Rattle.proc_lang.specs.declared.program.Program.{Program}
 use Rattle.proc_lang.specs.Answering.{IfBad}
-use Rattle.dbg_shell.specs.declared.outcome.Served.TheVariants as outcomes
-use Rattle.dbg_shell.specs.Writing.{Writes}
+use Rattle.reply_lines.specs.declared.outcome.Served.TheVariants as outcomes
+use Rattle.reply_lines.specs.Writing.{Writes}
 use Rattle.dbg_shell.specs.Serving.{ServesInput}
+use Rattle.dbg_shell.proofs.UnderWay.{where_fault}
 use Rattle.dbg_shell.proofs.Reading.{reads_then}
 use Rattle.dbg_shell.proofs.Known.{known_may, told_done, told_cut}
-use Rattle.dbg_shell.proofs.InputTexts.{serves_program, stops_program, breaks_program, fault_here, end_here, too_long_here, breaks_before}
+use Rattle.dbg_shell.proofs.InputTexts.{serves_program, stops_program, breaks_program, nothing_read, fault_here, end_here, too_long_here, breaks_before}
 use Rattle.dbg_shell.proofs.serving.serve.Goals as goal
 
 pub returns-in_err-span-clause-broken : goal.returns-in_err-span-clause-broken
 returns-in_err-span-clause-broken g c =
     breaks_before _ _ c.read_program_text.new.input.bytes.items _ _ _ _ c.in_ok-input.ensures.bytes c.in_ok-input.ensures.at
-    c.read_program_text.ensures.reads.keeps c.in_err-span.ensures.none
+    c.read_program_text.ensures.reads.keeps c.in_err-span.ensures.none c.in_err-span.ensures.few
+
+pub returns-in_err-input-clause-begun : goal.returns-in_err-input-clause-begun
+returns-in_err-input-clause-begun g c = where_fault _ _ (nothing_read _)
 
 pub returns-in-Ok-clause-served : goal.returns-in-Ok-clause-served
 returns-in-Ok-clause-served g c =

@@ -7,7 +7,7 @@ use Rattle.dbg_base.specs.Calls.{conjunct_of}
 use Rattle.dbg_base.specs.SystemStates.{history_of}
 use Rattle.dbg_base.specs.Eliminations.{IsSound}
 use Rattle.dbg_base.proofs.Searching.{sound_above, few_steps}
-use Rattle.causal_world.proofs.Looking.{kinds_placed}
+use Rattle.causal_world.proofs.Calls.{kinds_placed}
 use Rattle.least_cut.specs.Watches.{TruthLine, scan_of}
 use Rattle.least_cut.specs.Searches.{IsStep, none_of}
 use Rattle.least_cut.proofs.Checked.{trail_more, reach_more, whole_sound, sound_step, never_both}

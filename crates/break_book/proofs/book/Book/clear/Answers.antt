@@ -22,6 +22,9 @@ returns-clause-clears c = let r = taken c in (r.is, r.left)
 pub returns-clause-position : goal.returns-clause-position
 returns-clause-position c = let r = taken c in (r.place, r.whole)
 
+pub returns-clause-free : goal.returns-clause-free
+returns-clause-free c = not_named c.args.name c.shift_remove_full.new.self.entries c.shift_remove_full.ensures.updates.1
+
 pub returns-clause-of : goal.returns-clause-of
 returns-clause-of c = λ w are.
     subst (AreDetectorsOf w)

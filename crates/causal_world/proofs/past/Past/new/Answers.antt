@@ -1,6 +1,6 @@
 use Rattle.std.proofs.Common.{rules}
 use Rattle.causal_world.specs.Pasts.{IsPast}
-use Rattle.causal_world.proofs.Pasts.{opens_past}
+use Rattle.causal_world.proofs.ClockRows.{opens_past}
 use Rattle.causal_world.proofs.past.Past.new.Goals as goal
 
 pub invariant_of-result : goal.invariant_of-result

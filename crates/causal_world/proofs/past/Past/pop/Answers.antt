@@ -1,5 +1,5 @@
 use Rattle.std.proofs.Common.{◌<◌, length, get_or, [], arith, rules}
-use Rattle.causal_world.proofs.Pasts.{popped_past, same_past, as_many, has_events}
+use Rattle.causal_world.proofs.ClockRows.{popped_past, same_past, as_many, has_events}
 use Rattle.causal_world.proofs.past.Past.pop.Goals as goal
 
 pub invariant_of-self-2 : goal.invariant_of-self-2

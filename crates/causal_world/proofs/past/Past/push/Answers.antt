@@ -1,7 +1,7 @@
 use Rattle.std.proofs.Common.{ap, subst, sym, ◌∙◌}
 use Rattle.cut_core.specs.declared.kind.Kind.{Kind}
 use Rattle.causal_world.specs.Pasts.{IsPast, IsWhole, kind_done, with_kind}
-use Rattle.causal_world.proofs.Pasts.{fits_row, pushed_past, same_past}
+use Rattle.causal_world.proofs.ClockRows.{fits_row, pushed_past, same_past}
 use Rattle.causal_world.proofs.past.Past.push.Goals as goal
 use Rattle.causal_world.proofs.past.Past.push.Goals.{After-push}
 

@@ -1,6 +1,7 @@
-use Rattle.std.proofs.Common.{ap}
+use Rattle.std.proofs.Common.{◌≡◌, ℕ, ap, ◌∙◌, subst}
+use Rattle.dbg_shell.specs.Spans.{IsUnderWay}
 use Rattle.dbg_shell.proofs.LineEnds.{told_so}
-use Rattle.dbg_shell.proofs.Reading.{reads_then, reads_same}
+use Rattle.dbg_shell.proofs.Reading.{reads_then, reads_same, needs_more}
 use Rattle.dbg_shell.proofs.framing.Input.next_line.Goals as goal
 
 pub returns-in-Some-clause-reads : goal.returns-in-Some-clause-reads
@@ -14,3 +15,15 @@ pub returns-in_err-read_more-clause-reads : goal.returns-in_err-read_more-clause
 returns-in_err-read_more-clause-reads g c =
     reads_then (reads_same c.loop-next.invariant.reads (ap (λ v. v.items) c.ready.ensures.bytes) c.ready.ensures.ended)
     c.read_more.ensures.reads
+
+pub loop-next-preserved : goal.loop-next-preserved
+loop-next-preserved g c =
+    let seen = reads_same c.loop-next.invariant.reads (ap (λ v. v.items) c.ready.ensures.bytes) c.ready.ensures.ended in
+    let here : c.ready.new.self.at ≡ c.args.self.now.at = c.in_default.ensures.advances ∙ c.loop-next.invariant.at in
+    record {
+      at = c.read_more.ensures.stays ∙ here;
+      reads = reads_then seen c.read_more.ensures.reads;
+      needed = needs_more seen
+          (subst (λ (n : ℕ). IsUnderWay c.ready.new.self.bytes.items c.ready.new.self.ended n) here c.in_default.ensures.under_way)
+          c.read_more.ensures.once;
+    }

@@ -1,6 +1,6 @@
 use Rattle.std.proofs.Common.{◌≡◌, ◌+◌, ◌-◌, vec_len, cond}
 use Rattle.dbg_shell.specs.declared.framing.TheConstants.{ROOM}
-use Rattle.dbg_shell.specs.Spans.{ReadsOn}
+use Rattle.dbg_shell.specs.Spans.{ReadsOn, ReadsAsNeeded}
 use Rattle.dbg_shell.proofs.framing.Input.next_line.Given as goal
 
 abbrev pub invariant-loop-next : goal.invariant-loop-next
@@ -8,6 +8,7 @@ invariant-loop-next g l = record {
   at : l.self.at ≡ l.fn.self.at;
   reads : ReadsOn l.fn.self.bytes.items l.fn.self.ended (g.R.Read.remaining l.fn.reader) l.self.bytes.items l.self.ended
       (g.R.Read.remaining l.reader);
+  needed : ReadsAsNeeded l.fn.self.bytes.items l.fn.self.ended l.self.bytes.items l.fn.self.at;
 }
 
 -- the bytes that may still be read, and the end

@@ -2,7 +2,7 @@ use Rattle.std.proofs.Common.{◌≡◌, ◌≢◌, ℕ, ◌<◌, ◌≤◌, Lis
 use Rattle.std.specs.List.{AllByRecursion}
 use Rattle.std.proofs.lemmas.Bool.{cases_eq, cases_lt}
 use Rattle.cut_core.specs.declared.kind.Kind.{Kind}
-use Rattle.causal_world.proofs.Looking.{kinds_placed}
+use Rattle.causal_world.proofs.Calls.{kinds_placed}
 use Rattle.dbg_base.specs.Predicates.{Conjunct}
 use Rattle.least_cut.specs.Watches.{WatchRoom, conjunct_in}
 use Rattle.least_cut.specs.Searches.{steps_up_to}

@@ -2,7 +2,7 @@ use Rattle.std.proofs.Common.{◌≡◌, ℕ, rules, List, length, map, replicat
 use Rattle.dbg_base.specs.Predicates.{Conjunct}
 use Rattle.cut_core.specs.declared.kind.Kind.{Kind}
 use Rattle.cut_core.specs.ConsistentCuts.{places}
-use Rattle.causal_world.proofs.Looking.{kinds_placed}
+use Rattle.causal_world.proofs.Calls.{kinds_placed}
 use Rattle.least_cut.specs.Watches.{WatchRoom, conjunct_in}
 use Rattle.least_cut.specs.Detectors.{HasRoomUpTo}
 use Rattle.least_cut.proofs.Moving.{search_begins, seen_kept}

@@ -1,7 +1,7 @@
 use Rattle.std.proofs.Common.{◌≡◌, ◌≢◌, ℕ, ◌≤◌, sum, List, length, map, sym, ap, ◌∙◌, subst, arith, ⊎_elim}
 use Rattle.std.proofs.lemmas.Bool.{cases_eq}
 use Rattle.cut_core.specs.declared.kind.Kind.{Kind}
-use Rattle.causal_world.proofs.Looking.{kinds_placed}
+use Rattle.causal_world.proofs.Calls.{kinds_placed}
 use Rattle.least_cut.specs.Watches.{TruthLine, WatchRoom}
 use Rattle.least_cut.specs.Searches.{IsSettledAt}
 use Rattle.least_cut.specs.Detectors.{lines_of}

@@ -1,0 +1,100 @@
+-- Lines have some answer, whatever they are.
+use Rattle.std.proofs.Common.{◌≡◌, ℕ, Bool, true, false, List, [], ◌∷◌, ◌++◌, length, Option, Some, None, Result, Ok, Err}
+use Rattle.std.proofs.Common.{refl, sym, subst, inl, inr, arith}
+use Rattle.std.specs.Prelude.{nat_le, nat_lt, codes}
+use Rattle.std.specs.Bool.{MatchBool}
+use Rattle.std.specs.Str.{bytes_eq}
+use Rattle.std.proofs.lemmas.Bool.Decides.{nat_tests}
+use Rattle.std.proofs.lemmas.Slice.Eq.{bytes_eq-Decides}
+use Rattle.dbg_base.specs.declared.limits.TheConstants.{LINE_BYTES}
+use Rattle.dbg_base.specs.declared.refusal.Refusal.{Refusal}
+use Rattle.dbg_base.specs.declared.refusal.Refusal.TheVariants.{BadLine, Memory}
+use Rattle.dbg_base.specs.declared.said.Said.TheVariants.{Refused}
+use Rattle.dbg_base.specs.Trees.{Program}
+use Rattle.dbg_base.specs.Calls.{Call}
+use Rattle.dbg_base.specs.CommandLines.{Request, map_ok, without_return, next_word, after_word, seat_word, name_word, parts_in}
+use Rattle.dbg_base.specs.CommandLines.{call_of_words, words_of}
+use Rattle.dbg_base.specs.Requests.{AsksBreak, AsksBy, AsksWithin, AsksOrRefuses}
+use Rattle.dbg_base.specs.ModelStates.{ModelState}
+use Rattle.dbg_base.specs.Replies.{reply_text, refusal_text}
+use Rattle.dbg_base.specs.Shell.{as_line, AnswersParsed, AnswersLines}
+
+abbrev IsKnown : Result (Option Request) Refusal → Result (Option Request) Refusal → Type 0
+IsKnown asked known = asked ≡ known
+
+module _ (P : Program) (line : List ℕ) where
+  abbrev within : List ℕ
+  within = without_return line
+
+  abbrev rest : List ℕ
+  rest = after_word within
+
+  -- what the line asks for
+  abbrev Known : Type 0
+  Known = (asked : Result (Option Request) Refusal) × AsksOrRefuses P line asked
+
+  module _ (short : nat_lt LINE_BYTES (length line) ≡ false) where
+    short_asks : (asked : Result (Option Request) Refusal) → AsksWithin P within asked → Known
+    short_asks asked asks =
+        (asked, inl (subst (λ (t : Bool). MatchBool t (asked ≡ Err BadLine) (AsksWithin P within asked)) (sym short) asks))
+
+    module _ (some : nat_le (length (next_word within)) 0 ≡ false) where
+      seat_asks : (seat : Option ℕ) → seat_word (next_word within) ≡ seat → (asked : Result (Option Request) Refusal)
+          → AsksBy P seat rest asked → Known
+      seat_asks seat is asked asks =
+          short_asks asked (subst (λ (t : Bool). MatchBool t (asked ≡ Ok None) (AsksBy P (seat_word (next_word within)) rest asked))
+          (sym some) (subst (λ (s : Option ℕ). AsksBy P s rest asked) (sym is) asks))
+
+      by_word : (seat : ℕ) → seat_word (next_word within) ≡ Some seat → (t : Bool) → bytes_eq (next_word rest) (codes "break") ≡ t → Known
+      by_word seat is true word = (
+        Err Memory,
+        inr (
+          record { short = grind (arith, nat_tests); word = (bytes_eq-Decides (next_word rest) (codes "break")).0 word },
+          refl,
+        ),
+      )
+      by_word seat is false word =
+          let call : Result Call Refusal = call_of_words P (next_word rest) (words_of (after_word rest)) in
+          seat_asks (Some seat) is (map_ok (λ made. Some (record { seat = seat; call = made })) call) (
+            call,
+            subst (λ (t : Bool). MatchBool t (AsksBreak P (name_word (next_word (after_word rest)))
+                (parts_in (after_word (after_word rest))) call) (call ≡ call)) (sym word) refl,
+            refl,
+          )
+
+      by_seat : (seat : Option ℕ) → seat_word (next_word within) ≡ seat → Known
+      by_seat None is = seat_asks None is (Err BadLine) refl
+      by_seat (Some seat) is = by_word seat is (bytes_eq (next_word rest) (codes "break")) refl
+
+    by_front : (t : Bool) → nat_le (length (next_word within)) 0 ≡ t → Known
+    by_front true blank =
+        short_asks (Ok None) (subst (λ (t : Bool). MatchBool t (IsKnown (Ok None) (Ok None))
+        (AsksBy P (seat_word (next_word within)) rest (Ok None))) (sym blank) refl)
+    by_front false some = by_seat some (seat_word (next_word within)) refl
+
+  by_length : (t : Bool) → nat_lt LINE_BYTES (length line) ≡ t → Known
+  by_length true long =
+      (Err BadLine, inl (subst (λ (t : Bool). MatchBool t (IsKnown (Err BadLine) (Err BadLine)) (AsksWithin P within (Err BadLine))) (sym long) refl))
+  by_length false short = by_front short (nat_le (length (next_word within)) 0) refl
+
+  known : Known
+  known = by_length (nat_lt LINE_BYTES (length line)) refl
+
+-- a line of which this is known, where each call may be refused for want of memory
+abbrev Answer : Program → Result (Option Request) Refusal → ModelState → Type 0
+Answer P asked M = (out : List ℕ) × (M' : ModelState) × AnswersParsed P asked M out M'
+
+some_answer : (P : Program) (asked : Result (Option Request) Refusal) (M : ModelState) → Answer P asked M
+some_answer P (Err refusal) M = (as_line (refusal_text P refusal), M, (refl, refl))
+some_answer P (Ok None) M = ([], M, (refl, refl))
+some_answer P (Ok (Some request)) M =
+    (as_line (reply_text P request.call (Refused Memory)), M, (Refused Memory, inr (refl, refl), refl))
+
+pub some_answers : (P : Program) (lines : List (List ℕ)) (M : ModelState)
+    → (out : List ℕ) × (M' : ModelState) × AnswersLines P lines M out M'
+some_answers P [] M = ([], M, (refl, refl))
+some_answers P (line ∷ lines) M =
+    let asked = known P line in
+    let first = some_answer P asked.0 M in
+    let others = some_answers P lines first.1 in
+    (first.0 ++ others.0, others.1, (first.0, others.0, first.1, (asked.0, asked.1, first.2), others.2, refl))

@@ -1,0 +1,195 @@
+//! Tests of a book, and of what its detectors tell, with ample memory.
+
+ghost use Rattle.std.specs.Prelude.{IfOk};
+ghost use Rattle.proc_lang.specs.Programs.{program_of};
+ghost use Rattle.causal_world.specs.Scenes.{IsWorldOf};
+ghost use Rattle.break_book.specs.Books.{AreDetectorsOf};
+
+use crate::detector_calls::{conjunct, detector, known_all};
+use crate::world_calls::step;
+use break_book::Book;
+use causal_world::World;
+use dbg_base::{Choice, Conjunct, Cut, Name, Pid, Refusal, Sequence};
+use least_cut::{Cause, Elimination, Scan};
+use proc_lang::{ProgError, Program, parse_program};
+use std::alloc::Global;
+use std::process::Abort;
+use std::test::Fail;
+
+const A: Pid = Pid(0);
+
+// A counter by itself.
+fn counter(alloc: Global) -> Result<Program, ProgError> {
+    let text = "process a { var x = 0; when true : x := (x + 1); }";
+    parse_program(alloc, text.as_bytes())
+}
+
+// Its world where it has counted once.
+fn counted(alloc: Global, program: &Program) -> Result<World, Refusal>
+    ensures { IfOk result (λ world. IsWorldOf (program_of program.now) world) }
+{
+    let mut world = World::new(alloc, program)?;
+    step(&mut world, alloc, program, A, Choice(0))?;
+    Ok(world)
+}
+
+fn name(text: &str) -> Result<Name, Refusal> {
+    Name::new(text.as_bytes()).ok_or(Refusal::BadLine)
+}
+
+// The conjunct that the counter has come to this.
+fn at(alloc: Global, program: &Program, text: &str) -> Result<Sequence<Conjunct>, Refusal> {
+    let mut conjuncts = Vec::new(alloc);
+    conjuncts.push(conjunct(alloc, program, A, text)?)?;
+    Ok(Sequence::new(conjuncts))
+}
+
+// A breakpoint is set behind all others.
+fn set(
+    book: &mut Book,
+    alloc: Global,
+    program: &Program,
+    world: &World,
+    named: &str,
+    text: &str,
+) -> Result<(), Refusal>
+    requires of { IsWorldOf (program_of program.now) world.now }
+    requires detectors { AreDetectorsOf world.now book.old }
+    ensures { AreDetectorsOf world.now book.new }
+{
+    let conjuncts = at(alloc, program, text)?;
+    known_all(program, conjuncts.items())?;
+    let scan = Scan::of(alloc, world, conjuncts.items())?;
+    book.set(alloc, name(named)?, conjuncts, scan, world)
+}
+
+// Three breakpoints, of which only the second has a cut.
+fn three(alloc: Global, program: &Program, world: &World) -> Result<Book, Refusal>
+    requires { IsWorldOf (program_of program.now) world.now }
+    ensures { IfOk result (λ book. AreDetectorsOf world.now book) }
+{
+    let mut book = Book::new(alloc);
+    set(&mut book, alloc, program, world, "first", "(x = 7)")?;
+    set(&mut book, alloc, program, world, "second", "(x = 1)")?;
+    set(&mut book, alloc, program, world, "third", "(x = 8)")?;
+    Ok(book)
+}
+
+// Expects these breakpoints, in order, armed or not.
+fn expect(
+    rt: &impl Abort,
+    alloc: Global,
+    book: &Book,
+    wanted: &[(&str, bool)],
+) -> Result<(), Fail> {
+    let list = book.list(alloc)?;
+    assert_eq!(rt; list.items().len(), wanted.len());
+    for (told, (named, armed)) in list.items().iter().zip(wanted) {
+        assert_eq!(rt; told.0, name(named)?);
+        assert_eq!(rt; told.1, *armed);
+    }
+    Ok(())
+}
+
+// The breakpoint of this name is taken out, and put back where it was.
+fn out_and_back(rt: &impl Abort, alloc: Global, book: &mut Book, named: &str) -> Result<(), Fail> {
+    let named = name(named)?;
+    let (position, breakpoint) = book.clear(named)?;
+    assert_eq!(rt; position, 1);
+    expect(rt, alloc, book, &[("first", true), ("third", true)])?;
+    assert_eq!(rt; book.halted(), None);
+    assert!(rt; book.restore_at(position, named, breakpoint).is_ok());
+    Ok(())
+}
+
+#[test]
+fn a_breakpoint_that_was_taken_out_goes_back_to_its_place(rt: HostRuntime) -> Result<(), Fail> {
+    let alloc = rt.alloc();
+    let program = counter(alloc)?;
+    let world = counted(alloc, &program)?;
+    let mut book = three(alloc, &program, &world)?;
+    out_and_back(&rt, alloc, &mut book, "second")?;
+    expect(
+        &rt,
+        alloc,
+        &book,
+        &[("first", true), ("second", true), ("third", true)],
+    )?;
+    assert_eq!(rt; book.halted(), Some(name("second")?));
+    Ok(())
+}
+
+// The breakpoint of this name, which is there, no longer halts the session.
+fn disarm(rt: &impl Abort, book: &mut Book, named: &str) -> Result<(), Fail> {
+    let named = name(named)?;
+    assert!(rt; book.find(named).is_some());
+    book.disarm(named);
+    Ok(())
+}
+
+#[test]
+fn a_breakpoint_is_disarmed_whether_or_not_it_has_a_cut(rt: HostRuntime) -> Result<(), Fail> {
+    let alloc = rt.alloc();
+    let program = counter(alloc)?;
+    let world = counted(alloc, &program)?;
+    let mut book = three(alloc, &program, &world)?;
+    disarm(&rt, &mut book, "third")?;
+    disarm(&rt, &mut book, "second")?;
+    expect(
+        &rt,
+        alloc,
+        &book,
+        &[("first", true), ("second", false), ("third", false)],
+    )?;
+    assert_eq!(rt; book.halted(), None);
+    Ok(())
+}
+
+#[test]
+fn there_is_room_for_the_events_of_a_cut(rt: HostRuntime) -> Result<(), Fail> {
+    let alloc = rt.alloc();
+    let program = counter(alloc)?;
+    let world = counted(alloc, &program)?;
+    let mut book = three(alloc, &program, &world)?;
+    let cut = Cut::new(Vec::from_slice(alloc, &[100])?);
+    assert_eq!(rt; book.reserve_to(&cut), Ok(()));
+    expect(
+        &rt,
+        alloc,
+        &book,
+        &[("first", true), ("second", true), ("third", true)],
+    )?;
+    Ok(())
+}
+
+// The counter goes on from this place to that one, since it is not what it is to be there.
+fn passed(from: u32, to: u32) -> Elimination {
+    Elimination {
+        pid: A,
+        from,
+        to,
+        cause: Cause::FalseAt,
+    }
+}
+
+#[test]
+fn a_search_tells_why_there_is_no_cut(rt: HostRuntime) -> Result<(), Fail> {
+    let alloc = rt.alloc();
+    let program = counter(alloc)?;
+    let world = counted(alloc, &program)?;
+    let told = detector(alloc, &program, &world, at(alloc, &program, "(x = 2)")?)?;
+    assert!(rt; told.cut().is_none());
+    assert_eq!(rt; told.why(), [passed(0, 1), passed(1, 2)].as_slice());
+    Ok(())
+}
+
+#[test]
+fn a_search_tells_why_its_cut_is_the_first(rt: HostRuntime) -> Result<(), Fail> {
+    let alloc = rt.alloc();
+    let program = counter(alloc)?;
+    let world = counted(alloc, &program)?;
+    let told = detector(alloc, &program, &world, at(alloc, &program, "(x = 1)")?)?;
+    assert!(rt; told.cut().is_some());
+    assert_eq!(rt; told.why(), [passed(0, 1)].as_slice());
+    Ok(())
+}

@@ -1,0 +1,45 @@
+//! Laws of orders and histories, over their definitions alone.
+
+ghost use Rattle.std.specs.Prelude.{◌≡◌, ℕ, List, length, Ok};
+ghost use Rattle.dbg_base.specs.Trees.{Program};
+ghost use Rattle.dbg_base.specs.Configurations.{Configuration, start_of};
+ghost use Rattle.dbg_base.specs.Histories.{History, IsPossible, play, progress_of};
+ghost use Rattle.dbg_base.specs.Orders.{Event, order, IsLegalOrder, choices_of, states_of, GoesOver};
+ghost use Rattle.dbg_base.specs.Cuts.{IsConsistent, history_at};
+ghost use Rattle.dbg_base.specs.Reversal.{IsPermitted, after_undos, unfire_all};
+ghost use Rattle.dbg_base.specs.SystemStates.{IsStateOf, history_of};
+ghost use Rattle.dbg_base.specs.ModelStates.{ModelState};
+ghost use Rattle.dbg_base.specs.Calls.{Plan};
+ghost use Rattle.dbg_base.specs.Acts.{Acts};
+ghost use Rattle.histories.specs.Outcomes.{HasOne};
+
+/// The order of independent events does not matter. A list of events that fire one after the other makes a possible history, and ends
+/// where the play of that history ends, with the same local states on the way. Two such lists with one history go over into each other
+/// by swaps of neighbours of different processes, through lists whose events fire too.
+pub fn any_order()
+    ensures played { (P : Program) (E : List Event) (c : Configuration) → order P E ≡ Ok c
+        → IsPossible P (choices_of (length P) E) × (play P (choices_of (length P) E) ≡ c) }
+    ensures states { (P : Program) (E : List Event) → IsLegalOrder P E
+        → states_of P E ≡ (progress_of P (choices_of (length P) E)).states }
+    ensures swapped { (P : Program) (E F : List Event) → IsLegalOrder P E → IsLegalOrder P F
+        → choices_of (length P) E ≡ choices_of (length P) F → GoesOver P (start_of P) E F }
+{}
+
+/// Undo reaches the consistent cuts, and nothing else. Each list of undos, of which each is permitted in its turn, leads from a possible
+/// history to a consistent cut of it; to each consistent cut some such list leads; and carried out from the play of the history on, every
+/// list that leads to a cut ends in the play of the history cut there.
+pub fn any_undo()
+    ensures reached { (P : Program) (H : History) (undos : List ℕ) → IsPossible P H → IsPermitted P H undos
+        → (cut : List ℕ) × IsConsistent P H cut × (after_undos H undos ≡ history_at H cut) }
+    ensures leads { (P : Program) (H : History) (cut : List ℕ) → IsPossible P H → IsConsistent P H cut
+        → (undos : List ℕ) × IsPermitted P H undos × (after_undos H undos ≡ history_at H cut) }
+    ensures ends { (P : Program) (H : History) (cut undos : List ℕ) → IsPossible P H → IsPermitted P H undos
+        → after_undos H undos ≡ history_at H cut → unfire_all P H undos (play P H) ≡ play P (history_at H cut) }
+{}
+
+/// A command has exactly one reply, and exactly one state after it, in each state of a program whose events are possible: which breakpoint
+/// halts, whether one has a cut, to which cut a rollback leads, and why an event may not be undone, is determined and always there.
+pub fn one_outcome()
+    ensures { (P : Program) (plan : Plan) (M : ModelState) → IsStateOf P M.system → IsPossible P (history_of M.system)
+        → HasOne (Acts P plan M) }
+{}

@@ -1,0 +1,5 @@
+//! The theory of histories, over the definitions of `dbg_base` alone: each order of a history's events leads to one end, undo reaches
+//! exactly the consistent cuts, and each command has one outcome.
+#![tactic(auto)]
+
+pub mod laws;

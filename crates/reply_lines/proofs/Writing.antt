@@ -1,0 +1,121 @@
+-- Texts that are written one behind the other.
+use Rattle.std.proofs.Common.{◌≡◌, ℕ, List, [], ◌++◌, Option, Result, Ok, Err, refl, sym, ◌∙◌, ap, append_assoc, subst, take, drop, add-one}
+use Rattle.std.proofs.Common.{length, get_or, ◌<◌}
+use Rattle.std.specs.Prelude.{IsErrAnd, Some, None, ◌+◌, suc, ◌∷◌, slice_get, codes}
+use Rattle.std.specs.List.{flat_map}
+use Rattle.std.specs.Io.KnownBytes.{Appends}
+use Rattle.std.proofs.KnownBytes.{Appends-nil, Appends-trans}
+use Rattle.std.proofs.lemmas.List.{append-nil, take-append-drop}
+use Rattle.std.proofs.lemmas.List.Concat.{flat_map-append}
+use Rattle.std.proofs.lemmas.Option.{slice_get_read}
+use Rattle.reply_lines.specs.declared.outcome.ServeFault.{ServeFault}
+use Rattle.reply_lines.specs.declared.outcome.ServeFault.TheVariants.{Write}
+use Rattle.dbg_base.specs.Replies.{spaced}
+use Rattle.reply_lines.specs.Writing.{AppendsFront, Writes, in_a_row}
+
+pub front_then : (a b c : Option (List ℕ)) (x y : List ℕ) → Appends a b x → AppendsFront b c y → AppendsFront a c (x ++ y)
+front_then a b c x y h k = (x ++ k.0, k.1, ap (λ t. x ++ t) k.2 ∙ sym (append_assoc x k.0 k.1), Appends-trans a b c x k.0 h k.3)
+
+pub front_longer : (a b : Option (List ℕ)) (x y : List ℕ) → AppendsFront a b x → AppendsFront a b (x ++ y)
+front_longer a b x y h = (h.0, h.1 ++ y, ap (λ t. t ++ y) h.2 ∙ append_assoc h.0 h.1 y, h.3)
+
+-- one text was written whole, and then another was written or not
+pub writes_then : {A B : Type 0} {u : A} {a b c : Option (List ℕ)} {r : Result B ServeFault} {x y : List ℕ} → Writes {A = A} a b (Ok u) x
+    → Writes b c r y → Writes a c r (x ++ y)
+writes_then {a = a} {b = b} {c = c} {r = Ok v} {x = x} {y = y} h k = record
+    { whole = Appends-trans a b c x y h.whole k.whole; part = tt; fault = tt }
+writes_then {a = a} {b = b} {c = c} {r = Err e} {x = x} {y = y} h k = record
+    { whole = tt; part = front_then a b c x y h.whole k.part; fault = k.fault }
+
+-- a text was not written whole, and nothing behind it is
+pub stopped : {A B : Type 0} {e : ServeFault} {r : Result B ServeFault} {a b : Option (List ℕ)} {x : List ℕ} (y : List ℕ)
+    → Writes {A = A} a b (Err e) x → IsErrAnd r (λ f. f ≡ e)
+    → Writes a b r (x ++ y)
+stopped {r = Ok v} y h k = absurd k
+stopped {r = Err f} {a = a} {b = b} {x = x} y h k = record { whole = tt; part = front_longer a b x y h.part; fault = k ∙ h.fault }
+
+-- how far the bytes are written
+pub record Progress (a b : Option (List ℕ)) (bytes rest : List ℕ) : Type 0 where
+  pub done : List ℕ
+  pub all : bytes ≡ done ++ rest
+  pub appends : Appends a b done
+
+pub progress_begins : (a : Option (List ℕ)) (bytes : List ℕ) → Progress a a bytes bytes
+progress_begins a bytes = record { done = []; all = refl; appends = Appends-nil a }
+
+pub progress_goes_on : (a b c : Option (List ℕ)) (bytes rest others : List ℕ) (n : ℕ) → Progress a b bytes rest → Appends b c (take n rest)
+    → others ≡ drop n rest → Progress a c bytes others
+progress_goes_on a b c bytes rest others n p h e = record {
+  done = p.done ++ take n rest;
+  all = p.all ∙ ap (λ t. p.done ++ t) (sym (take-append-drop n rest) ∙ ap (λ t. take n rest ++ t) (sym e))
+      ∙ sym (append_assoc p.done (take n rest) others);
+  appends = Appends-trans a b c p.done (take n rest) p.appends h;
+}
+
+pub progress_ends : {A : Type 0} {u : A} (a b : Option (List ℕ)) (bytes rest : List ℕ) → Progress a b bytes rest → rest ≡ []
+    → Writes a b (Ok u) bytes
+progress_ends a b bytes rest p e =
+    let whole : bytes ≡ p.done = p.all ∙ ap (λ t. p.done ++ t) e ∙ append-nil p.done in
+    let P : List ℕ → Type 0 = λ t. Appends a b t in
+    record { whole = subst P (sym whole) p.appends; part = tt; fault = tt }
+
+pub progress_stops_behind : {A : Type 0} (a b c : Option (List ℕ)) (bytes rest : List ℕ) (n : ℕ) → Progress a b bytes rest
+    → Appends b c (take n rest) → Writes {A = A} a c (Err Write) bytes
+progress_stops_behind a b c bytes rest n p h =
+    let q = progress_goes_on a b c bytes rest (drop n rest) n p h refl in
+    record { whole = tt; part = (q.done, drop n rest, q.all, q.appends); fault = refl }
+
+-- the first of three texts was not written whole
+pub stopped_first : {A B : Type 0} {e : ServeFault} {r : Result B ServeFault} {a b : Option (List ℕ)} {x : List ℕ} (y z : List ℕ)
+    → Writes {A = A} a b (Err e) x → IsErrAnd r (λ f. f ≡ e)
+    → Writes a b r (x ++ y ++ z)
+stopped_first {x = x} y z h k = rw (append_assoc x y z) (stopped (y ++ z) h k)
+
+-- the next part of a text is written
+pub progress_more : {A : Type 0} {u : A} (a b c : Option (List ℕ)) (bytes rest part others : List ℕ) → Progress a b bytes rest
+    → rest ≡ part ++ others → Writes b c (Ok u) part → Progress a c bytes others
+progress_more a b c bytes rest part others p e h = record {
+  done = p.done ++ part;
+  all = p.all ∙ ap (λ t. p.done ++ t) e ∙ sym (append_assoc p.done part others);
+  appends = Appends-trans a b c p.done part p.appends h.whole;
+}
+
+-- the next part of a text was not written whole
+pub progress_fails : {A B : Type 0} {e : ServeFault} {r : Result B ServeFault} (a b c : Option (List ℕ)) (bytes rest part others : List ℕ)
+    → Progress a b bytes rest → rest ≡ part ++ others
+    → Writes {A = A} b c (Err e) part → IsErrAnd r (λ f. f ≡ e) → Writes a c r bytes
+progress_fails {r = Ok v} a b c bytes rest part others p e h k = absurd k
+progress_fails {r = Err f} a b c bytes rest part others p e h k =
+    let front = front_then a b c p.done part p.appends h.part in
+    let longer = front_longer a c (p.done ++ part) others front in
+    let whole : bytes ≡ p.done ++ part ++ others = p.all ∙ ap (λ t. p.done ++ t) e ∙ sym (append_assoc p.done part others) in
+    record { whole = tt; part = (longer.0, longer.1, whole ∙ longer.2, longer.3); fault = k ∙ h.fault }
+
+-- what an item of several gives, and what those behind it give
+next_one : {X : Type 0} (f : X → List ℕ) (xs : List X) (i : ℕ) (x : X) → slice_get xs i ≡ Some x
+    → flat_map f (drop i xs) ≡ f x ++ flat_map f (drop (suc i) xs)
+next_one f [] i x h = cc
+next_one f (y ∷ xs) ℕ.zero x h = let same : y ≡ x = cc in ap (λ z. f z ++ flat_map f xs) same
+next_one f (y ∷ xs) (suc i) x h = next_one f xs i x h
+
+pub next_of : {X : Type 0} (f : X → List ℕ) (xs : List X) (i : ℕ) (x : X) → slice_get xs i ≡ Some x
+    → flat_map f (drop i xs) ≡ f x ++ flat_map f (drop (i + 1) xs)
+next_of f xs i x h = rw add-one (next_one f xs i x h)
+
+pub next_read : {X : Type 0} (f : X → List ℕ) (xs : List X) (i : ℕ) (x : X) → i < length xs → x ≡ get_or xs i x
+    → flat_map f (drop i xs) ≡ f x ++ flat_map f (drop (i + 1) xs)
+next_read f xs i x lt is = next_of f xs i x (slice_get_read xs (length xs) i x refl lt is)
+
+-- past the last item there is nothing
+pub none_of : {X : Type 0} (f : X → List ℕ) (xs : List X) (i : ℕ) → slice_get xs i ≡ None → flat_map f (drop i xs) ≡ []
+none_of f [] ℕ.zero h = refl
+none_of f [] (suc i) h = refl
+none_of f (x ∷ xs) ℕ.zero h = cc
+none_of f (x ∷ xs) (suc i) h = none_of f xs i h
+
+-- the words of several items, each with a space before it
+pub row_spaced : {X : Type 0} (f : X → List (List ℕ)) (xs : List X) → flat_map (λ x. spaced (f x)) xs ≡ spaced (in_a_row f xs)
+row_spaced f [] = refl
+row_spaced f (x ∷ []) = append-nil (spaced (f x))
+row_spaced f (x ∷ y ∷ xs) =
+    ap (λ t. spaced (f x) ++ t) (row_spaced f (y ∷ xs)) ∙ sym (flat_map-append (λ word. codes " " ++ word) (f x) (in_a_row f (y ∷ xs)))

@@ -1,0 +1,12 @@
+use Rattle.std.proofs.Common.{drop}
+use Rattle.std.specs.List.{flat_map}
+use Rattle.dbg_base.specs.Replies.{spaced}
+use Rattle.reply_lines.specs.Writing.{in_a_row}
+use Rattle.reply_lines.specs.Pieces.{piece_words}
+use Rattle.reply_lines.proofs.Writing.{Progress}
+use Rattle.reply_lines.proofs.parts.write_pieces.Given as goal
+
+abbrev pub invariant-loop-piece : goal.invariant-loop-piece
+invariant-loop-piece g l =
+    Progress (g.W.Write.contents l.fn.writer) (g.W.Write.contents l.writer) (spaced (in_a_row piece_words l.pieces))
+    (flat_map (λ p. spaced (piece_words p)) (drop l.piece-index l.pieces))

@@ -1,0 +1,11 @@
+//! Replies: what a session says, and what is told of a run, becomes lines of text that are written. A run ends as `outcome` says.
+#![tactic(auto)]
+
+mod notices;
+mod outcome;
+mod parts;
+mod reply;
+
+pub use notices::{hand_on, tell_fault, tell_no_end_line, tell_size, tell_too_long};
+pub use outcome::{ServeFault, Served, status};
+pub use reply::{print_refusal, print_reply};

@@ -1,0 +1,101 @@
+//! What is told beside the replies.
+
+ghost use Rattle.std.specs.Prelude.{◌≡◌, ◌∷◌, ℕ, List, Option, IfOk, IfErr};
+ghost use Rattle.std.specs.Io.KnownBytes.{Keeps};
+ghost use Rattle.dbg_base.specs.Shell.{as_line, too_long_text, no_end_line_text, fault_text, size_text};
+ghost use Rattle.reply_lines.specs.Writing.{Writes, in_a_row};
+ghost use Rattle.reply_lines.specs.Pieces.{piece_words};
+ghost use Rattle.dbg_base.specs.Replies.{joined};
+ghost use Rattle.reply_lines.specs.declared.outcome.Served.TheVariants.{Done, Refused, TooLong};
+ghost use Rattle.reply_lines.specs.declared.outcome.ServeFault.TheVariants.{Write};
+
+use crate::outcome::{ServeFault, Served};
+use crate::parts::{Item, Piece, Term, write_line};
+use proc_lang::ProgFault;
+use std::io::Write;
+
+// Hands on all that was written.
+fn flush<W: Write>(writer: &mut W) -> Result<(), ServeFault>
+    ensures kept { Keeps (W.contents writer.old) (W.contents writer.new) }
+    ensures fault { IfErr result (λ fault. fault ≡ Write) }
+{
+    match writer.flush() {
+        Ok(()) => Ok(()),
+        Err(_) => Err(ServeFault::Write),
+    }
+}
+
+/// Hands on what was written, where it was written whole.
+pub fn hand_on<W: Write>(written: Result<(), ServeFault>, writer: &mut W) -> Result<(), ServeFault>
+    ensures { (old : Option (List ℕ)) (text : List ℕ) → Writes old (W.contents writer.old) written text
+        → Writes old (W.contents writer.new) result text }
+{
+    written?;
+    flush(writer)
+}
+
+// Writes a line and hands it on; then the run has ended so.
+fn tell<W: Write>(
+    first: &[u8],
+    pieces: &[Piece<'_>],
+    end: Served,
+    writer: &mut W,
+) -> Result<Served, ServeFault>
+    ensures written { Writes (W.contents writer.old) (W.contents writer.new) result
+        (as_line (joined (first.now ∷ in_a_row piece_words pieces.now))) }
+    ensures served { IfOk result (λ served. served ≡ end) }
+{
+    let written = write_line(first, pieces, writer);
+    hand_on(written, writer)?;
+    Ok(end)
+}
+
+/// There is more input than may be.
+pub fn tell_too_long<W: Write>(writer: &mut W) -> Result<Served, ServeFault>
+    ensures written { Writes (W.contents writer.old) (W.contents writer.new) result too_long_text }
+    ensures served { IfOk result (λ served. served ≡ TooLong) }
+{
+    tell(b"input too long", &[], Served::TooLong, writer)
+}
+
+/// No line ends the program text.
+pub fn tell_no_end_line<W: Write>(writer: &mut W) -> Result<Served, ServeFault>
+    ensures written { Writes (W.contents writer.old) (W.contents writer.new) result no_end_line_text }
+    ensures served { IfOk result (λ served. served ≡ Refused) }
+{
+    tell(
+        b"program refused: no end line",
+        &[],
+        Served::Refused,
+        writer,
+    )
+}
+
+/// What is wrong with the program text.
+pub fn tell_fault<W: Write>(fault: &ProgFault, writer: &mut W) -> Result<Served, ServeFault>
+    ensures written { Writes (W.contents writer.old) (W.contents writer.new) result (fault_text fault.now) }
+    ensures served { IfOk result (λ served. served ≡ Refused) }
+{
+    let kind = Piece::Item(Item::Count(fault.kind.number()));
+    let at = Piece::Item(Item::Size(fault.at));
+    let pieces = [kind, Piece::Item(Item::Term(Term::At)), at];
+    tell(b"program refused", &pieces, Served::Refused, writer)
+}
+
+/// How large the program is.
+pub fn tell_size<W: Write>(
+    processes: u32,
+    commands: u32,
+    writer: &mut W,
+) -> Result<Served, ServeFault>
+    ensures written { Writes (W.contents writer.old) (W.contents writer.new) result (size_text processes commands) }
+    ensures served { IfOk result (λ served. served ≡ Done) }
+{
+    let pieces = [
+        Piece::Item(Item::Count(processes)),
+        Piece::Item(Item::Term(Term::Processes)),
+        Piece::Item(Item::Count(commands)),
+        Piece::Item(Item::Term(Term::Commands)),
+    ];
+    tell(b"ok", &pieces, Served::Done, writer)
+}

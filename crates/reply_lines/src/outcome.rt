@@ -1,0 +1,53 @@
+//! How a run of the shell ends.
+
+ghost use Rattle.std.specs.Prelude.{◌≡◌};
+ghost use Rattle.reply_lines.specs.Outcomes.{status_of};
+ghost use Rattle.reply_lines.specs.declared.outcome.ServeFault.TheVariants.{Memory};
+
+use std::alloc::AllocError;
+use thiserror::Error;
+
+/// How a run ended where nothing failed.
+#[derive(Clone, Copy, Debug, PartialEq, Eq)]
+pub enum Served {
+    /// All lines were answered.
+    Done,
+    /// The program text was refused, and that was told.
+    Refused,
+    /// There was more input than may be, and that was told.
+    TooLong,
+}
+
+/// Why a run ended early.
+#[derive(Debug, Drop, Error)]
+pub enum ServeFault {
+    /// The input could not be read.
+    #[error("the input could not be read")]
+    Read,
+    /// The output could not be written.
+    #[error("the output could not be written")]
+    Write,
+    /// Memory ran out before the first command line.
+    #[error("out of memory")]
+    Memory,
+}
+
+impl From<AllocError> for ServeFault {
+    ghost from_gives = { λ _ fault. fault ≡ Memory };
+
+    fn from(_error: AllocError) -> ServeFault {
+        ServeFault::Memory
+    }
+}
+
+/// The status with which the program ends: 0 done, 1 a fault of input or output, 3 a refused program, 4 no memory to start.
+pub fn status(outcome: &Result<Served, ServeFault>) -> u8
+    ensures { result ≡ status_of outcome.now }
+{
+    match outcome {
+        Ok(Served::Done) => 0,
+        Ok(Served::TooLong) | Err(ServeFault::Read) | Err(ServeFault::Write) => 1,
+        Ok(Served::Refused) => 3,
+        Err(ServeFault::Memory) => 4,
+    }
+}

@@ -1,0 +1,245 @@
+//! What a session says becomes text.
+
+ghost use Rattle.std.specs.Prelude.{◌≡◌, ◌<◌, length};
+ghost use Rattle.dbg_base.specs.declared.said.Said.TheVariants.{Accepted};
+ghost use Rattle.dbg_base.specs.declared.said.Answer.TheVariants.{PlaceOf, CanUndo, CutIs};
+ghost use Rattle.dbg_base.specs.Calls as model;
+ghost use Rattle.dbg_base.specs.Calls.{call_of, query_of};
+ghost use Rattle.dbg_base.specs.Fits.{FitsRefusal, FitsDone, FitsAnswer, FitsCall};
+ghost use Rattle.dbg_base.specs.Replies.{joined, name_of, carried_words, answer_words, refusal_text, reply_text};
+ghost use Rattle.dbg_base.specs.Shell.{as_line};
+ghost use Rattle.proc_lang.specs.Programs.{program_of};
+ghost use Rattle.reply_lines.specs.Writing.{Writes};
+ghost use Rattle.reply_lines.specs.declared.parts.Piece.TheVariants.{Optional};
+ghost use Rattle.reply_lines.specs.Pieces.{piece_words};
+
+use crate::outcome::ServeFault;
+use crate::parts::{Item, Piece, Term, write_line};
+use dbg_base::{Answer, Call, Cut, Done, Name, Pid, Query, Refusal, Reply, Said};
+use proc_lang::Program;
+use std::io::Write;
+
+// The name of a process.
+fn name_of(program: &Program, pid: Pid) -> Name
+    requires { pid.0 < length (program_of program.now) }
+    ensures { result ≡ name_of (program_of program.now) pid.0 }
+{
+    program.process_name(pid).unwrap()
+}
+
+// What a refusal carries, if it carries something.
+fn carried(program: &Program, refusal: &Refusal) -> Option<Item>
+    requires { FitsRefusal (program_of program.now) refusal.now }
+    ensures { piece_words (Optional result) ≡ carried_words (program_of program.now) refusal.now }
+{
+    match refusal {
+        Refusal::Consequence(pid) => Some(Item::Name(name_of(program, *pid))),
+        Refusal::Halted(name) => Some(Item::Name(*name)),
+        Refusal::OtherSeat(seat) => Some(Item::Count(*seat)),
+        _ => None,
+    }
+}
+
+// The line that accepts a command.
+fn print_accepted<'a, W: Write>(
+    program: &'a Program,
+    reply: &'a Reply,
+    writer: &mut W,
+) -> Result<(), ServeFault>
+    requires { FitsDone (program_of program.now) reply.now.done }
+    ensures { (call : model.Call) → Writes (W.contents writer.old) (W.contents writer.new) result
+        (as_line (reply_text (program_of program.now) call (Accepted reply.now))) }
+{
+    match &reply.done {
+        Done::Played(pid, choice) | Done::Undone(pid, choice) => {
+            let name = Item::Name(name_of(program, *pid));
+            let choice = Item::Count(choice.0);
+            write_line(
+                b"ok",
+                &[
+                    Piece::Item(name),
+                    Piece::Item(choice),
+                    Piece::Halted(reply.halted),
+                ],
+                writer,
+            )
+        }
+        Done::Places(cut) => {
+            let places = Piece::Counts(program, cut.counts());
+            write_line(b"ok", &[places, Piece::Halted(reply.halted)], writer)
+        }
+        Done::Plain => write_line(b"ok", &[Piece::Halted(reply.halted)], writer),
+    }
+}
+
+// The line that tells a process's place and the length of its line.
+fn print_place<W: Write>(
+    program: &Program,
+    pid: Pid,
+    at: u32,
+    line: u32,
+    writer: &mut W,
+) -> Result<(), ServeFault>
+    requires { pid.0 < length (program_of program.now) }
+    ensures { Writes (W.contents writer.old) (W.contents writer.new) result
+        (as_line (joined (answer_words (program_of program.now) (model.Place pid.0) (PlaceOf at line)))) }
+{
+    let name = Item::Name(name_of(program, pid));
+    let at = Item::Count(at);
+    let of = Item::Term(Term::Of);
+    let line = Item::Count(line);
+    let pieces = [
+        Piece::Item(name),
+        Piece::Item(at),
+        Piece::Item(of),
+        Piece::Item(line),
+    ];
+    write_line(b"place", &pieces, writer)
+}
+
+// The line that tells whether a process's last event may be undone.
+fn print_can<W: Write>(
+    program: &Program,
+    pid: Pid,
+    outcome: &Result<(), Refusal>,
+    writer: &mut W,
+) -> Result<(), ServeFault>
+    requires { FitsAnswer (program_of program.now) (model.Can pid.0) (CanUndo outcome.now) }
+    ensures { Writes (W.contents writer.old) (W.contents writer.new) result
+        (as_line (joined (answer_words (program_of program.now) (model.Can pid.0) (CanUndo outcome.now)))) }
+{
+    let name = Item::Name(name_of(program, pid));
+    match outcome {
+        Ok(()) => {
+            let yes = Item::Term(Term::Yes);
+            write_line(b"can", &[Piece::Item(name), Piece::Item(yes)], writer)
+        }
+        Err(refusal) => {
+            let no = Item::Term(Term::No);
+            let number = Item::Count(refusal.number());
+            let carried = carried(program, refusal);
+            write_line(
+                b"can",
+                &[
+                    Piece::Item(name),
+                    Piece::Item(no),
+                    Piece::Item(number),
+                    Piece::Optional(carried),
+                ],
+                writer,
+            )
+        }
+    }
+}
+
+// The line that tells a breakpoint's cut, if it has one.
+fn print_cut<'a, W: Write>(
+    program: &'a Program,
+    name: Name,
+    cut: &'a Option<Cut>,
+    writer: &mut W,
+) -> Result<(), ServeFault>
+    ensures { Writes (W.contents writer.old) (W.contents writer.new) result
+        (as_line (joined (answer_words (program_of program.now) (model.CutOf name) (CutIs cut.now)))) }
+{
+    let name = Item::Name(name);
+    match cut {
+        Some(cut) => {
+            let counts = Piece::Counts(program, cut.counts());
+            write_line(b"cut", &[Piece::Item(name), counts], writer)
+        }
+        None => {
+            let none = Item::Term(Term::None);
+            write_line(b"cut", &[Piece::Item(name), Piece::Item(none)], writer)
+        }
+    }
+}
+
+// The line that answers a question.
+fn print_answer<'a, W: Write>(
+    program: &'a Program,
+    query: &Query,
+    answer: &'a Answer,
+    writer: &mut W,
+) -> Result<(), ServeFault>
+    requires { FitsAnswer (program_of program.now) (query_of query.now) answer.now }
+    ensures { Writes (W.contents writer.old) (W.contents writer.new) result
+        (as_line (joined (answer_words (program_of program.now) (query_of query.now) answer.now))) }
+{
+    match (query, answer) {
+        (Query::Vars(pid), Answer::Values(values)) => {
+            let name = Item::Name(name_of(program, *pid));
+            let values = Piece::Values(program, *pid, values.items());
+            write_line(b"vars", &[Piece::Item(name), values], writer)
+        }
+        (Query::Chan(source, target), Answer::Messages(messages)) => {
+            let source = Item::Name(name_of(program, *source));
+            let target = Item::Name(name_of(program, *target));
+            let messages = Piece::Numbers(messages.items());
+            write_line(
+                b"chan",
+                &[Piece::Item(source), Piece::Item(target), messages],
+                writer,
+            )
+        }
+        (Query::Clock(pid), Answer::Counts(cut)) => {
+            let name = Item::Name(name_of(program, *pid));
+            let counts = Piece::Counts(program, cut.counts());
+            write_line(b"clock", &[Piece::Item(name), counts], writer)
+        }
+        (Query::Place(pid), Answer::PlaceOf { at, line }) => print_place(
+            program, *pid, *at, *line, writer,
+        ),
+        (Query::Can(pid), Answer::CanUndo(outcome)) => print_can(program, *pid, outcome, writer),
+        (Query::CutOf(name), Answer::CutIs(cut)) => print_cut(program, *name, cut, writer),
+        (Query::Why(name), Answer::Frontier(heads)) => {
+            let heads = Piece::Heads(program, heads.items());
+            write_line(b"why", &[Piece::Item(Item::Name(*name)), heads], writer)
+        }
+        (Query::Breaks, Answer::Marks(marks)) => {
+            write_line(b"breaks", &[Piece::Marks(marks.items())], writer)
+        }
+        _ => unreachable!(),
+    }
+}
+
+/// Writes the line that answers a call, with its line end. What is said fits the call: a command is accepted and a question answered,
+/// by what the program has. It takes no memory. Where the writer fails, or takes no byte, nothing is tried again, and the line's front
+/// may stand written.
+pub fn print_reply<W: Write>(
+    program: &Program,
+    call: &Call,
+    said: &Said,
+    writer: &mut W,
+) -> Result<(), ServeFault>
+    requires { FitsCall (program_of program.now) (call_of call.now) said.now }
+    ensures { Writes (W.contents writer.old) (W.contents writer.new) result
+        (as_line (reply_text (program_of program.now) (call_of call.now) said.now)) }
+{
+    match (call, said) {
+        (Call::Give(_) | Call::Back, Said::Accepted(reply)) => {
+            print_accepted(program, reply, writer)
+        }
+        (Call::Ask(query), Said::Answered(answer)) => print_answer(program, query, answer, writer),
+        (_, Said::Refused(refusal)) => print_refusal(program, refusal, writer),
+        _ => unreachable!(),
+    }
+}
+
+/// Writes the line that refuses a command line. For the rest it is as `print_reply`.
+pub fn print_refusal<W: Write>(
+    program: &Program,
+    refusal: &Refusal,
+    writer: &mut W,
+) -> Result<(), ServeFault>
+    requires { FitsRefusal (program_of program.now) refusal.now }
+    ensures { Writes (W.contents writer.old) (W.contents writer.new) result (as_line (refusal_text (program_of program.now) refusal.now)) }
+{
+    let number = Item::Count(refusal.number());
+    let carried = carried(program, refusal);
+    write_line(
+        b"no",
+        &[Piece::Item(number), Piece::Optional(carried)],
+        writer,
+    )
+}
