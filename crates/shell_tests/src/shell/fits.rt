@@ -55,10 +55,11 @@ fn fits_answer(program: &Program, query: &Query, answer: &Answer) -> bool
         }
         (Query::Place(pid), Answer::PlaceOf { .. }) => is_there(program, *pid),
         (Query::Can(pid), Answer::CanUndo(outcome)) => {
-            is_there(program, *pid) && match outcome {
-                Ok(()) => true,
-                Err(refusal) => fits_refusal(program, refusal),
-            }
+            is_there(program, *pid)
+                && match outcome {
+                    Ok(()) => true,
+                    Err(refusal) => fits_refusal(program, refusal),
+                }
         }
         (Query::CutOf(_), Answer::CutIs(cut)) => match cut {
             Some(cut) => one_each(program, cut.counts().len()),
