@@ -10,7 +10,7 @@ use crate::world_calls::step;
 use break_book::Book;
 use causal_world::World;
 use dbg_base::{Choice, Conjunct, Cut, Name, Pid, Refusal, Sequence};
-use least_cut::{Cause, Elimination, Scan};
+use least_cut::{Cause, Detector, Elimination, Scan};
 use proc_lang::{ProgError, Program, parse_program};
 use std::alloc::Global;
 use std::process::Abort;
@@ -91,13 +91,25 @@ fn expect(
     Ok(())
 }
 
+// Expects that this breakpoint halts the session.
+fn expect_halt(rt: &impl Abort, book: &Book, named: &str) -> Result<(), Fail> {
+    assert_eq!(rt; book.halted(), Some(name(named)?));
+    Ok(())
+}
+
+// Expects that no breakpoint halts the session.
+fn expect_none(rt: &impl Abort, book: &Book) -> Result<(), Fail> {
+    assert_eq!(rt; book.halted(), None);
+    Ok(())
+}
+
 // The breakpoint of this name is taken out, and put back where it was.
 fn out_and_back(rt: &impl Abort, alloc: Global, book: &mut Book, named: &str) -> Result<(), Fail> {
     let named = name(named)?;
     let (position, breakpoint) = book.clear(named)?;
     assert_eq!(rt; position, 1);
     expect(rt, alloc, book, &[("first", true), ("third", true)])?;
-    assert_eq!(rt; book.halted(), None);
+    expect_none(rt, book)?;
     assert!(rt; book.restore_at(position, named, breakpoint).is_ok());
     Ok(())
 }
@@ -109,14 +121,13 @@ fn a_breakpoint_that_was_taken_out_goes_back_to_its_place(rt: HostRuntime) -> Re
     let world = counted(alloc, &program)?;
     let mut book = three(alloc, &program, &world)?;
     out_and_back(&rt, alloc, &mut book, "second")?;
+    expect_halt(&rt, &book, "second")?;
     expect(
         &rt,
         alloc,
         &book,
         &[("first", true), ("second", true), ("third", true)],
-    )?;
-    assert_eq!(rt; book.halted(), Some(name("second")?));
-    Ok(())
+    )
 }
 
 // The breakpoint of this name, which is there, no longer halts the session.
@@ -135,14 +146,13 @@ fn a_breakpoint_is_disarmed_whether_or_not_it_has_a_cut(rt: HostRuntime) -> Resu
     let mut book = three(alloc, &program, &world)?;
     disarm(&rt, &mut book, "third")?;
     disarm(&rt, &mut book, "second")?;
+    expect_none(&rt, &book)?;
     expect(
         &rt,
         alloc,
         &book,
         &[("first", true), ("second", false), ("third", false)],
-    )?;
-    assert_eq!(rt; book.halted(), None);
-    Ok(())
+    )
 }
 
 #[test]
@@ -158,8 +168,7 @@ fn there_is_room_for_the_events_of_a_cut(rt: HostRuntime) -> Result<(), Fail> {
         alloc,
         &book,
         &[("first", true), ("second", true), ("third", true)],
-    )?;
-    Ok(())
+    )
 }
 
 // The counter goes on from this place to that one, since it is not what it is to be there.
@@ -172,24 +181,39 @@ fn passed(from: u32, to: u32) -> Elimination {
     }
 }
 
-#[test]
-fn a_search_tells_why_there_is_no_cut(rt: HostRuntime) -> Result<(), Fail> {
-    let alloc = rt.alloc();
+// Expects whether the detector has a cut, and the eliminations that it made.
+fn expect_told(
+    rt: &impl Abort,
+    told: &Detector,
+    has_cut: bool,
+    wanted: &[Elimination],
+) -> Result<(), Fail> {
+    assert_eq!(rt; told.cut().is_some(), has_cut);
+    assert_eq!(rt; told.why(), wanted);
+    Ok(())
+}
+
+// Expects that of the search for the counter that has come to this.
+fn expect_search(
+    rt: &impl Abort,
+    alloc: Global,
+    text: &str,
+    has_cut: bool,
+    wanted: &[Elimination],
+) -> Result<(), Fail> {
     let program = counter(alloc)?;
     let world = counted(alloc, &program)?;
-    let told = detector(alloc, &program, &world, at(alloc, &program, "(x = 2)")?)?;
-    assert!(rt; told.cut().is_none());
-    assert_eq!(rt; told.why(), [passed(0, 1), passed(1, 2)].as_slice());
-    Ok(())
+    let told = detector(alloc, &program, &world, at(alloc, &program, text)?)?;
+    expect_told(rt, &told, has_cut, wanted)
+}
+
+#[test]
+fn a_search_tells_why_there_is_no_cut(rt: HostRuntime) -> Result<(), Fail> {
+    let wanted = [passed(0, 1), passed(1, 2)];
+    expect_search(&rt, rt.alloc(), "(x = 2)", false, &wanted)
 }
 
 #[test]
 fn a_search_tells_why_its_cut_is_the_first(rt: HostRuntime) -> Result<(), Fail> {
-    let alloc = rt.alloc();
-    let program = counter(alloc)?;
-    let world = counted(alloc, &program)?;
-    let told = detector(alloc, &program, &world, at(alloc, &program, "(x = 1)")?)?;
-    assert!(rt; told.cut().is_some());
-    assert_eq!(rt; told.why(), [passed(0, 1)].as_slice());
-    Ok(())
+    expect_search(&rt, rt.alloc(), "(x = 1)", true, &[passed(0, 1)])
 }

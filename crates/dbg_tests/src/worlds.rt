@@ -99,11 +99,17 @@ fn clocks_of_earlier_events(rt: HostRuntime) -> Result<(), Fail> {
     let alloc = rt.alloc();
     let program = relay(alloc)?;
     let world = played(alloc, &program)?;
-    expect_clock(&rt, alloc, &world, &program, (C, 1), [1, 2, 1])?;
-    expect_clock(&rt, alloc, &world, &program, (C, 0), [0, 0, 0])?;
-    expect_clock(&rt, alloc, &world, &program, (B, 2), [1, 2, 0])?;
-    expect_clock(&rt, alloc, &world, &program, (B, 1), [1, 1, 0])?;
-    expect_clock(&rt, alloc, &world, &program, (A, 1), [1, 0, 0])
+    let clocks = [
+        ((C, 1), [1, 2, 1]),
+        ((C, 0), [0, 0, 0]),
+        ((B, 2), [1, 2, 0]),
+        ((B, 1), [1, 1, 0]),
+        ((A, 1), [1, 0, 0]),
+    ];
+    for (event, counts) in clocks {
+        expect_clock(&rt, alloc, &world, &program, event, counts)?;
+    }
+    Ok(())
 }
 
 #[test]
