@@ -155,14 +155,20 @@ fn a_breakpoint_is_disarmed_whether_or_not_it_has_a_cut(rt: HostRuntime) -> Resu
     )
 }
 
+// The book gets room for so many events of the counter.
+fn make_room(rt: &impl Abort, alloc: Global, book: &mut Book, events: u32) -> Result<(), Fail> {
+    let cut = Cut::new(Vec::from_slice(alloc, &[events])?);
+    assert_eq!(rt; book.reserve_to(&cut), Ok(()));
+    Ok(())
+}
+
 #[test]
 fn there_is_room_for_the_events_of_a_cut(rt: HostRuntime) -> Result<(), Fail> {
     let alloc = rt.alloc();
     let program = counter(alloc)?;
     let world = counted(alloc, &program)?;
     let mut book = three(alloc, &program, &world)?;
-    let cut = Cut::new(Vec::from_slice(alloc, &[100])?);
-    assert_eq!(rt; book.reserve_to(&cut), Ok(()));
+    make_room(&rt, alloc, &mut book, 100)?;
     expect(
         &rt,
         alloc,
