@@ -1,0 +1,15 @@
+//! The tests of the parts of a world, by the crate that they test: what no contract says, over public calls.
+#![tactic(auto)]
+
+#[cfg(test)]
+mod channels;
+#[cfg(test)]
+mod clocks;
+#[cfg(test)]
+mod copies;
+#[cfg(test)]
+mod cuts;
+#[cfg(test)]
+mod evaluation;
+#[cfg(test)]
+mod events;
