@@ -52,6 +52,29 @@ fn empty_rows(alloc: Global, processes: u32) -> Result<Vec<Vec<Queue>>, AllocErr
     Ok(rows)
 }
 
+// The messages of one row once more.
+fn copy_row(row: &Vec<Queue>) -> Result<Vec<Queue>, AllocError>
+    ensures { IfOk result (λ made. map (λ queue. queue.messages) made.items ≡ map (λ queue. queue.messages) row.now.items) }
+{
+    let mut made = Vec::new(*row.allocator());
+    for queue in row {
+        made.push(queue.copy()?)?;
+    }
+    Ok(made)
+}
+
+// The messages of all rows once more.
+fn copy_rows(rows: &Vec<Vec<Queue>>) -> Result<Vec<Vec<Queue>>, AllocError>
+    ensures { IfOk result (λ made. map (λ row. map (λ queue. queue.messages) row.items) made.items
+        ≡ map (λ row. map (λ queue. queue.messages) row.items) rows.now.items) }
+{
+    let mut made = Vec::new(*rows.allocator());
+    for row in rows {
+        made.push(copy_row(row)?)?;
+    }
+    Ok(made)
+}
+
 impl Grid {
     /// No message between any two of so many processes. It is refused only where memory runs out.
     pub fn new(alloc: Global, processes: u32) -> Result<Grid, AllocError>
@@ -59,6 +82,15 @@ impl Grid {
     {
         Ok(Grid {
             rows: empty_rows(alloc, processes)?,
+        })
+    }
+
+    /// The same messages once more, with room of its own. It is refused only where memory runs out.
+    pub fn copy(&self) -> Result<Grid, AllocError>
+        ensures { IfOk result (λ grid. grid.channels ≡ self.now.channels) }
+    {
+        Ok(Grid {
+            rows: copy_rows(&self.rows)?,
         })
     }
 

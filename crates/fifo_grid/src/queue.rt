@@ -103,4 +103,13 @@ impl Queue {
     {
         self.messages.pop_back()
     }
+
+    /// The same messages once more.
+    pub(crate) fn copy(&self) -> Result<Queue, AllocError>
+        ensures { IfOk result (λ queue. queue.messages ≡ self.now.messages) }
+    {
+        Ok(Queue {
+            messages: self.messages.clone()?,
+        })
+    }
 }
