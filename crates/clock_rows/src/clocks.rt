@@ -46,6 +46,19 @@ fn first_lines(alloc: Global, processes: u32) -> Result<Vec<Line>, AllocError>
     Ok(lines)
 }
 
+// The rows of all processes once more.
+fn copy_lines(lines: &Vec<Line>) -> Result<Vec<Line>, AllocError>
+    ensures len { IfOk result (λ made. length made.items ≡ length lines.now.items) }
+    ensures widths { IfOk result (λ made. map (λ line. line.width) made.items ≡ map (λ line. line.width) lines.now.items) }
+    ensures rows { IfOk result (λ made. map (λ line. line.rows) made.items ≡ map (λ line. line.rows) lines.now.items) }
+{
+    let mut made = Vec::new(*lines.allocator());
+    for line in lines {
+        made.push(line.copy()?)?;
+    }
+    Ok(made)
+}
+
 impl Clocks {
     /// One row of zeros for each of so many processes. It is refused only where memory runs out.
     pub fn new(alloc: Global, processes: u32) -> Result<Clocks, AllocError>
@@ -54,6 +67,16 @@ impl Clocks {
         Ok(Clocks {
             lines: first_lines(alloc, processes)?,
             copied: vec![in alloc; 0u32; processes as usize]?,
+        })
+    }
+
+    /// The same rows once more, with room of their own. It is refused only where memory runs out.
+    pub fn copy(&self) -> Result<Clocks, AllocError>
+        ensures { IfOk result (λ clocks. clocks.rows ≡ self.now.rows) }
+    {
+        Ok(Clocks {
+            lines: copy_lines(&self.lines)?,
+            copied: self.copied.clone()?,
         })
     }
 

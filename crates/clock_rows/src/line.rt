@@ -111,4 +111,15 @@ impl Line {
         let left = self.counts.len() - self.width;
         self.counts.truncate(left);
     }
+
+    /// The same rows once more.
+    pub(crate) fn copy(&self) -> Result<Line, AllocError>
+        ensures width { IfOk result (λ line. line.width ≡ self.now.width) }
+        ensures rows { IfOk result (λ line. line.rows ≡ self.now.rows) }
+    {
+        Ok(Line {
+            width: self.width,
+            counts: self.counts.clone()?,
+        })
+    }
 }
