@@ -116,6 +116,17 @@ fn reserve_each(lists: &mut Vec<Places>, more: usize) -> Result<(), AllocError>
     Ok(())
 }
 
+// The same lists once more.
+fn copy_lists(lists: &Vec<Places>) -> Result<Vec<Places>, AllocError>
+    ensures { IfOk result (λ made. map (λ list. list.places) made.items ≡ map (λ list. list.places) lists.now.items) }
+{
+    let mut made = Vec::new(*lists.allocator());
+    for list in lists {
+        made.push(list.copy()?)?;
+    }
+    Ok(made)
+}
+
 impl Line {
     /// No event, and as many lists as so many processes need: for each two, for what was sent to it and received from it.
     pub(crate) fn new(alloc: Global, processes: u32) -> Result<Line, AllocError>
@@ -124,6 +135,17 @@ impl Line {
         Ok(Line {
             kinds: Vec::new(alloc),
             lists: empty_lists(alloc, processes as usize * 2 + 2)?,
+            room: 0,
+        })
+    }
+
+    /// The same events once more.
+    pub(crate) fn copy(&self) -> Result<Line, AllocError>
+        ensures { IfOk result (λ line. line.kinds ≡ self.now.kinds) }
+    {
+        Ok(Line {
+            kinds: Vec::from_slice(*self.kinds.allocator(), self.kinds.as_slice())?,
+            lists: copy_lists(&self.lists)?,
             room: 0,
         })
     }

@@ -1,6 +1,6 @@
 //! A list of places.
 
-ghost use Rattle.std.specs.Prelude.{◌≡◌, ◌+◌, ◌-◌, ◌<◌, ◌≤◌, ◌++◌, ◌∷◌, [], length, take, slice_index, OnOk};
+ghost use Rattle.std.specs.Prelude.{◌≡◌, ◌+◌, ◌-◌, ◌<◌, ◌≤◌, ◌++◌, ◌∷◌, [], length, take, slice_index, IfOk, OnOk};
 
 use std::alloc::{AllocError, Global};
 use std::marker::Model;
@@ -94,5 +94,14 @@ impl Places {
         ensures grows { self.old.room ≤ self.new.room }
     {
         self.places.pop();
+    }
+
+    /// The same once more.
+    pub(crate) fn copy(&self) -> Result<Places, AllocError>
+        ensures { IfOk result (λ made. made.places ≡ self.now.places) }
+    {
+        Ok(Places {
+            places: self.places.clone()?,
+        })
     }
 }

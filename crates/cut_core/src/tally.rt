@@ -47,6 +47,18 @@ fn empty_lines(alloc: Global, processes: u32) -> Result<Vec<Line>, AllocError>
     Ok(lines)
 }
 
+// The events of all processes once more.
+fn copy_lines(lines: &Vec<Line>) -> Result<Vec<Line>, AllocError>
+    ensures kinds { IfOk result (λ made. map (λ line. line.kinds) made.items ≡ map (λ line. line.kinds) lines.now.items) }
+    ensures len { IfOk result (λ made. length made.items ≡ length lines.now.items) }
+{
+    let mut made = Vec::new(*lines.allocator());
+    for line in lines {
+        made.push(line.copy()?)?;
+    }
+    Ok(made)
+}
+
 impl Tally {
     /// No event of any of so many processes. It is refused only where memory runs out.
     pub fn new(alloc: Global, processes: u32) -> Result<Tally, AllocError>
@@ -54,6 +66,15 @@ impl Tally {
     {
         Ok(Tally {
             lines: empty_lines(alloc, processes)?,
+        })
+    }
+
+    /// The same events once more, with room of their own. It is refused only where memory runs out.
+    pub fn copy(&self) -> Result<Tally, AllocError>
+        ensures { IfOk result (λ tally. tally.kinds ≡ self.now.kinds) }
+    {
+        Ok(Tally {
+            lines: copy_lines(&self.lines)?,
         })
     }
 
