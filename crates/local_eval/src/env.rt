@@ -186,4 +186,15 @@ impl Env {
         let got = self.got.clone()?;
         Ok(Env { values, sent, got })
     }
+
+    /// The same local states once more. It is refused only where memory runs out.
+    pub fn copy_all(states: &Vec<Env>) -> Result<Vec<Env>, AllocError>
+        ensures { IfOk result (λ made. made.items ≡ states.now.items) }
+    {
+        let mut made = Vec::new(*states.allocator());
+        for env in states {
+            made.push(env.copy()?)?;
+        }
+        Ok(made)
+    }
 }
