@@ -84,6 +84,17 @@ impl Event {
         })
     }
 
+    /// The same event once more. It is refused only where memory runs out.
+    pub fn copy(&self) -> Result<Event, AllocError>
+        ensures { IfOk result (λ event. event ≡ self.now) }
+    {
+        Ok(Event {
+            choice: self.choice,
+            settings: SmallVec::from_slice(*self.settings.allocator(), self.settings())?,
+            exchange: self.exchange,
+        })
+    }
+
     /// The command that the process made. It takes no memory, as all readers do.
     pub fn choice(&self) -> Choice
         ensures { result.0 ≡ self.now.choice }

@@ -1,6 +1,6 @@
 //! The events of one process.
 
-ghost use Rattle.std.specs.Prelude.{◌≡◌, ◌+◌, ◌-◌, ◌<◌, ◌≤◌, ◌++◌, ◌∷◌, [], length, take, slice_get, OnOk, IsSome, ◌↔◌};
+ghost use Rattle.std.specs.Prelude.{◌≡◌, ◌+◌, ◌-◌, ◌<◌, ◌≤◌, ◌++◌, ◌∷◌, [], length, take, slice_get, IfOk, OnOk, IsSome, ◌↔◌};
 ghost use Rattle.std.specs.Option.{option_map, option_to_list};
 
 use crate::event::Event;
@@ -23,6 +23,17 @@ impl Model for Line {
     ghost view = { λ line. record { events = line.events.items; room = vec_capacity line.events - vec_len line.events } };
 }
 
+// The same events once more.
+fn copy_events(events: &Vec<Event>) -> Result<Vec<Event>, AllocError>
+    ensures { IfOk result (λ made. made.items ≡ events.now.items) }
+{
+    let mut made = Vec::new(*events.allocator());
+    for event in events {
+        made.push(event.copy()?)?;
+    }
+    Ok(made)
+}
+
 impl Line {
     /// No event. It takes no memory.
     pub(crate) fn new(alloc: Global) -> Line
@@ -31,6 +42,15 @@ impl Line {
         Line {
             events: Vec::new(alloc),
         }
+    }
+
+    /// The same events once more.
+    pub(crate) fn copy(&self) -> Result<Line, AllocError>
+        ensures { IfOk result (λ line. line.events ≡ self.now.events) }
+    {
+        Ok(Line {
+            events: copy_events(&self.events)?,
+        })
     }
 
     /// How many events there are.

@@ -50,6 +50,17 @@ fn empty_lines(alloc: Global, processes: u32) -> Result<Vec<Line>, AllocError>
     Ok(lines)
 }
 
+// The events of all processes once more.
+fn copy_lines(lines: &Vec<Line>) -> Result<Vec<Line>, AllocError>
+    ensures { IfOk result (λ made. map (λ line. line.events) made.items ≡ map (λ line. line.events) lines.now.items) }
+{
+    let mut made = Vec::new(*lines.allocator());
+    for line in lines {
+        made.push(line.copy()?)?;
+    }
+    Ok(made)
+}
+
 // Whether the expression is true in this local state.
 fn is_true(expr: &Expr, env: &Env) -> bool
     ensures { result ≡ holds (tree_of expr.now) env.now }
@@ -93,6 +104,17 @@ impl Rows {
         Ok(Rows {
             starts: Env::starts(alloc, program)?,
             lines: empty_lines(alloc, program.processes())?,
+        })
+    }
+
+    /// The same starts and events once more, with room of their own. It is refused only where memory runs out.
+    pub fn copy(&self) -> Result<Rows, AllocError>
+        ensures starts { IfOk result (λ rows. rows.starts ≡ self.now.starts) }
+        ensures events { IfOk result (λ rows. rows.events ≡ self.now.events) }
+    {
+        Ok(Rows {
+            starts: Env::copy_all(&self.starts)?,
+            lines: copy_lines(&self.lines)?,
         })
     }
 
