@@ -62,3 +62,19 @@ fn a_long_queue_wraps_round(rt: HostRuntime) -> Result<(), Fail> {
     );
     Ok(())
 }
+
+#[test]
+fn a_copied_grid_is_apart(rt: HostRuntime) -> Result<(), Fail> {
+    let mut grid = Grid::new(rt.alloc(), 2)?;
+    let (a, b) = (Pid(0), Pid(1));
+    if grid.has(a, b) {
+        grid.reserve(a, b, 2)?;
+        grid.push_back(a, b, 5);
+        grid.push_back(a, b, 7);
+    }
+    let mut made = grid.copy()?;
+    assert_eq!(rt; made.pop_front(a, b), Some(5));
+    assert_eq!(rt; (made.len(a, b), made.len(b, a), grid.len(a, b)), (1, 0, 2));
+    assert_eq!(rt; (made.front(a, b), grid.front(a, b)), (Some(7), Some(5)));
+    Ok(())
+}

@@ -49,3 +49,15 @@ fn a_row_joins_that_of_another(rt: HostRuntime) -> Result<(), Fail> {
     assert_eq!(rt; clocks.len(a), 2);
     expect(&rt, &clocks, a, 1, &[4, 1, 7])
 }
+
+#[test]
+fn copied_clocks_are_apart(rt: HostRuntime) -> Result<(), Fail> {
+    let mut clocks = Clocks::new(rt.alloc(), 2)?;
+    let a = Pid(1);
+    clocks.reserve(a, 1)?;
+    clocks.push(a, &[4, 0]);
+    let made = clocks.copy()?;
+    clocks.pop(a);
+    assert_eq!(rt; (made.len(a), made.len(Pid(0)), clocks.len(a)), (2, 1, 1));
+    expect(&rt, &made, a, 1, &[4, 1])
+}

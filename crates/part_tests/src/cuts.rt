@@ -126,3 +126,16 @@ fn cuts_go_down_and_up(rt: HostRuntime) -> Result<(), Fail> {
     assert!(rt; least_above(rt.alloc(), &tally, &back)?.is_none());
     Ok(())
 }
+
+#[test]
+fn a_copied_tally_is_apart(rt: HostRuntime) -> Result<(), Fail> {
+    let mut tally = relay(rt.alloc())?;
+    let made = tally.copy()?;
+    tally.unnote(A);
+    assert_eq!(rt; (made.len(A), made.len(B), tally.len(A)), (3, 2, 2));
+    assert_eq!(rt;
+        (made.sent(A, B, 9), made.got(B, A, 1), tally.sent(A, B, 9)),
+        (2, 1, 1)
+    );
+    Ok(())
+}

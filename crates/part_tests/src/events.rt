@@ -96,3 +96,37 @@ fn rows_tell_the_past(rt: HostRuntime) -> Result<(), Fail> {
     assert_eq!(rt; rows.len(a), 1);
     Ok(())
 }
+
+#[test]
+fn copied_rows_are_apart(rt: HostRuntime) -> Result<(), Fail> {
+    let mut rows = Rows::new(rt.alloc(), &two_processes(rt.alloc())?)?;
+    let a = Pid(0);
+    let setting = Setting {
+        variable: 0,
+        old: 3,
+        new: 5,
+    };
+    let event = Event::new(rt.alloc(), Choice(4), &[setting], Exchange::Nothing)?;
+    assert_eq!(rt; event.copy()?.settings(), [setting].as_slice());
+    if rows.has(a) {
+        rows.reserve(a, 1)?;
+        rows.push(a, event);
+    }
+    let made = rows.copy()?;
+    assert_eq!(rt; rows.pop(a).map(|event| event.choice()), Some(Choice(4)));
+    assert_eq!(rt; (made.len(a), rows.len(a)), (1, 0));
+    assert_eq!(rt; made.past(a, 1)?.values(), [5, 4].as_slice());
+    Ok(())
+}
+
+#[test]
+fn states_are_copied_all_at_once(rt: HostRuntime) -> Result<(), Fail> {
+    let states = Env::starts(rt.alloc(), &two_processes(rt.alloc())?)?;
+    let made = Env::copy_all(&states)?;
+    assert_eq!(rt; made.len(), 2);
+    assert_eq!(rt;
+        made.first().map(|env| env.values()),
+        Some([3, 4].as_slice())
+    );
+    Ok(())
+}
