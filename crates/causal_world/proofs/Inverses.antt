@@ -80,7 +80,7 @@ memory_alone P w p refusal of may why =
 
 -- The places go back.
 
-place_back : (M : SystemState) (p : ℕ) → p < length M.places → after_undo (after_redo M p) p ≡ M
+pub place_back : (M : SystemState) (p : ℕ) → p < length M.places → after_undo (after_redo M p) p ≡ M
 place_back M p here =
     let n = place_at M p in
     let higher : get_or (set M.places p (n + 1)) p 0 ≡ n + 1 = get_or-set_same M.places p (n + 1) 0 here in
@@ -101,7 +101,7 @@ line_back n k line within =
     ap (λ (l : List ℕ). l ++ drop n line) (take_at (take n line) (k ∷ []) n (length-take-le n line within))
     ∙ take-append-drop n line
 
-restored_back : (M : SystemState) (p k : ℕ) → p < length M.lines → p < length M.places → place_at M p ≤ length (line_of M p)
+pub restored_back : (M : SystemState) (p k : ℕ) → p < length M.lines → p < length M.places → place_at M p ≤ length (line_of M p)
     → restored (after_choice M p k) p (redo_line M p) ≡ M
 restored_back M p k has_line has_place within =
     let n = place_at M p in

@@ -35,6 +35,17 @@ fn empty_lines(alloc: Global, processes: u32) -> Result<Vec<Vec<u32>>, AllocErro
     Ok(lines)
 }
 
+// The same lines once more.
+fn copy_lines(lines: &Vec<Vec<u32>>) -> Result<Vec<Vec<u32>>, AllocError>
+    ensures { IfOk result (λ made. map (λ line. line.items) made.items ≡ map (λ line. line.items) lines.now.items) }
+{
+    let mut made = Vec::new(*lines.allocator());
+    for line in lines {
+        made.push(Vec::from_slice(*line.allocator(), line.as_slice())?)?;
+    }
+    Ok(made)
+}
+
 // The line is cut at the place, and the choice is appended. Where memory runs out nothing changes.
 fn append_choice(line: &mut Vec<u32>, place: usize, choice: u32) -> Result<(), AllocError>
     ensures appended { OnOk result (line.new.items ≡ take place line.old.items ++ choice ∷ []) }
@@ -74,6 +85,16 @@ impl Lines {
         Ok(Lines {
             lines: empty_lines(alloc, processes)?,
             places: vec![in alloc; 0u32; processes as usize]?,
+        })
+    }
+
+    /// The same lines and places once more. It is refused only where memory runs out.
+    pub(crate) fn copy(&self) -> Result<Lines, AllocError>
+        ensures { IfOk result (λ lines. lines ≡ self.now) }
+    {
+        Ok(Lines {
+            lines: copy_lines(&self.lines)?,
+            places: self.places.clone()?,
         })
     }
 

@@ -88,6 +88,17 @@ impl Past {
         })
     }
 
+    /// The same events once more, with room of their own. It is refused only where memory runs out.
+    pub(crate) fn copy(&self) -> Result<Past, AllocError>
+        ensures { IfOk result (λ past. IsSamePast self.now past) }
+    {
+        Ok(Past {
+            rows: self.rows.copy()?,
+            tally: self.tally.copy()?,
+            clocks: self.clocks.copy()?,
+        })
+    }
+
     /// The starts of the processes and their events. It takes no memory, as all readers.
     pub(crate) fn rows(&self) -> &Rows
         ensures starts { result.now.starts ≡ self.now.starts }

@@ -5,6 +5,7 @@ ghost use Rattle.std.specs.Prelude.{Some, Ok, Err, slice_get, slice_index, slice
 ghost use Rattle.std.specs.Option.{option_map};
 ghost use Rattle.dbg_base.specs.declared.limits.TheConstants.{EVENTS};
 ghost use Rattle.dbg_base.specs.declared.refusal.Refusal.TheVariants.{Memory};
+ghost use Rattle.dbg_base.specs.Copies.{IsCopy};
 ghost use Rattle.dbg_base.specs.Trees as tree;
 ghost use Rattle.dbg_base.specs.Configurations.{values_of, channel_of};
 ghost use Rattle.dbg_base.specs.SystemStates.{opening_state, line_of, place_at, redo_line, history_of, last_choice};
@@ -77,6 +78,18 @@ impl World {
             envs,
             grid,
             past,
+        })
+    }
+
+    /// The same world once more. It is refused only as `Memory`, where that runs out.
+    pub fn copy(&self) -> Result<World, Refusal>
+        ensures { IsCopy result (λ world. world ≡ self.now) }
+    {
+        Ok(World {
+            lines: self.lines.copy()?,
+            envs: Env::copy_all(&self.envs)?,
+            grid: self.grid.copy()?,
+            past: self.past.copy()?,
         })
     }
 
@@ -229,11 +242,18 @@ impl World {
     }
 
     /// The place of a process in its line: how many events it has. It is 0 where there is no such process. It takes no memory, as all
-    /// readers do but `vars`, `channel`, `clock` and `rollback_cut`.
+    /// readers do but `vars`, `channel`, `clock`, `places` and `rollback_cut`.
     pub fn place(&self, pid: Pid) -> u32
         ensures { result ≡ place_at self.now.state pid.0 }
     {
         self.lines.place(pid)
+    }
+
+    /// The places of all processes. It is refused only as `Memory`, where that runs out.
+    pub fn places(&self, alloc: Global) -> Result<Cut, Refusal>
+        ensures { MatchResult result (λ places. places ≡ self.now.state.places) (λ refusal. refusal ≡ Memory) }
+    {
+        Ok(Cut::new(self.lines.places(alloc)?))
     }
 
     /// The length of the process's line.

@@ -4,12 +4,14 @@ use Rattle.std.proofs.Common.{refl, sym, ap, ◌∙◌, subst, inl, inr}
 use Rattle.dbg_base.specs.declared.call.Call as call
 use Rattle.dbg_base.specs.declared.call.Call.TheVariants as calls
 use Rattle.dbg_base.specs.declared.call.Plan.TheVariants as plans
+use Rattle.dbg_base.specs.declared.call.Plan.TheOpen as layer
+use Rattle.dbg_base.specs.declared.call.Plan.TheFolds.{fold-roll-Plan}
 use Rattle.dbg_base.specs.declared.call.Conjunct as conjunct
 use Rattle.dbg_base.specs.declared.refusal.Refusal.{Refusal}
 use Rattle.dbg_base.specs.declared.refusal.Refusal.TheVariants.{Memory}
-use Rattle.dbg_base.specs.Calls.{Give, Break, conjunct_of, call_of}
+use Rattle.dbg_base.specs.Calls.{Order, One, Give, Break, conjunct_of, order_of, call_of}
 use Rattle.dbg_base.specs.Trees.{Program}
-use Rattle.dbg_base.specs.CommandLines.{Part, map_ok, name_word, next_word, after_word, parts_in}
+use Rattle.dbg_base.specs.CommandLines.{Part, map_ok, give, name_word, next_word, after_word, parts_in}
 use Rattle.dbg_base.specs.Requests.{ReadsParts, AsksBreak}
 use Rattle.command_line.specs.Lines.{IsBreakParsed, has_parts}
 
@@ -17,9 +19,15 @@ use Rattle.command_line.specs.Lines.{IsBreakParsed, has_parts}
 abbrev pub break_made : List ℕ → Result (List conjunct.Conjunct) Refusal → Result call.Call Refusal
 break_made name = map_ok (λ conjuncts. calls.Give (plans.Break name conjuncts))
 
+-- the order of such a plan
+order_made : (name : List ℕ) (conjuncts : List conjunct.Conjunct)
+    → order_of (plans.Break name conjuncts) ≡ One (Break name (map conjunct_of conjuncts))
+order_made name conjuncts =
+    ap order_of (sym (plans.rolls-Break name conjuncts)) ∙ fold-roll-Plan Order _ (layer.Break name conjuncts)
+
 same_call : (name : List ℕ) (read : Result (List conjunct.Conjunct) Refusal)
-    → map_ok call_of (break_made name read) ≡ map_ok (λ made. Give (Break name made)) (map_ok (map conjunct_of) read)
-same_call name (Ok conjuncts) = refl
+    → map_ok call_of (break_made name read) ≡ map_ok (λ made. give (Break name made)) (map_ok (map conjunct_of) read)
+same_call name (Ok conjuncts) = ap (λ (order : Order). Ok (Give order)) (order_made name conjuncts)
 same_call name (Err refusal) = refl
 
 module _ (P : Program) (name : List ℕ) (read : Result (List conjunct.Conjunct) Refusal) where

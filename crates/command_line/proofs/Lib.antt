@@ -4,4 +4,9 @@ pub mod Places
 pub mod BreakLines
 pub mod PartsRead
 pub mod Asked
+pub mod Shapes
+pub mod EachAsks
+pub mod Separators
+pub mod Batches
 pub mod LineRefusals
+pub mod Givable

@@ -1,9 +1,10 @@
 //! The command that sets a breakpoint.
 
-ghost use Rattle.std.specs.Prelude.{◌≡◌, ◌⊎◌, ◌<◌, Err, IfOk, IfErr, List, MatchOption, Some, None, [], drop, is_some, length, map};
+ghost use Rattle.std.specs.Prelude.{◌≡◌, ◌⊎◌, ◌<◌, ◌&&◌, Err, IfOk, IfErr, List, MatchOption, Some, None, [], drop, is_some, length, map};
 ghost use Rattle.dbg_base.specs.declared.refusal.Refusal.TheVariants.{BadLine, Memory};
 ghost use Rattle.dbg_base.specs.Calls.{conjunct_of};
 ghost use Rattle.dbg_base.specs.CommandLines.{Part, closed_front, predicate_front, is_apart, with_part, parts_in, map_ok, named_process};
+ghost use Rattle.dbg_base.specs.CommandLines.{name_word, next_word, after_word};
 ghost use Rattle.dbg_base.specs.Requests.{ReadsParts};
 ghost use Rattle.proc_lang.specs.Programs.{program_of};
 ghost use Rattle.command_line.specs.Lines.{has_parts, stands_in, ReadsNamed, IsBreakParsed};
@@ -57,7 +58,7 @@ fn next_predicate(bytes: &[u8]) -> (&[u8], &[u8])
 }
 
 // Whether there is nothing, or a blank first.
-fn is_apart(bytes: &[u8]) -> bool
+pub(crate) fn is_apart(bytes: &[u8]) -> bool
     ensures { result ≡ is_apart bytes.now }
 {
     match bytes {
@@ -109,6 +110,14 @@ fn has_parts(bytes: &[u8]) -> bool
         Ok(Some((_, behind))) => are_parts(behind),
         Ok(None) | Err(_) => false,
     }
+}
+
+/// Whether what is behind the command word is a name and parts. It takes no memory.
+pub(crate) fn is_break(bytes: &[u8]) -> bool
+    ensures { result ≡ (is_some (name_word (next_word bytes.now)) && has_parts (parts_in (after_word bytes.now))) }
+{
+    let (word, rest) = next_word(bytes);
+    name_word(word).is_some() && has_parts(rest)
 }
 
 // Whether the process has one of these conjuncts.

@@ -1,14 +1,14 @@
-//! Commands: a word, and what is behind it.
+//! Commands by themselves: a word, and what is behind it.
 
-ghost use Rattle.std.specs.Prelude.{◌≡◌, ◌∷◌, []};
+ghost use Rattle.std.specs.Prelude.{◌≡◌, ◌∷◌, [], IfOk};
 ghost use Rattle.std.specs.Option.{option_map};
 ghost use Rattle.dbg_base.specs.Calls.{call_of};
-ghost use Rattle.dbg_base.specs.Trees as tree;
-ghost use Rattle.dbg_base.specs.CommandLines.{words_of, map_ok, process_call, break_call, step_call, rollback_call, chan_call, call_of_words};
+ghost use Rattle.dbg_base.specs.CommandLines.{words_of, map_ok, process_call, break_call, step_call, rollback_call, chan_call, lone_call};
+ghost use Rattle.dbg_base.specs.CommandLines.{call_of_words};
 ghost use Rattle.proc_lang.specs.Programs.{program_of};
-ghost use Rattle.command_line.specs.Lines.{IsCommandParsed};
+ghost use Rattle.command_line.specs.Lines.{IsOneParsed, IsGivable, has_shape};
 
-use crate::break_line::parse_break;
+use crate::break_line::{is_break, parse_break};
 use crate::words::{first_word, name_word, named_process, next_word, number_word};
 use dbg_base::{Call, Choice, Name, Pid, Plan, Query, Refusal};
 use proc_lang::Program;
@@ -88,9 +88,11 @@ fn break_call(word: &[u8], name: Name) -> Option<Call>
 
 // The call of a word without argument.
 fn lone_call(word: &[u8]) -> Result<Call, Refusal>
-    ensures { (P : tree.Program) → map_ok call_of result ≡ call_of_words P word.now [] }
+    ensures { map_ok call_of result ≡ lone_call word.now }
 {
-    if word == b"breaks".as_slice() {
+    if word == b"back".as_slice() {
+        Ok(Call::Back)
+    } else if word == b"breaks".as_slice() {
         Ok(Call::Ask(Query::Breaks))
     } else {
         Err(Refusal::BadLine)
@@ -145,13 +147,29 @@ fn parse_words(program: &Program, word: &[u8], bytes: &[u8]) -> Result<Call, Ref
     }
 }
 
-/// The call of a command: a line behind its seat.
-pub(crate) fn parse_command(alloc: Global, program: &Program, bytes: &[u8]) -> Result<Call, Refusal>
-    ensures { IsCommandParsed (program_of program.now) bytes.now result }
+/// The call of a command by itself.
+pub(crate) fn parse_one(alloc: Global, program: &Program, bytes: &[u8]) -> Result<Call, Refusal>
+    ensures asks { IsOneParsed (program_of program.now) bytes.now result }
+    ensures fits { IfOk result IsGivable }
 {
     let (word, rest) = next_word(bytes);
     if word == b"break".as_slice() {
         return parse_break(alloc, program, rest);
     }
     parse_words(program, word, rest)
+}
+
+/// Whether the command has the shape of one that may stand in a batch, whatever it names. It takes no memory.
+pub(crate) fn has_shape(program: &Program, bytes: &[u8]) -> bool
+    ensures { result ≡ has_shape (program_of program.now) bytes.now }
+{
+    let (word, rest) = next_word(bytes);
+    if word == b"break".as_slice() {
+        return is_break(rest);
+    }
+    match parse_words(program, word, rest) {
+        Ok(Call::Give(plan)) => !plan.is_batch(),
+        Ok(Call::Back | Call::Ask(_)) => false,
+        Err(refusal) => !matches!(refusal, Refusal::BadLine),
+    }
 }

@@ -2,6 +2,7 @@
 //! sets a breakpoint.
 #![tactic(auto)]
 
+mod batch_line;
 mod break_line;
 mod command;
 mod line;

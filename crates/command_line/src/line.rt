@@ -1,11 +1,11 @@
 //! Command lines become calls.
 
-ghost use Rattle.std.specs.Prelude.{◌≡◌, IfErr};
+ghost use Rattle.std.specs.Prelude.{◌≡◌, IfErr, IfOk};
 ghost use Rattle.dbg_base.specs.CommandLines.{without_return};
 ghost use Rattle.proc_lang.specs.Programs.{program_of};
-ghost use Rattle.command_line.specs.Lines.{IsParsed, IsLineRefusal};
+ghost use Rattle.command_line.specs.Lines.{IsParsed, IsLineRefusal, IsLineGivable};
 
-use crate::command::parse_command;
+use crate::batch_line::parse_command;
 use crate::words::{next_word, seat_word};
 use dbg_base::limits::LINE_BYTES;
 use dbg_base::{Call, Refusal};
@@ -30,11 +30,12 @@ pub fn without_return(line: &[u8]) -> &[u8]
 }
 
 /// The seat and the call of a command line, nothing for a blank one, or why the line is refused. The bytes are the line without its
-/// line end, and may have a carriage return at their end. A line that sets a breakpoint takes memory, and where that runs out it is
-/// refused as `Memory`; the others take none, and are not.
+/// line end, and may have a carriage return at their end. A line that sets a breakpoint or gives a batch takes memory, and where that
+/// runs out it is refused as `Memory`; the others take none, and are not. A batch has 1 to 32 commands, none of which is a batch.
 pub fn parse_line(alloc: Global, program: &Program, bytes: &[u8]) -> Result<Option<Line>, Refusal>
     ensures asks { IsParsed (program_of program.now) bytes.now result }
     ensures refuses { IfErr result (IsLineRefusal bytes.now) }
+    ensures fits { IfOk result IsLineGivable }
 {
     if bytes.len() > LINE_BYTES {
         return Err(Refusal::BadLine);

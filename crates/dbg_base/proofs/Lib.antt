@@ -4,6 +4,7 @@ pub mod FirstFaults
 pub mod Places
 mod Rows
 mod LineRows
+mod JournalRows
 mod OrderRows
 pub mod Counted
 pub mod Searching

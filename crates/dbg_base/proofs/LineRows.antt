@@ -3,8 +3,8 @@ use Rattle.std.proofs.Common.{◌≡◌, ℕ, List, [], ◌∷◌, Some, None, O
 use Rattle.std.specs.Prelude.{codes}
 use Rattle.dbg_base.specs.declared.refusal.Refusal.{Refusal}
 use Rattle.dbg_base.specs.declared.refusal.Refusal.TheVariants.{UnknownProcess, BadLine}
-use Rattle.dbg_base.specs.Calls.{Call, Give, Step, Next, Rollback, Goto, Ask, Vars, Chan, Clock, Why, Breaks}
-use Rattle.dbg_base.specs.CommandLines.{next_word, after_word, predicate_front, parts_in}
+use Rattle.dbg_base.specs.Calls.{Call, Give, Batch, Step, Next, Undo, Rollback, Goto, Back, Ask, Vars, Chan, Clock, Why, Breaks}
+use Rattle.dbg_base.specs.CommandLines.{give, next_word, after_word, predicate_front, parts_in, commands_of}
 use Rattle.dbg_base.specs.Requests.{Asks}
 use Rattle.dbg_base.proofs.Rows.{system}
 
@@ -16,7 +16,7 @@ AsksFor line seat call = Asks system line (Ok (Some (record { seat = seat; call 
 abbrev IsRefused : List ℕ → Refusal → Type 0
 IsRefused line refusal = Asks system line (Err refusal)
 
-reads_next : AsksFor (codes "1 next a") 1 (Give (Next 0))
+reads_next : AsksFor (codes "1 next a") 1 (give (Next 0))
 reads_next = (_, refl, refl)
 
 reads_vars : AsksFor (codes "  16 vars b ") 16 (Ask (Vars 1))
@@ -52,13 +52,13 @@ break_without_form = (_, refl, refl)
 break_without_process : IsRefused (codes "1 break k d (x = 1)") UnknownProcess
 break_without_process = (_, (_, refl, refl), refl)
 
-reads_step : AsksFor (codes "2 step b 1") 2 (Give (Step 1 1))
+reads_step : AsksFor (codes "2 step b 1") 2 (give (Step 1 1))
 reads_step = (_, refl, refl)
 
 reads_clock : AsksFor (codes "1 clock b") 1 (Ask (Clock 1))
 reads_clock = (_, refl, refl)
 
-reads_rollback : AsksFor (codes "2 rollback b 0") 2 (Give (Rollback 1 0))
+reads_rollback : AsksFor (codes "2 rollback b 0") 2 (give (Rollback 1 0))
 reads_rollback = (_, refl, refl)
 
 reads_chan : AsksFor (codes "1 chan a b") 1 (Ask (Chan 0 1))
@@ -80,7 +80,7 @@ blank_line : Asks system (codes "   ") (Ok None)
 blank_line = refl
 
 -- about a breakpoint, of any name
-reads_goto : AsksFor (codes "1 goto d") 1 (Give (Goto (codes "d")))
+reads_goto : AsksFor (codes "1 goto d") 1 (give (Goto (codes "d")))
 reads_goto = (_, refl, refl)
 
 reads_why : AsksFor (codes "3 why a") 3 (Ask (Why (codes "a")))
@@ -128,3 +128,42 @@ parts_not_apart = refl
 
 part_without_name : parts_in (codes "a x 2b y") ≡ None
 part_without_name = refl
+
+reads_back : AsksFor (codes "3 back") 3 Back
+reads_back = (_, refl, refl)
+
+back_has_no_argument : IsRefused (codes "1 back a") BadLine
+back_has_no_argument = (_, refl, refl)
+
+-- the commands of a batch
+three_commands : commands_of (codes " next a ; next b;c ; ") ≡ codes " next a " ∷ codes " next b;c " ∷ codes " " ∷ []
+three_commands = refl
+
+-- where a breakpoint is set, what stands in parentheses belongs to a predicate
+separator_in_parentheses : commands_of (codes "break k a (x ; (y ; 1) ; z) ; undo b") ≡ codes "break k a (x ; (y ; 1) ; z) " ∷ codes " undo b" ∷ []
+separator_in_parentheses = refl
+
+separator_behind_open_parenthesis : commands_of (codes "undo ( ; undo b") ≡ codes "undo ( " ∷ codes " undo b" ∷ []
+separator_behind_open_parenthesis = refl
+
+no_blank_behind_parenthesis : commands_of (codes "break k a (x); next a") ≡ codes "break k a (x); next a" ∷ []
+no_blank_behind_parenthesis = refl
+
+reads_batch : AsksFor (codes "1 batch next a ; undo b") 1 (Give (Batch (Next 0 ∷ Undo 1 ∷ [])))
+reads_batch = (_, (_, (_, _, refl, (_, _, refl, refl, refl), refl), refl), refl)
+
+-- the shape of each of its commands comes before what the commands name
+no_process_in_batch : IsRefused (codes "1 batch next d ; next a") UnknownProcess
+no_process_in_batch = (_, (_, (_, _, refl, (_, _, refl, refl, refl), refl), refl), refl)
+
+no_shape_in_batch : IsRefused (codes "1 batch next d ; jump a") BadLine
+no_shape_in_batch = (_, (_, (_, _, refl, (_, _, refl, refl, refl), refl), refl), refl)
+
+empty_batch : IsRefused (codes "1 batch") BadLine
+empty_batch = (_, (_, (_, _, refl, refl, refl), refl), refl)
+
+batch_ends_with_separator : IsRefused (codes "1 batch next a ;") BadLine
+batch_ends_with_separator = (_, (_, (_, _, refl, (_, _, refl, refl, refl), refl), refl), refl)
+
+no_back_in_batch : IsRefused (codes "1 batch back") BadLine
+no_back_in_batch = (_, (_, (_, _, refl, refl, refl), refl), refl)

@@ -1,9 +1,10 @@
 -- What a command does: accepted it changes the state, and refused it changes nothing.
-use Rattle.std.specs.Prelude.{◌≡◌, ℕ, true, false, List, [], ◌∷◌, ◌++◌, length, Option, Some, None, Result, Ok, Err, nat_lt}
+use Rattle.std.specs.Prelude.{◌≡◌, ℕ, ◌+◌, true, false, List, [], ◌∷◌, ◌++◌, length, Option, Some, None, Result, Ok, Err, nat_lt}
 use Rattle.std.specs.Prelude.{◌==◌, ◌&&◌, not}
 use Rattle.std.specs.Prelude.{if◌then◌else◌, ◌⊎◌}
 use Rattle.std.specs.Bool.{MatchBool}
 use Rattle.std.specs.List.{list_any}
+use Rattle.dbg_base.specs.declared.said.Reply.{Reply}
 use Rattle.dbg_base.specs.declared.said.Said.{Said}
 use Rattle.dbg_base.specs.declared.said.Said.TheVariants.{Accepted, Refused}
 use Rattle.dbg_base.specs.declared.said.Done.{Done}
@@ -11,14 +12,15 @@ use Rattle.dbg_base.specs.declared.said.Done.TheVariants.{Played, Undone, Places
 use Rattle.dbg_base.specs.declared.refusal.Refusal.{Refusal}
 use Rattle.dbg_base.specs.declared.refusal.Refusal.TheVariants as refusals
 use Rattle.dbg_base.specs.declared.refusal.Refusal.TheVariants.{UnknownProcess, BadPlace, Halted, UnknownBreak, BadPredicate}
-use Rattle.dbg_base.specs.declared.refusal.Refusal.TheVariants.{AlreadyArmed, NotArmed}
+use Rattle.dbg_base.specs.declared.refusal.Refusal.TheVariants.{AlreadyArmed, NotArmed, InBatch}
 use Rattle.dbg_base.specs.declared.expr.Sort.TheVariants as sort
 use Rattle.dbg_base.specs.Trees.{Program}
 use Rattle.dbg_base.specs.WellFormed.{is_fit, bounds_of}
 use Rattle.dbg_base.specs.Reversal.{MayUndo, IsRollback}
 use Rattle.dbg_base.specs.Predicates.{Conjunct, IsLeast, NoCut}
 use Rattle.dbg_base.specs.Breakpoints.{Breakpoint, named, without, with_mark, name_refusal, HasCut}
-use Rattle.dbg_base.specs.Calls.{Plan, Step, Next, Undo, Redo, Rollback, Goto, Break, Clear, Arm, Pass}
+use Rattle.dbg_base.specs.Refusals.{refusal_number}
+use Rattle.dbg_base.specs.Calls.{Plan, Step, Next, Undo, Redo, Rollback, Goto, Break, Clear, Arm, Pass, Order, One, Batch}
 use Rattle.dbg_base.specs.Choices.{step_choice, next_choice, redo_choice, CannotUndo}
 use Rattle.dbg_base.specs.SystemStates.{SystemState, place_at, history_of, last_choice, after_choice, after_undo}
 use Rattle.dbg_base.specs.SystemStates.{after_redo, after_rollback}
@@ -151,3 +153,19 @@ Acts P (Break name conjuncts) M said M' = Sets (break_refusal P M name conjuncts
 Acts P (Clear name) M said M' = WithBreak name (λ b. Lists P (without name M.breakpoints) M said M') M said M'
 Acts P (Arm name) M said M' = WithBreak name (λ b. Arms P name b M said M') M said M'
 Acts P (Pass name) M said M' = WithBreak name (λ b. Passes P name b M said M') M said M'
+
+-- Batches: commands one after the other, which are accepted all or not at all.
+
+-- The commands from this one on, which has this place in its batch, were given at M one after the other, and the batch was given at the
+-- start. Each is accepted where those before it left the session, and the last leaves M'; or the first that is refused is told by its
+-- place and the number of its refusal, and nothing is changed.
+abbrev pub Batches : Program → ModelState → ℕ → List Plan → ModelState → Said → ModelState → Type 0
+Batches P start at [] M said M' = Accepts P Plain said M' × (M' ≡ M)
+Batches P start at (plan ∷ plans) M said M' =
+    ((reply : Reply) × (between : ModelState) × Acts P plan M (Accepted reply) between × Batches P start (at + 1) plans between said M')
+    ⊎ ((refusal : Refusal) × Acts P plan M (Refused refusal) M × Refuses (InBatch at (refusal_number refusal)) start said M')
+
+-- the order was given at M, was answered so, and left M'
+abbrev pub Follows : Program → Order → ModelState → Said → ModelState → Type 0
+Follows P (One plan) M said M' = Acts P plan M said M'
+Follows P (Batch plans) M said M' = Batches P M 1 plans M said M'

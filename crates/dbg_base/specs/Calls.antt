@@ -1,7 +1,10 @@
 -- Calls: what a seat can ask of a session, by the numbers of processes and without the places in memory that calls of the code have.
-use Rattle.std.specs.Prelude.{ℕ, List, map}
+use Rattle.std.specs.Prelude.{ℕ, ◌≤◌, List, [], ◌∷◌, length, map}
+use Rattle.std.specs.List.{AllByRecursion, flat_map}
+use Rattle.dbg_base.specs.declared.limits.TheConstants.{BATCH}
 use Rattle.dbg_base.specs.declared.call.Plan as plan
-use Rattle.dbg_base.specs.declared.call.Plan.TheVariants as plans
+use Rattle.dbg_base.specs.declared.call.Plan.TheOpen as plans
+use Rattle.dbg_base.specs.declared.call.Plan.TheFolds.{fold-Plan}
 use Rattle.dbg_base.specs.declared.call.Query as query
 use Rattle.dbg_base.specs.declared.call.Query.TheVariants as queries
 use Rattle.dbg_base.specs.declared.call.Call as call
@@ -23,6 +26,20 @@ pub data Plan : Type 0 where
   Arm : (name : List ℕ) → Plan
   Pass : (name : List ℕ) → Plan
 
+-- what is given at once: one command, or a batch of commands, which are accepted all or not at all
+pub data Order : Type 0 where
+  One : (plan : Plan) → Order
+  Batch : (plans : List Plan) → Order
+
+-- it is a batch, or one command
+abbrev pub IsBatch : Order → Type 0
+IsBatch (One plan) = ⊥
+IsBatch (Batch plans) = Unit {0}
+
+abbrev pub IsOne : Order → Type 0
+IsOne (One plan) = Unit {0}
+IsOne (Batch plans) = ⊥
+
 -- a question, which changes nothing
 pub data Query : Type 0 where
   Vars : (process : ℕ) → Query
@@ -34,27 +51,47 @@ pub data Query : Type 0 where
   Why : (name : List ℕ) → Query
   Breaks : Query
 
--- a command, the command that takes back the last one, or a question
+-- an order, the command that takes back the last one, or a question
 pub data Call : Type 0 where
-  Give : (plan : Plan) → Call
+  Give : (order : Order) → Call
   Back : Call
   Ask : (query : Query) → Call
 
 abbrev pub conjunct_of : conjunct.Conjunct → Conjunct
 conjunct_of given = record { process = given.pid.0; expression = tree_of given.expr }
 
--- the plan of the code as the model's
-abbrev pub plan_of : plan.Plan → Plan
-plan_of (plans.Step pid choice) = Step pid.0 choice.0
-plan_of (plans.Next pid) = Next pid.0
-plan_of (plans.Undo pid) = Undo pid.0
-plan_of (plans.Redo pid) = Redo pid.0
-plan_of (plans.Rollback pid place) = Rollback pid.0 place
-plan_of (plans.Goto name) = Goto name
-plan_of (plans.Break name conjuncts) = Break name (map conjunct_of conjuncts)
-plan_of (plans.Clear name) = Clear name
-plan_of (plans.Arm name) = Arm name
-plan_of (plans.Pass name) = Pass name
+-- the commands of an order
+abbrev pub plans_of : Order → List Plan
+plans_of (One plan) = plan ∷ []
+plans_of (Batch plans) = plans
+
+-- The order that a plan of the code gives, where those that the plans within it give are known. A batch within a batch stands for its
+-- commands.
+abbrev order_step : plans.Plan-F Order → Order
+order_step (plans.Step pid choice) = One (Step pid.0 choice.0)
+order_step (plans.Next pid) = One (Next pid.0)
+order_step (plans.Undo pid) = One (Undo pid.0)
+order_step (plans.Redo pid) = One (Redo pid.0)
+order_step (plans.Rollback pid place) = One (Rollback pid.0 place)
+order_step (plans.Goto name) = One (Goto name)
+order_step (plans.Break name conjuncts) = One (Break name (map conjunct_of conjuncts))
+order_step (plans.Clear name) = One (Clear name)
+order_step (plans.Arm name) = One (Arm name)
+order_step (plans.Pass name) = One (Pass name)
+order_step (plans.Batch orders) = Batch (flat_map plans_of orders.items)
+
+-- the plan of the code as the model's order
+abbrev pub order_of : plan.Plan → Order
+order_of = fold-Plan Order order_step
+
+-- the commands that plans of the code give, one after the other
+abbrev pub plans_in : List plan.Plan → List Plan
+plans_in given = flat_map plans_of (map order_of given)
+
+-- The commands of a batch, which are at most 32, and no batches.
+pub record AreCommands (given : List plan.Plan) : Type 0 where
+  pub few : length given ≤ BATCH
+  pub each : AllByRecursion (λ one. IsOne (order_of one)) given
 
 -- the same for a query
 abbrev pub query_of : query.Query → Query
@@ -69,6 +106,6 @@ query_of queries.Breaks = Breaks
 
 -- the same for a call
 abbrev pub call_of : call.Call → Call
-call_of (calls.Give given) = Give (plan_of given)
+call_of (calls.Give given) = Give (order_of given)
 call_of calls.Back = Back
 call_of (calls.Ask asked) = Ask (query_of asked)

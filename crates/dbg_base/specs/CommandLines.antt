@@ -1,5 +1,5 @@
 -- Command lines: what a line asks for, or why it is refused.
-use Rattle.std.specs.Prelude.{ℕ, zero, suc, ◌+◌, ◌-◌, Bool, true, ◌&&◌, ◌||◌, ◌==◌, List, [], ◌∷◌, length, drop, Option, Some}
+use Rattle.std.specs.Prelude.{ℕ, zero, suc, ◌+◌, ◌-◌, Bool, true, false, ◌&&◌, ◌||◌, ◌==◌, List, [], ◌∷◌, length, drop, Option, Some}
 use Rattle.std.specs.Prelude.{None, ok_or, Result, Ok, Err, nat_le}
 use Rattle.std.specs.Prelude.{codes, if◌then◌else◌}
 use Rattle.std.specs.Option.{option_map, option_and_then}
@@ -9,7 +9,7 @@ use Rattle.dbg_base.specs.declared.refusal.Refusal.{Refusal}
 use Rattle.dbg_base.specs.declared.refusal.Refusal.TheVariants.{UnknownProcess, BadLine}
 use Rattle.dbg_base.specs.declared.limits.TheConstants.{NAME_BYTES, SEATS}
 use Rattle.dbg_base.specs.Names.{place_of}
-use Rattle.dbg_base.specs.Calls.{Call, Give, Step, Next, Undo, Redo, Rollback, Goto, Clear, Arm, Pass}
+use Rattle.dbg_base.specs.Calls.{Call, Give, One, Plan, Step, Next, Undo, Redo, Rollback, Goto, Clear, Arm, Pass, Back}
 use Rattle.dbg_base.specs.Calls.{Ask, Vars, Chan, Clock, Place, Can, CutOf, Why, Breaks}
 use Rattle.dbg_base.specs.Trees.{Program, names_of}
 use Rattle.dbg_base.specs.Tokens.{is_word, is_numeral}
@@ -59,6 +59,10 @@ abbrev pub map_ok : {X Y E : Type 0} → (X → Y) → Result X E → Result Y E
 map_ok f (Ok x) = Ok (f x)
 map_ok f (Err e) = Err e
 
+-- the call that gives this command
+abbrev pub give : Plan → Call
+give plan = Give (One plan)
+
 -- a process by its name
 abbrev pub named_process : Program → List ℕ → Result ℕ Refusal
 named_process P name = ok_or (place_of name (names_of P)) UnknownProcess
@@ -66,9 +70,9 @@ named_process P name = ok_or (place_of name (names_of P)) UnknownProcess
 -- the call of a word that is about a process
 abbrev pub process_call : List ℕ → Result ℕ Refusal → Result Call Refusal
 process_call word process =
-    if bytes_eq word (codes "next") then map_ok (λ p. Give (Next p)) process
-    else (if bytes_eq word (codes "undo") then map_ok (λ p. Give (Undo p)) process
-    else (if bytes_eq word (codes "redo") then map_ok (λ p. Give (Redo p)) process
+    if bytes_eq word (codes "next") then map_ok (λ p. give (Next p)) process
+    else (if bytes_eq word (codes "undo") then map_ok (λ p. give (Undo p)) process
+    else (if bytes_eq word (codes "redo") then map_ok (λ p. give (Redo p)) process
     else (if bytes_eq word (codes "vars") then map_ok (λ p. Ask (Vars p)) process
     else (if bytes_eq word (codes "clock") then map_ok (λ p. Ask (Clock p)) process
     else (if bytes_eq word (codes "place") then map_ok (λ p. Ask (Place p)) process
@@ -78,10 +82,10 @@ process_call word process =
 -- the call of a word that is about a breakpoint
 abbrev pub break_call : List ℕ → List ℕ → Option Call
 break_call word name =
-    if bytes_eq word (codes "goto") then Some (Give (Goto name))
-    else (if bytes_eq word (codes "clear") then Some (Give (Clear name))
-    else (if bytes_eq word (codes "arm") then Some (Give (Arm name))
-    else (if bytes_eq word (codes "pass") then Some (Give (Pass name))
+    if bytes_eq word (codes "goto") then Some (give (Goto name))
+    else (if bytes_eq word (codes "clear") then Some (give (Clear name))
+    else (if bytes_eq word (codes "arm") then Some (give (Arm name))
+    else (if bytes_eq word (codes "pass") then Some (give (Pass name))
     else (if bytes_eq word (codes "cut") then Some (Ask (CutOf name))
     else (if bytes_eq word (codes "why") then Some (Ask (Why name))
     else None)))))
@@ -103,11 +107,11 @@ with_both call (Ok first) second = map_ok (call first) second
 
 -- the process makes the command of this number
 abbrev pub step_call : Program → List ℕ → List ℕ → Result Call Refusal
-step_call P process choice = with_word (number_word choice) (λ k. map_ok (λ p. Give (Step p k)) (named_process P process))
+step_call P process choice = with_word (number_word choice) (λ k. map_ok (λ p. give (Step p k)) (named_process P process))
 
 -- the process is rolled back to this number of events
 abbrev pub rollback_call : Program → List ℕ → List ℕ → Result Call Refusal
-rollback_call P process place = with_word (number_word place) (λ n. map_ok (λ p. Give (Rollback p n)) (named_process P process))
+rollback_call P process place = with_word (number_word place) (λ n. map_ok (λ p. give (Rollback p n)) (named_process P process))
 
 -- the messages from a process to another
 abbrev pub chan_call : Program → List ℕ → List ℕ → Result Call Refusal
@@ -122,9 +126,16 @@ pair_call P word first second =
     else (if bytes_eq word (codes "chan") then chan_call P first second
     else Err BadLine))
 
+-- the call of a word without arguments
+abbrev pub lone_call : List ℕ → Result Call Refusal
+lone_call word =
+    if bytes_eq word (codes "back") then Ok Back
+    else (if bytes_eq word (codes "breaks") then Ok (Ask Breaks)
+    else Err BadLine)
+
 -- The call of a command word and its arguments. The shape of all of them comes first, and then what they name.
 abbrev pub call_of_words : Program → List ℕ → List (List ℕ) → Result Call Refusal
-call_of_words P word [] = if bytes_eq word (codes "breaks") then Ok (Ask Breaks) else Err BadLine
+call_of_words P word [] = lone_call word
 call_of_words P word (argument ∷ []) = with_word (name_word argument) (λ name. named_call P word name (break_call word name))
 call_of_words P word (first ∷ second ∷ []) = with_word (name_word first) (λ name. pair_call P word name second)
 call_of_words P word arguments = Err BadLine
@@ -198,3 +209,51 @@ parts_within (suc n) bytes =
 -- the same, however many: there are no more of them than bytes
 abbrev pub parts_in : List ℕ → Option (List Part)
 parts_in bytes = parts_within (suc (length bytes)) bytes
+
+-- Batches: commands with the word `;` between each and the next.
+
+-- where a byte of a command stands: between words, within one, or within so many open parentheses of one
+pub data Spot : Type 0 where
+  Between : Spot
+  InWord : Spot
+  InParentheses : (depth : ℕ) → Spot
+
+-- a byte that begins a word; where parentheses group, one of them begins what goes on to the one that closes it
+abbrev pub begun_by : Bool → ℕ → Spot
+begun_by grouped b = if grouped && (b == 40) then InParentheses 1 else InWord
+
+-- behind a byte of a word
+abbrev pub word_behind : ℕ → Spot
+word_behind b = if is_blank b then Between else InWord
+
+-- behind a byte within so many open parentheses
+abbrev pub parentheses_behind : ℕ → ℕ → Spot
+parentheses_behind depth b =
+    if b == 40 then InParentheses (depth + 1)
+    else (if b == 41 then (if nat_le depth 1 then InWord else InParentheses (depth - 1))
+    else InParentheses depth)
+
+abbrev pub spot_behind : Bool → Spot → ℕ → Spot
+spot_behind grouped Between b = if is_blank b then Between else begun_by grouped b
+spot_behind grouped InWord b = word_behind b
+spot_behind grouped (InParentheses depth) b = parentheses_behind depth b
+
+-- the word `;` stands here, and these bytes follow it
+abbrev pub is_separator : Spot → ℕ → List ℕ → Bool
+is_separator Between b bytes = (b == 59) && is_apart bytes
+is_separator spot b bytes = false
+
+-- the command sets a breakpoint: there parentheses group
+abbrev pub sets_break : List ℕ → Bool
+sets_break bytes = bytes_eq (next_word bytes) (codes "break")
+
+-- the commands of these bytes, the first of which is under way
+abbrev pub commands_from : Bool → Spot → List ℕ → List (List ℕ)
+commands_from grouped spot [] = [] ∷ []
+commands_from grouped spot (b ∷ bytes) =
+    if is_separator spot b bytes then [] ∷ commands_from (sets_break bytes) Between bytes
+    else before_first_word b (commands_from grouped (spot_behind grouped spot b) bytes)
+
+-- the commands of a batch
+abbrev pub commands_of : List ℕ → List (List ℕ)
+commands_of bytes = commands_from (sets_break bytes) Between bytes

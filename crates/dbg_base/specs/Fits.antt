@@ -39,7 +39,7 @@ FitsAnswer P query answer = ⊥
 
 -- A command is accepted, a question is answered, and each call may be refused.
 abbrev pub FitsCall : Program → Call → Said → Type 0
-FitsCall P (Give plan) (Accepted reply) = FitsDone P reply.done
+FitsCall P (Give order) (Accepted reply) = FitsDone P reply.done
 FitsCall P Back (Accepted reply) = FitsDone P reply.done
 FitsCall P (Ask query) (Answered answer) = FitsAnswer P query answer
 FitsCall P call (Refused refusal) = FitsRefusal P refusal

@@ -25,6 +25,7 @@ pub mod Calls
 pub mod Choices
 pub mod Acts
 pub mod Views
+pub mod Journals
 pub mod Tokens
 pub mod Grammar
 pub mod Checks

@@ -5,7 +5,7 @@ use Rattle.dbg_base.specs.declared.refusal.Refusal.TheVariants.{UnknownProcess, 
 use Rattle.dbg_base.specs.declared.refusal.Refusal.TheVariants.{NothingToUndo, Consequence, NothingToRedo, Halted, BadPlace, BreakTaken}
 use Rattle.dbg_base.specs.declared.refusal.Refusal.TheVariants.{UnknownBreak, NoCut, NotArmed, AlreadyArmed, NothingBack, OtherSeat}
 use Rattle.dbg_base.specs.declared.refusal.Refusal.TheVariants.{ProcessFull, BreaksFull, JournalFull, Memory, BadLine, BadPredicate}
-use Rattle.dbg_base.specs.declared.refusal.Refusal.TheVariants.{NoneEnabled}
+use Rattle.dbg_base.specs.declared.refusal.Refusal.TheVariants.{NoneEnabled, InBatch}
 
 abbrev pub refusal_number : Refusal → ℕ
 refusal_number UnknownProcess = 1
@@ -32,3 +32,4 @@ refusal_number Memory = 21
 refusal_number BadLine = 22
 refusal_number BadPredicate = 23
 refusal_number NoneEnabled = 24
+refusal_number (InBatch at number) = 25

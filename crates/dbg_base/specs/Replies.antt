@@ -11,7 +11,7 @@ use Rattle.dbg_base.specs.declared.said.Head.TheVariants.{At, Past}
 use Rattle.dbg_base.specs.declared.said.Answer.{Answer}
 use Rattle.dbg_base.specs.declared.said.Answer.TheVariants.{Values, Messages, Counts, PlaceOf, CanUndo, CutIs, Frontier, Marks}
 use Rattle.dbg_base.specs.declared.refusal.Refusal.{Refusal}
-use Rattle.dbg_base.specs.declared.refusal.Refusal.TheVariants.{Consequence, Halted, OtherSeat}
+use Rattle.dbg_base.specs.declared.refusal.Refusal.TheVariants.{Consequence, Halted, OtherSeat, InBatch}
 use Rattle.dbg_base.specs.Calls.{Query, Vars, Chan, Clock, Place, Can, CutOf, Why, Breaks, Call, Ask}
 use Rattle.dbg_base.specs.Refusals.{refusal_number}
 use Rattle.dbg_base.specs.Trees.{Program, process_of, names_of}
@@ -63,11 +63,12 @@ mark_text false = codes "off"
 abbrev pub mark_word : List ℕ × Bool → List ℕ
 mark_word m = m.0 ++ codes " " ++ mark_text m.1
 
--- the name or the seat that a refusal carries
+-- the name or the seat that a refusal carries, or the place in a batch and the number of the refusal there
 abbrev pub carried_words : Program → Refusal → List (List ℕ)
 carried_words P (Consequence pid) = name_of P pid.0 ∷ []
 carried_words P (Halted name) = name ∷ []
 carried_words P (OtherSeat seat) = decimal seat ∷ []
+carried_words P (InBatch at number) = decimal at ∷ decimal number ∷ []
 carried_words P refusal = []
 
 -- the number of a refusal, and what it carries

@@ -1,18 +1,19 @@
 -- What a command line asks for, or why the line is refused.
-use Rattle.std.specs.Prelude.{◌≡◌, ◌⊎◌, ℕ, ◌==◌, ◌≤◌, List, [], ◌∷◌, length, Option, Some, None, Result, Ok, Err, nat_le, nat_lt, codes}
+use Rattle.std.specs.Prelude.{◌≡◌, ◌⊎◌, ℕ, Bool, true, false, ◌==◌, ◌||◌, ◌≤◌, List, [], ◌∷◌, length, Option, Some, None, Result, Ok, Err}
+use Rattle.std.specs.Prelude.{nat_le, nat_lt, codes, if◌then◌else◌}
 use Rattle.std.specs.Bool.{MatchBool}
 use Rattle.std.specs.List.{list_any}
 use Rattle.std.specs.Str.{bytes_eq}
 use Rattle.dbg_base.specs.declared.fault.ProgFault.{ProgFault}
 use Rattle.dbg_base.specs.declared.refusal.Refusal.{Refusal}
 use Rattle.dbg_base.specs.declared.refusal.Refusal.TheVariants.{BadLine, BadPredicate, Memory}
-use Rattle.dbg_base.specs.declared.limits.TheConstants.{LINE_BYTES}
+use Rattle.dbg_base.specs.declared.limits.TheConstants.{BATCH, LINE_BYTES}
 use Rattle.dbg_base.specs.Trees.{Tree, Program}
 use Rattle.dbg_base.specs.Predicates.{Conjunct}
 use Rattle.dbg_base.specs.Checks.{ReadsPredicate, IsPredicateFault}
-use Rattle.dbg_base.specs.Calls.{Call, Give, Break}
+use Rattle.dbg_base.specs.Calls.{Plan, Break, One, Batch, Call, Give}
 use Rattle.dbg_base.specs.CommandLines.{Request, Part, words_of, without_return, seat_word, name_word, named_process, map_ok}
-use Rattle.dbg_base.specs.CommandLines.{call_of_words, next_word, after_word, parts_in}
+use Rattle.dbg_base.specs.CommandLines.{give, call_of_words, next_word, after_word, parts_in, sets_break, commands_of}
 
 -- a conjunct before others
 abbrev pub with_conjunct : ℕ → Tree → Result (List Conjunct) Refusal → Result (List Conjunct) Refusal
@@ -39,16 +40,59 @@ ReadsParts P before (part ∷ parts) result =
 abbrev pub AsksBreak : Program → Option (List ℕ) → Option (List Part) → Result Call Refusal → Type 0
 AsksBreak P (Some name) (Some (part ∷ parts)) result =
     (conjuncts : Result (List Conjunct) Refusal) × ReadsParts P [] (part ∷ parts) conjuncts
-    × (result ≡ map_ok (λ made. Give (Break name made)) conjuncts)
+    × (result ≡ map_ok (λ made. give (Break name made)) conjuncts)
 AsksBreak P name parts result = result ≡ Err BadLine
 
--- The call of a command, or why it is refused: what is behind the word `break` is a name and parts, and what is behind all other words
--- is words.
-abbrev pub AsksCall : Program → List ℕ → Result Call Refusal → Type 0
-AsksCall P bytes result =
-    MatchBool (bytes_eq (next_word bytes) (codes "break"))
+-- The call of a command by itself, or why it is refused: what is behind the word `break` is a name and parts, and what is behind all other
+-- words is words.
+abbrev pub AsksOne : Program → List ℕ → Result Call Refusal → Type 0
+AsksOne P bytes result =
+    MatchBool (sets_break bytes)
     (AsksBreak P (name_word (next_word (after_word bytes))) (parts_in (after_word (after_word bytes))) result)
     (result ≡ call_of_words P (next_word bytes) (words_of (after_word bytes)))
+
+-- the command that a call gives, where it may stand in a batch: only a command by itself does
+abbrev pub command_in : Result Call Refusal → Result Plan Refusal
+command_in (Ok (Give (One plan))) = Ok plan
+command_in (Ok call) = Err BadLine
+command_in (Err refusal) = Err refusal
+
+-- each of these commands, or why it may not stand in a batch
+abbrev pub AsksEach : Program → List (List ℕ) → List (Result Plan Refusal) → Type 0
+AsksEach P [] results = results ≡ []
+AsksEach P (command ∷ commands) results =
+    (call : Result Call Refusal) × (others : List (Result Plan Refusal)) × AsksOne P command call × AsksEach P commands others
+    × (results ≡ command_in call ∷ others)
+
+-- it has not the shape of a command
+abbrev pub is_shapeless : Result Plan Refusal → Bool
+is_shapeless (Err BadLine) = true
+is_shapeless result = false
+
+-- a command before others
+abbrev pub with_command : Result Plan Refusal → Result (List Plan) Refusal → Result (List Plan) Refusal
+with_command (Err refusal) others = Err refusal
+with_command (Ok plan) others = map_ok (λ plans. plan ∷ plans) others
+
+-- the commands, or the first refusal
+abbrev pub all_commands : List (Result Plan Refusal) → Result (List Plan) Refusal
+all_commands [] = Ok []
+all_commands (first ∷ others) = with_command first (all_commands others)
+
+-- The call of a batch of these commands, at most 32. The shape of the whole line comes first, and then what its commands name.
+abbrev pub batch_of : List (Result Plan Refusal) → Result Call Refusal
+batch_of results =
+    if list_any is_shapeless results || nat_lt BATCH (length results) then Err BadLine
+    else map_ok (λ plans. Give (Batch plans)) (all_commands results)
+
+abbrev pub AsksBatch : Program → List ℕ → Result Call Refusal → Type 0
+AsksBatch P bytes result =
+    (results : List (Result Plan Refusal)) × AsksEach P (commands_of bytes) results × (result ≡ batch_of results)
+
+-- The call of a command: what is behind the word `batch` is commands.
+abbrev pub AsksCall : Program → List ℕ → Result Call Refusal → Type 0
+AsksCall P bytes result =
+    MatchBool (bytes_eq (next_word bytes) (codes "batch")) (AsksBatch P (after_word bytes) result) (AsksOne P bytes result)
 
 -- a seat's call, and where there is no such seat the line is a bad one, whatever follows
 abbrev pub AsksBy : Program → Option ℕ → List ℕ → Result (Option Request) Refusal → Type 0
@@ -67,11 +111,15 @@ abbrev pub Asks : Program → List ℕ → Result (Option Request) Refusal → T
 Asks P line result =
     MatchBool (nat_lt LINE_BYTES (length line)) (result ≡ Err BadLine) (AsksWithin P (without_return line) result)
 
--- The line is no longer than may be, and its second word sets a breakpoint: such a line alone takes memory.
-pub record IsBreakLine (line : List ℕ) : Type 0 where
-  pub short : length line ≤ LINE_BYTES
-  pub word : next_word (after_word (without_return line)) ≡ codes "break"
+-- the command sets a breakpoint, or gives a batch: such a command alone takes memory
+abbrev pub MayTakeMemory : List ℕ → Type 0
+MayTakeMemory bytes = (next_word bytes ≡ codes "break") ⊎ (next_word bytes ≡ codes "batch")
 
--- what a line asks for, or a line that sets a breakpoint is refused for want of memory
+-- The line is no longer than may be, and its command is such a one.
+pub record TakesMemory (line : List ℕ) : Type 0 where
+  pub short : length line ≤ LINE_BYTES
+  pub command : MayTakeMemory (after_word (without_return line))
+
+-- what a line asks for, or a line that takes memory is refused for want of it
 abbrev pub AsksOrRefuses : Program → List ℕ → Result (Option Request) Refusal → Type 0
-AsksOrRefuses P line asked = Asks P line asked ⊎ (IsBreakLine line × (asked ≡ Err Memory))
+AsksOrRefuses P line asked = Asks P line asked ⊎ (TakesMemory line × (asked ≡ Err Memory))

@@ -6,16 +6,12 @@ use Rattle.std.specs.Str.{bytes_eq}
 use Rattle.std.specs.Fmt.{decimal}
 use Rattle.dbg_base.specs.declared.said.Said.{Said}
 use Rattle.dbg_base.specs.declared.refusal.Refusal.{Refusal}
-use Rattle.dbg_base.specs.declared.refusal.Refusal.TheVariants.{Memory, BadLine}
 use Rattle.dbg_base.specs.declared.limits.TheConstants.{INPUT_BYTES}
 use Rattle.dbg_base.specs.Trees.{Program}
 use Rattle.dbg_base.specs.declared.fault.ProgFault.{ProgFault}
 use Rattle.dbg_base.specs.Faults.{kind_number}
 use Rattle.dbg_base.specs.Checks.{Reads, IsFault}
-use Rattle.dbg_base.specs.Calls.{Call, Give, Back, Ask}
-use Rattle.dbg_base.specs.ModelStates.{ModelState, opening}
-use Rattle.dbg_base.specs.Acts.{Refuses, Acts}
-use Rattle.dbg_base.specs.Views.{Answers}
+use Rattle.dbg_base.specs.Journals.{Journal, Enters, Misses}
 use Rattle.dbg_base.specs.CommandLines.{Request, without_return}
 use Rattle.dbg_base.specs.Requests.{AsksOrRefuses}
 use Rattle.dbg_base.specs.Replies.{joined, reply_text, refusal_text}
@@ -84,34 +80,23 @@ parts_of (line ∷ lines) =
 abbrev pub as_line : List ℕ → List ℕ
 as_line text = text ++ 10 ∷ []
 
--- A seat's call was made at M, was answered so, and left M'. What is said may depend on the seat. No commands are kept that could be
--- taken back, and no line asks for it: it is refused as a bad line.
-abbrev pub Says : Program → ℕ → Call → ModelState → Said → ModelState → Type 0
-Says P seat (Give plan) M said M' = Acts P plan M said M'
-Says P seat Back M said M' = Refuses BadLine M said M'
-Says P seat (Ask query) M said M' = Answers P M query said × (M' ≡ M)
+-- what is written for a line where the journal is J, and the journal behind it: a call is entered in it, or refused for want of memory
+abbrev pub AnswersParsed : Program → Result (Option Request) Refusal → Journal → List ℕ → Journal → Type 0
+AnswersParsed P (Err refusal) J out J' = (out ≡ as_line (refusal_text P refusal)) × (J' ≡ J)
+AnswersParsed P (Ok None) J out J' = (out ≡ []) × (J' ≡ J)
+AnswersParsed P (Ok (Some request)) J out J' =
+    (said : Said) × (Enters P J request.seat request.call said J' ⊎ Misses J said J') × (out ≡ as_line (reply_text P request.call said))
 
--- a call was answered at M, or refused for want of memory, which changes nothing
-abbrev pub SaysOrRefuses : Program → ℕ → Call → ModelState → Said → ModelState → Type 0
-SaysOrRefuses P seat call M said M' = Says P seat call M said M' ⊎ Refuses Memory M said M'
+abbrev pub AnswersLine : Program → List ℕ → Journal → List ℕ → Journal → Type 0
+AnswersLine P line J out J' =
+    (asked : Result (Option Request) Refusal) × AsksOrRefuses P line asked × AnswersParsed P asked J out J'
 
--- what is written for a line at M, and the state that it leaves
-abbrev pub AnswersParsed : Program → Result (Option Request) Refusal → ModelState → List ℕ → ModelState → Type 0
-AnswersParsed P (Err refusal) M out M' = (out ≡ as_line (refusal_text P refusal)) × (M' ≡ M)
-AnswersParsed P (Ok None) M out M' = (out ≡ []) × (M' ≡ M)
-AnswersParsed P (Ok (Some request)) M out M' =
-    (said : Said) × SaysOrRefuses P request.seat request.call M said M' × (out ≡ as_line (reply_text P request.call said))
-
-abbrev pub AnswersLine : Program → List ℕ → ModelState → List ℕ → ModelState → Type 0
-AnswersLine P line M out M' =
-    (asked : Result (Option Request) Refusal) × AsksOrRefuses P line asked × AnswersParsed P asked M out M'
-
--- what is written for these lines from M on, and the state after them
-abbrev pub AnswersLines : Program → List (List ℕ) → ModelState → List ℕ → ModelState → Type 0
-AnswersLines P [] M out M' = (out ≡ []) × (M' ≡ M)
-AnswersLines P (line ∷ lines) M out M' =
-    (first others : List ℕ) × (between : ModelState) × AnswersLine P line M first between
-    × AnswersLines P lines between others M' × (out ≡ first ++ others)
+-- what is written for these lines from J on, and the journal after them
+abbrev pub AnswersLines : Program → List (List ℕ) → Journal → List ℕ → Journal → Type 0
+AnswersLines P [] J out J' = (out ≡ []) × (J' ≡ J)
+AnswersLines P (line ∷ lines) J out J' =
+    (first others : List ℕ) × (between : Journal) × AnswersLine P line J first between
+    × AnswersLines P lines between others J' × (out ≡ first ++ others)
 
 abbrev pub too_long_text : List ℕ
 too_long_text = as_line (codes "input too long")
@@ -140,8 +125,8 @@ size_text processes commands =
 -- the program was read, and each line behind it was answered in turn
 abbrev pub AnswersCommands : List ℕ → Parts → List ℕ → Type 0
 AnswersCommands input parts out =
-    (P : Program) × Reads parts.program P × (replies : List ℕ) × (M : ModelState)
-    × AnswersLines P parts.commands (opening P) replies M × (out ≡ replies ++ end_text input)
+    (P : Program) × Reads parts.program P × (replies : List ℕ) × (J : Journal)
+    × AnswersLines P parts.commands [] replies J × (out ≡ replies ++ end_text input)
 
 -- the program was refused, and nothing else is written
 abbrev pub RefusesProgram : Parts → List ℕ → Type 0
@@ -155,7 +140,7 @@ TextOfParts input (Some parts) out = AnswersCommands input parts out ⊎ Refuses
 abbrev pub AnswersParts : Option Parts → List ℕ → Type 0
 AnswersParts None out = out ≡ []
 AnswersParts (Some parts) out =
-    (P : Program) × Reads parts.program P × (M : ModelState) × AnswersLines P parts.commands (opening P) out M
+    (P : Program) × Reads parts.program P × (J : Journal) × AnswersLines P parts.commands [] out J
 
 -- what is written where no more of the input can be read than these bytes: the replies to the whole lines among them
 abbrev pub WholeText : List ℕ → List ℕ → Type 0

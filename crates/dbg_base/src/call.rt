@@ -1,7 +1,7 @@
 //! What a seat may ask of a session.
 
-ghost use Rattle.std.specs.Prelude.{◌≡◌, map, Ok};
-ghost use Rattle.dbg_base.specs.Calls.{conjunct_of, plan_of, call_of};
+ghost use Rattle.std.specs.Prelude.{◌≡◌, ◌↔◌, map, Ok, IsTrue};
+ghost use Rattle.dbg_base.specs.Calls.{conjunct_of, order_of, IsBatch, call_of};
 ghost use Rattle.dbg_base.specs.Copies.{IsCopy};
 
 use crate::expr::Expr;
@@ -41,7 +41,7 @@ pub fn copy_conjuncts(conjuncts: &Sequence<Conjunct>) -> Result<Sequence<Conjunc
     Ok(Sequence::new(made))
 }
 
-/// A command, which changes the session where it is accepted.
+/// A command, or a batch of commands, which changes the session where it is accepted.
 #[derive(Debug, Drop)]
 pub enum Plan {
     /// The process makes this command.
@@ -64,12 +64,27 @@ pub enum Plan {
     Arm(Name),
     /// The breakpoint no longer halts the session.
     Pass(Name),
+    /// Commands of the other kinds, one after the other, as one: they are accepted all or not at all.
+    Batch(Vec<Plan>),
+}
+
+// The same commands once more.
+#[cycle(plan)]
+fn copy_plans(plans: &Vec<Plan>) -> Result<Vec<Plan>, Refusal>
+    ensures { IsCopy result (λ made. map order_of made.items ≡ map order_of plans.now.items) }
+{
+    let mut made = Vec::new(*plans.allocator());
+    for plan in plans {
+        made.push(plan.copy()?)?;
+    }
+    Ok(made)
 }
 
 impl Plan {
     /// The same command once more. It is refused only as `Memory`, where that runs out.
+    #[cycle(plan)]
     pub fn copy(&self) -> Result<Plan, Refusal>
-        ensures { IsCopy result (λ made. plan_of made ≡ plan_of self.now) }
+        ensures { IsCopy result (λ made. order_of made ≡ order_of self.now) }
     {
         match self {
             Plan::Step(pid, choice) => Ok(Plan::Step(*pid, *choice)),
@@ -82,7 +97,15 @@ impl Plan {
             Plan::Clear(name) => Ok(Plan::Clear(*name)),
             Plan::Arm(name) => Ok(Plan::Arm(*name)),
             Plan::Pass(name) => Ok(Plan::Pass(*name)),
+            Plan::Batch(plans) => Ok(Plan::Batch(copy_plans(plans)?)),
         }
+    }
+
+    /// Whether it is a batch. It takes no memory.
+    pub fn is_batch(&self) -> bool
+        ensures { IsTrue result ↔ IsBatch (order_of self.now) }
+    {
+        matches!(self, Plan::Batch(_))
     }
 }
 

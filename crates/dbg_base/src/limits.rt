@@ -14,6 +14,8 @@ pub const NAME_BYTES: usize = 32;
 pub const EVENTS: u32 = 20_000;
 /// The most breakpoints that are set at once.
 pub const BREAKPOINTS: usize = 64;
+/// The most commands of a batch.
+pub const BATCH: usize = 32;
 /// The most seats of a session.
 pub const SEATS: u32 = 16;
 /// The most calls that are entered in a session's journal.

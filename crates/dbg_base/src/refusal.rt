@@ -59,10 +59,12 @@ pub enum Refusal {
     BadPredicate,
     /// No command of the process fires.
     NoneEnabled,
+    /// A command of the batch was refused: the first such one stands at this place, from 1, and this is the number of its refusal.
+    InBatch { at: u32, number: u32 },
 }
 
 impl Refusal {
-    /// The number by which the refusal is told, from 1 to 24. It takes no memory.
+    /// The number by which the refusal is told, from 1 to 25. It takes no memory.
     pub fn number(&self) -> u32
         ensures { result ≡ refusal_number self.now }
     {
@@ -91,6 +93,7 @@ impl Refusal {
             Refusal::BadLine => 22,
             Refusal::BadPredicate => 23,
             Refusal::NoneEnabled => 24,
+            Refusal::InBatch { .. } => 25,
         }
     }
 }

@@ -2,3 +2,4 @@ pub mod Fitting
 pub mod Acting
 pub mod Listing
 pub mod Told
+pub mod Batching

@@ -1,22 +1,26 @@
 -- What contracts see of a table, what it is of a program, what a command may do to it, and what it may tell.
-use Rattle.std.specs.Prelude.{◌≡◌, ◌⊎◌, ℕ, ◌<◌, ◌≤◌, List, [], ◌∷◌, ◌++◌, length, Option, Some, None, Result, Ok, Err, IfOk}
-use Rattle.std.specs.Prelude.{IfErr, OnOk, OnErr}
+use Rattle.std.specs.Prelude.{◌≡◌, ◌⊎◌, ℕ, ◌+◌, ◌<◌, ◌≤◌, List, [], ◌∷◌, ◌++◌, length, Option, Some, None, Result, Ok, Err, IfOk}
+use Rattle.std.specs.Prelude.{IfErr, OnOk, OnErr, Vec}
+use Rattle.std.specs.declared.alloc.Global.{Global}
+use Rattle.dbg_base.specs.declared.call.Plan as plan
+use Rattle.dbg_base.specs.declared.call.Plan.TheVariants as plans
 use Rattle.dbg_base.specs.declared.said.Answer.{Answer}
 use Rattle.dbg_base.specs.declared.said.Done.{Done}
-use Rattle.dbg_base.specs.declared.said.Done.TheVariants.{Places}
+use Rattle.dbg_base.specs.declared.said.Done.TheVariants.{Places, Plain}
 use Rattle.dbg_base.specs.declared.said.Reply.{Reply}
 use Rattle.dbg_base.specs.declared.said.Said.{Said}
 use Rattle.dbg_base.specs.declared.said.Said.TheVariants.{Accepted, Answered, Refused}
 use Rattle.dbg_base.specs.declared.refusal.Refusal.{Refusal}
-use Rattle.dbg_base.specs.declared.refusal.Refusal.TheVariants.{Memory, Halted, UnknownProcess}
+use Rattle.dbg_base.specs.declared.refusal.Refusal.TheVariants.{Memory, Halted, UnknownProcess, InBatch}
 use Rattle.dbg_base.specs.declared.refusal.Refusal.TheVariants as refusals
 use Rattle.dbg_base.specs.Trees.{Program}
 use Rattle.dbg_base.specs.SystemStates.{history_of, after_rollback}
 use Rattle.dbg_base.specs.Predicates.{Conjunct, IsLeast, NoCut}
 use Rattle.dbg_base.specs.Breakpoints.{Breakpoint, named, name_refusal}
 use Rattle.dbg_base.specs.ModelStates.{ModelState, IsHalted, with_system}
-use Rattle.dbg_base.specs.Calls.{Plan, Query}
-use Rattle.dbg_base.specs.Acts.{Acts, Refuses}
+use Rattle.dbg_base.specs.Refusals.{refusal_number}
+use Rattle.dbg_base.specs.Calls.{Plan, Order, AreCommands, Query}
+use Rattle.dbg_base.specs.Acts.{Acts, Accepts, Batches, Follows, Refuses}
 use Rattle.dbg_base.specs.Views.{Answers}
 use Rattle.causal_world.specs.Scenes.{Scene, IsWorldOf}
 use Rattle.least_cut.specs.Detectors.{one_more}
@@ -109,6 +113,25 @@ said_of (Err refusal) = Refused refusal
 -- the plan was given at M, was answered so, and left M', or memory ran out, which changes nothing
 abbrev pub ActsOrRefuses : Program → Plan → ModelState → Result Reply Refusal → ModelState → Type 0
 ActsOrRefuses P plan M result M' = Acts P plan M (said_of result) M' ⊎ Refuses Memory M (said_of result) M'
+
+-- the same of an order, and of a batch, which is refused by the place of one of its commands, too
+abbrev pub FollowsOrRefuses : Program → Order → ModelState → Result Reply Refusal → ModelState → Type 0
+FollowsOrRefuses P order M result M' = Follows P order M (said_of result) M' ⊎ Refuses Memory M (said_of result) M'
+
+-- The commands of a batch were given one after the other from M on, and left N: what is said of the batch where all were accepted, that
+-- it is refused, or that memory ran out.
+abbrev pub GivesEach : Program → List Plan → ModelState → Result (Unit {0}) Refusal → ModelState → Type 0
+GivesEach P plans M (Ok done) N = (said : Said) → Accepts P Plain said N → Batches P M 1 plans M said N
+GivesEach P plans M (Err refusal) N = (refusal ≡ Memory) ⊎ Batches P M 1 plans M (Refused refusal) M
+
+-- how a batch is refused whose command at this position, from 0, is refused so: want of memory is told as such
+abbrev pub TellsWithin : ℕ → Refusal → Refusal → Type 0
+TellsWithin i Memory told = told ≡ Memory
+TellsWithin i refusal told = told ≡ InBatch (i + 1) (refusal_number refusal)
+
+-- a plan that may be given: where it is a batch, it is one of at most 32 commands, none of which is a batch
+abbrev pub IsGivable : plan.Plan → Type 0
+IsGivable given = (batch : Vec plan.Plan Global) → given ≡ plans.Batch batch → AreCommands batch.items
 
 -- what is said where a question was answered or refused
 abbrev pub told_of : Result Answer Refusal → Said

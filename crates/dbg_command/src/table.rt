@@ -3,6 +3,7 @@
 ghost use Rattle.std.specs.Prelude.{◌≡◌, ◌<◌, length, IfOk, IfErr, OnOk, None};
 ghost use Rattle.dbg_base.specs.declared.refusal.Refusal.TheVariants.{Memory};
 ghost use Rattle.dbg_base.specs.Trees as tree;
+ghost use Rattle.dbg_base.specs.Copies.{IsCopy};
 ghost use Rattle.dbg_base.specs.ModelStates.{opening, IsHalted};
 ghost use Rattle.proc_lang.specs.Programs.{program_of};
 ghost use Rattle.break_book.specs.Books.{breakpoints_of, shown_of};
@@ -71,6 +72,14 @@ impl Table {
         ensures { result.now ≡ self.now.book }
     {
         &self.book
+    }
+
+    /// The same table once more. It is refused only as `Memory`, where that runs out.
+    pub fn copy(&self) -> Result<Table, Refusal>
+        ensures same { IsCopy result (λ made. shown made ≡ shown self.now) }
+        ensures of { IfOk result (λ made. (P : tree.Program) → IsTableOf P self.now → IsTableOf P made) }
+    {
+        Err(Refusal::Memory)
     }
 
     // What an accepted command is answered with.

@@ -16,10 +16,11 @@ Command lines, each behind a seat from 1 to 16:
   undo P, rollback P N, goto B   take events back
   break B P E [P E ..]           set the breakpoint B, which halts where E holds in P, and so on for each pair
   arm B, pass B, clear B         let B halt again, let it halt no longer, remove it
+  batch C ; C ..                 give these commands as one, all or none
   vars P, chan P Q, clock P, place P, can P, cut B, why B, breaks
                                  show what there is
 
-Refusals: `no`, a number, and for 7 and 9 a name. A refused line changes nothing.
+Refusals: `no`, a number, for 7 and 9 a name, and for 25 two numbers. A refused line changes nothing.
   1   no process has the name
   2   the process has no such command
   3   the guard of the command is false
@@ -41,6 +42,7 @@ Refusals: `no`, a number, and for 7 and 9 a name. A refused line changes nothing
   22  the line has no form of a command line
   23  a predicate is none of its process, or the process has one already
   24  no command of the process fires
+  25  the command of a batch at this place, from 1, is refused with this number
 
 Example of a text for `run`:
   process a { var x = 0; when (x < 3) : x := (x + 1); }

@@ -13,6 +13,7 @@ pub mod LineStates
 pub mod Bests
 pub mod Deciding
 pub mod Meets
+pub mod Keeping
 pub mod OneOutcome
 pub mod There
 pub mod SaidFits

@@ -8,11 +8,12 @@ use Rattle.std.proofs.lemmas.List.{length-take-le, get_or-take}
 use Rattle.std.proofs.lemmas.Option.{slice_get-get_or}
 use Rattle.dbg_base.specs.declared.said.Said.{Said}
 use Rattle.dbg_base.specs.declared.said.Said.TheVariants.{Accepted, Refused}
+use Rattle.dbg_base.specs.declared.said.Reply.{Reply}
 use Rattle.dbg_base.specs.declared.said.Done.{Done}
 use Rattle.dbg_base.specs.declared.said.Done.TheVariants.{Played, Undone, Places, Plain}
 use Rattle.dbg_base.specs.declared.refusal.Refusal.{Refusal}
 use Rattle.dbg_base.specs.declared.refusal.Refusal.TheVariants.{UnknownProcess, BadPlace, Halted, UnknownBreak, AlreadyArmed, NotArmed}
-use Rattle.dbg_base.specs.declared.refusal.Refusal.TheVariants.{NothingToUndo, Consequence}
+use Rattle.dbg_base.specs.declared.refusal.Refusal.TheVariants.{NothingToUndo, Consequence, InBatch}
 use Rattle.dbg_base.specs.declared.refusal.Refusal.TheVariants as refusals
 use Rattle.dbg_base.specs.Trees.{Program, command_of}
 use Rattle.dbg_base.specs.Histories.{History, IsPossible, progress_of}
@@ -25,10 +26,12 @@ use Rattle.dbg_base.specs.SystemStates.{after_choice, after_redo, after_rollback
 use Rattle.dbg_base.specs.Breakpoints.{Breakpoint, HasCut, IsHaltedBy, named, without, with_mark}
 use Rattle.dbg_base.specs.ModelStates.{ModelState, with_system, IsHalted}
 use Rattle.dbg_base.specs.Choices.{CannotUndo, IsNeeded, last_target, step_choice, next_choice, redo_choice}
-use Rattle.dbg_base.specs.Calls.{Plan, Step, Next, Undo, Redo, Rollback, Goto, Break, Clear, Arm, Pass}
+use Rattle.dbg_base.specs.Calls.{Plan, Step, Next, Undo, Redo, Rollback, Goto, Break, Clear, Arm, Pass, Order, One, Batch}
 use Rattle.dbg_base.specs.Acts.{Refuses, Accepts, Plays, UnlessHalted, TakesBack, KeepsEvent, RollsBack, RollsBackAt, WithProcess, WithFound}
-use Rattle.dbg_base.specs.Acts.{GoesTo, HasNone, Lists, Sets, break_refusal, Arms, Passes, Acts}
+use Rattle.dbg_base.specs.Acts.{GoesTo, HasNone, Lists, Sets, break_refusal, Arms, Passes, Acts, Batches, Follows}
+use Rattle.dbg_base.specs.Refusals.{refusal_number}
 use Rattle.histories.specs.Outcomes.{HasOne}
+use Rattle.histories.proofs.Keeping.{IsReached, acts_keep}
 use Rattle.histories.proofs.Deciding.{Known, known_all}
 use Rattle.histories.proofs.Meets.{least_or_none, some_rollback, one_rollback, one_least}
 use Rattle.histories.proofs.LineStates.{cut_at}
@@ -363,40 +366,104 @@ module _ (P : Program) (M : ModelState) (of : IsStateOf P M.system) (possible : 
               keeps (Consequence (record { 0 = q }))
               (record { some = placed; impossible = never; receiver = ap (last_target P M.system p) was ∙ to }) (λ may. never may.rest)
 
--- Each command has exactly one reply and one state after it.
-pub one_outcome : (P : Program) (plan : Plan) (M : ModelState) → IsStateOf P M.system → IsPossible P (history_of M.system)
+-- A command by itself.
+one_act : (P : Program) (plan : Plan) (M : ModelState) → IsStateOf P M.system → IsPossible P (history_of M.system)
     → HasOne (Acts P plan M)
-one_outcome P (Step p k) M of possible =
+one_act P (Step p k) M of possible =
     process_one P p
     (λ said after. UnlessHalted P (Plays P p (step_choice P M.system p k) (after_choice M.system p) M said after) M said after) M
     (λ here. unhalted_one P (Plays P p (step_choice P M.system p k) (after_choice M.system p) M) M
     (plays_one P p (step_choice P M.system p k) (after_choice M.system p) M))
-one_outcome P (Next p) M of possible =
+one_act P (Next p) M of possible =
     process_one P p
     (λ said after. UnlessHalted P (Plays P p (next_choice P M.system p) (after_choice M.system p) M said after) M said after) M
     (λ here. unhalted_one P (Plays P p (next_choice P M.system p) (after_choice M.system p) M) M
     (plays_one P p (next_choice P M.system p) (after_choice M.system p) M))
-one_outcome P (Redo p) M of possible =
+one_act P (Redo p) M of possible =
     process_one P p
     (λ said after. UnlessHalted P (Plays P p (redo_choice P M.system p) (λ k. after_redo M.system p) M said after) M said after) M
     (λ here. unhalted_one P (Plays P p (redo_choice P M.system p) (λ k. after_redo M.system p) M) M
     (plays_one P p (redo_choice P M.system p) (λ k. after_redo M.system p) M))
-one_outcome P (Undo p) M of possible =
+one_act P (Undo p) M of possible =
     process_one P p (λ said after. TakesBack P p M said after ⊎ KeepsEvent P p M said after) M (λ here. undoes_one P M of possible p here)
-one_outcome P (Rollback p n) M of possible =
+one_act P (Rollback p n) M of possible =
     process_one P p (λ said after. RollsBackAt P p n M said after) M
     (λ here. match_one (nat_lt (place_at M.system p) n) (Refuses BadPlace M) (RollsBack P p n M) (λ past. refuses_one BadPlace M)
     (λ within. rolls_one P p n M))
-one_outcome P (Goto name) M of possible =
+one_act P (Goto name) M of possible =
     found_one (named name M.breakpoints) (λ b said after. GoesTo P b M said after ⊎ (HasNone P M b × Refuses refusals.NoCut M said after)) M
     (λ b is. goes_one P b M)
-one_outcome P (Break name conjuncts) M of possible = sets_one (break_refusal P M name conjuncts) P name conjuncts M
-one_outcome P (Clear name) M of possible =
+one_act P (Break name conjuncts) M of possible = sets_one (break_refusal P M name conjuncts) P name conjuncts M
+one_act P (Clear name) M of possible =
     found_one (named name M.breakpoints) (λ b said after. Lists P (without name M.breakpoints) M said after) M
     (λ b is. lists_one P (without name M.breakpoints) M)
-one_outcome P (Arm name) M of possible =
+one_act P (Arm name) M of possible =
     found_one (named name M.breakpoints) (λ b said after. Arms P name b M said after) M
     (λ b is. match_one b.armed (Refuses AlreadyArmed M) (Lists P (with_mark name true M.breakpoints) M) (λ armed. refuses_one AlreadyArmed M)
     (λ free. lists_one P (with_mark name true M.breakpoints) M))
-one_outcome P (Pass name) M of possible =
+one_act P (Pass name) M of possible =
     found_one (named name M.breakpoints) (λ b said after. Passes P name b M said after) M (λ b is. passes_one P name b M)
+
+-- A batch, command by command.
+
+-- how the first of these commands ends, and then the others
+module _ (P : Program) (start : ModelState) (at : ℕ) (plan : Plan) (plans : List Plan) (M : ModelState) (first : HasOne (Acts P plan M)) where
+  -- it is accepted
+  first_accepted : (reply : Reply) → first.said ≡ Accepted reply → HasOne (Batches P start (at + 1) plans first.left)
+      → HasOne (Batches P start at (plan ∷ plans) M)
+  first_accepted reply told others = record {
+    said = others.said;
+    left = others.left;
+    is = inl (reply, first.left, subst (λ (said : Said). Acts P plan M said first.left) told first.is, others.is);
+    only = λ other after does.
+        ⊎_elim
+        (λ (goes : (again : Reply) × (between : ModelState) × Acts P plan M (Accepted again) between
+        × Batches P start (at + 1) plans between other after).
+        others.only other after
+        (subst (λ (N : ModelState). Batches P start (at + 1) plans N other after)
+        (first.only (Accepted goes.0) goes.1 goes.2).1 goes.3))
+        (λ (ends : (refusal : Refusal) × Acts P plan M (Refused refusal) M
+        × Refuses (InBatch at (refusal_number refusal)) start other after).
+        let wrong : Refused ends.0 ≡ Accepted reply = (first.only (Refused ends.0) M ends.1).0 ∙ told in cc) does;
+  }
+
+  -- it is refused
+  first_refused : (refusal : Refusal) → first.said ≡ Refused refusal → first.left ≡ M → HasOne (Batches P start at (plan ∷ plans) M)
+  first_refused refusal told stays = record {
+    said = Refused (InBatch at (refusal_number refusal));
+    left = start;
+    is = inr (
+      refusal,
+      subst (λ (N : ModelState). Acts P plan M (Refused refusal) N) stays
+          (subst (λ (said : Said). Acts P plan M said first.left) told first.is),
+      (refl, refl),
+    );
+    only = λ other after does.
+        ⊎_elim
+        (λ (goes : (again : Reply) × (between : ModelState) × Acts P plan M (Accepted again) between
+        × Batches P start (at + 1) plans between other after).
+        let wrong : Accepted goes.0 ≡ Refused refusal = (first.only (Accepted goes.0) goes.1 goes.2).0 ∙ told in cc)
+        (λ (ends : (again : Refusal) × Acts P plan M (Refused again) M
+        × Refuses (InBatch at (refusal_number again)) start other after).
+        let same : Refused ends.0 ≡ Refused refusal = (first.only (Refused ends.0) M ends.1).0 ∙ told in
+        let is : ends.0 ≡ refusal = cc in
+        (ends.2.0 ∙ ap (λ (r : Refusal). Refused (InBatch at (refusal_number r))) is, ends.2.1)) does;
+  }
+
+batches_one : (P : Program) (start : ModelState) (at : ℕ) (plans : List Plan) (M : ModelState) → IsReached P M.system
+    → HasOne (Batches P start at plans M)
+batches_one P start at [] M reached = changes_one P Plain M
+batches_one P start at (plan ∷ plans) M reached =
+    let first = one_act P plan M reached.state reached.possible in
+    let leaves = acts_keep P M reached plan first.said first.left first.is in
+    ⊎_elim
+    (λ (does : (reply : Reply) × (first.said ≡ Accepted reply)).
+    first_accepted P start at plan plans M first does.0 does.1 (batches_one P start (at + 1) plans first.left leaves.reached))
+    (λ (stays : (refusal : Refusal) × (first.said ≡ Refused refusal) × (first.left ≡ M)).
+    first_refused P start at plan plans M first stays.0 stays.1 stays.2) leaves.settled
+
+-- Each order has exactly one reply and one state after it.
+pub one_outcome : (P : Program) (order : Order) (M : ModelState) → IsStateOf P M.system → IsPossible P (history_of M.system)
+    → HasOne (Follows P order M)
+one_outcome P (One plan) M of possible = one_act P plan M of possible
+one_outcome P (Batch plans) M of possible = batches_one P M 1 plans M (record { state = of; possible = possible })

@@ -1,5 +1,5 @@
 -- What is said to a call fits it: each process that is told is one of the program, and of each there is as much as there should be.
-use Rattle.std.proofs.Common.{◌≡◌, inl, inr, ⊎_elim, ℕ, suc, ◌<◌, Bool, true, false, ◌&&◌, cond, List, [], ◌∷◌, length}
+use Rattle.std.proofs.Common.{◌≡◌, inl, inr, ⊎_elim, ℕ, suc, ◌+◌, ◌<◌, Bool, true, false, ◌&&◌, cond, List, [], ◌∷◌, length}
 use Rattle.std.proofs.Common.{map, Option, Some, None, is_some, Result, Ok, Err, refl, sym, ap, ◌∙◌, subst, arith, MatchBool}
 use Rattle.std.specs.Prelude.{nat_lt, slice_get, ok_or, not, ◌==◌}
 use Rattle.std.specs.List.{list_any}
@@ -25,12 +25,15 @@ use Rattle.dbg_base.specs.Breakpoints.{Breakpoint, named, name_refusal, with_mar
 use Rattle.dbg_base.specs.SystemStates.{SystemState, IsStateOf, line_of, place_at, history_of, configuration_of, last_choice}
 use Rattle.dbg_base.specs.ModelStates.{ModelState}
 use Rattle.dbg_base.specs.Choices.{CannotUndo, last_target, if_fires, step_choice, next_choice, choice_again, redo_choice, lowest_enabled}
-use Rattle.dbg_base.specs.Calls.{Plan, Step, Next, Undo, Redo, Rollback, Goto, Break, Clear, Arm, Pass, Call, Give, Back, Ask}
+use Rattle.dbg_base.specs.Calls.{Plan, Step, Next, Undo, Redo, Rollback, Goto, Break, Clear, Arm, Pass, Order, One, Batch}
+use Rattle.dbg_base.specs.Calls.{Call, Give, Back, Ask}
 use Rattle.dbg_base.specs.Calls.{Query, Vars, Chan, Clock, Place, Can, CutOf, Why, Breaks}
 use Rattle.dbg_base.specs.Acts.{Refuses, Accepts, Plays, UnlessHalted, TakesBack, KeepsEvent, WithProcess, WithFound}
-use Rattle.dbg_base.specs.Acts.{GoesTo, HasNone, Lists, Sets, conjuncts_refusal, first_refusal, break_refusal, Acts}
+use Rattle.dbg_base.specs.Acts.{GoesTo, HasNone, Lists, Sets, conjuncts_refusal, first_refusal, break_refusal, Acts, Batches, Follows}
 use Rattle.dbg_base.specs.Views.{about, AboutFound, TellsClock, TellsUndo, TellsWhy, TellsCut, TellsFrontier, mark_of, Answers}
-use Rattle.dbg_base.specs.Shell.{SaysOrRefuses}
+use Rattle.dbg_base.specs.CommandLines.{give}
+use Rattle.dbg_base.specs.Journals.{Given, AnswersBack, StandsAt}
+use Rattle.dbg_base.specs.Reversal.{without_back}
 use Rattle.dbg_base.specs.declared.limits.TheConstants.{EVENTS, BREAKPOINTS}
 use Rattle.dbg_base.specs.declared.expr.Sort.TheVariants as sort
 use Rattle.histories.proofs.LineStates.{length_cut}
@@ -112,13 +115,13 @@ module _ (P : Program) (M : ModelState) (well_formed : is_well_formed P ≡ true
 
   module _ (plan : Plan) (said : Said) (M' : ModelState) where
     abbrev Fit : Type 0
-    Fit = FitsCall P (Give plan) said
+    Fit = FitsCall P (give plan) said
 
     refused : (refusal : Refusal) → FitsRefusal P refusal → Refuses refusal M said M' → Fit
-    refused refusal fits told = subst (FitsCall P (Give plan)) (sym told.0) fits
+    refused refusal fits told = subst (FitsCall P (give plan)) (sym told.0) fits
 
     accepted : (done : Done) → FitsDone P done → Accepts P done said M' → Fit
-    accepted done fits told = subst (FitsCall P (Give plan)) (sym told.told) fits
+    accepted done fits told = subst (FitsCall P (give plan)) (sym told.told) fits
 
     either : {A B : Type 0} (t : Bool) → (t ≡ true → A → Fit) → (t ≡ false → B → Fit) → MatchBool t A B → Fit
     either true first second = first refl
@@ -157,7 +160,7 @@ module _ (P : Program) (M : ModelState) (well_formed : is_well_formed P ≡ true
     sets (Some refusal) name conjuncts earned = refused refusal earned
     sets None name conjuncts earned = lists _
 
-  acts_fits : (plan : Plan) (said : Said) (M' : ModelState) → Acts P plan M said M' → FitsCall P (Give plan) said
+  acts_fits : (plan : Plan) (said : Said) (M' : ModelState) → Acts P plan M said M' → FitsCall P (give plan) said
   acts_fits (Step p k) said M' =
       with_process (Step p k) said M' p _
       (λ here. unless_halted (Step p k) said M' _
@@ -240,7 +243,7 @@ module _ (P : Program) (M : ModelState) (well_formed : is_well_formed P ≡ true
   length-heads_of (choices ∷ H) [] e = absurd (omega arith)
   length-heads_of (choices ∷ H) (n ∷ tuple) e = ap suc (length-heads_of H tuple (omega arith))
 
-  answers_fit : (query : Query) (said : Said) → Answers P M query said → FitsCall P (Ask query) said
+  pub answers_fit : (query : Query) (said : Said) → Answers P M query said → FitsCall P (Ask query) said
   answers_fit (Vars p) said e =
       about_fits (Vars p) p (Values (values_of (configuration_of P M.system) p)) said e
       (λ here. (here, values_there P (history_of M.system) p possible here))
@@ -278,13 +281,31 @@ module _ (P : Program) (M : ModelState) (well_formed : is_well_formed P ≡ true
       (for_each _ (length-heads_of (history_of M.system) tells.tuple tells.is.settled.sizes))) e
   answers_fit Breaks said e = told Breaks (Marks (map mark_of M.breakpoints)) said e tt
 
-  memory_fits : (call : Call) → FitsCall P call (Refused refusals.Memory)
-  memory_fits (Give plan) = tt
-  memory_fits Back = tt
-  memory_fits (Ask query) = tt
+  -- these commands, of which the first has this place in the batch that was given at M, from the state on that those before it left
+  batch_fits : (all : List Plan) (between : ModelState) (at : ℕ) (plans : List Plan) (said : Said) (M' : ModelState)
+      → Batches P M at plans between said M' → FitsCall P (Give (Batch all)) said
+  batch_fits all between at [] said M' told = subst (FitsCall P (Give (Batch all))) (sym told.0.told) tt
+  batch_fits all between at (plan ∷ plans) said M' (inl (reply, next, acts, others)) = batch_fits all next (at + 1) plans said M' others
+  batch_fits all between at (plan ∷ plans) said M' (inr (refusal, acts, told)) = subst (FitsCall P (Give (Batch all))) (sym told.0) tt
 
-  pub says_fits : (seat : ℕ) (call : Call) (said : Said) (M' : ModelState) → SaysOrRefuses P seat call M said M' → FitsCall P call said
-  says_fits seat call said M' (inr refuses) = subst (FitsCall P call) (sym refuses.0) (memory_fits call)
-  says_fits seat (Give plan) said M' (inl acts) = acts_fits plan said M' acts
-  says_fits seat Back said M' (inl refuses) = subst (FitsCall P Back) (sym refuses.0) tt
-  says_fits seat (Ask query) said M' (inl answers) = answers_fit query said answers.0
+  pub follows_fits : (order : Order) (said : Said) (M' : ModelState) → Follows P order M said M' → FitsCall P (Give order) said
+  follows_fits (One plan) said M' acts = acts_fits plan said M' acts
+  follows_fits (Batch plans) said M' follows = batch_fits plans M 1 plans said M' follows
+
+-- and where it is not looked at
+
+pub memory_fits : (P : Program) (call : Call) → FitsCall P call (Refused refusals.Memory)
+memory_fits P (Give order) = tt
+memory_fits P Back = tt
+memory_fits P (Ask query) = tt
+
+back_by : (P : Program) (given : List Given) (last : Given) (said : Said) (t : Bool)
+    → MatchBool t ((M : ModelState) × StandsAt P (without_back given) M × Accepts P Plain said M)
+    (said ≡ Refused (refusals.OtherSeat last.seat)) → FitsCall P Back said
+back_by P given last said true (M, stands, told) = subst (FitsCall P Back) (sym told.told) tt
+back_by P given last said false told = subst (FitsCall P Back) (sym told) tt
+
+pub back_fits : (P : Program) (given : List Given) (seat : ℕ) (last : Option Given) (said : Said) → AnswersBack P given seat last said
+    → FitsCall P Back said
+back_fits P given seat None said told = subst (FitsCall P Back) (sym told) tt
+back_fits P given seat (Some last) said told = back_by P given last said (last.seat == seat) told

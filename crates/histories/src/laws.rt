@@ -9,8 +9,8 @@ ghost use Rattle.dbg_base.specs.Cuts.{IsConsistent, history_at};
 ghost use Rattle.dbg_base.specs.Reversal.{IsPermitted, after_undos, unfire_all};
 ghost use Rattle.dbg_base.specs.SystemStates.{IsStateOf, history_of};
 ghost use Rattle.dbg_base.specs.ModelStates.{ModelState};
-ghost use Rattle.dbg_base.specs.Calls.{Plan};
-ghost use Rattle.dbg_base.specs.Acts.{Acts};
+ghost use Rattle.dbg_base.specs.Calls.{Order};
+ghost use Rattle.dbg_base.specs.Acts.{Follows};
 ghost use Rattle.histories.specs.Outcomes.{HasOne};
 
 /// The order of independent events does not matter. A list of events that fire one after the other makes a possible history, and ends
@@ -37,9 +37,10 @@ pub fn any_undo()
         → after_undos H undos ≡ history_at H cut → unfire_all P H undos (play P H) ≡ play P (history_at H cut) }
 {}
 
-/// A command has exactly one reply, and exactly one state after it, in each state of a program whose events are possible: which breakpoint
-/// halts, whether one has a cut, to which cut a rollback leads, and why an event may not be undone, is determined and always there.
+/// A command, and a batch of commands, has exactly one reply, and exactly one state after it, in each state of a program whose events are
+/// possible: which breakpoint halts, whether one has a cut, to which cut a rollback leads, why an event may not be undone, and which
+/// command of a batch is refused, is determined and always there.
 pub fn one_outcome()
-    ensures { (P : Program) (plan : Plan) (M : ModelState) → IsStateOf P M.system → IsPossible P (history_of M.system)
-        → HasOne (Acts P plan M) }
+    ensures { (P : Program) (order : Order) (M : ModelState) → IsStateOf P M.system → IsPossible P (history_of M.system)
+        → HasOne (Follows P order M) }
 {}

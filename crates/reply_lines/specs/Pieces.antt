@@ -46,8 +46,8 @@ pair_of name text = None
 -- the words that a piece stands for
 abbrev pub piece_words : Piece → List (List ℕ)
 piece_words (piece.Item item) = item_text item ∷ []
-piece_words (piece.Optional None) = []
-piece_words (piece.Optional (Some item)) = item_text item ∷ []
+piece_words (piece.Both first second) = item_text first ∷ item_text second ∷ []
+piece_words piece.Nothing = []
 piece_words (piece.Numbers numbers) = map signed_decimal numbers.now
 piece_words (piece.Marks marks) = map mark_word marks.now
 piece_words (piece.Values program pid values) = value_words (program_of program.now) pid.0 values.now

@@ -73,8 +73,10 @@ pub(crate) enum Word {
 pub(crate) enum Piece<'a> {
     /// One word.
     Item(Item),
-    /// One word, or none.
-    Optional(Option<Item>),
+    /// Two words.
+    Both(Item, Item),
+    /// No word.
+    Nothing,
     /// Numbers.
     Numbers(&'a [i64]),
     /// Breakpoints, each with its mark.
@@ -214,8 +216,8 @@ impl Piece<'_> {
     {
         match self {
             Piece::Item(item) => item_at(&[*item], place),
-            Piece::Optional(None) | Piece::Halted(None) => None,
-            Piece::Optional(Some(item)) => item_at(&[*item], place),
+            Piece::Both(first, second) => item_at(&[*first, *second], place),
+            Piece::Nothing | Piece::Halted(None) => None,
             Piece::Numbers(numbers) => number_at(numbers, place).map(Word::Plain),
             Piece::Marks(marks) => marks
                 .get(place)
@@ -244,7 +246,7 @@ impl Piece<'_> {
             Piece::Values(_, _, values) => values.len(),
             Piece::Counts(_, counts) => counts.len(),
             Piece::Heads(_, heads) => heads.len(),
-            Piece::Item(_) | Piece::Optional(_) | Piece::Halted(_) => 2,
+            Piece::Item(_) | Piece::Both(_, _) | Piece::Nothing | Piece::Halted(_) => 2,
         }
     }
 }

@@ -10,7 +10,6 @@ ghost use Rattle.dbg_base.specs.Replies.{joined, name_of, carried_words, answer_
 ghost use Rattle.dbg_base.specs.Shell.{as_line};
 ghost use Rattle.proc_lang.specs.Programs.{program_of};
 ghost use Rattle.reply_lines.specs.Writing.{Writes};
-ghost use Rattle.reply_lines.specs.declared.parts.Piece.TheVariants.{Optional};
 ghost use Rattle.reply_lines.specs.Pieces.{piece_words};
 
 use crate::outcome::ServeFault;
@@ -28,15 +27,16 @@ fn name_of(program: &Program, pid: Pid) -> Name
 }
 
 // What a refusal carries, if it carries something.
-fn carried(program: &Program, refusal: &Refusal) -> Option<Item>
+fn carried(program: &Program, refusal: &Refusal) -> Piece<'static>
     requires { FitsRefusal (program_of program.now) refusal.now }
-    ensures { piece_words (Optional result) ≡ carried_words (program_of program.now) refusal.now }
+    ensures { piece_words result ≡ carried_words (program_of program.now) refusal.now }
 {
     match refusal {
-        Refusal::Consequence(pid) => Some(Item::Name(name_of(program, *pid))),
-        Refusal::Halted(name) => Some(Item::Name(*name)),
-        Refusal::OtherSeat(seat) => Some(Item::Count(*seat)),
-        _ => None,
+        Refusal::Consequence(pid) => Piece::Item(Item::Name(name_of(program, *pid))),
+        Refusal::Halted(name) => Piece::Item(Item::Name(*name)),
+        Refusal::OtherSeat(seat) => Piece::Item(Item::Count(*seat)),
+        Refusal::InBatch { at, number } => Piece::Both(Item::Count(*at), Item::Count(*number)),
+        _ => Piece::Nothing,
     }
 }
 
@@ -124,7 +124,7 @@ fn print_can<W: Write>(
                     Piece::Item(name),
                     Piece::Item(no),
                     Piece::Item(number),
-                    Piece::Optional(carried),
+                    carried,
                 ],
                 writer,
             )
@@ -237,9 +237,5 @@ pub fn print_refusal<W: Write>(
 {
     let number = Item::Count(refusal.number());
     let carried = carried(program, refusal);
-    write_line(
-        b"no",
-        &[Piece::Item(number), Piece::Optional(carried)],
-        writer,
-    )
+    write_line(b"no", &[Piece::Item(number), carried], writer)
 }

@@ -110,7 +110,7 @@ fn word_of(parsed: Result<Option<Line>, Refusal>) -> Result<Word, Refusal> {
     }
 }
 
-const WORDS: [(&str, Result<Word, Refusal>); 20] = [
+const WORDS: [(&str, Result<Word, Refusal>); 21] = [
     ("1 goto k", Ok(Word::Goto)),
     ("1 clear k", Ok(Word::Clear)),
     ("1 arm k", Ok(Word::Arm)),
@@ -128,7 +128,8 @@ const WORDS: [(&str, Result<Word, Refusal>); 20] = [
     ("1 why", Err(Refusal::BadLine)),
     ("1 why 1", Err(Refusal::BadLine)),
     ("1 breaks k", Err(Refusal::BadLine)),
-    ("1 back", Err(Refusal::BadLine)),
+    ("1 back", Ok(Word::Other)),
+    ("1 back k", Err(Refusal::BadLine)),
     ("17 goto k", Err(Refusal::BadLine)),
     (
         "1 cut abcdefghijklmnopqrstuvwxyz_012345",

@@ -113,6 +113,7 @@ fn refusals_are_numbers(rt: HostRuntime) {
         (Refusal::BadLine, "no 22\n"),
         (Refusal::BadPredicate, "no 23\n"),
         (Refusal::NoneEnabled, "no 24\n"),
+        (Refusal::InBatch { at: 32, number: 9 }, "no 25 32 9\n"),
     ];
     for (refusal, want) in &refusals {
         expect(&rt, alloc, Call::Back, Said::Refused(*refusal), want);

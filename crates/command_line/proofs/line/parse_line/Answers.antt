@@ -1,5 +1,4 @@
-use Rattle.std.proofs.Common.{arith}
-use Rattle.std.proofs.lemmas.Grind.{common_steps}
+use Rattle.std.proofs.Common.{rules}
 use Rattle.proc_lang.specs.Programs.{program_of}
 use Rattle.command_line.specs.Lines.{IsParsed}
 use Rattle.command_line.proofs.LineRefusals.{line_refused}
@@ -8,5 +7,5 @@ use Rattle.command_line.proofs.line.parse_line.Goals as goal
 pub returns-in_err-call-clause-refuses : goal.returns-in_err-call-clause-refuses
 returns-in_err-call-clause-refuses c =
     let P = program_of c.args.program.now in
-    let parsed : IsParsed P c.args.bytes.now c.from_residual-in_err-call.result = grind (arith, common_steps) in
+    let parsed : IsParsed P c.args.bytes.now c.from_residual-in_err-call.result = search rules in
     line_refused P c.args.bytes.now c.from_residual-in_err-call.result parsed
