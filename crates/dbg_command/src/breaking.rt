@@ -1,6 +1,6 @@
 //! The commands about breakpoints: break, clear, arm, pass.
 
-ghost use Rattle.std.specs.Prelude.{◌≡◌, ◌⊎◌, ◌<◌, Some, length, map, IfErr, OnErr, OnOk};
+ghost use Rattle.std.specs.Prelude.{◌≡◌, ◌⊎◌, ◌<◌, Some, true, false, length, map, IfOk, IfErr, IfSome, MatchResult, OnErr, OnOk};
 ghost use Rattle.std.specs.List.{AllByRecursion};
 ghost use Rattle.dbg_base.specs.declared.refusal.Refusal.TheVariants.{Memory};
 ghost use Rattle.dbg_base.specs.Breakpoints.{name_refusal};
@@ -9,24 +9,45 @@ ghost use Rattle.dbg_base.specs.Trees as tree;
 ghost use Rattle.dbg_base.specs.Calls as model;
 ghost use Rattle.dbg_base.specs.Calls.{conjunct_of};
 ghost use Rattle.proc_lang.specs.Programs.{program_of};
+ghost use Rattle.least_cut.specs.Watches.{scan_of};
 ghost use Rattle.dbg_command.specs.Tables.{IsTableOf, ActsOrRefuses, Adds, shown, state_of};
+ghost use Rattle.dbg_command.specs.Boxes.{LeadsBack, HasNamed, HasUnarmed, HasCleared, unset, marked, uncleared, reply_of, IsScanFor};
 
 use crate::conjuncts::fitting;
 use crate::table::Table;
+use break_book::Breakpoint;
 use dbg_base::{Conjunct, Done, Name, Refusal, Reply, Sequence, copy_conjuncts};
 use least_cut::Scan;
 use proc_lang::Program;
 use std::alloc::Global;
 
 impl Table {
+    // The scan that is handed in, or else that of the conjuncts.
+    fn scan_or(
+        &self,
+        alloc: Global,
+        scan: Option<Scan>,
+        conjuncts: &Sequence<Conjunct>,
+    ) -> Result<Scan, Refusal>
+        requires { IfSome scan (λ scan. scan ≡ scan_of self.now.world (map conjunct_of conjuncts.now)) }
+        ensures { MatchResult result (λ scan. scan ≡ scan_of self.now.world (map conjunct_of conjuncts.now)) (λ refusal. refusal ≡ Memory) }
+    {
+        match scan {
+            Some(scan) => Ok(scan),
+            None => Scan::of(alloc, &self.world, conjuncts.items()),
+        }
+    }
+
     // Sets a breakpoint of conjuncts that fit.
     fn set_fitting(
         &mut self,
         alloc: Global,
         name: Name,
         conjuncts: &Sequence<Conjunct>,
+        scan: Option<Scan>,
     ) -> Result<(), Refusal>
         requires of { (P : tree.Program) × IsTableOf P self.old }
+        requires scan { IfSome scan (λ scan. scan ≡ scan_of self.old.world (map conjunct_of conjuncts.now)) }
         requires here { AllByRecursion (λ conjunct. conjunct.process < length self.old.world.state.places)
             (map conjunct_of conjuncts.now) }
         ensures of { (P : tree.Program) → IsTableOf P self.old → IsTableOf P self.new }
@@ -38,7 +59,7 @@ impl Table {
     {
         self.book.may_set(name)?;
         let conjuncts = copy_conjuncts(conjuncts)?;
-        let scan = Scan::of(alloc, &self.world, conjuncts.items())?;
+        let scan = self.scan_or(alloc, scan, &conjuncts)?;
         self.book.set(alloc, name, conjuncts, scan, &self.world)
     }
 
@@ -49,9 +70,13 @@ impl Table {
         program: &Program,
         name: Name,
         conjuncts: &Sequence<Conjunct>,
+        scan: Option<Scan>,
     ) -> Result<Reply, Refusal>
-        requires { IsTableOf (program_of program.now) self.old }
+        requires of { IsTableOf (program_of program.now) self.old }
+        requires scan { IfSome scan (IsScanFor (model.One (model.Break name (map conjunct_of conjuncts.now))) (program_of program.now)
+            (state_of self.old)) }
         ensures of { IsTableOf (program_of program.now) self.new }
+        ensures leads { OnOk result (LeadsBack (HasNamed name) (unset name) (state_of self.old) (state_of self.new)) }
         ensures acts { ActsOrRefuses (program_of program.now) (model.Break name (map conjunct_of conjuncts.now)) (state_of self.old) result
             (state_of self.new) }
         ensures kept { OnErr result (shown self.new ≡ shown self.old) }
@@ -60,20 +85,25 @@ impl Table {
             return Err(Refusal::BadPredicate);
         }
         fitting(program, conjuncts.items())?;
-        self.set_fitting(alloc, name, conjuncts)?;
+        self.set_fitting(alloc, name, conjuncts, scan)?;
         Ok(self.reply(Done::Plain))
     }
 
-    // The breakpoint is removed.
-    pub(crate) fn clear(&mut self, name: Name) -> Result<Reply, Refusal>
-        requires { (P : tree.Program) × IsTableOf P self.old }
-        ensures of { (P : tree.Program) → IsTableOf P self.old → IsTableOf P self.new }
-        ensures acts { (P : tree.Program) → IsTableOf P self.old
-            → ActsOrRefuses P (model.Clear name) (state_of self.old) result (state_of self.new) }
+    // The breakpoint is removed, and handed out with its position.
+    pub(crate) fn clear(
+        &mut self,
+        program: &Program,
+        name: Name,
+    ) -> Result<(Reply, (usize, Breakpoint)), Refusal>
+        requires { IsTableOf (program_of program.now) self.old }
+        ensures of { IsTableOf (program_of program.now) self.new }
+        ensures acts { ActsOrRefuses (program_of program.now) (model.Clear name) (state_of self.old) (reply_of result) (state_of self.new) }
+        ensures leads { IfOk result (λ done. LeadsBack (HasCleared (program_of program.now) done.1.0 name done.1.1)
+            (uncleared done.1.0 name done.1.1) (state_of self.old) (state_of self.new)) }
         ensures kept { OnErr result (shown self.new ≡ shown self.old) }
     {
-        let _cleared = self.book.clear(name)?;
-        Ok(self.reply(Done::Plain))
+        let cleared = self.book.clear(name)?;
+        Ok((self.reply(Done::Plain), cleared))
     }
 
     // The breakpoint halts the session again.
@@ -82,6 +112,7 @@ impl Table {
         ensures of { (P : tree.Program) → IsTableOf P self.old → IsTableOf P self.new }
         ensures acts { (P : tree.Program) → IsTableOf P self.old
             → ActsOrRefuses P (model.Arm name) (state_of self.old) result (state_of self.new) }
+        ensures leads { OnOk result (LeadsBack (HasNamed name) (marked name false) (state_of self.old) (state_of self.new)) }
         ensures kept { OnErr result (shown self.new ≡ shown self.old) }
     {
         self.book.arm(name)?;
@@ -94,6 +125,7 @@ impl Table {
         ensures of { (P : tree.Program) → IsTableOf P self.old → IsTableOf P self.new }
         ensures acts { (P : tree.Program) → IsTableOf P self.old
             → ActsOrRefuses P (model.Pass name) (state_of self.old) result (state_of self.new) }
+        ensures leads { OnOk result (LeadsBack (HasUnarmed name) (marked name true) (state_of self.old) (state_of self.new)) }
         ensures kept { OnErr result (shown self.new ≡ shown self.old) }
     {
         self.book.pass(name)?;

@@ -1,12 +1,29 @@
-//! A table: a world and the breakpoints in it, which stay together; what each command does to it, and what it tells.
+//! A table: a world and the breakpoints in it, which stay together; what each command does to it, what takes that back, and what the
+//! table tells.
 #![tactic(auto)]
 
 mod asking;
+mod batching;
 mod breaking;
 mod calls;
+mod command;
 mod conjuncts;
+mod kinds;
 mod playing;
+mod returning;
 mod table;
 mod undoing;
 
+pub use command::Command;
+pub use kinds::arm::ArmCmd;
+pub use kinds::batch::BatchCmd;
+pub use kinds::clear::ClearCmd;
+pub use kinds::goto::GotoCmd;
+pub use kinds::next::NextCmd;
+pub use kinds::pass::PassCmd;
+pub use kinds::redo::RedoCmd;
+pub use kinds::rollback::RollbackCmd;
+pub use kinds::set_break::BreakCmd;
+pub use kinds::step::StepCmd;
+pub use kinds::undo::UndoCmd;
 pub use table::Table;

@@ -1,6 +1,6 @@
 //! The commands by which a process makes an event: step, next, redo.
 
-ghost use Rattle.std.specs.Prelude.{◌≡◌, OnErr};
+ghost use Rattle.std.specs.Prelude.{◌≡◌, IfOk, OnOk, OnErr};
 ghost use Rattle.dbg_base.specs.declared.said.Done.TheVariants.{Played};
 ghost use Rattle.dbg_base.specs.Trees as tree;
 ghost use Rattle.dbg_base.specs.Calls as model;
@@ -8,8 +8,10 @@ ghost use Rattle.proc_lang.specs.Programs.{program_of};
 ghost use Rattle.causal_world.specs.Scenes.{IsWorldOf};
 ghost use Rattle.break_book.specs.Books.{AreGrown, HaveRoomUpTo};
 ghost use Rattle.dbg_command.specs.Tables.{IsTableOf, ActsOrRefuses, Replies, shown, state_of};
+ghost use Rattle.dbg_command.specs.Boxes.{LeadsBack, HasStepped, HasRedone, unstepped, unredone, reply_of};
 
 use crate::table::Table;
+use causal_world::Cutoff;
 use dbg_base::{Choice, Done, Pid, Refusal, Reply};
 use proc_lang::Program;
 use std::alloc::Global;
@@ -28,39 +30,44 @@ impl Table {
         self.reply(Done::Played(pid, choice))
     }
 
-    // The process makes this command.
+    // The process makes this command. What was cut off its line is handed out.
     pub(crate) fn step(
         &mut self,
         alloc: Global,
         program: &Program,
         pid: Pid,
         choice: Choice,
-    ) -> Result<Reply, Refusal>
+    ) -> Result<(Reply, Cutoff), Refusal>
         requires { IsTableOf (program_of program.now) self.old }
         ensures of { IsTableOf (program_of program.now) self.new }
-        ensures acts { ActsOrRefuses (program_of program.now) (model.Step pid.0 choice.0) (state_of self.old) result (state_of self.new) }
+        ensures acts { ActsOrRefuses (program_of program.now) (model.Step pid.0 choice.0) (state_of self.old) (reply_of result)
+            (state_of self.new) }
+        ensures leads { IfOk result (λ done. LeadsBack (HasStepped (program_of program.now) pid.0 done.1) (unstepped pid.0 done.1)
+            (state_of self.old) (state_of self.new)) }
         ensures kept { OnErr result (shown self.new ≡ shown self.old) }
     {
         self.ready(alloc, program, pid)?;
-        let _cutoff = self.world.step(alloc, program, pid, choice)?;
-        Ok(self.grown(pid, choice))
+        let cutoff = self.world.step(alloc, program, pid, choice)?;
+        Ok((self.grown(pid, choice), cutoff))
     }
 
-    // The process makes its first command that fires.
+    // The process makes its first command that fires. What was cut off its line is handed out.
     pub(crate) fn next(
         &mut self,
         alloc: Global,
         program: &Program,
         pid: Pid,
-    ) -> Result<Reply, Refusal>
+    ) -> Result<(Reply, Cutoff), Refusal>
         requires { IsTableOf (program_of program.now) self.old }
         ensures of { IsTableOf (program_of program.now) self.new }
-        ensures acts { ActsOrRefuses (program_of program.now) (model.Next pid.0) (state_of self.old) result (state_of self.new) }
+        ensures acts { ActsOrRefuses (program_of program.now) (model.Next pid.0) (state_of self.old) (reply_of result) (state_of self.new) }
+        ensures leads { IfOk result (λ done. LeadsBack (HasStepped (program_of program.now) pid.0 done.1) (unstepped pid.0 done.1)
+            (state_of self.old) (state_of self.new)) }
         ensures kept { OnErr result (shown self.new ≡ shown self.old) }
     {
         self.ready(alloc, program, pid)?;
-        let (choice, _cutoff) = self.world.next(alloc, program, pid)?;
-        Ok(self.grown(pid, choice))
+        let (choice, cutoff) = self.world.next(alloc, program, pid)?;
+        Ok((self.grown(pid, choice), cutoff))
     }
 
     // The process makes the choice at its place again.
@@ -73,6 +80,8 @@ impl Table {
         requires { IsTableOf (program_of program.now) self.old }
         ensures of { IsTableOf (program_of program.now) self.new }
         ensures acts { ActsOrRefuses (program_of program.now) (model.Redo pid.0) (state_of self.old) result (state_of self.new) }
+        ensures leads { OnOk result (LeadsBack (HasRedone (program_of program.now) pid.0) (unredone pid.0) (state_of self.old)
+            (state_of self.new)) }
         ensures kept { OnErr result (shown self.new ≡ shown self.old) }
     {
         self.ready(alloc, program, pid)?;

@@ -82,8 +82,8 @@ impl Table {
         Err(Refusal::Memory)
     }
 
-    // What an accepted command is answered with.
-    pub(crate) fn reply(&self, done: Done) -> Reply
+    /// The answer to a command that was accepted and did this. It takes no memory.
+    pub fn reply(&self, done: Done) -> Reply
         ensures { (P : tree.Program) → IsTableOf P self.now → Replies P (state_of self.now) done result }
     {
         Reply {

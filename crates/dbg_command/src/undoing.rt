@@ -1,48 +1,66 @@
 //! The commands that take events back: undo, rollback, goto.
 
-ghost use Rattle.std.specs.Prelude.{◌≡◌, OnErr};
+ghost use Rattle.std.specs.Prelude.{◌≡◌, IfOk, OnErr};
 ghost use Rattle.dbg_base.specs.Trees as tree;
 ghost use Rattle.dbg_base.specs.Calls as model;
 ghost use Rattle.proc_lang.specs.Programs.{program_of};
 ghost use Rattle.cut_core.specs.ConsistentCuts.{IsConsistentCut};
 ghost use Rattle.dbg_command.specs.Tables.{IsTableOf, ActsOrRefuses, GoesBack, shown, state_of};
+ghost use Rattle.dbg_command.specs.Boxes.{LeadsBack, HasRolled, unrolled, reply_of};
 
 use crate::table::{Table, known};
+use causal_world::Rolled;
 use dbg_base::{Cut, Done, Name, Pid, Refusal, Reply};
 use proc_lang::Program;
 use std::alloc::Global;
 
+// Events that were taken back, and the places before that.
+#[derive(Debug, Drop)]
+pub(crate) struct TakenBack {
+    pub(crate) rolled: Rolled,
+    pub(crate) places: Cut,
+}
+
 impl Table {
-    // The last event of the process is taken back.
+    // The last event of the process is taken back, and handed out.
     pub(crate) fn undo(
         &mut self,
         alloc: Global,
         program: &Program,
         pid: Pid,
-    ) -> Result<Reply, Refusal>
+    ) -> Result<(Reply, TakenBack), Refusal>
         requires { IsTableOf (program_of program.now) self.old }
         ensures of { IsTableOf (program_of program.now) self.new }
-        ensures acts { ActsOrRefuses (program_of program.now) (model.Undo pid.0) (state_of self.old) result (state_of self.new) }
+        ensures acts { ActsOrRefuses (program_of program.now) (model.Undo pid.0) (state_of self.old) (reply_of result) (state_of self.new) }
+        ensures leads { IfOk result (λ done. LeadsBack (HasRolled (program_of program.now) done.1.rolled done.1.places)
+            (unrolled done.1.places) (state_of self.old) (state_of self.new)) }
         ensures kept { OnErr result (shown self.new ≡ shown self.old) }
     {
         known(program, pid)?;
         let choice = self.world.last(pid).ok_or(Refusal::NothingToUndo)?;
-        let _rolled = self.world.undo(alloc, pid)?;
+        let places = self.world.places(alloc)?;
+        let rolled = self.world.undo(alloc, pid)?;
         self.book.shrink(pid, &self.world);
-        Ok(self.reply(Done::Undone(pid, choice)))
+        let reply = self.reply(Done::Undone(pid, choice));
+        Ok((reply, TakenBack { rolled, places }))
     }
 
-    // The events behind this consistent cut are taken back.
-    fn roll_to(&mut self, alloc: Global, cut: Cut) -> Result<Reply, Refusal>
+    // The events behind this consistent cut are taken back, and handed out.
+    fn roll_to(&mut self, alloc: Global, cut: Cut) -> Result<(Reply, TakenBack), Refusal>
         requires of { (P : tree.Program) × IsTableOf P self.old }
         requires cut { IsConsistentCut self.old.world.kinds cut }
         ensures of { (P : tree.Program) → IsTableOf P self.old → IsTableOf P self.new }
-        ensures back { (P : tree.Program) → IsTableOf P self.old → GoesBack P (state_of self.old) cut result (state_of self.new) }
+        ensures back { (P : tree.Program) → IsTableOf P self.old
+            → GoesBack P (state_of self.old) cut (reply_of result) (state_of self.new) }
+        ensures leads { IfOk result (λ done. (P : tree.Program) → IsTableOf P self.old
+            → LeadsBack (HasRolled P done.1.rolled done.1.places) (unrolled done.1.places) (state_of self.old) (state_of self.new)) }
         ensures kept { OnErr result (shown self.new ≡ shown self.old) }
     {
-        let _rolled = self.world.roll_to(alloc, &cut)?;
+        let places = self.world.places(alloc)?;
+        let rolled = self.world.roll_to(alloc, &cut)?;
         self.book.follow(&self.world);
-        Ok(self.reply(Done::Places(cut)))
+        let reply = self.reply(Done::Places(cut));
+        Ok((reply, TakenBack { rolled, places }))
     }
 
     // The process goes back to this count of events, and the others no further than they must.
@@ -52,10 +70,13 @@ impl Table {
         program: &Program,
         pid: Pid,
         n: u32,
-    ) -> Result<Reply, Refusal>
+    ) -> Result<(Reply, TakenBack), Refusal>
         requires { IsTableOf (program_of program.now) self.old }
         ensures of { IsTableOf (program_of program.now) self.new }
-        ensures acts { ActsOrRefuses (program_of program.now) (model.Rollback pid.0 n) (state_of self.old) result (state_of self.new) }
+        ensures acts { ActsOrRefuses (program_of program.now) (model.Rollback pid.0 n) (state_of self.old) (reply_of result)
+            (state_of self.new) }
+        ensures leads { IfOk result (λ done. LeadsBack (HasRolled (program_of program.now) done.1.rolled done.1.places)
+            (unrolled done.1.places) (state_of self.old) (state_of self.new)) }
         ensures kept { OnErr result (shown self.new ≡ shown self.old) }
     {
         known(program, pid)?;
@@ -67,11 +88,17 @@ impl Table {
     }
 
     // All processes go back to the breakpoint's cut.
-    pub(crate) fn go_to(&mut self, alloc: Global, name: Name) -> Result<Reply, Refusal>
-        requires { (P : tree.Program) × IsTableOf P self.old }
-        ensures of { (P : tree.Program) → IsTableOf P self.old → IsTableOf P self.new }
-        ensures acts { (P : tree.Program) → IsTableOf P self.old
-            → ActsOrRefuses P (model.Goto name) (state_of self.old) result (state_of self.new) }
+    pub(crate) fn go_to(
+        &mut self,
+        alloc: Global,
+        program: &Program,
+        name: Name,
+    ) -> Result<(Reply, TakenBack), Refusal>
+        requires { IsTableOf (program_of program.now) self.old }
+        ensures of { IsTableOf (program_of program.now) self.new }
+        ensures acts { ActsOrRefuses (program_of program.now) (model.Goto name) (state_of self.old) (reply_of result) (state_of self.new) }
+        ensures leads { IfOk result (λ done. LeadsBack (HasRolled (program_of program.now) done.1.rolled done.1.places)
+            (unrolled done.1.places) (state_of self.old) (state_of self.new)) }
         ensures kept { OnErr result (shown self.new ≡ shown self.old) }
     {
         match self.cut_of(name) {

@@ -1,0 +1,130 @@
+-- What a command keeps once it was accepted: where it may be taken back by that, and the state to which this leads.
+use Rattle.std.specs.Prelude.{◌≡◌, ◌&&◌, nat_le, ℕ, ◌<◌, ◌≤◌, Bool, true, false, List, [], length, insert, Option, Some, None, Result, Ok, Err, slice_get, ◌∷◌}
+use Rattle.std.specs.List.{list_all}
+use Rattle.dbg_base.specs.declared.call.Plan as plan
+use Rattle.dbg_base.specs.declared.call.Plan.TheVariants as plans
+use Rattle.dbg_base.specs.declared.refusal.Refusal.{Refusal}
+use Rattle.dbg_base.specs.declared.said.Reply.{Reply}
+use Rattle.dbg_base.specs.declared.limits.TheConstants.{BATCH, BREAKPOINTS}
+use Rattle.dbg_base.specs.Trees.{Program}
+use Rattle.dbg_base.specs.Predicates.{Conjunct}
+use Rattle.dbg_base.specs.SystemStates.{history_of, line_of, place_at, redo_line, after_choice, after_redo, after_undo, after_rollback}
+use Rattle.dbg_base.specs.Breakpoints.{Breakpoint, named, without, with_mark}
+use Rattle.dbg_base.specs.ModelStates.{ModelState, with_system}
+use Rattle.dbg_base.specs.Calls.{Order, One, Break}
+use Rattle.causal_world.specs.declared.rolled.Taken.{Taken}
+use Rattle.causal_world.specs.Scenes.{Scene, IsWorldOf, restored}
+use Rattle.causal_world.specs.Rollings.{IsRolledFrom}
+use Rattle.least_cut.specs.Watches.{TruthLine, scan_of}
+use Rattle.least_cut.specs.Detectors.{IsDetectorOf, Begins}
+use Rattle.break_book.specs.Books.{Kept, breakpoint_of}
+
+-- A command led from M to M', where it may be taken back, and that leads to M.
+pub record LeadsBack (MayGoBack : ModelState → Type 0) (undone : ModelState → ModelState) (M M' : ModelState) : Type 0 where
+  pub may : MayGoBack M'
+  pub leads : undone M' ≡ M
+
+-- where nothing is kept, nothing is taken back
+abbrev pub IfKept : {A : Type 0} → Option A → (A → Type 0) → Type 0
+IfKept None Holds = ⊥
+IfKept (Some kept) Holds = Holds kept
+
+abbrev pub undone_by : {A : Type 0} → Option A → (A → ModelState → ModelState) → ModelState → ModelState
+undone_by None undone M = M
+undone_by (Some kept) undone M = undone kept M
+
+-- the same where nothing but that it was applied is kept
+abbrev pub IfApplied : Bool → Type 0 → Type 0
+IfApplied false Holds = ⊥
+IfApplied true Holds = Holds
+
+-- what an accepted command is answered with, without what is kept of it
+abbrev pub reply_of : {A : Type 0} → Result (Reply × A) Refusal → Result Reply Refusal
+reply_of (Ok done) = Ok done.0
+reply_of (Err refusal) = Err refusal
+
+-- Process p made a choice that led to M, and these choices were cut off its line.
+pub record HasStepped (P : Program) (p : ℕ) (cutoff : List ℕ) (M : ModelState) : Type 0 where
+  pub before : Scene
+  pub of : IsWorldOf P before
+  pub here : p < length P
+  pub choice : ℕ
+  pub state : M.system ≡ after_choice before.state p choice
+  pub cut : cutoff ≡ redo_line before.state p
+
+abbrev pub unstepped : ℕ → List ℕ → ModelState → ModelState
+unstepped p cutoff M = with_system M (restored M.system p cutoff)
+
+-- Process p made the choice at its place again, which led to M.
+pub record HasRedone (P : Program) (p : ℕ) (M : ModelState) : Type 0 where
+  pub before : Scene
+  pub of : IsWorldOf P before
+  pub here : p < length P
+  pub choice : ℕ
+  pub next : slice_get (line_of before.state p) (place_at before.state p) ≡ Some choice
+  pub state : M.system ≡ after_redo before.state p
+
+abbrev pub unredone : ℕ → ModelState → ModelState
+unredone p M = with_system M (after_undo M.system p)
+
+-- These events were taken back, which led to M, from a world with these places.
+pub record HasRolled (P : Program) (taken : List Taken) (places : List ℕ) (M : ModelState) : Type 0 where
+  pub before : Scene
+  pub now : Scene
+  pub of : IsWorldOf P now
+  pub from : IsRolledFrom P before taken now
+  pub state : now.state ≡ M.system
+  pub was : before.state ≡ after_rollback M.system places
+  pub front : Begins (history_of now.state) (history_of before.state)
+
+abbrev pub unrolled : List ℕ → ModelState → ModelState
+unrolled places M = with_system M (after_rollback M.system places)
+
+-- there is a breakpoint of this name
+abbrev pub HasNamed : List ℕ → ModelState → Type 0
+HasNamed name M = (b : Breakpoint) × (named name M.breakpoints ≡ Some b)
+
+-- and it is not armed
+abbrev pub HasUnarmed : List ℕ → ModelState → Type 0
+HasUnarmed name M = (b : Breakpoint) × (named name M.breakpoints ≡ Some b) × (b.armed ≡ false)
+
+-- without it
+abbrev pub unset : List ℕ → ModelState → ModelState
+unset name M = record M { breakpoints = without name M.breakpoints }
+
+-- the plan sets a breakpoint, of this name
+abbrev pub is_break : plan.Plan → Bool
+is_break (plans.Break name conjuncts) = true
+is_break other = false
+
+abbrev pub name_set : plan.Plan → List ℕ
+name_set (plans.Break name conjuncts) = name
+name_set other = []
+
+-- it is one command, or a batch of commands
+abbrev pub is_command : plan.Plan → Bool
+is_command (plans.Batch batch) = false
+is_command other = true
+
+abbrev pub is_batch_of_commands : plan.Plan → Bool
+is_batch_of_commands (plans.Batch batch) = nat_le (length batch.items) BATCH && list_all is_command batch.items
+is_batch_of_commands other = false
+
+-- with this mark of it
+abbrev pub marked : List ℕ → Bool → ModelState → ModelState
+marked name armed M = record M { breakpoints = with_mark name armed M.breakpoints }
+
+-- The breakpoint of this name was taken out at this position, from 0, which led to M.
+pub record HasCleared (P : Program) (position : ℕ) (name : List ℕ) (kept : Kept) (M : ModelState) : Type 0 where
+  pub place : position ≤ length M.breakpoints
+  pub few : length M.breakpoints < BREAKPOINTS
+  pub free : named name M.breakpoints ≡ None
+  pub detector : (w : Scene) → IsWorldOf P w → w.state ≡ M.system → IsDetectorOf w kept.detector
+
+abbrev pub uncleared : ℕ → List ℕ → Kept → ModelState → ModelState
+uncleared position name kept M = record M { breakpoints = insert M.breakpoints position (breakpoint_of (name, kept)) }
+
+-- The scan that is handed in for an order is that of its conjuncts. No other order looks at one.
+abbrev pub IsScanFor : Order → Program → ModelState → List TruthLine → Type 0
+IsScanFor (One (Break name conjuncts)) P M scan = (w : Scene) → IsWorldOf P w → w.state ≡ M.system → scan ≡ scan_of w conjuncts
+IsScanFor order P M scan = Unit {0}

@@ -1,0 +1,85 @@
+//! Commands of a batch, given one after the other.
+
+ghost use Rattle.std.specs.Prelude.{◌≡◌, ◌<◌, OnErr};
+ghost use Rattle.dbg_base.specs.declared.limits.TheConstants.{BATCH};
+ghost use Rattle.dbg_base.specs.Calls.{IsOne, order_of, plans_in, AreCommands};
+ghost use Rattle.proc_lang.specs.Programs.{program_of};
+ghost use Rattle.dbg_command.specs.Tables.{IsTableOf, FollowsOrRefuses, GivesEach, TellsWithin, shown, state_of};
+ghost use Rattle.dbg_command.specs.Boxes.{reply_of};
+
+use crate::table::Table;
+use dbg_base::{Plan, Refusal, Reply};
+use proc_lang::Program;
+use std::alloc::Global;
+
+// How a batch is refused whose command at this position, from 0, is refused so.
+fn within_batch(position: usize, refusal: Refusal) -> Refusal
+    requires { position < BATCH }
+    ensures { TellsWithin position refusal result }
+{
+    match refusal {
+        Refusal::Memory => Refusal::Memory,
+        other => Refusal::InBatch {
+            at: position as u32 + 1,
+            number: other.number(),
+        },
+    }
+}
+
+// What is said, without what is kept.
+fn told<K: Drop>(done: Result<(Reply, K), Refusal>) -> Result<Reply, Refusal>
+    ensures { result ≡ reply_of done }
+{
+    match done {
+        Ok((reply, _)) => Ok(reply),
+        Err(refusal) => Err(refusal),
+    }
+}
+
+impl Table {
+    // Gives one command.
+    fn give_one(&mut self, alloc: Global, program: &Program, plan: &Plan) -> Result<Reply, Refusal>
+        requires of { IsTableOf (program_of program.now) self.old }
+        requires one { IsOne (order_of plan.now) }
+        ensures of { IsTableOf (program_of program.now) self.new }
+        ensures acts { FollowsOrRefuses (program_of program.now) (order_of plan.now) (state_of self.old) result (state_of self.new) }
+        ensures kept { OnErr result (shown self.new ≡ shown self.old) }
+    {
+        match plan {
+            Plan::Step(pid, choice) => told(self.step(alloc, program, *pid, *choice)),
+            Plan::Next(pid) => told(self.next(alloc, program, *pid)),
+            Plan::Undo(pid) => told(self.undo(alloc, program, *pid)),
+            Plan::Redo(pid) => self.redo(alloc, program, *pid),
+            Plan::Rollback(pid, n) => told(self.rollback(alloc, program, *pid, *n)),
+            Plan::Goto(name) => told(self.go_to(alloc, program, *name)),
+            Plan::Break(name, conjuncts) => {
+                self.set_break(alloc, program, *name, conjuncts, None)
+            },
+            Plan::Clear(name) => told(self.clear(program, *name)),
+            Plan::Arm(name) => self.arm(*name),
+            Plan::Pass(name) => self.pass(*name),
+            Plan::Batch(_) => unreachable!(),
+        }
+    }
+
+    // Gives the commands of a batch one after the other, up to the first that is refused.
+    pub(crate) fn give_each(
+        &mut self,
+        alloc: Global,
+        program: &Program,
+        plans: &[Plan],
+    ) -> Result<(), Refusal>
+        requires of { IsTableOf (program_of program.now) self.old }
+        requires commands { AreCommands plans.now }
+        ensures of { IsTableOf (program_of program.now) self.new }
+        ensures gives { GivesEach (program_of program.now) (plans_in plans.now) (state_of self.old) result (state_of self.new) }
+    {
+        for (i, plan) in plans.iter().enumerate() {
+            match self.give_one(alloc, program, plan) {
+                Ok(_) => {}
+                Err(refusal) => return Err(within_batch(i, refusal)),
+            }
+        }
+        Ok(())
+    }
+}

@@ -1,0 +1,101 @@
+//! What all commands have in common that can be taken back.
+
+ghost use Rattle.std.specs.Prelude.{◌≡◌, ◌↔◌, IsTrue, IfErr, IfSome, OnOk, OnErr};
+ghost use Rattle.dbg_base.specs.declared.refusal.Refusal.TheVariants.{Memory};
+ghost use Rattle.dbg_base.specs.Trees as tree;
+ghost use Rattle.dbg_base.specs.Calls.{Order, order_of};
+ghost use Rattle.dbg_base.specs.ModelStates.{ModelState};
+ghost use Rattle.proc_lang.specs.Programs.{program_of};
+ghost use Rattle.dbg_command.specs.Tables.{IsTableOf, FollowsOrRefuses, shown, state_of};
+ghost use Rattle.dbg_command.specs.Boxes.{LeadsBack, IsScanFor};
+
+use crate::table::Table;
+use dbg_base::{Plan, Refusal, Reply};
+use least_cut::Scan;
+use proc_lang::Program;
+use std::alloc::Global;
+
+/// A command that is applied to a table at most once, and then keeps what takes it back. Others know it by this alone.
+pub trait Command: Drop + Send {
+    // What it is to do, or did.
+    ghost order: { Self → Order };
+
+    // It was not applied yet.
+    ghost IsFresh: { Self → Type 0 };
+
+    // It may be taken back in this state of this program.
+    ghost MayGoBack: { Self → tree.Program → ModelState → Type 0 };
+
+    // The state to which that leads.
+    ghost before: { Self → ModelState → ModelState };
+
+    /// What it is to do, or did. It takes no memory.
+    fn plan(&self) -> &Plan
+        ensures { order_of result.now ≡ order self.now };
+
+    /// Whether it was not applied yet. It takes no memory.
+    fn fresh(&self) -> bool
+        ensures { IsTrue result ↔ IsFresh self.now };
+
+    /// Gives the command. It is refused, and changes nothing that any call shows, as its kind says, or as `Memory`, where that runs out.
+    /// A command that sets a breakpoint may be given the scan of its conjuncts over the table's world; no other looks at one.
+    fn apply(
+        &mut self,
+        alloc: Global,
+        program: &Program,
+        table: &mut Table,
+        scan: Option<Scan>,
+    ) -> Result<Reply, Refusal>
+        requires fresh { IsFresh self.old }
+        requires of { IsTableOf (program_of program.now) table.old }
+        requires scan { IfSome scan (IsScanFor (order self.old) (program_of program.now) (state_of table.old)) }
+        ensures of { IsTableOf (program_of program.now) table.new }
+        ensures acts { FollowsOrRefuses (program_of program.now) (order self.old) (state_of table.old) result (state_of table.new) }
+        ensures same { order self.new ≡ order self.old }
+        ensures leads { OnOk result (LeadsBack (MayGoBack self.new (program_of program.now)) (before self.new) (state_of table.old)
+            (state_of table.new)) }
+        ensures kept { OnErr result (shown table.new ≡ shown table.old) }
+        ensures unchanged { OnErr result (self.new ≡ self.old) };
+
+    /// Takes the command back, in the state in which it left the table: the table is as before it. It is refused only as `Memory`,
+    /// where that runs out, and then changes nothing that any call shows.
+    fn revert(&mut self, table: &mut Table) -> Result<(), Refusal>
+        requires { (P : tree.Program) × IsTableOf P table.old × MayGoBack self.old P (state_of table.old) }
+        ensures of { (P : tree.Program) → IsTableOf P table.old → MayGoBack self.old P (state_of table.old) → IsTableOf P table.new }
+        ensures back { OnOk result (state_of table.new ≡ before self.old (state_of table.old)) }
+        ensures refuses { IfErr result (λ refusal. refusal ≡ Memory) }
+        ensures kept { OnErr result (shown table.new ≡ shown table.old) }
+        ensures unchanged { OnErr result (self.new ≡ self.old) };
+}
+
+impl Command for Box<dyn Command> {
+    ghost order = { λ b. (Command-box b).order b.value };
+
+    ghost IsFresh = { λ b. (Command-box b).IsFresh b.value };
+
+    ghost MayGoBack = { λ b. (Command-box b).MayGoBack b.value };
+
+    ghost before = { λ b. (Command-box b).before b.value };
+
+    fn plan(&self) -> &Plan {
+        self.as_ref().plan()
+    }
+
+    fn fresh(&self) -> bool {
+        self.as_ref().fresh()
+    }
+
+    fn apply(
+        &mut self,
+        alloc: Global,
+        program: &Program,
+        table: &mut Table,
+        scan: Option<Scan>,
+    ) -> Result<Reply, Refusal> {
+        self.as_mut().apply(alloc, program, table, scan)
+    }
+
+    fn revert(&mut self, table: &mut Table) -> Result<(), Refusal> {
+        self.as_mut().revert(table)
+    }
+}

@@ -1,0 +1,80 @@
+//! Commands one after the other, as one.
+
+ghost use Rattle.std.specs.Prelude.{◌≡◌, true, None};
+ghost use Rattle.dbg_base.specs.Calls.{Batch, order_of, plans_in, AreCommands};
+ghost use Rattle.dbg_command.specs.Tables.{IsTableOf, state_of};
+ghost use Rattle.dbg_command.specs.Boxes.{IfKept, undone_by, is_batch_of_commands};
+
+use crate::command::Command;
+use crate::table::Table;
+use dbg_base::{Done, Plan, Refusal, Reply};
+use least_cut::Scan;
+use proc_lang::Program;
+use std::alloc::Global;
+use std::mem;
+
+/// Commands of the other kinds, one after the other, which are accepted all or not at all. The table before them is kept, whole.
+#[derive(Debug, Drop)]
+pub struct BatchCmd {
+    plan: Plan,
+    table: Option<Table>,
+    ghost commands: { is_batch_of_commands plan ≡ true },
+}
+
+impl BatchCmd {
+    /// The batch of these commands, at most 32 and none a batch, which was not applied yet. It takes no memory.
+    pub fn new(plans: Vec<Plan>) -> BatchCmd
+        requires { AreCommands plans.items }
+        ensures fresh { ⟦<BatchCmd as Command>⟧.IsFresh result }
+        ensures order { ⟦<BatchCmd as Command>⟧.order result ≡ Batch (plans_in plans.items) }
+    {
+        BatchCmd {
+            plan: Plan::Batch(plans),
+            table: None,
+        }
+    }
+}
+
+impl Command for BatchCmd {
+    ghost order = { λ it. order_of it.plan };
+
+    ghost IsFresh = { λ it. it.table ≡ None };
+
+    ghost MayGoBack = { λ it P M. IfKept it.table (λ table. IsTableOf P table) };
+
+    ghost before = { λ it. undone_by it.table (λ table M. state_of table) };
+
+    fn plan(&self) -> &Plan {
+        &self.plan
+    }
+
+    fn fresh(&self) -> bool {
+        self.table.is_none()
+    }
+
+    fn apply(
+        &mut self,
+        alloc: Global,
+        program: &Program,
+        table: &mut Table,
+        _scan: Option<Scan>,
+    ) -> Result<Reply, Refusal> {
+        let Plan::Batch(plans) = &self.plan else {
+            unreachable!()
+        };
+        let mut other = table.copy()?;
+        other.give_each(alloc, program, plans.as_slice())?;
+        let reply = other.reply(Done::Plain);
+        mem::swap(table, &mut other);
+        self.table = Some(other);
+        Ok(reply)
+    }
+
+    fn revert(&mut self, table: &mut Table) -> Result<(), Refusal> {
+        let Some(other) = self.table.as_mut() else {
+            unreachable!()
+        };
+        mem::swap(table, other);
+        Ok(())
+    }
+}

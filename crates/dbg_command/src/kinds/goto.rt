@@ -1,0 +1,74 @@
+//! All processes go back to a breakpoint's cut.
+
+ghost use Rattle.std.specs.Prelude.{◌≡◌, None};
+ghost use Rattle.dbg_base.specs.declared.call.Plan.TheVariants as plans;
+ghost use Rattle.dbg_base.specs.Calls.{One, Goto};
+ghost use Rattle.dbg_command.specs.Boxes.{IfKept, undone_by, HasRolled, unrolled};
+
+use crate::command::Command;
+use crate::table::Table;
+use crate::undoing::TakenBack;
+use dbg_base::{Name, Plan, Refusal, Reply};
+use least_cut::Scan;
+use proc_lang::Program;
+use std::alloc::Global;
+
+/// All processes go back to a breakpoint's cut. The events that were taken back are kept.
+#[derive(Debug, Drop)]
+pub struct GotoCmd {
+    plan: Plan,
+    name: Name,
+    taken: Option<TakenBack>,
+    ghost of: { plan ≡ plans.Goto name },
+}
+
+impl GotoCmd {
+    /// The command, which was not applied yet. It takes no memory.
+    pub fn new(name: Name) -> GotoCmd
+        ensures fresh { ⟦<GotoCmd as Command>⟧.IsFresh result }
+        ensures order { ⟦<GotoCmd as Command>⟧.order result ≡ One (Goto name) }
+    {
+        GotoCmd {
+            plan: Plan::Goto(name),
+            name,
+            taken: None,
+        }
+    }
+}
+
+impl Command for GotoCmd {
+    ghost order = { λ it. One (Goto it.name) };
+
+    ghost IsFresh = { λ it. it.taken ≡ None };
+
+    ghost MayGoBack = { λ it P M. IfKept it.taken (λ taken. HasRolled P taken.rolled taken.places M) };
+
+    ghost before = { λ it. undone_by it.taken (λ taken. unrolled taken.places) };
+
+    fn plan(&self) -> &Plan {
+        &self.plan
+    }
+
+    fn fresh(&self) -> bool {
+        self.taken.is_none()
+    }
+
+    fn apply(
+        &mut self,
+        alloc: Global,
+        program: &Program,
+        table: &mut Table,
+        _scan: Option<Scan>,
+    ) -> Result<Reply, Refusal> {
+        let (reply, taken) = table.go_to(alloc, program, self.name)?;
+        self.taken = Some(taken);
+        Ok(reply)
+    }
+
+    fn revert(&mut self, table: &mut Table) -> Result<(), Refusal> {
+        let Some(taken) = self.taken.as_mut() else {
+            unreachable!()
+        };
+        table.forth(taken)
+    }
+}

@@ -1,0 +1,82 @@
+//! A process makes a command.
+
+ghost use Rattle.std.specs.Prelude.{◌≡◌, None};
+ghost use Rattle.dbg_base.specs.declared.call.Plan.TheVariants as plans;
+ghost use Rattle.dbg_base.specs.Calls.{One, Step};
+ghost use Rattle.dbg_command.specs.Boxes.{IfKept, undone_by, HasStepped, unstepped};
+
+use crate::command::Command;
+use crate::table::Table;
+use causal_world::Cutoff;
+use dbg_base::{Choice, Pid, Plan, Refusal, Reply};
+use least_cut::Scan;
+use proc_lang::Program;
+use std::alloc::Global;
+
+/// The process makes this command. What was cut off its line is kept.
+#[derive(Debug, Drop)]
+pub struct StepCmd {
+    plan: Plan,
+    pid: Pid,
+    choice: Choice,
+    cutoff: Option<Cutoff>,
+    ghost of: { plan ≡ plans.Step pid choice },
+}
+
+impl StepCmd {
+    /// The command, which was not applied yet. It takes no memory.
+    pub fn new(pid: Pid, choice: Choice) -> StepCmd
+        ensures fresh { ⟦<StepCmd as Command>⟧.IsFresh result }
+        ensures order { ⟦<StepCmd as Command>⟧.order result ≡ One (Step pid.0 choice.0) }
+    {
+        StepCmd {
+            plan: Plan::Step(pid, choice),
+            pid,
+            choice,
+            cutoff: None,
+        }
+    }
+}
+
+impl Command for StepCmd {
+    ghost order = { λ it. One (Step it.pid.0 it.choice.0) };
+
+    ghost IsFresh = { λ it. it.cutoff ≡ None };
+
+    ghost MayGoBack = { λ it P M. IfKept it.cutoff (λ cutoff. HasStepped P it.pid.0 cutoff M) };
+
+    ghost before = { λ it. undone_by it.cutoff (λ cutoff. unstepped it.pid.0 cutoff) };
+
+    fn plan(&self) -> &Plan {
+        &self.plan
+    }
+
+    fn fresh(&self) -> bool {
+        self.cutoff.is_none()
+    }
+
+    fn apply(
+        &mut self,
+        alloc: Global,
+        program: &Program,
+        table: &mut Table,
+        _scan: Option<Scan>,
+    ) -> Result<Reply, Refusal> {
+        let (reply, cutoff) = table.step(alloc, program, self.pid, self.choice)?;
+        self.cutoff = Some(cutoff);
+        Ok(reply)
+    }
+
+    fn revert(&mut self, table: &mut Table) -> Result<(), Refusal> {
+        let Some(cutoff) = self.cutoff.take() else {
+            unreachable!()
+        };
+        match table.unstep(self.pid, cutoff) {
+            Ok(()) => Ok(()),
+            Err((refusal, cutoff)) => {
+                self.cutoff = Some(cutoff);
+                Err(refusal)
+            }
+        }
+    }
+}

@@ -1,0 +1,74 @@
+//! The process's last event is taken back.
+
+ghost use Rattle.std.specs.Prelude.{◌≡◌, None};
+ghost use Rattle.dbg_base.specs.declared.call.Plan.TheVariants as plans;
+ghost use Rattle.dbg_base.specs.Calls.{One, Undo};
+ghost use Rattle.dbg_command.specs.Boxes.{IfKept, undone_by, HasRolled, unrolled};
+
+use crate::command::Command;
+use crate::table::Table;
+use crate::undoing::TakenBack;
+use dbg_base::{Pid, Plan, Refusal, Reply};
+use least_cut::Scan;
+use proc_lang::Program;
+use std::alloc::Global;
+
+/// The process's last event is taken back. The events that were taken back are kept.
+#[derive(Debug, Drop)]
+pub struct UndoCmd {
+    plan: Plan,
+    pid: Pid,
+    taken: Option<TakenBack>,
+    ghost of: { plan ≡ plans.Undo pid },
+}
+
+impl UndoCmd {
+    /// The command, which was not applied yet. It takes no memory.
+    pub fn new(pid: Pid) -> UndoCmd
+        ensures fresh { ⟦<UndoCmd as Command>⟧.IsFresh result }
+        ensures order { ⟦<UndoCmd as Command>⟧.order result ≡ One (Undo pid.0) }
+    {
+        UndoCmd {
+            plan: Plan::Undo(pid),
+            pid,
+            taken: None,
+        }
+    }
+}
+
+impl Command for UndoCmd {
+    ghost order = { λ it. One (Undo it.pid.0) };
+
+    ghost IsFresh = { λ it. it.taken ≡ None };
+
+    ghost MayGoBack = { λ it P M. IfKept it.taken (λ taken. HasRolled P taken.rolled taken.places M) };
+
+    ghost before = { λ it. undone_by it.taken (λ taken. unrolled taken.places) };
+
+    fn plan(&self) -> &Plan {
+        &self.plan
+    }
+
+    fn fresh(&self) -> bool {
+        self.taken.is_none()
+    }
+
+    fn apply(
+        &mut self,
+        alloc: Global,
+        program: &Program,
+        table: &mut Table,
+        _scan: Option<Scan>,
+    ) -> Result<Reply, Refusal> {
+        let (reply, taken) = table.undo(alloc, program, self.pid)?;
+        self.taken = Some(taken);
+        Ok(reply)
+    }
+
+    fn revert(&mut self, table: &mut Table) -> Result<(), Refusal> {
+        let Some(taken) = self.taken.as_mut() else {
+            unreachable!()
+        };
+        table.forth(taken)
+    }
+}

@@ -1,0 +1,106 @@
+//! What takes commands back.
+
+ghost use Rattle.std.specs.Prelude.{◌≡◌, false, true, IfErr, OnOk, OnErr};
+ghost use Rattle.dbg_base.specs.declared.refusal.Refusal.TheVariants.{Memory};
+ghost use Rattle.dbg_base.specs.Trees as tree;
+ghost use Rattle.dbg_command.specs.Tables.{IsTableOf, shown, state_of};
+ghost use Rattle.dbg_command.specs.Boxes.{HasStepped, HasRedone, HasRolled, HasNamed, HasUnarmed, HasCleared};
+ghost use Rattle.dbg_command.specs.Boxes.{unstepped, unredone, unrolled, unset, marked, uncleared};
+
+use crate::table::Table;
+use crate::undoing::TakenBack;
+use break_book::Breakpoint;
+use causal_world::Cutoff;
+use dbg_base::{Name, Pid, Refusal};
+
+impl Table {
+    // A step of the process is taken back, which cut these choices off. Where memory runs out they are handed back.
+    pub(crate) fn unstep(&mut self, pid: Pid, cutoff: Cutoff) -> Result<(), (Refusal, Cutoff)>
+        requires { (P : tree.Program) × IsTableOf P self.old × HasStepped P pid.0 cutoff (state_of self.old) }
+        ensures of { (P : tree.Program) → IsTableOf P self.old → HasStepped P pid.0 cutoff (state_of self.old) → IsTableOf P self.new }
+        ensures back { OnOk result (state_of self.new ≡ unstepped pid.0 cutoff (state_of self.old)) }
+        ensures refuses { IfErr result (λ refused. (refused.0 ≡ Memory) × (refused.1 ≡ cutoff)) }
+        ensures kept { OnErr result (self.new ≡ self.old) }
+    {
+        self.world.unstep(pid, cutoff)?;
+        self.book.shrink(pid, &self.world);
+        Ok(())
+    }
+
+    // A redo of the process is taken back.
+    pub(crate) fn unredo(&mut self, pid: Pid) -> Result<(), Refusal>
+        requires { (P : tree.Program) × IsTableOf P self.old × HasRedone P pid.0 (state_of self.old) }
+        ensures of { (P : tree.Program) → IsTableOf P self.old → HasRedone P pid.0 (state_of self.old) → IsTableOf P self.new }
+        ensures back { OnOk result (state_of self.new ≡ unredone pid.0 (state_of self.old)) }
+        ensures refuses { IfErr result (λ refusal. refusal ≡ Memory) }
+        ensures kept { OnErr result (self.new ≡ self.old) }
+    {
+        self.world.unredo(pid)?;
+        self.book.shrink(pid, &self.world);
+        Ok(())
+    }
+
+    // Events that were taken back are made again. Where memory runs out they are still there.
+    pub(crate) fn forth(&mut self, taken: &mut TakenBack) -> Result<(), Refusal>
+        requires { (P : tree.Program) × IsTableOf P self.old × HasRolled P taken.old.rolled taken.old.places (state_of self.old) }
+        ensures of { (P : tree.Program) → IsTableOf P self.old → HasRolled P taken.old.rolled taken.old.places (state_of self.old)
+            → IsTableOf P self.new }
+        ensures back { OnOk result (state_of self.new ≡ unrolled taken.old.places (state_of self.old)) }
+        ensures refuses { IfErr result (λ refusal. refusal ≡ Memory) }
+        ensures kept { OnErr result (shown self.new ≡ shown self.old) }
+        ensures left { OnErr result (taken.new ≡ taken.old) }
+    {
+        self.book.reserve_to(&taken.places)?;
+        self.world.forth(&mut taken.rolled)?;
+        self.book.follow(&self.world);
+        Ok(())
+    }
+
+    // The breakpoint of this name is removed.
+    pub(crate) fn unset_break(&mut self, name: Name)
+        requires { HasNamed name (state_of self.old) }
+        ensures of { (P : tree.Program) → IsTableOf P self.old → IsTableOf P self.new }
+        ensures back { state_of self.new ≡ unset name (state_of self.old) }
+    {
+        let Ok(_) = self.book.clear(name) else {
+            unreachable!()
+        };
+    }
+
+    // The breakpoint of this name is no longer armed.
+    pub(crate) fn disarm(&mut self, name: Name)
+        requires { HasNamed name (state_of self.old) }
+        ensures of { (P : tree.Program) → IsTableOf P self.old → IsTableOf P self.new }
+        ensures back { state_of self.new ≡ marked name false (state_of self.old) }
+    {
+        self.book.disarm(name);
+    }
+
+    // The breakpoint of this name, which is not armed, is armed again.
+    pub(crate) fn rearm(&mut self, name: Name)
+        requires { HasUnarmed name (state_of self.old) }
+        ensures of { (P : tree.Program) → IsTableOf P self.old → IsTableOf P self.new }
+        ensures back { state_of self.new ≡ marked name true (state_of self.old) }
+    {
+        let Ok(()) = self.book.arm(name) else {
+            unreachable!()
+        };
+    }
+
+    // The breakpoint that was taken out at this position is put back. Where memory runs out it is handed back.
+    pub(crate) fn restore_break(
+        &mut self,
+        position: usize,
+        name: Name,
+        breakpoint: Breakpoint,
+    ) -> Result<(), (Refusal, Breakpoint)>
+        requires { (P : tree.Program) × IsTableOf P self.old × HasCleared P position name breakpoint (state_of self.old) }
+        ensures of { (P : tree.Program) → IsTableOf P self.old → HasCleared P position name breakpoint (state_of self.old)
+            → IsTableOf P self.new }
+        ensures back { OnOk result (state_of self.new ≡ uncleared position name breakpoint (state_of self.old)) }
+        ensures refuses { IfErr result (λ refused. (refused.0 ≡ Memory) × (refused.1 ≡ breakpoint)) }
+        ensures kept { OnErr result (self.new ≡ self.old) }
+    {
+        self.book.restore_at(position, name, breakpoint)
+    }
+}
