@@ -12,6 +12,7 @@ use Rattle.dbg_base.specs.declared.refusal.Refusal.{Refusal}
 use Rattle.dbg_base.specs.declared.refusal.Refusal.TheVariants.{Memory, UnknownProcess, UnknownBreak, BadPlace}
 use Rattle.dbg_base.specs.Trees.{Program}
 use Rattle.dbg_base.specs.SystemStates.{SystemState, place_at, history_of, last_choice, after_undo}
+use Rattle.dbg_base.specs.Choices.{CannotUndo}
 use Rattle.dbg_base.specs.Reversal.{MayUndo, IsRollback}
 use Rattle.dbg_base.specs.Breakpoints.{Breakpoint}
 use Rattle.dbg_base.specs.ModelStates.{ModelState, with_system}
@@ -60,6 +61,17 @@ taken_back P M M' p k reply here may was left replies =
       left = left;
     })))
 
+-- it stays, or memory ran out
+pub not_taken_back : (P : Program) (M M' : ModelState) (p : ℕ) (refusal : Refusal) → p < length P
+    → CannotUndo P M.system p refusal ⊎ (refusal ≡ Memory) → M' ≡ M → ActsOrRefuses P (Undo p) M (Err refusal) M'
+not_taken_back P M M' p refusal here (inl why) same =
+    inl (with_process P p _ M (Refused refusal) M' here (inr (record {
+      refusal = refusal;
+      why = why;
+      told = refused M M' refusal refusal refl same;
+    })))
+not_taken_back P M M' p refusal here (inr e) same = inr (refused M M' refusal Memory e same)
+
 pub rolled_back : (P : Program) (M M' : ModelState) (p n : ℕ) (cut : List ℕ) (result : Result Reply Refusal) → p < length P
     → n ≤ place_at M.system p → IsRollback P (history_of M.system) p n cut → GoesBack P M cut result M'
     → ActsOrRefuses P (Rollback p n) M result M'
@@ -106,19 +118,24 @@ pub system_changed : (before after : TableState) (system : SystemState) → afte
     → breakpoints_of after.book ≡ breakpoints_of before.book → state_of after ≡ with_system (state_of before) system
 system_changed before after system moved same = λ i. record { system = moved i; breakpoints = same i }
 
-on_line : (line : List ℕ) (n k : ℕ) → slice_get line n ≡ Some k → n < length line
+pub on_line : (line : List ℕ) (n k : ℕ) → slice_get line n ≡ Some k → n < length line
 on_line [] n k e = cc
 on_line (choice ∷ line) zero k e = omega arith
 on_line (choice ∷ line) (suc n) k e = let rest = on_line line n k e in omega (arith, rest)
 
 -- a choice that is made again is on its line
-pub redo_left : (P : Program) (M : SystemState) (p k : ℕ) → redo_choice P M p ≡ Ok k → place_at M p < length (line_of M p)
-redo_left P M p k made = by (slice_get (line_of M p) (place_at M p)) refl
+pub redo_next : (P : Program) (M : SystemState) (p k : ℕ) → redo_choice P M p ≡ Ok k
+    → (n : ℕ) × (slice_get (line_of M p) (place_at M p) ≡ Some n)
+redo_next P M p k made = by (slice_get (line_of M p) (place_at M p)) refl
   where
-    by : (o : Option ℕ) → slice_get (line_of M p) (place_at M p) ≡ o → place_at M p < length (line_of M p)
+    by : (o : Option ℕ) → slice_get (line_of M p) (place_at M p) ≡ o → (n : ℕ) × (o ≡ Some n)
     by None e =
         let wrong : Err NothingToRedo ≡ Ok k = sym (ap (choice_again P (configuration_of P M) p) e) ∙ made in cc
-    by (Some choice) e = on_line (line_of M p) (place_at M p) choice e
+    by (Some choice) e = (choice, refl)
+
+pub redo_left : (P : Program) (M : SystemState) (p k : ℕ) → redo_choice P M p ≡ Ok k → place_at M p < length (line_of M p)
+redo_left P M p k made =
+    let next = redo_next P M p k made in on_line (line_of M p) (place_at M p) next.0 next.1
 
 -- the least cut of a world is consistent by what its events sent and received
 pub consistent_least : (P : Program) (w : Scene) → IsWorldOf P w → (conjuncts : List Conjunct) (cut : List ℕ)

@@ -2,4 +2,8 @@ pub mod Fitting
 pub mod Acting
 pub mod Listing
 pub mod Told
-pub mod Batching
+pub mod GivenEach
+pub mod Restoring
+pub mod GoingBack
+pub mod Boxed
+pub mod Temp

@@ -1,22 +1,21 @@
 -- What a command keeps once it was accepted: where it may be taken back by that, and the state to which this leads.
-use Rattle.std.specs.Prelude.{◌≡◌, ◌&&◌, nat_le, ℕ, ◌<◌, ◌≤◌, Bool, true, false, List, [], length, insert, Option, Some, None, Result, Ok, Err, slice_get, ◌∷◌}
-use Rattle.std.specs.List.{list_all}
+use Rattle.std.specs.Prelude.{◌≡◌, ℕ, ◌<◌, ◌≤◌, Bool, true, false, List, [], length, insert, Option, Some, None, Result, Ok, Err, slice_get, ◌∷◌}
 use Rattle.dbg_base.specs.declared.call.Plan as plan
 use Rattle.dbg_base.specs.declared.call.Plan.TheVariants as plans
 use Rattle.dbg_base.specs.declared.refusal.Refusal.{Refusal}
 use Rattle.dbg_base.specs.declared.said.Reply.{Reply}
-use Rattle.dbg_base.specs.declared.limits.TheConstants.{BATCH, BREAKPOINTS}
+use Rattle.dbg_base.specs.declared.limits.TheConstants.{BREAKPOINTS}
 use Rattle.dbg_base.specs.Trees.{Program}
 use Rattle.dbg_base.specs.Predicates.{Conjunct}
-use Rattle.dbg_base.specs.SystemStates.{history_of, line_of, place_at, redo_line, after_choice, after_redo, after_undo, after_rollback}
+use Rattle.dbg_base.specs.SystemStates.{line_of, place_at, redo_line, after_choice, after_redo, after_undo, after_rollback}
 use Rattle.dbg_base.specs.Breakpoints.{Breakpoint, named, without, with_mark}
 use Rattle.dbg_base.specs.ModelStates.{ModelState, with_system}
-use Rattle.dbg_base.specs.Calls.{Order, One, Break}
+use Rattle.dbg_base.specs.Calls.{Order, One, Batch, Break}
 use Rattle.causal_world.specs.declared.rolled.Taken.{Taken}
 use Rattle.causal_world.specs.Scenes.{Scene, IsWorldOf, restored}
 use Rattle.causal_world.specs.Rollings.{IsRolledFrom}
 use Rattle.least_cut.specs.Watches.{TruthLine, scan_of}
-use Rattle.least_cut.specs.Detectors.{IsDetectorOf, Begins}
+use Rattle.least_cut.specs.Detectors.{IsDetectorOf}
 use Rattle.break_book.specs.Books.{Kept, breakpoint_of}
 
 -- A command led from M to M', where it may be taken back, and that leads to M.
@@ -75,7 +74,6 @@ pub record HasRolled (P : Program) (taken : List Taken) (places : List ℕ) (M :
   pub from : IsRolledFrom P before taken now
   pub state : now.state ≡ M.system
   pub was : before.state ≡ after_rollback M.system places
-  pub front : Begins (history_of now.state) (history_of before.state)
 
 abbrev pub unrolled : List ℕ → ModelState → ModelState
 unrolled places M = with_system M (after_rollback M.system places)
@@ -101,14 +99,10 @@ abbrev pub name_set : plan.Plan → List ℕ
 name_set (plans.Break name conjuncts) = name
 name_set other = []
 
--- it is one command, or a batch of commands
-abbrev pub is_command : plan.Plan → Bool
-is_command (plans.Batch batch) = false
-is_command other = true
-
-abbrev pub is_batch_of_commands : plan.Plan → Bool
-is_batch_of_commands (plans.Batch batch) = nat_le (length batch.items) BATCH && list_all is_command batch.items
-is_batch_of_commands other = false
+-- it is a batch
+abbrev pub is_batch : Order → Bool
+is_batch (One plan) = false
+is_batch (Batch plans) = true
 
 -- with this mark of it
 abbrev pub marked : List ℕ → Bool → ModelState → ModelState

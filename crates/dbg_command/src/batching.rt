@@ -1,14 +1,14 @@
 //! Commands of a batch, given one after the other.
 
-ghost use Rattle.std.specs.Prelude.{◌≡◌, ◌<◌, OnErr};
+ghost use Rattle.std.specs.Prelude.{◌≡◌, ◌<◌, Ok, Err, IfOk, IfErr, OnErr};
 ghost use Rattle.dbg_base.specs.declared.limits.TheConstants.{BATCH};
-ghost use Rattle.dbg_base.specs.Calls.{IsOne, order_of, plans_in, AreCommands};
+ghost use Rattle.dbg_base.specs.Calls.{Batch, IsOne, order_of, plans_in, AreCommands};
 ghost use Rattle.proc_lang.specs.Programs.{program_of};
 ghost use Rattle.dbg_command.specs.Tables.{IsTableOf, FollowsOrRefuses, GivesEach, TellsWithin, shown, state_of};
 ghost use Rattle.dbg_command.specs.Boxes.{reply_of};
 
 use crate::table::Table;
-use dbg_base::{Plan, Refusal, Reply};
+use dbg_base::{Done, Plan, Refusal, Reply};
 use proc_lang::Program;
 use std::alloc::Global;
 
@@ -54,10 +54,10 @@ impl Table {
             Plan::Goto(name) => told(self.go_to(alloc, program, *name)),
             Plan::Break(name, conjuncts) => {
                 self.set_break(alloc, program, *name, conjuncts, None)
-            },
+            }
             Plan::Clear(name) => told(self.clear(program, *name)),
-            Plan::Arm(name) => self.arm(*name),
-            Plan::Pass(name) => self.pass(*name),
+            Plan::Arm(name) => self.arm(program, *name),
+            Plan::Pass(name) => self.pass(program, *name),
             Plan::Batch(_) => unreachable!(),
         }
     }
@@ -81,5 +81,25 @@ impl Table {
             }
         }
         Ok(())
+    }
+
+    // Gives the commands of a batch to a copy, which is handed out with the answer to the batch.
+    pub(crate) fn after_batch(
+        &self,
+        alloc: Global,
+        program: &Program,
+        plans: &[Plan],
+    ) -> Result<(Reply, Table), Refusal>
+        requires of { IsTableOf (program_of program.now) self.now }
+        requires commands { AreCommands plans.now }
+        ensures of { IfOk result (λ done. IsTableOf (program_of program.now) done.1) }
+        ensures acts { IfOk result (λ done. FollowsOrRefuses (program_of program.now) (Batch (plans_in plans.now)) (state_of self.now)
+            (Ok done.0) (state_of done.1)) }
+        ensures refuses { IfErr result (λ refusal. FollowsOrRefuses (program_of program.now) (Batch (plans_in plans.now))
+            (state_of self.now) (Err refusal) (state_of self.now)) }
+    {
+        let mut after = self.copy()?;
+        after.give_each(alloc, program, plans)?;
+        Ok((after.reply(Done::Plain), after))
     }
 }

@@ -107,11 +107,10 @@ impl Table {
     }
 
     // The breakpoint halts the session again.
-    pub(crate) fn arm(&mut self, name: Name) -> Result<Reply, Refusal>
-        requires { (P : tree.Program) × IsTableOf P self.old }
-        ensures of { (P : tree.Program) → IsTableOf P self.old → IsTableOf P self.new }
-        ensures acts { (P : tree.Program) → IsTableOf P self.old
-            → ActsOrRefuses P (model.Arm name) (state_of self.old) result (state_of self.new) }
+    pub(crate) fn arm(&mut self, program: &Program, name: Name) -> Result<Reply, Refusal>
+        requires { IsTableOf (program_of program.now) self.old }
+        ensures of { IsTableOf (program_of program.now) self.new }
+        ensures acts { ActsOrRefuses (program_of program.now) (model.Arm name) (state_of self.old) result (state_of self.new) }
         ensures leads { OnOk result (LeadsBack (HasNamed name) (marked name false) (state_of self.old) (state_of self.new)) }
         ensures kept { OnErr result (shown self.new ≡ shown self.old) }
     {
@@ -120,11 +119,10 @@ impl Table {
     }
 
     // The breakpoint no longer halts the session.
-    pub(crate) fn pass(&mut self, name: Name) -> Result<Reply, Refusal>
-        requires { (P : tree.Program) × IsTableOf P self.old }
-        ensures of { (P : tree.Program) → IsTableOf P self.old → IsTableOf P self.new }
-        ensures acts { (P : tree.Program) → IsTableOf P self.old
-            → ActsOrRefuses P (model.Pass name) (state_of self.old) result (state_of self.new) }
+    pub(crate) fn pass(&mut self, program: &Program, name: Name) -> Result<Reply, Refusal>
+        requires { IsTableOf (program_of program.now) self.old }
+        ensures of { IsTableOf (program_of program.now) self.new }
+        ensures acts { ActsOrRefuses (program_of program.now) (model.Pass name) (state_of self.old) result (state_of self.new) }
         ensures leads { OnOk result (LeadsBack (HasUnarmed name) (marked name true) (state_of self.old) (state_of self.new)) }
         ensures kept { OnErr result (shown self.new ≡ shown self.old) }
     {

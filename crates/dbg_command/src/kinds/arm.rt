@@ -55,11 +55,11 @@ impl Command for ArmCmd {
     fn apply(
         &mut self,
         _alloc: Global,
-        _program: &Program,
+        program: &Program,
         table: &mut Table,
         _scan: Option<Scan>,
     ) -> Result<Reply, Refusal> {
-        let reply = table.arm(self.name)?;
+        let reply = table.arm(program, self.name)?;
         self.applied = true;
         Ok(reply)
     }

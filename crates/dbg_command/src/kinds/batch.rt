@@ -2,12 +2,12 @@
 
 ghost use Rattle.std.specs.Prelude.{◌≡◌, true, None};
 ghost use Rattle.dbg_base.specs.Calls.{Batch, order_of, plans_in, AreCommands};
-ghost use Rattle.dbg_command.specs.Tables.{IsTableOf, state_of};
-ghost use Rattle.dbg_command.specs.Boxes.{IfKept, undone_by, is_batch_of_commands};
+ghost use Rattle.dbg_command.specs.Tables.{IsTableOf, IsGivable, state_of};
+ghost use Rattle.dbg_command.specs.Boxes.{IfKept, undone_by, is_batch};
 
 use crate::command::Command;
 use crate::table::Table;
-use dbg_base::{Done, Plan, Refusal, Reply};
+use dbg_base::{Plan, Refusal, Reply};
 use least_cut::Scan;
 use proc_lang::Program;
 use std::alloc::Global;
@@ -18,7 +18,8 @@ use std::mem;
 pub struct BatchCmd {
     plan: Plan,
     table: Option<Table>,
-    ghost commands: { is_batch_of_commands plan ≡ true },
+    ghost batch: { is_batch (order_of plan) ≡ true },
+    ghost commands: { ∥ IsGivable plan ∥₁ },
 }
 
 impl BatchCmd {
@@ -62,9 +63,7 @@ impl Command for BatchCmd {
         let Plan::Batch(plans) = &self.plan else {
             unreachable!()
         };
-        let mut other = table.copy()?;
-        other.give_each(alloc, program, plans.as_slice())?;
-        let reply = other.reply(Done::Plain);
+        let (reply, mut other) = table.after_batch(alloc, program, plans.as_slice())?;
         mem::swap(table, &mut other);
         self.table = Some(other);
         Ok(reply)

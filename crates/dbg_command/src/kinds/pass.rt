@@ -55,11 +55,11 @@ impl Command for PassCmd {
     fn apply(
         &mut self,
         _alloc: Global,
-        _program: &Program,
+        program: &Program,
         table: &mut Table,
         _scan: Option<Scan>,
     ) -> Result<Reply, Refusal> {
-        let reply = table.pass(self.name)?;
+        let reply = table.pass(program, self.name)?;
         self.applied = true;
         Ok(reply)
     }

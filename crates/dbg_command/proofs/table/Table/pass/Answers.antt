@@ -1,12 +1,17 @@
-use Rattle.std.proofs.Common.{◌≡◌, List, sym, subst, Ok, Err, rules}
+use Rattle.std.proofs.Common.{◌≡◌, List, sym, ap, ◌∙◌, refl, subst, Ok, Err, false, true, rules}
+use Rattle.proc_lang.specs.Programs.{program_of}
 use Rattle.dbg_base.specs.Calls as model
-use Rattle.break_book.specs.Books.{Entry}
+use Rattle.break_book.specs.Books.{Entry, breakpoints_of}
 use Rattle.dbg_command.specs.Tables.{TableState, IsTableOf, ActsOrRefuses, state_of}
 use Rattle.dbg_command.proofs.Listing.{keeps_table, passes, not_passed}
+use Rattle.dbg_command.proofs.Restoring.{found_armed}
+use Rattle.dbg_command.proofs.GoingBack.{leads_from, passed_back}
 use Rattle.dbg_command.proofs.table.Table.pass.Goals as goal
 
 pub returns-in_err-pass-clause-acts : goal.returns-in_err-pass-clause-acts
-returns-in_err-pass-clause-acts c = λ P is.
+returns-in_err-pass-clause-acts c =
+    let P = program_of c.args.program.now in
+    let is = c.requires in
     let refused = c.in_err-pass.was in
     let err : c.from_residual.result ≡ Err c.in_err-pass.field-0.0 = search (rules, refused) in
     let own : IsTableOf P (record { world = c.self.inside.world; book = c.self.inside.book }) =
@@ -21,15 +26,31 @@ returns-in_err-pass-clause-acts c = λ P is.
     (state_of (record { world = c.self.inside.world; book = b }))) (sym c.in_err-pass.ensures.kept) said))
 
 pub returns-clause-of : goal.returns-clause-of
-returns-clause-of c = λ P is.
+returns-clause-of c =
+    let P = program_of c.args.program.now in
+    let is = c.requires in
     keeps_table P c.self.inside.world c.self.inside.book c.pass.new.self c.in_ok-pass.ensures.of
     (subst (IsTableOf P) (sym c.self.view_is) is)
 
 pub returns-clause-acts : goal.returns-clause-acts
-returns-clause-acts c = λ P is.
+returns-clause-acts c =
+    let P = program_of c.args.program.now in
+    let is = c.requires in
     let own : IsTableOf P (record { world = c.self.inside.world; book = c.self.inside.book }) =
     subst (IsTableOf P) (sym c.self.view_is) is in
     let after : TableState = record { world = c.self.inside.world; book = c.pass.new.self } in
     subst (λ (t : TableState). ActsOrRefuses P (model.Pass c.args.name) (state_of t) (Ok c.reply.result) (state_of after)) c.self.view_is
-    (passes P c.self.inside.world c.self.inside.book c.pass.new.self c.reply.result (c.reply.ensures P (returns-clause-of c P is))
+    (passes P c.self.inside.world c.self.inside.book c.pass.new.self c.reply.result (c.reply.ensures P (returns-clause-of c))
     c.args.name (c.in_ok-pass.ensures.passes.1 c.self.inside.world P own.detectors own.world) c.in_ok-pass.ensures.passes.0)
+
+pub returns-clause-leads : goal.returns-clause-leads
+returns-clause-leads c =
+    let before : TableState = record { world = c.self.inside.world; book = c.self.inside.book } in
+    let after : TableState = record { world = c.self.inside.world; book = c.pass.new.self } in
+    let P = program_of c.args.program.now in
+    let own : IsTableOf P before = subst (IsTableOf P) (sym c.self.view_is) c.requires in
+    let did = c.in_ok-pass.ensures.passes in
+    let found = found_armed P _ _ (did.1 c.self.inside.world P own.detectors own.world) in
+    leads_from _ _ (state_of before) (state_of after) (state_of c.args.self.now) (state_of after) (ap state_of c.self.view_is) refl
+    (passed_back c.self.inside.world.state (breakpoints_of before.book) (breakpoints_of after.book) c.args.name found.0 found.1 found.2
+    did.0)

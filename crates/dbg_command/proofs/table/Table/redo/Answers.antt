@@ -1,8 +1,9 @@
-use Rattle.std.proofs.Common.{sym, subst}
+use Rattle.std.proofs.Common.{refl, sym, ap, ◌∙◌, subst}
 use Rattle.proc_lang.specs.Programs.{program_of}
 use Rattle.break_book.proofs.Callers.{book_grown_again}
-use Rattle.dbg_command.specs.Tables.{IsTableOf}
-use Rattle.dbg_command.proofs.Acting.{redo_left}
+use Rattle.dbg_command.specs.Tables.{TableState, IsTableOf, state_of}
+use Rattle.dbg_command.proofs.Acting.{redo_left, redo_next}
+use Rattle.dbg_command.proofs.GoingBack.{leads_from, redone}
 use Rattle.dbg_command.proofs.table.Table.redo.Goals as goal
 
 pub grown-requires-clause-grown : goal.grown-requires-clause-grown
@@ -13,3 +14,16 @@ grown-requires-clause-grown c =
     c.in_ok-ready.ensures.ready.here
     (redo_left P c.self.inside.world.state c.args.pid.0 c.in_ok-choice.choice.0 c.in_ok-choice.ensures.moves.0)
     c.in_ok-choice.ensures.moves.1
+
+pub returns-clause-leads : goal.returns-clause-leads
+returns-clause-leads c =
+    let P = program_of c.args.program.now in
+    let own = subst (IsTableOf P) (sym c.self.view_is) c.ready.ensures.of in
+    let before : TableState = record { world = c.self.inside.world; book = c.self.inside.book } in
+    let after : TableState = record { world = c.redo.new.self; book = c.self.inside.book } in
+    let next = redo_next P before.world.state c.args.pid.0 c.in_ok-choice.choice.0 c.in_ok-choice.ensures.moves.0 in
+    leads_from _ _ (state_of before) (state_of after) (state_of c.args.self.now) (state_of c.grown.new.self)
+    (ap state_of c.self.view_is
+    ∙ (λ i. record { system = (c.ready.ensures.world i).state; breakpoints = c.ready.ensures.breakpoints i }))
+    (sym c.grown.ensures.same)
+    (redone P before after own.world refl c.args.pid.0 next.0 c.in_ok-ready.ensures.ready.here next.1 c.in_ok-choice.ensures.moves.1)

@@ -2,6 +2,8 @@
 use Rattle.std.proofs.Common.{◌≡◌, ◌⊎◌, inl, inr, ℕ, ◌+◌, ◌<◌, ◌≤◌, List, [], ◌∷◌, ◌++◌, length, get_or, drop, map, Result, Ok, Err}
 use Rattle.std.proofs.Common.{refl, sym, ap, ◌∙◌, subst, ⊎_elim, drop_of_length-le}
 use Rattle.std.proofs.lemmas.List.{drop_more}
+use Rattle.std.proofs.Math.Bridge.{le_prop}
+use Rattle.std.specs.List.{AllByRecursion}
 use Rattle.dbg_base.specs.declared.call.Plan as given
 use Rattle.dbg_base.specs.declared.said.Done.TheVariants.{Plain}
 use Rattle.dbg_base.specs.declared.said.Reply.{Reply}
@@ -12,11 +14,23 @@ use Rattle.dbg_base.specs.declared.refusal.Refusal.TheVariants.{Memory, InBatch}
 use Rattle.dbg_base.specs.Refusals.{refusal_number}
 use Rattle.dbg_base.specs.Trees.{Program}
 use Rattle.dbg_base.specs.ModelStates.{ModelState}
-use Rattle.dbg_base.specs.Calls.{Plan, Order, One, Batch, IsOne, order_of, plans_of, plans_in}
+use Rattle.dbg_base.specs.Calls.{Plan, Order, One, Batch, IsOne, AreCommands, order_of, plans_of, plans_in}
 use Rattle.dbg_base.specs.Acts.{Acts, Accepts, Batches, Refuses}
 use Rattle.break_book.proofs.Callers.{seen_breakpoints}
 use Rattle.dbg_command.specs.Tables.{TableState, Replies, shown, state_of, FollowsOrRefuses, GivesEach, TellsWithin}
 use Rattle.dbg_command.proofs.Acting.{accepted}
+
+-- there is one way to be commands of a batch
+one_prop : (o : Order) → IsProp (IsOne o)
+one_prop (One plan) = λ x y. refl
+one_prop (Batch plans) = λ x y. absurd x
+
+each_prop : (items : List given.Plan) → IsProp (AllByRecursion (λ (p : given.Plan). IsOne (order_of p)) items)
+each_prop [] = λ x y. refl
+each_prop (p ∷ items) = λ x y i. (one_prop (order_of p) x.0 y.0 i, each_prop items x.1 y.1 i)
+
+pub commands_prop : (items : List given.Plan) → IsProp (AreCommands items)
+commands_prop items = λ x y i. record { few = le_prop x.few y.few i; each = each_prop items x.each y.each i }
 
 -- tables that show the same stand for the same state
 pub shown_state : (t u : TableState) → shown t ≡ shown u → state_of t ≡ state_of u

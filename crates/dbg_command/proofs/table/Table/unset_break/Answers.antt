@@ -1,0 +1,8 @@
+use Rattle.std.proofs.Common.{sym, subst}
+use Rattle.dbg_command.specs.Tables.{IsTableOf}
+use Rattle.dbg_command.proofs.Listing.{keeps_table}
+use Rattle.dbg_command.proofs.table.Table.unset_break.Goals as goal
+
+pub returns-clause-of : goal.returns-clause-of
+returns-clause-of c = λ P is.
+    keeps_table P c.self.inside.world c.self.inside.book c.clear.new.self c.clear.ensures.of (subst (IsTableOf P) (sym c.self.view_is) is)
