@@ -4,7 +4,7 @@ use Rattle.std.proofs.Common.{refl, sym, ap, ◌∙◌, subst, ⊎_elim, arith, 
 use Rattle.std.specs.Prelude.{◌&&◌, ◌==◌, not, nat_le, slice_get}
 use Rattle.std.proofs.lemmas.List.{length-set, length-take-le}
 use Rattle.std.proofs.lemmas.Option.{slice_get_cases}
-use Rattle.dbg_base.specs.Trees.{Tree, tree_of}
+use Rattle.dbg_base.specs.Trees.{Tree}
 use Rattle.dbg_base.specs.LocalStates.{LocalState, no_state}
 use Rattle.dbg_base.specs.Firing.{set_all}
 use Rattle.dbg_base.specs.SystemStates.{place_at}
@@ -203,10 +203,10 @@ module _ (w : Scene) (conjunct : Conjunct) (old : WatchState) (is : IsWatchTo w 
       ∙ ap (λ (e : Option EventValue). advanced e old.env) found.2
       ∙ ap (after_event event) is.env
       ∙ sym (past_more (start w conjunct) (own w conjunct) m event found.1 found.3) in
-      let same : tree_of new.expr ≡ conjunct.expression = ap tree_of step.expr ∙ ap (λ (c : Conjunct). c.expression) is.of in
+      let same : new.expression ≡ conjunct.expression = step.expression ∙ ap (λ (c : Conjunct). c.expression) is.of in
       let truths : new.line.truths ≡ truths_along conjunct.expression (start w conjunct) (take (m + 1) (own w conjunct)) =
       ap (λ (l : TruthLine). l.truths) step.line
-      ∙ ap (λ (l : List Bool). l ++ holds (tree_of new.expr) new.env ∷ []) is.truths
+      ∙ ap (λ (l : List Bool). l ++ holds new.expression new.env ∷ []) is.truths
       ∙ ap (λ (t : Tree). truths_along conjunct.expression (start w conjunct) (take m (own w conjunct)) ++ holds t new.env ∷ []) same
       ∙ ap (λ (s : LocalState). truths_along conjunct.expression (start w conjunct) (take m (own w conjunct))
       ++ holds conjunct.expression s ∷ []) next
@@ -215,7 +215,7 @@ module _ (w : Scene) (conjunct : Conjunct) (old : WatchState) (is : IsWatchTo w 
       ap (λ (l : List Bool). length l) truths ∙ length_truths conjunct.expression (start w conjunct) (take (m + 1) (own w conjunct)) in
       let count : m + 1 ≡ length new.line.truths - 1 = omega (arith, length-take-le (m + 1) (own w conjunct) (omega arith)) in
       subst (λ (n : ℕ). IsWatchTo w conjunct new n) count (record {
-        of = ap (λ (p : ℕ). record { process = p; expression = tree_of new.expr }) (ap (λ (l : TruthLine). l.process) step.line ∙ process)
+        of = ap (λ (p : ℕ). record { process = p; expression = new.expression }) (ap (λ (l : TruthLine). l.process) step.line ∙ process)
             ∙ ap (λ (t : Tree). record { process = conjunct.process; expression = t }) same;
         within = omega arith;
         truths = truths;
@@ -237,7 +237,7 @@ module _ (w : Scene) (conjunct : Conjunct) (old : WatchState) (is : IsWatchTo w 
         here = subst (λ (p : ℕ). p < length w.state.places) (sym process) here;
         line = ap (λ (l : List Bool). record { process = old.line.process; truths = l })
             (own_is.truths
-            ∙ ap (λ (n : ℕ). truths_along (tree_of old.expr) (start w (conjunct_in old)) (take n (own w (conjunct_in old)))) count
-            ∙ ap (truths_along (tree_of old.expr) (start w (conjunct_in old))) (take_all k (own w (conjunct_in old)) (omega arith)));
+            ∙ ap (λ (n : ℕ). truths_along old.expression (start w (conjunct_in old)) (take n (own w (conjunct_in old)))) count
+            ∙ ap (truths_along old.expression (start w (conjunct_in old))) (take_all k (own w (conjunct_in old)) (omega arith)));
         env = own_is.env ∙ ap (past_of (start w (conjunct_in old)) (own w (conjunct_in old))) count;
       }

@@ -1,3 +1,4 @@
+pub mod TreeCodes
 pub mod Watches
 pub mod Searches
 pub mod Detectors

@@ -1,7 +1,6 @@
 -- What is kept of the conjuncts of a breakpoint.
 use Rattle.std.specs.Prelude.{◌≡◌, ℕ, ◌<◌, ◌-◌, ◌++◌, ◌∷◌, ◌⊎◌, Bool, List, [], length, map, slice_get, slice_index_or}
-use Rattle.dbg_base.specs.declared.expr.Expr.{Expr}
-use Rattle.dbg_base.specs.Trees.{tree_of}
+use Rattle.dbg_base.specs.Trees.{Tree}
 use Rattle.dbg_base.specs.LocalStates.{LocalState, no_state}
 use Rattle.dbg_base.specs.Predicates.{Conjunct, holds}
 use Rattle.event_rows.specs.Events.{past_of, advanced}
@@ -22,7 +21,7 @@ pub record TruthsState : Type 0 where
 -- a conjunct, where it is true, and the last local state of its process
 pub record WatchState : Type 0 where
   pub line : TruthLine
-  pub expr : Expr
+  pub expression : Tree
   pub env : LocalState
 
 -- and how many truths there may be without memory
@@ -31,7 +30,7 @@ pub record WatchRoom : Type 0 where
   pub room : ℕ
 
 abbrev pub conjunct_in : WatchState → Conjunct
-conjunct_in watch = record { process = watch.line.process; expression = tree_of watch.expr }
+conjunct_in watch = record { process = watch.line.process; expression = watch.expression }
 
 -- where the conjunct is true in the world
 abbrev pub truth_line : Scene → Conjunct → TruthLine
@@ -53,9 +52,9 @@ pub record IsWatchOf (w : Scene) (watch : WatchState) : Type 0 where
 
 -- the next event of its process is there, if there is one
 pub record IsAdvanced (w : Scene) (old new : WatchState) : Type 0 where
-  pub expr : new.expr ≡ old.expr
+  pub expression : new.expression ≡ old.expression
   pub env : new.env ≡ advanced (slice_get (slice_index_or w.events old.line.process []) (length old.line.truths - 1)) old.env
-  pub line : new.line ≡ record old.line { truths = old.line.truths ++ holds (tree_of new.expr) new.env ∷ [] }
+  pub line : new.line ≡ record old.line { truths = old.line.truths ++ holds new.expression new.env ∷ [] }
 
 -- of two worlds the one has the events of the other, and perhaps more
 abbrev pub AreAlong : Scene → Scene → Type 0

@@ -5,6 +5,7 @@ ghost use Rattle.std.specs.Prelude.{slice_index};
 ghost use Rattle.std.specs.List.{AllByRecursion};
 ghost use Rattle.dbg_base.specs.Trees as tree;
 ghost use Rattle.dbg_base.specs.Calls.{conjunct_of};
+ghost use Rattle.dbg_base.specs.Copies.{IsCopy};
 ghost use Rattle.dbg_base.specs.Predicates.{IsLeast, NoCut};
 ghost use Rattle.dbg_base.specs.Frontiers.{IsFrontier};
 ghost use Rattle.dbg_base.specs.Eliminations.{IsSound, reach};
@@ -21,6 +22,7 @@ ghost use Rattle.least_cut.specs.Detectors.{Watches, TellsFrontier, AreRoomier, 
 
 mod search;
 
+use crate::room::copy_items;
 use crate::scan::Scan;
 use crate::watch::Watch;
 use causal_world::World;
@@ -40,12 +42,12 @@ pub struct Detector {
 impl Model for Detector {
     ghost use Rattle.std.specs.Vec.{vec_capacity};
     ghost use Rattle.least_cut.specs.Detectors.{DetectorState};
-    ghost use Rattle.dbg_base.specs.contracts.expr.Expr.{the_row};
+    ghost use Rattle.least_cut.specs.TreeCodes.{coded_tree};
     ghost use Rattle.std.specs.Coded.{codes};
 
     ghost Value = { DetectorState };
 
-    ghost coded = { Prim.hlevel (codes, the_row.coded) };
+    ghost coded = { Prim.hlevel (codes, coded_tree) };
 
     ghost view = { λ d. record {
       watches = d.watches.items;
@@ -73,6 +75,17 @@ fn watches_of(
         watches.push(Watch::new(conjunct, truths, world)?)?;
     }
     Ok(watches)
+}
+
+// The same watches once more, with as much room.
+fn copy_watches(watches: &Vec<Watch>) -> Result<Vec<Watch>, Refusal>
+    ensures { IsCopy result (λ made. made.items ≡ watches.now.items) }
+{
+    let mut made = Vec::new(*watches.allocator());
+    for watch in watches {
+        made.push(watch.copy()?)?;
+    }
+    Ok(made)
 }
 
 /// The most eliminations that there can be where the processes have so many events, one for each and one for each process; or None
@@ -153,6 +166,17 @@ impl Detector {
         detector.reserve_to(&tally.all_events(alloc)?)?;
         detector.run(world);
         Ok(detector)
+    }
+
+    /// The same detector once more, with as much room. It is refused only as `Memory`, where that runs out.
+    pub fn copy(&self) -> Result<Detector, Refusal>
+        ensures { IsCopy result (λ made. made ≡ self.now) }
+    {
+        Ok(Detector {
+            watches: copy_watches(&self.watches)?,
+            candidates: self.candidates.copy()?,
+            trail: copy_items(&self.trail)?,
+        })
     }
 
     // The candidate of this process.

@@ -4,6 +4,7 @@
 
 mod checking;
 mod detector;
+mod room;
 mod scan;
 mod watch;
 

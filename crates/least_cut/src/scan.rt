@@ -7,6 +7,7 @@ ghost use Rattle.dbg_base.specs.Calls.{conjunct_of};
 ghost use Rattle.least_cut.specs.Watches.{truth_line, scan_of};
 ghost use Rattle.least_cut.specs.Searches.{is_false_in};
 
+use crate::room::copy_items;
 use causal_world::World;
 use dbg_base::{Conjunct, Pid, Refusal};
 use std::alloc::{AllocError, Global};
@@ -42,6 +43,16 @@ impl Truths {
         Ok(Truths {
             pid: conjunct.pid,
             truths: truths.into_items(),
+        })
+    }
+
+    /// The same truths once more, with as much room. It is refused only where memory runs out.
+    pub(crate) fn copy(&self) -> Result<Truths, AllocError>
+        ensures { IfOk result (λ made. made ≡ self.now) }
+    {
+        Ok(Truths {
+            pid: self.pid,
+            truths: copy_items(&self.truths)?,
         })
     }
 

@@ -2,6 +2,7 @@
 
 ghost use Rattle.std.specs.Prelude.{◌≡◌, ◌<◌, ◌≤◌, ◌+◌, ◌&&◌, ◌==◌, not, true, length, IfOk, IfErr, OnOk, nat_le, slice_index_or};
 ghost use Rattle.dbg_base.specs.Calls.{conjunct_of};
+ghost use Rattle.dbg_base.specs.Copies.{IsCopy};
 ghost use Rattle.dbg_base.specs.declared.refusal.Refusal.TheVariants.{Memory};
 ghost use Rattle.dbg_base.specs.SystemStates.{place_at};
 ghost use Rattle.causal_world.specs.Worlds.{IsSomeWorld};
@@ -25,15 +26,16 @@ pub(crate) struct Watch {
 
 impl Model for Watch {
     ghost use Rattle.least_cut.specs.Watches.{WatchRoom};
-    ghost use Rattle.dbg_base.specs.contracts.expr.Expr.{the_row};
+    ghost use Rattle.least_cut.specs.TreeCodes.{coded_tree};
+    ghost use Rattle.dbg_base.specs.Trees.{tree_of};
     ghost use Rattle.std.specs.Coded.{codes};
 
     ghost Value = { WatchRoom };
 
-    ghost coded = { Prim.hlevel (codes, the_row.coded) };
+    ghost coded = { Prim.hlevel (codes, coded_tree) };
 
     ghost view = { λ watch. record {
-      state = record { line = watch.truths.line; expr = watch.expr; env = watch.env };
+      state = record { line = watch.truths.line; expression = tree_of watch.expr; env = watch.env };
       room = watch.truths.room;
     } };
 }
@@ -50,6 +52,17 @@ impl Watch {
         let Conjunct { pid, expr } = conjunct;
         let env = world.env(pid).copy()?;
         Ok(Watch { truths, expr, env })
+    }
+
+    /// The same once more, with as much room. It is refused only as `Memory`, where that runs out.
+    pub(crate) fn copy(&self) -> Result<Watch, Refusal>
+        ensures { IsCopy result (λ made. made ≡ self.now) }
+    {
+        Ok(Watch {
+            truths: self.truths.copy()?,
+            expr: self.expr.copy()?,
+            env: self.env.copy()?,
+        })
     }
 
     /// The process.

@@ -1,4 +1,5 @@
 use Rattle.std.proofs.Common.{◌≡◌, ◌+◌, length, take, ap, ◌∙◌, arith}
+use Rattle.dbg_base.specs.Trees.{tree_of}
 use Rattle.dbg_base.specs.LocalStates.{LocalState}
 use Rattle.least_cut.specs.Watches.{TruthLine, WatchState, WatchRoom}
 use Rattle.least_cut.specs.declared.watch.Watch.TheInside.{Inside}
@@ -25,7 +26,7 @@ assign-requires-clause-got c =
     ap (λ (r : WatchRoom). length r.state.env.got) c.self.view_is ∙ alike.got
 
 abbrev state_in : Inside → WatchState
-state_in i = record { line = i.truths.line; expr = i.expr; env = i.env }
+state_in i = record { line = i.truths.line; expression = tree_of i.expr; env = i.env }
 
 pub loop-self-init : goal.loop-self-init
 loop-self-init c =
@@ -39,10 +40,10 @@ loop-self-init c =
         watched = cut c.args.world.now old c.requires.world c.requires.was c.pid-pid.result.0 c.place.result process c.place.ensures
             x.env.result.now (state_in c.if-len-states.self-inside) x.env.ensures.past (omega (arith, known, x.if-len-states.true))
             (ap (λ (i : Inside). state_in i) x.self-inside-is
-            ∙ ap (λ (l : TruthLine). record { line = l; expr = c.self.inside.expr; env = x.assign.new.self }) x.truncate.ensures.line
+            ∙ ap (λ (l : TruthLine). record { line = l; expression = tree_of c.self.inside.expr; env = x.assign.new.self }) x.truncate.ensures.line
             ∙ ap (λ (e : LocalState). record {
               line = record c.self.inside.truths.line { truths = take (c.place.result + 1) c.self.inside.truths.line.truths };
-              expr = c.self.inside.expr;
+              expression = tree_of c.self.inside.expr;
               env = e;
             }) x.assign.ensures
             ∙ ap (λ (r : WatchRoom). record r.state {
