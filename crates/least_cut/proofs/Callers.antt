@@ -1,6 +1,6 @@
 -- What the calls of a detector require, from what the calls of its world say.
-use Rattle.std.proofs.Common.{◌≡◌, ℕ, ◌+◌, ◌<◌, ◌≤◌, List, [], length, get_or, take, sym, ap, ◌∙◌, subst, inr, arith}
-use Rattle.std.proofs.lemmas.List.{get_or-set_same, length-take-le, take-take}
+use Rattle.std.proofs.Common.{◌≡◌, ℕ, ◌+◌, ◌<◌, ◌≤◌, List, length, get_or, set, sym, ap, ◌∙◌, subst, inl, inr, arith}
+use Rattle.std.proofs.lemmas.List.{get_or-set_same}
 use Rattle.std.proofs.lemmas.Option.{slice_get-get_or}
 use Rattle.dbg_base.specs.declared.elimination.Elimination.{Elimination}
 use Rattle.dbg_base.specs.Trees.{Program}
@@ -12,12 +12,13 @@ pub use Rattle.cut_core.specs.ConsistentCuts.{IsConsistentCut}
 use Rattle.causal_world.specs.Scenes.{Scene, IsWorldOf}
 use Rattle.causal_world.proofs.Going.{history_without}
 use Rattle.causal_world.proofs.Calls.{events_counted, kinds_placed}
-use Rattle.histories.proofs.LineStates.{length_cut, cut_at, history_choice, history_redo}
+use Rattle.histories.proofs.LineStates.{length_cut, history_choice, history_redo}
 use Rattle.histories.proofs.Undoing.{without_with}
 use Rattle.least_cut.specs.Watches.{TruthLine, WatchState}
 use Rattle.least_cut.specs.Searches.{IsTrailFrom, IsSettledAt, none_of}
 use Rattle.least_cut.specs.Detectors.{DetectorState, lines_of, HasRoomUpTo, IsDetectorOf, IsSameButRoom, IsGrown, IsShrunk}
-use Rattle.least_cut.specs.Detectors.{IsMoved, Begins}
+use Rattle.least_cut.specs.Detectors.{IsMoved, WasOf, Begins}
+use Rattle.least_cut.proofs.Beginnings.{begins_rollback, begins_undo}
 use Rattle.least_cut.proofs.Moving.{room_less, states_kept, seen_kept}
 
 -- a detector stays one where it gets room
@@ -37,74 +38,100 @@ roomier_detector w old new same is =
           (subst (λ (l : List TruthLine). IsSettledAt w l old.candidates q) lines (is.settled q here));
     }
 
+module _ (P : Program) (before : Scene) (of : IsWorldOf P before) (cut : List ℕ) (consistent : IsConsistentCut before.kinds cut) where
+  within_places : (q : ℕ) → get_or cut q 0 ≤ place_at before.state q
+  within_places q = let few = consistent.within q in omega (arith, few, events_counted P before q of)
+
+  -- what is left at a cut
+  pub begins_at_cut : (w : Scene) → w.state ≡ after_rollback before.state cut → Begins (history_of w.state) (history_of before.state)
+  begins_at_cut w state =
+      subst (λ (M : SystemState). Begins (history_of M) (history_of before.state)) (sym state)
+      (begins_rollback before.state of.state.within cut within_places)
+
+-- what is left where the last event of a process was taken back
+pub begins_at_undo : (P : Program) (before : Scene) → IsWorldOf P before → (w : Scene) (p : ℕ) → w.state ≡ after_undo before.state p
+    → Begins (history_of w.state) (history_of before.state)
+begins_at_undo P before of w p state =
+    subst (λ (M : SystemState). Begins (history_of M) (history_of before.state)) (sym state)
+    (begins_undo before.state of.state.within p)
+
+module _ (P : Program) (before w : Scene) (of : IsWorldOf P before) (p : ℕ) (here : p < length P) where
+  size : p < length (history_of before.state)
+  size = omega (arith, here, length_cut before.state.lines before.state.places, of.state.lines)
+
+  moved_on : w.state.places ≡ set before.state.places p (place_at before.state p + 1)
+      → place_at w.state p ≡ place_at before.state p + 1
+  moved_on is =
+      let there : p < length before.state.places = omega (arith, here, of.state.places) in
+      ap (λ (l : List ℕ). get_or l p 0) is ∙ get_or-set_same before.state.places p (place_at before.state p + 1) 0 there
+
+  -- a choice leaves the events before it
+  without_choice : (k : ℕ) → w.state ≡ after_choice before.state p k → without_last (history_of w.state) p ≡ history_of before.state
+  without_choice k state =
+      ap (λ (M : SystemState). without_last (history_of M) p) state
+      ∙ ap (λ (H : History). without_last H p) (history_choice P before.state of.state p here k)
+      ∙ without_with (history_of before.state) p k size
+
+  -- and so does one that is made again
+  without_redo : place_at before.state p < length (line_of before.state p) → w.state ≡ after_redo before.state p
+      → without_last (history_of w.state) p ≡ history_of before.state
+  without_redo more state =
+      let line = line_of before.state p in
+      let k : ℕ = get_or line (place_at before.state p) 0 in
+      ap (λ (M : SystemState). without_last (history_of M) p) state
+      ∙ ap (λ (H : History). without_last H p)
+      (history_redo P before.state of.state p here k (slice_get-get_or line (place_at before.state p) 0 more))
+      ∙ without_with (history_of before.state) p k size
+
+-- A detector of the world before goes on to the world w.
 module _ (P : Program) (before w : Scene) (d : DetectorState) (of : IsWorldOf P before) (now : IsWorldOf P w)
     (is : IsDetectorOf before d) where
+  was : WasOf P before d w
+  was = record { detector = is; of = of; now = now }
+
   -- a process has made a choice
   pub has_grown : (p k : ℕ) → p < length P → w.state ≡ after_choice before.state p k → IsGrown d p w
   has_grown p k here state =
-      let there : p < length before.state.places = omega (arith, here, of.state.places) in
-      let size : p < length (history_of before.state) =
-      omega (arith, here, length_cut before.state.lines before.state.places, of.state.lines) in
-      let place : place_at w.state p ≡ place_at before.state p + 1 =
-      ap (λ (M : SystemState). place_at M p) state
-      ∙ get_or-set_same before.state.places p (place_at before.state p + 1) 0 there in
-      let one : without_last (history_of w.state) p ≡ history_of before.state =
-      ap (λ (M : SystemState). without_last (history_of M) p) state
-      ∙ ap (λ (H : History). without_last H p) (history_choice P before.state of.state p here k)
-      ∙ without_with (history_of before.state) p k size in
-      (P, before, record { detector = is; of = of; now = now }, omega (arith, place), sym one)
+      let place = moved_on P before w of p here (ap (λ (M : SystemState). M.places) state) in
+      (P, before, was, omega (arith, place), sym (without_choice P before w of p here k state))
 
   -- it has made one again
   pub has_redone : (p : ℕ) → p < length P → place_at before.state p < length (line_of before.state p)
       → w.state ≡ after_redo before.state p → IsGrown d p w
   has_redone p here more state =
-      let line = line_of before.state p in
-      let k : ℕ = get_or line (place_at before.state p) 0 in
-      let there : p < length before.state.places = omega (arith, here, of.state.places) in
-      let size : p < length (history_of before.state) =
-      omega (arith, here, length_cut before.state.lines before.state.places, of.state.lines) in
-      let place : place_at w.state p ≡ place_at before.state p + 1 =
-      ap (λ (M : SystemState). place_at M p) state
-      ∙ get_or-set_same before.state.places p (place_at before.state p + 1) 0 there in
-      let one : without_last (history_of w.state) p ≡ history_of before.state =
-      ap (λ (M : SystemState). without_last (history_of M) p) state
-      ∙ ap (λ (H : History). without_last H p)
-      (history_redo P before.state of.state p here k (slice_get-get_or line (place_at before.state p) 0 more))
-      ∙ without_with (history_of before.state) p k size in
-      (P, before, record { detector = is; of = of; now = now }, omega (arith, place), sym one)
+      let place = moved_on P before w of p here (ap (λ (M : SystemState). M.places) state) in
+      (P, before, was, omega (arith, place), sym (without_redo P before w of p here more state))
 
   -- it has taken its last one back
   pub has_shrunk : (p : ℕ) → p < length P → w.state ≡ after_undo before.state p → IsShrunk d p w
-  has_shrunk p here state =
-      (P, before, record { detector = is; of = of; now = now }, ap history_of state ∙ history_without P before.state p of.state here)
+  has_shrunk p here state = (P, before, was, ap history_of state ∙ history_without P before.state p of.state here)
 
   module _ (cut : List ℕ) (consistent : IsConsistentCut before.kinds cut) (state : w.state ≡ after_rollback before.state cut) where
-    within : (q : ℕ) → get_or cut q 0 ≤ place_at before.state q
-    within q = let few = consistent.within q in omega (arith, few, events_counted P before q of)
-
     -- all have gone back to the cut
     pub has_moved : IsMoved d w
-    has_moved =
-        let M = before.state in
-        let begins : Begins (history_of (after_rollback M cut)) (history_of M) = (
-          length_cut M.lines cut ∙ sym (length_cut M.lines M.places),
-          λ q.
-              let m = get_or cut q 0 in
-              let few : m ≤ length (line_of M q) = let most = within q in let fits = of.state.within q in omega (arith, most, fits) in
-              let new = cut_at M.lines cut q in
-              let size : length (get_or (history_of (after_rollback M cut)) q []) ≡ m =
-              ap (λ (l : List ℕ). length l) new ∙ length-take-le m (line_of M q) few in
-              ap (λ (n : ℕ). take n (get_or (history_of M) q [])) size
-              ∙ ap (take m) (cut_at M.lines M.places q)
-              ∙ take-take m (place_at M q) (line_of M q) (within q) ∙ sym new,
-        ) in (
-          P,
-          before,
-          record { detector = is; of = of; now = now },
-          inr (subst (λ (N : SystemState). Begins (history_of N) (history_of M)) (sym state) begins),
-        )
+    has_moved = (P, before, was, inr (begins_at_cut P before of cut consistent w state))
 
     pub has_moved_room : HasRoomUpTo d w.state.places
     has_moved_room =
         subst (HasRoomUpTo d) (sym (ap (λ (N : SystemState). N.places) state))
-        (room_less d cut before.state.places (consistent.sizes ∙ kinds_placed before (P, of)) within is.search.room)
+        (room_less d cut before.state.places (consistent.sizes ∙ kinds_placed before (P, of)) (within_places P before of cut consistent)
+        is.search.room)
+
+-- A detector of the world w goes back to the world before.
+module _ (P : Program) (before w : Scene) (d : DetectorState) (of : IsWorldOf P before) (now : IsWorldOf P w)
+    (is : IsDetectorOf w d) where
+  were : WasOf P w d before
+  were = record { detector = is; of = now; now = of }
+
+  -- a choice is taken back
+  pub has_unstepped : (p k : ℕ) → p < length P → w.state ≡ after_choice before.state p k → IsShrunk d p before
+  has_unstepped p k here state = (P, w, were, sym (without_choice P before w of p here k state))
+
+  -- one that was made again is taken back
+  pub has_unredone : (p : ℕ) → p < length P → place_at before.state p < length (line_of before.state p)
+      → w.state ≡ after_redo before.state p → IsShrunk d p before
+  has_unredone p here more state = (P, w, were, sym (without_redo P before w of p here more state))
+
+  -- events that were taken back are made again
+  pub has_gone_forth : Begins (history_of w.state) (history_of before.state) → IsMoved d before
+  has_gone_forth begins = (P, w, were, inl begins)

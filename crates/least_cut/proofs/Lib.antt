@@ -11,4 +11,5 @@ pub mod Steps
 pub mod Moving
 pub mod Growing
 pub mod Checked
+pub mod Beginnings
 pub mod Callers
