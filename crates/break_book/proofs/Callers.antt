@@ -5,11 +5,9 @@ use Rattle.dbg_base.specs.Trees.{Program}
 use Rattle.dbg_base.specs.SystemStates.{line_of, place_at, after_choice, after_redo, after_undo, after_rollback}
 use Rattle.causal_world.specs.Scenes.{Scene, IsWorldOf}
 use Rattle.least_cut.specs.Detectors.{IsDetectorOf, IsGrown, IsShrunk, IsMoved, HasRoomUpTo}
-use Rattle.least_cut.specs.Watches.{conjunct_in}
-use Rattle.least_cut.proofs.Moving.{seen_kept}
 use Rattle.least_cut.proofs.Callers.{IsConsistentCut}
 use Rattle.least_cut.proofs.Callers as detector
-use Rattle.break_book.specs.Books.{Entry, shown_in, shown_of, breakpoint_of, breakpoints_of, AreDetectorsOf, HaveRoomUpTo, AreGrown, AreShrunk, AreMoved}
+use Rattle.break_book.specs.Books.{Entry, shown_in, shown_of, breakpoints_of, AreDetectorsOf, HaveRoomUpTo, AreGrown, AreShrunk, AreMoved}
 
 -- books that show the same have the same breakpoints
 pub seen_breakpoints : (book other : List Entry) → shown_of book ≡ shown_of other → breakpoints_of book ≡ breakpoints_of other
@@ -19,12 +17,7 @@ seen_breakpoints (entry ∷ book) [] same = cc
 seen_breakpoints (entry ∷ book) (next ∷ other) same =
     let first : shown_in entry ≡ shown_in next = cc in
     let rest : shown_of book ≡ shown_of other = cc in
-    let here : breakpoint_of entry ≡ breakpoint_of next = (λ i. record {
-      name = (first i).name;
-      conjuncts = seen_kept conjunct_in entry.1.detector.watches next.1.detector.watches (λ j. (first j).watches) i;
-      armed = (first i).armed;
-    }) in
-    λ i. here i ∷ seen_breakpoints book other rest i
+    λ i. record { name = (first i).name; conjuncts = (first i).conjuncts; armed = (first i).armed } ∷ seen_breakpoints book other rest i
 
 pub all_map : {A : Type 0} (P Q : A → Type 0) → ((x : A) → P x → Q x) → (xs : List A) → AllByRecursion P xs → AllByRecursion Q xs
 all_map P Q each [] all = tt

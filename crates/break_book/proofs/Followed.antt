@@ -9,6 +9,8 @@ use Rattle.indexmap.specs.IndexMap.{set_value_at}
 use Rattle.least_cut.specs.Detectors.{DetectorState, HasRoomUpTo, IsDetectorOf, IsSameButRoom}
 use Rattle.least_cut.proofs.Each.{Became, became_more, became_less, at_turn, all_at, all_from, same_map}
 use Rattle.least_cut.proofs.Callers.{roomier_detector}
+use Rattle.least_cut.proofs.Moving.{seen_kept}
+use Rattle.least_cut.specs.Watches.{WatchState, conjunct_in}
 use Rattle.break_book.proofs.Callers.{all_map}
 use Rattle.break_book.specs.Books.{Kept, Entry, breakpoint_of, shown_in, AreDetectorsOf, HaveRoomUpTo, IsRoomier, IsFollowed, AreRoomier, AreFollowed}
 
@@ -71,7 +73,8 @@ roomier_one {armed} {before} {after} view same =
       same = λ name i. record {
         name = name;
         armed = armed;
-        watches = same.states i;
+        conjuncts = seen_kept conjunct_in after.watches before.watches same.states i;
+        lines = seen_kept (λ (state : WatchState). state.line) after.watches before.watches same.states i;
         candidates = same.candidates i;
         trail = same.trail i;
       };

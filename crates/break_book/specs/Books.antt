@@ -12,8 +12,8 @@ use Rattle.dbg_base.specs.Histories.{History}
 use Rattle.dbg_base.specs.Predicates.{Conjunct, IsLeast, NoCut}
 use Rattle.dbg_base.specs.Breakpoints.{Breakpoint, HasCut, named, with_mark}
 use Rattle.causal_world.specs.Scenes.{Scene}
-use Rattle.least_cut.specs.Watches.{WatchState}
-use Rattle.least_cut.specs.Detectors.{DetectorState, states_of, conjuncts_of, IsDetectorOf, HasRoomUpTo, IsGrown, IsShrunk, IsMoved}
+use Rattle.least_cut.specs.Watches.{TruthLine}
+use Rattle.least_cut.specs.Detectors.{DetectorState, conjuncts_of, lines_of, IsDetectorOf, HasRoomUpTo, IsGrown, IsShrunk, IsMoved}
 
 -- what is kept of a breakpoint beside its name
 pub record Kept : Type 0 where
@@ -27,7 +27,8 @@ Entry = List ℕ × Kept
 pub record Shown : Type 0 where
   pub name : List ℕ
   pub armed : Bool
-  pub watches : List WatchState
+  pub conjuncts : List Conjunct
+  pub lines : List TruthLine
   pub candidates : List ℕ
   pub trail : List Elimination
 
@@ -35,7 +36,8 @@ abbrev pub shown_in : Entry → Shown
 shown_in entry = record {
   name = entry.0;
   armed = entry.1.armed;
-  watches = states_of entry.1.detector;
+  conjuncts = conjuncts_of entry.1.detector;
+  lines = lines_of entry.1.detector;
   candidates = entry.1.detector.candidates;
   trail = entry.1.detector.trail;
 }

@@ -7,6 +7,7 @@ ghost use Rattle.dbg_base.specs.declared.refusal.Refusal.TheVariants.{Memory, Un
 ghost use Rattle.dbg_base.specs.declared.limits.TheConstants.{BREAKPOINTS};
 ghost use Rattle.dbg_base.specs.Trees as tree;
 ghost use Rattle.dbg_base.specs.Calls.{conjunct_of};
+ghost use Rattle.dbg_base.specs.Copies.{IsCopy};
 ghost use Rattle.dbg_base.specs.Breakpoints.{named, without, with_mark, name_refusal, IsHaltedBy};
 ghost use Rattle.dbg_base.specs.SystemStates.{history_of};
 ghost use Rattle.dbg_base.specs.Views.{mark_of};
@@ -38,17 +39,31 @@ pub struct Book {
 impl Model for Book {
     ghost use Rattle.std.specs.Prelude.{List, ◌≤◌, length};
     ghost use Rattle.dbg_base.specs.declared.limits.TheConstants.{BREAKPOINTS};
-    ghost use Rattle.dbg_base.specs.contracts.expr.Expr.{the_row};
+    ghost use Rattle.least_cut.specs.TreeCodes.{coded_tree};
     ghost use Rattle.std.specs.Coded.{codes};
     ghost use Rattle.break_book.specs.Books.{Entry};
 
     ghost Value = { List Entry };
 
-    ghost coded = { Prim.hlevel (codes, the_row.coded) };
+    ghost coded = { Prim.hlevel (codes, coded_tree) };
 
     ghost view = { λ book. book.breaks.entries };
 
     ghost invariant = { λ book. length book.breaks.entries ≤ BREAKPOINTS };
+}
+
+// A breakpoint of a new name goes behind all others.
+fn append(
+    breaks: &mut IndexMap<Name, Breakpoint>,
+    name: Name,
+    breakpoint: Breakpoint,
+) -> Result<(), Refusal>
+    requires { named name (breakpoints_of breaks.old.entries) ≡ None }
+    ensures appended { OnOk result (breaks.new.entries ≡ breaks.old.entries ++ (name, breakpoint) ∷ []) }
+    ensures refuses { IfErr result (λ refusal. refusal ≡ Memory) }
+{
+    breaks.insert(name, breakpoint)?;
+    Ok(())
 }
 
 impl Book {
@@ -59,6 +74,17 @@ impl Book {
         Book {
             breaks: IndexMap::new(alloc),
         }
+    }
+
+    /// The same breakpoints once more, with as much room. It is refused only as `Memory`, where that runs out.
+    pub fn copy(&self) -> Result<Book, Refusal>
+        ensures { IsCopy result (λ made. made ≡ self.now) }
+    {
+        let mut breaks = IndexMap::new(*self.breaks.allocator());
+        for (name, breakpoint) in self.breaks.iter() {
+            append(&mut breaks, *name, breakpoint.copy()?)?;
+        }
+        Ok(Book { breaks })
     }
 
     /// Whether a further breakpoint of this name may be set: it is refused as `BreakTaken` where there is one of this name, and else as

@@ -2,6 +2,7 @@
 
 ghost use Rattle.std.specs.Prelude.{◌≡◌, ◌≤◌, true, OnOk};
 ghost use Rattle.std.specs.Bool.{MatchBool};
+ghost use Rattle.dbg_base.specs.Copies.{IsCopy};
 ghost use Rattle.dbg_base.specs.Trees as tree;
 ghost use Rattle.dbg_base.specs.SystemStates.{history_of};
 ghost use Rattle.causal_world.specs.Scenes.{Scene, IsWorldOf};
@@ -10,7 +11,7 @@ ghost use Rattle.least_cut.specs.Detectors.{conjuncts_of, IsDetectorOf, HasRoomU
 ghost use Rattle.break_book.specs.Books.{TellsWhether, Halts, HaltsNot, IsRoomier, IsFollowed};
 
 use causal_world::World;
-use dbg_base::{Cut, Pid};
+use dbg_base::{Cut, Pid, Refusal};
 use least_cut::Detector;
 use std::alloc::AllocError;
 use std::marker::Model;
@@ -24,12 +25,12 @@ pub struct Breakpoint {
 
 impl Model for Breakpoint {
     ghost use Rattle.break_book.specs.Books.{Kept};
-    ghost use Rattle.dbg_base.specs.contracts.expr.Expr.{the_row};
+    ghost use Rattle.least_cut.specs.TreeCodes.{coded_tree};
     ghost use Rattle.std.specs.Coded.{codes};
 
     ghost Value = { Kept };
 
-    ghost coded = { Prim.hlevel (codes, the_row.coded) };
+    ghost coded = { Prim.hlevel (codes, coded_tree) };
 
     ghost view = { λ b. record { armed = b.armed; detector = b.detector } };
 }
@@ -43,6 +44,16 @@ impl Breakpoint {
             armed: true,
             detector,
         }
+    }
+
+    // The same once more, with as much room. It is refused only as `Memory`, where that runs out.
+    pub(crate) fn copy(&self) -> Result<Breakpoint, Refusal>
+        ensures { IsCopy result (λ made. made ≡ self.now) }
+    {
+        Ok(Breakpoint {
+            armed: self.armed,
+            detector: self.detector.copy()?,
+        })
     }
 
     /// Whether it halts the session where it has a cut.
