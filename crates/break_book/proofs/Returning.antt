@@ -68,7 +68,7 @@ pub length_seen : (book other : List Entry) → breakpoints_of book ≡ breakpoi
 length_seen book other same =
     sym (length-map book breakpoint_of) ∙ ap (λ (l : List Breakpoint). length l) same ∙ length-map other breakpoint_of
 
-breakpoints_inserted : (book : List Entry) (i : ℕ) (entry : Entry)
+pub breakpoints_inserted : (book : List Entry) (i : ℕ) (entry : Entry)
     → breakpoints_of (insert book i entry) ≡ insert (breakpoints_of book) i (breakpoint_of entry)
 breakpoints_inserted book zero entry = refl
 breakpoints_inserted [] (suc i) entry = refl

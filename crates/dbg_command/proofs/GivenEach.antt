@@ -4,7 +4,13 @@ use Rattle.std.proofs.Common.{refl, sym, ap, ◌∙◌, subst, ⊎_elim, drop_of
 use Rattle.std.proofs.lemmas.List.{drop_more}
 use Rattle.std.proofs.Math.Bridge.{le_prop}
 use Rattle.std.specs.List.{AllByRecursion}
+use Rattle.std.specs.Prelude.{Vec}
+use Rattle.std.specs.declared.alloc.Global.{Global}
 use Rattle.dbg_base.specs.declared.call.Plan as given
+use Rattle.dbg_base.specs.declared.call.Plan.TheVariants as plans
+use Rattle.dbg_base.specs.declared.call.Plan.TheOpen as layer
+use Rattle.dbg_base.specs.declared.call.Plan.TheFolds.{fold-roll-Plan}
+use Rattle.dbg_base.specs.declared.call.Plan.TheViews.{out-Plan}
 use Rattle.dbg_base.specs.declared.said.Done.TheVariants.{Plain}
 use Rattle.dbg_base.specs.declared.said.Reply.{Reply}
 use Rattle.dbg_base.specs.declared.said.Said.{Said}
@@ -17,7 +23,7 @@ use Rattle.dbg_base.specs.ModelStates.{ModelState}
 use Rattle.dbg_base.specs.Calls.{Plan, Order, One, Batch, IsOne, AreCommands, order_of, plans_of, plans_in}
 use Rattle.dbg_base.specs.Acts.{Acts, Accepts, Batches, Refuses}
 use Rattle.break_book.proofs.Callers.{seen_breakpoints}
-use Rattle.dbg_command.specs.Tables.{TableState, Replies, shown, state_of, FollowsOrRefuses, GivesEach, TellsWithin}
+use Rattle.dbg_command.specs.Tables.{TableState, Replies, shown, state_of, FollowsOrRefuses, GivesEach, TellsWithin, IsGivable}
 use Rattle.dbg_command.proofs.Acting.{accepted}
 
 -- there is one way to be commands of a batch
@@ -31,6 +37,17 @@ each_prop (p ∷ items) = λ x y i. (one_prop (order_of p) x.0 y.0 i, each_prop 
 
 pub commands_prop : (items : List given.Plan) → IsProp (AreCommands items)
 commands_prop items = λ x y i. record { few = le_prop x.few y.few i; each = each_prop items x.each y.each i }
+
+-- the order of a batch
+pub batch_order : (batch : Vec given.Plan Global) → order_of (plans.Batch batch) ≡ Batch (plans_in batch.items)
+batch_order batch = ap order_of (sym (plans.rolls-Batch batch)) ∙ fold-roll-Plan Order _ (layer.Batch batch)
+
+-- one of commands may be given
+pub batch_givable : (batch : Vec given.Plan Global) → AreCommands batch.items → IsGivable (plans.Batch batch)
+batch_givable batch are = λ other e.
+    let opened : layer.Batch batch ≡ layer.Batch other = sym (plans.outs-Batch batch) ∙ ap out-Plan e ∙ plans.outs-Batch other in
+    let same : batch ≡ other = cc in
+    subst (λ (b : Vec given.Plan Global). AreCommands b.items) same are
 
 -- tables that show the same stand for the same state
 pub shown_state : (t u : TableState) → shown t ≡ shown u → state_of t ≡ state_of u

@@ -23,7 +23,7 @@ use Rattle.break_book.specs.Books.{Kept, Entry, breakpoint_of, breakpoints_of, n
 use Rattle.dbg_command.specs.Tables.{TableState, IsTableOf, Adds, state_of}
 use Rattle.dbg_command.specs.Boxes.{LeadsBack, HasStepped, HasRedone, HasRolled, HasNamed, HasUnarmed, HasCleared, IsScanFor}
 use Rattle.dbg_command.specs.Boxes.{unstepped, unredone, unrolled, unset, marked, uncleared}
-use Rattle.dbg_command.proofs.Temp.{detector_taken, breakpoints_inserted}
+use Rattle.break_book.proofs.Returning.{detector_taken, breakpoints_inserted}
 use Rattle.dbg_command.proofs.Restoring.{set_named, set_without, marked_named, marked_back}
 
 -- what leads back between two states leads back between two that are the same

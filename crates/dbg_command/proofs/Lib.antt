@@ -6,4 +6,3 @@ pub mod GivenEach
 pub mod Restoring
 pub mod GoingBack
 pub mod Boxed
-pub mod Temp

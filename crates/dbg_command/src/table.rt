@@ -24,13 +24,13 @@ pub struct Table {
 }
 
 impl Model for Table {
-    ghost use Rattle.dbg_base.specs.contracts.expr.Expr.{the_row};
+    ghost use Rattle.least_cut.specs.TreeCodes.{coded_tree};
     ghost use Rattle.std.specs.Coded.{codes};
     ghost use Rattle.dbg_command.specs.Tables.{TableState};
 
     ghost Value = { TableState };
 
-    ghost coded = { Prim.hlevel (codes, the_row.coded) };
+    ghost coded = { Prim.hlevel (codes, coded_tree) };
 
     ghost view = { λ table. record { world = table.world; book = table.book } };
 }
@@ -74,12 +74,14 @@ impl Table {
         &self.book
     }
 
-    /// The same table once more. It is refused only as `Memory`, where that runs out.
+    /// The same table once more, with as much room. It is refused only as `Memory`, where that runs out.
     pub fn copy(&self) -> Result<Table, Refusal>
-        ensures same { IsCopy result (λ made. shown made ≡ shown self.now) }
-        ensures of { IfOk result (λ made. (P : tree.Program) → IsTableOf P self.now → IsTableOf P made) }
+        ensures { IsCopy result (λ made. made ≡ self.now) }
     {
-        Err(Refusal::Memory)
+        Ok(Table {
+            world: self.world.copy()?,
+            book: self.book.copy()?,
+        })
     }
 
     /// The answer to a command that was accepted and did this. It takes no memory.

@@ -3,7 +3,7 @@ use Rattle.dbg_base.specs.SystemStates.{SystemState, after_rollback}
 use Rattle.causal_world.specs.Scenes.{Scene, IsWorldOf}
 use Rattle.break_book.specs.Books.{AreMoved, HaveRoomUpTo, breakpoints_of}
 use Rattle.break_book.proofs.Callers.{seen_breakpoints}
-use Rattle.dbg_command.proofs.Temp.{book_forth_from}
+use Rattle.break_book.proofs.Returning.{book_forth_from}
 use Rattle.dbg_command.specs.Tables.{TableState, IsTableOf, state_of}
 use Rattle.dbg_command.specs.Boxes.{HasRolled, unrolled}
 use Rattle.dbg_command.proofs.Acting.{system_changed}

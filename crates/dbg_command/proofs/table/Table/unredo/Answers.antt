@@ -2,7 +2,7 @@ use Rattle.std.proofs.Common.{◌≡◌, sym, ap, ◌∙◌, subst}
 use Rattle.dbg_base.specs.SystemStates.{line_of, place_at, after_undo}
 use Rattle.causal_world.specs.Scenes.{Scene, IsWorldOf}
 use Rattle.break_book.specs.Books.{AreShrunk}
-use Rattle.dbg_command.proofs.Temp.{book_unredone}
+use Rattle.break_book.proofs.Returning.{book_unredone}
 use Rattle.dbg_command.specs.Tables.{TableState, IsTableOf, state_of}
 use Rattle.dbg_command.specs.Boxes.{HasRedone, unredone}
 use Rattle.dbg_command.proofs.Acting.{system_changed, on_line}

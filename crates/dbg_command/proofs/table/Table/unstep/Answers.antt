@@ -2,7 +2,7 @@ use Rattle.std.proofs.Common.{◌≡◌, sym, ap, ◌∙◌, subst}
 use Rattle.dbg_base.specs.Trees.{Program}
 use Rattle.causal_world.specs.Scenes.{Scene, IsWorldOf, restored}
 use Rattle.break_book.specs.Books.{AreShrunk}
-use Rattle.dbg_command.proofs.Temp.{book_unstepped}
+use Rattle.break_book.proofs.Returning.{book_unstepped}
 use Rattle.dbg_command.specs.Tables.{TableState, IsTableOf, state_of}
 use Rattle.dbg_command.specs.Boxes.{HasStepped, unstepped}
 use Rattle.dbg_command.proofs.Acting.{system_changed}
