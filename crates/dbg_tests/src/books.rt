@@ -5,11 +5,12 @@ ghost use Rattle.proc_lang.specs.Programs.{program_of};
 ghost use Rattle.causal_world.specs.Scenes.{IsWorldOf};
 ghost use Rattle.break_book.specs.Books.{AreDetectorsOf};
 
+use crate::detector_calls as follow;
 use crate::detector_calls::{conjunct, detector, known_all};
 use crate::world_calls::step;
 use break_book::Book;
 use causal_world::World;
-use dbg_base::{Choice, Conjunct, Cut, Name, Pid, Refusal, Sequence};
+use dbg_base::{Choice, Conjunct, Cut, Head, Name, Pid, Refusal, Sequence};
 use least_cut::{Cause, Detector, Elimination, Scan};
 use proc_lang::{ProgError, Program, parse_program};
 use std::alloc::Global;
@@ -155,6 +156,25 @@ fn a_breakpoint_is_disarmed_whether_or_not_it_has_a_cut(rt: HostRuntime) -> Resu
     )
 }
 
+#[test]
+fn a_copied_book_is_apart(rt: HostRuntime) -> Result<(), Fail> {
+    let alloc = rt.alloc();
+    let program = counter(alloc)?;
+    let world = counted(alloc, &program)?;
+    let mut book = three(alloc, &program, &world)?;
+    disarm(&rt, &mut book, "first")?;
+    let made = book.copy()?;
+    disarm(&rt, &mut book, "second")?;
+    expect_none(&rt, &book)?;
+    expect_halt(&rt, &made, "second")?;
+    expect(
+        &rt,
+        alloc,
+        &made,
+        &[("first", false), ("second", true), ("third", true)],
+    )
+}
+
 // The book gets room for so many events of the counter.
 fn make_room(rt: &impl Abort, alloc: Global, book: &mut Book, events: u32) -> Result<(), Fail> {
     let cut = Cut::new(Vec::from_slice(alloc, &[events])?);
@@ -222,4 +242,22 @@ fn a_search_tells_why_there_is_no_cut(rt: HostRuntime) -> Result<(), Fail> {
 #[test]
 fn a_search_tells_why_its_cut_is_the_first(rt: HostRuntime) -> Result<(), Fail> {
     expect_search(&rt, rt.alloc(), "(x = 1)", true, &[passed(0, 1)])
+}
+
+// Expects this component of the counter in the frontier, by the same eliminations.
+fn expect_front(rt: &impl Abort, alloc: Global, told: &Detector, head: Head) -> Result<(), Fail> {
+    assert_eq!(rt; told.frontier(alloc)?.items(), [head].as_slice());
+    expect_told(rt, told, head == Head::At(2), &[passed(0, 1), passed(1, 2)])
+}
+
+#[test]
+fn a_copied_detector_is_apart(rt: HostRuntime) -> Result<(), Fail> {
+    let alloc = rt.alloc();
+    let program = counter(alloc)?;
+    let mut world = counted(alloc, &program)?;
+    let told = detector(alloc, &program, &world, at(alloc, &program, "(x = 2)")?)?;
+    let mut made = told.copy()?;
+    follow::step(&mut world, &mut made, alloc, &program, A, Choice(0))?;
+    expect_front(&rt, alloc, &made, Head::At(2))?;
+    expect_front(&rt, alloc, &told, Head::Past)
 }
