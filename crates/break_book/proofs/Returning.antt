@@ -1,16 +1,14 @@
 -- What the calls of a book require that take commands back, from what the calls of its world say.
 use Rattle.std.proofs.Common.{◌≡◌, ℕ, zero, suc, ◌<◌, List, [], ◌∷◌, length, insert, refl, sym, ap, ◌∙◌, subst}
 use Rattle.std.specs.List.{AllByRecursion}
-use Rattle.std.proofs.lemmas.List.{length-map}
 use Rattle.dbg_base.specs.Breakpoints.{Breakpoint}
 use Rattle.dbg_base.specs.Trees.{Program}
-use Rattle.dbg_base.specs.SystemStates.{line_of, place_at, history_of, after_choice, after_redo, after_undo, after_rollback}
+use Rattle.dbg_base.specs.SystemStates.{line_of, place_at, history_of, after_choice, after_redo}
 use Rattle.causal_world.specs.declared.rolled.Taken.{Taken}
 use Rattle.causal_world.specs.Scenes.{Scene, IsWorldOf}
 use Rattle.causal_world.specs.Rollings.{IsRolledFrom}
 use Rattle.least_cut.specs.Detectors.{IsDetectorOf, IsShrunk, IsMoved, Begins}
 use Rattle.least_cut.proofs.Beginnings.{begins_rolled}
-use Rattle.least_cut.proofs.Callers.{IsConsistentCut, begins_at_cut, begins_at_undo}
 use Rattle.least_cut.proofs.Callers as detector
 use Rattle.break_book.specs.Books.{Entry, breakpoint_of, breakpoints_of, AreDetectorsOf, AreShrunk, AreMoved}
 use Rattle.break_book.proofs.Callers.{all_map}
@@ -37,16 +35,7 @@ module _ (P : Program) (before w : Scene) (book : List Entry) (of : IsWorldOf P 
       all_map (λ (e : Entry). IsDetectorOf w e.1.detector) (λ (e : Entry). IsMoved e.1.detector before)
       (λ e is. detector.has_gone_forth P before w e.1.detector of now is begins) book are
 
-  -- they were the last one of a process
-  pub book_forth_from_undo : (p : ℕ) → w.state ≡ after_undo before.state p → AreMoved book before
-  book_forth_from_undo p state = book_gone_forth (begins_at_undo P before of w p state)
-
-  -- those behind a cut
-  pub book_forth_from_cut : (cut : List ℕ) → IsConsistentCut before.kinds cut → w.state ≡ after_rollback before.state cut
-      → AreMoved book before
-  book_forth_from_cut cut consistent state = book_gone_forth (begins_at_cut P before of cut consistent w state)
-
-  -- or these, one after the other
+  -- they were taken back one after the other
   pub book_forth_from : (taken : List Taken) → IsRolledFrom P before taken w → AreMoved book before
   book_forth_from taken from = book_gone_forth (begins_rolled P before w taken from)
 
@@ -63,20 +52,9 @@ pub detector_taken : (w : Scene) (old new : List Entry) (i : ℕ) (entry : Entry
 detector_taken w old new i entry is are =
     all_inserted (λ (e : Entry). IsDetectorOf w e.1.detector) new i entry (subst (AreDetectorsOf w) is are)
 
--- books of the same breakpoints have as many entries
-pub length_seen : (book other : List Entry) → breakpoints_of book ≡ breakpoints_of other → length book ≡ length other
-length_seen book other same =
-    sym (length-map book breakpoint_of) ∙ ap (λ (l : List Breakpoint). length l) same ∙ length-map other breakpoint_of
-
+-- its breakpoint goes back to its place
 pub breakpoints_inserted : (book : List Entry) (i : ℕ) (entry : Entry)
     → breakpoints_of (insert book i entry) ≡ insert (breakpoints_of book) i (breakpoint_of entry)
 breakpoints_inserted book zero entry = refl
 breakpoints_inserted [] (suc i) entry = refl
 breakpoints_inserted (e ∷ book) (suc i) entry = ap (λ (l : List Breakpoint). breakpoint_of e ∷ l) (breakpoints_inserted book i entry)
-
--- put back among the same breakpoints, it makes those that there were
-pub book_restored : (old new book : List Entry) (i : ℕ) (entry : Entry) → old ≡ insert new i entry → breakpoints_of book ≡ breakpoints_of new
-    → breakpoints_of (insert book i entry) ≡ breakpoints_of old
-book_restored old new book i entry is same =
-    breakpoints_inserted book i entry ∙ ap (λ (l : List Breakpoint). insert l i (breakpoint_of entry)) same
-    ∙ sym (breakpoints_inserted new i entry) ∙ ap breakpoints_of (sym is)

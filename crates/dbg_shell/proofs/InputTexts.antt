@@ -7,7 +7,6 @@ use Rattle.dbg_base.specs.declared.limits.TheConstants.{INPUT_BYTES}
 use Rattle.dbg_base.specs.declared.fault.ProgFault.{ProgFault}
 use Rattle.dbg_base.specs.Trees.{Program}
 use Rattle.dbg_base.specs.Checks.{Reads, IsFault}
-use Rattle.dbg_base.specs.ModelStates.{opening}
 use Rattle.dbg_base.specs.Shell.{Parts, lines_of, parts_of, read_lines, lines_within, is_too_long, AnswersLines, AnswersParts, TextOfParts}
 use Rattle.dbg_base.specs.Shell.{WholeText, fault_text, too_long_text, no_end_line_text}
 use Rattle.dbg_shell.specs.declared.framing.Span.{Span}
@@ -115,7 +114,7 @@ module _ (bytes : List ℕ) (ended : Bool) (begin new : ℕ) (end : TextEnd) (be
             P,
             subst (λ (t : List ℕ). Reads t P) (text_from_start bytes text span.from (seen here.1)) reads,
             broken.wrote.1.0,
-            subst (λ (lines : List (List ℕ)). AnswersLines P lines (opening P) out broken.wrote.1.0)
+            subst (λ (lines : List (List ℕ)). AnswersLines P lines [] out broken.wrote.1.0)
                 (sym (on.whole new (omega arith)))
                 broken.wrote.1.1,
           )

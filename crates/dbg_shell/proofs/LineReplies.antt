@@ -6,7 +6,7 @@ use Rattle.std.specs.Io.KnownBytes.{Appends}
 use Rattle.std.proofs.lemmas.List.{append-nil}
 use Rattle.std.proofs.KnownBytes.{Appends-nil, Appends-trans}
 use Rattle.dbg_base.specs.Trees.{Program}
-use Rattle.dbg_base.specs.ModelStates.{ModelState, opening}
+use Rattle.dbg_base.specs.Journals.{Journal}
 use Rattle.dbg_base.specs.Shell.{AnswersLine, AnswersLines, is_too_long, end_text, too_long_text}
 use Rattle.dbg_shell.specs.declared.framing.Span.{Span}
 use Rattle.dbg_shell.specs.declared.framing.Next.{Next}
@@ -24,49 +24,49 @@ use Rattle.dbg_shell.proofs.SomeAnswers.{some_answers}
 use Rattle.reply_lines.proofs.Writing.{front_then, front_longer}
 
 -- Some lines were answered, and what answers the lines from here on completes the answers to all of them.
-pub record Answered (P : Program) (whole : List ℕ) (from at : ℕ) (M : ModelState) (old new : Option (List ℕ)) : Type 0 where
+pub record Answered (P : Program) (whole : List ℕ) (from at : ℕ) (J : Journal) (old new : Option (List ℕ)) : Type 0 where
   pub text : List ℕ
   pub written : Appends old new text
-  pub goes_on : (others : List ℕ) (last : ModelState) → AnswersLines P (lines_from at whole) M others last
-      → AnswersLines P (lines_from from whole) (opening P) (text ++ others) last
+  pub goes_on : (others : List ℕ) (last : Journal) → AnswersLines P (lines_from at whole) J others last
+      → AnswersLines P (lines_from from whole) [] (text ++ others) last
 
-pub answered_begins : (P : Program) (whole : List ℕ) (from : ℕ) (M : ModelState) (a : Option (List ℕ)) → M ≡ opening P
-    → Answered P whole from from M a a
-answered_begins P whole from M a e = record {
+pub answered_begins : (P : Program) (whole : List ℕ) (from : ℕ) (J : Journal) (a : Option (List ℕ)) → J ≡ []
+    → Answered P whole from from J a a
+answered_begins P whole from J a e = record {
   text = [];
   written = Appends-nil a;
-  goes_on = λ others last answers. subst (λ (M : ModelState). AnswersLines P (lines_from from whole) M others last) e answers;
+  goes_on = λ others last answers. subst (λ (J : Journal). AnswersLines P (lines_from from whole) J others last) e answers;
 }
 
-answered_on : (P : Program) (whole line : List ℕ) (from at new : ℕ) (M next : ModelState) (a b c : Option (List ℕ)) (text : List ℕ)
-    → Answered P whole from at M a b → lines_from at whole ≡ line ∷ lines_from new whole → AnswersLine P line M text next → Appends b c text
+answered_on : (P : Program) (whole line : List ℕ) (from at new : ℕ) (J next : Journal) (a b c : Option (List ℕ)) (text : List ℕ)
+    → Answered P whole from at J a b → lines_from at whole ≡ line ∷ lines_from new whole → AnswersLine P line J text next → Appends b c text
     → Answered P whole from new next a c
-answered_on P whole line from at new M next a b c text answered here answers written = record {
+answered_on P whole line from at new J next a b c text answered here answers written = record {
   text = answered.text ++ text;
   written = Appends-trans a b c answered.text text answered.written written;
   goes_on = λ others last more.
-      subst (λ (t : List ℕ). AnswersLines P (lines_from from whole) (opening P) t last) (sym (append_assoc answered.text text others))
-      (answered.goes_on (text ++ others) last (subst (λ (lines : List (List ℕ)). AnswersLines P lines M (text ++ others) last) (sym here)
+      subst (λ (t : List ℕ). AnswersLines P (lines_from from whole) [] t last) (sym (append_assoc answered.text text others))
+      (answered.goes_on (text ++ others) last (subst (λ (lines : List (List ℕ)). AnswersLines P lines J (text ++ others) last) (sym here)
       (text, others, next, answers, more, refl)));
 }
 
 -- no line is left, and this is told at the end
-replies_end : (P : Program) (whole : List ℕ) (from at : ℕ) (M : ModelState) (a b : Option (List ℕ)) (text : List ℕ)
-    (answered : Answered P whole from at M a b)
+replies_end : (P : Program) (whole : List ℕ) (from at : ℕ) (J : Journal) (a b : Option (List ℕ)) (text : List ℕ)
+    (answered : Answered P whole from at J a b)
     → lines_from at whole ≡ [] → text ≡ end_text whole → RepliesTo P (lines_from from whole) whole (answered.text ++ text)
-replies_end P whole from at M a b text answered none same = (
+replies_end P whole from at J a b text answered none same = (
   answered.text ++ [],
-  M,
-  answered.goes_on [] M (subst (λ (lines : List (List ℕ)). AnswersLines P lines M [] M) (sym none) (refl, refl)),
+  J,
+  answered.goes_on [] J (subst (λ (lines : List (List ℕ)). AnswersLines P lines J [] J) (sym none) (refl, refl)),
   ap (λ (t : List ℕ). answered.text ++ t) same ∙ ap (λ (t : List ℕ). t ++ end_text whole) (sym (append-nil answered.text)),
 )
 
-answered_ends : (P : Program) (whole : List ℕ) (from at : ℕ) (M : ModelState) (a b c : Option (List ℕ)) (text : List ℕ)
-    → Answered P whole from at M a b
+answered_ends : (P : Program) (whole : List ℕ) (from at : ℕ) (J : Journal) (a b c : Option (List ℕ)) (text : List ℕ)
+    → Answered P whole from at J a b
     → lines_from at whole ≡ [] → Appends b c text → text ≡ end_text whole → WritesSome a c (RepliesTo P (lines_from from whole) whole)
-answered_ends P whole from at M a b c text answered none written same = (
+answered_ends P whole from at J a b c text answered none written same = (
   answered.text ++ text,
-  replies_end P whole from at M a b text answered none same,
+  replies_end P whole from at J a b text answered none same,
   Appends-trans a b c answered.text text
       answered.written written,
 )
@@ -75,14 +75,14 @@ regrouped : (x y z w : List ℕ) → x ++ y ++ (z ++ w) ≡ x ++ (y ++ z) ++ w
 regrouped x y z w = append_assoc x y (z ++ w) ∙ ap (λ (t : List ℕ). x ++ t) (sym (append_assoc y z w)) ∙ sym (append_assoc x (y ++ z) w)
 
 -- a line's answer was not written whole
-answered_stops : (P : Program) (whole line : List ℕ) (from at new : ℕ) (M next : ModelState) (a b c : Option (List ℕ)) (text : List ℕ)
-    → Answered P whole from at M a b → lines_from at whole ≡ line ∷ lines_from new whole → AnswersLine P line M text next
+answered_stops : (P : Program) (whole line : List ℕ) (from at new : ℕ) (J next : Journal) (a b c : Option (List ℕ)) (text : List ℕ)
+    → Answered P whole from at J a b → lines_from at whole ≡ line ∷ lines_from new whole → AnswersLine P line J text next
     → AppendsFront b c text
     → WritesFront a c (RepliesTo P (lines_from from whole) whole)
-answered_stops P whole line from at new M next a b c text answered here answers front =
+answered_stops P whole line from at new J next a b c text answered here answers front =
     let more = some_answers P (lines_from new whole) next in
-    let all : AnswersLines P (lines_from from whole) (opening P) (answered.text ++ (text ++ more.0)) more.1 =
-    answered.goes_on (text ++ more.0) more.1 (subst (λ (lines : List (List ℕ)). AnswersLines P lines M (text ++ more.0) more.1) (sym here)
+    let all : AnswersLines P (lines_from from whole) [] (answered.text ++ (text ++ more.0)) more.1 =
+    answered.goes_on (text ++ more.0) more.1 (subst (λ (lines : List (List ℕ)). AnswersLines P lines J (text ++ more.0) more.1) (sym here)
     (text, more.0, next, answers, more.2, refl)) in
     let longer = front_longer a c (answered.text ++ text) (more.0 ++ end_text whole)
     (front_then a b c answered.text text answered.written front) in (
@@ -92,18 +92,18 @@ answered_stops P whole line from at new M next a b c text answered here answers 
     )
 
 -- The lines were answered so far, whatever the input may be.
-abbrev pub AnsweredAny : Program → List ℕ → Bool → ℕ → ℕ → ModelState → Option (List ℕ) → Option (List ℕ) → Type 0
-AnsweredAny P bytes ended from at M old new = (input : List ℕ) → MayBe bytes ended input → Answered P input from at M old new
+abbrev pub AnsweredAny : Program → List ℕ → Bool → ℕ → ℕ → Journal → Option (List ℕ) → Option (List ℕ) → Type 0
+AnsweredAny P bytes ended from at J old new = (input : List ℕ) → MayBe bytes ended input → Answered P input from at J old new
 
-pub any_answered : (P : Program) (bytes : List ℕ) (ended : Bool) (from : ℕ) (M : ModelState) (a : Option (List ℕ)) → M ≡ opening P
-    → AnsweredAny P bytes ended from from M a a
-any_answered P bytes ended from M a e input may = answered_begins P input from M a e
+pub any_answered : (P : Program) (bytes : List ℕ) (ended : Bool) (from : ℕ) (J : Journal) (a : Option (List ℕ)) → J ≡ []
+    → AnsweredAny P bytes ended from from J a a
+any_answered P bytes ended from J a e input may = answered_begins P input from J a e
 
-module _ (P : Program) (before : List ℕ) (was : Bool) (bytes : List ℕ) (ended : Bool) (from at new : ℕ) (next : Next) (M : ModelState)
+module _ (P : Program) (before : List ℕ) (was : Bool) (bytes : List ℕ) (ended : Bool) (from at new : ℕ) (next : Next) (J : Journal)
     (old mid : Option (List ℕ))
-    (answered : AnsweredAny P before was from at M old mid) (narrows : Narrows before was bytes ended)
+    (answered : AnsweredAny P before was from at J old mid) (narrows : Narrows before was bytes ended)
     (told : TellsAny bytes ended at new next) where
-  module _ (line : List ℕ) (span : Span) (M' : ModelState) (out : Option (List ℕ)) (is : next ≡ nexts.Line span)
+  module _ (line : List ℕ) (span : Span) (J' : Journal) (out : Option (List ℕ)) (is : next ≡ nexts.Line span)
       (seen : span.from ≤ span.to → span.to ≤ length bytes → line ≡ slice_range bytes span.from span.to) where
     line_here : (input : List ℕ) → MayBe bytes ended input → lines_from at input ≡ line ∷ lines_from new input
     line_here input may =
@@ -111,17 +111,17 @@ module _ (P : Program) (before : List ℕ) (was : Bool) (bytes : List ℕ) (ende
         let same : line ≡ slice_range bytes span.from span.to = seen here.2 here.3 in
         here.0 ∙ ap (λ (l : List ℕ). l ∷ lines_from new input) (sym same)
 
-    pub any_goes_on : {A : Type 0} (u : A) → WritesAnswer P line M mid (Ok u) out M' → AnsweredAny P bytes ended from new M' old out
+    pub any_goes_on : {A : Type 0} (u : A) → WritesAnswer P line J mid (Ok u) out J' → AnsweredAny P bytes ended from new J' old out
     any_goes_on u wrote input may =
-        answered_on P input line from at new M M' old mid out wrote.text (answered input (narrows input may)) (line_here input may)
+        answered_on P input line from at new J J' old mid out wrote.text (answered input (narrows input may)) (line_here input may)
         wrote.answers wrote.written.whole
 
-    pub any_stops : {A : Type 0} (e : ServeFault) (r : Result Served ServeFault) → WritesAnswer {A = A} P line M mid (Err e) out M'
+    pub any_stops : {A : Type 0} (e : ServeFault) (r : Result Served ServeFault) → WritesAnswer {A = A} P line J mid (Err e) out J'
         → IfErr r (λ fault. fault ≡ Write → StopsLines P bytes ended from old out)
     any_stops e (Ok served) wrote = tt
     any_stops e (Err fault) wrote =
         λ is_write input may.
-        answered_stops P input line from at new M M' old mid out wrote.text (answered input (narrows input may)) (line_here input may)
+        answered_stops P input line from at new J J' old mid out wrote.text (answered input (narrows input may)) (line_here input may)
         wrote.answers wrote.written.part
 
   pub any_ends : next ≡ nexts.End → ServesLines P bytes ended from ends.Done old mid
@@ -129,7 +129,7 @@ module _ (P : Program) (before : List ℕ) (was : Bool) (bytes : List ℕ) (ende
       let here : Tells input bytes at new nexts.End = told_of bytes ended at new next nexts.End told is input may in
       let no : is_too_long input ≡ false = here.1 in (
         rw no refl,
-        answered_ends P input from at M old mid mid [] (answered input (narrows input may)) here.0 (Appends-nil mid)
+        answered_ends P input from at J old mid mid [] (answered input (narrows input may)) here.0 (Appends-nil mid)
             (rw no refl),
       )
 
@@ -141,7 +141,7 @@ module _ (P : Program) (before : List ℕ) (was : Bool) (bytes : List ℕ) (ende
       let here : Tells input bytes at new nexts.TooLong = told_of bytes ended at new next nexts.TooLong told is input may in
       let long : is_too_long input ≡ true = here.1 in (
         same ∙ rw long refl,
-        answered_ends P input from at M old mid out too_long_text (answered input (narrows input may)) here.0
+        answered_ends P input from at J old mid out too_long_text (answered input (narrows input may)) here.0
             wrote.whole (rw long refl),
       )
 
@@ -152,26 +152,26 @@ module _ (P : Program) (before : List ℕ) (was : Bool) (bytes : List ℕ) (ende
       λ is_write input may.
       let here : Tells input bytes at new nexts.TooLong = told_of bytes ended at new next nexts.TooLong told is input may in
       let long : is_too_long input ≡ true = here.1 in
-      let so_far : Answered P input from at M old mid = answered input (narrows input may) in (
+      let so_far : Answered P input from at J old mid = answered input (narrows input may) in (
         so_far.text ++ too_long_text,
-        replies_end P input from at M old mid too_long_text so_far here.0 (rw long refl),
+        replies_end P input from at J old mid too_long_text so_far here.0 (rw long refl),
         front_then old mid out so_far.text too_long_text so_far.written wrote.part,
       )
 
 -- where no more can be read, the whole lines were answered
-pub any_breaks : (P : Program) (before : List ℕ) (was : Bool) (bytes : List ℕ) (ended : Bool) (from at : ℕ) (M : ModelState)
+pub any_breaks : (P : Program) (before : List ℕ) (was : Bool) (bytes : List ℕ) (ended : Bool) (from at : ℕ) (J : Journal)
     (old mid : Option (List ℕ))
-    (r : Result Served ServeFault) → AnsweredAny P before was from at M old mid → Narrows before was bytes ended → from ≤ at
+    (r : Result Served ServeFault) → AnsweredAny P before was from at J old mid → Narrows before was bytes ended → from ≤ at
     → IsUnderWay bytes ended at
     → IfErr r (λ fault. fault ≡ Read → BreaksLines P bytes ended from old mid)
-any_breaks P before was bytes ended from at M old mid (Ok served) answered narrows begun way = tt
-any_breaks P before was bytes ended from at M old mid (Err fault) answered narrows begun way =
+any_breaks P before was bytes ended from at J old mid (Ok served) answered narrows begun way = tt
+any_breaks P before was bytes ended from at J old mid (Err fault) answered narrows begun way =
     λ is_read.
     let on = goes_on bytes ended at way in
-    let so_far : Answered P on.input from at M old mid = answered on.input (narrows on.input on.may) in
+    let so_far : Answered P on.input from at J old mid = answered on.input (narrows on.input on.may) in
     let held : at ≤ length bytes = way.begun in
-    let all : AnswersLines P (lines_from from on.input) (opening P) (so_far.text ++ []) M =
-    so_far.goes_on [] M (subst (λ (lines : List (List ℕ)). AnswersLines P lines M [] M) (sym (none_left bytes ended at way))
+    let all : AnswersLines P (lines_from from on.input) [] (so_far.text ++ []) J =
+    so_far.goes_on [] J (subst (λ (lines : List (List ℕ)). AnswersLines P lines J [] J) (sym (none_left bytes ended at way))
     (refl, refl)) in
     record {
       at = at;
@@ -180,9 +180,9 @@ any_breaks P before was bytes ended from at M old mid (Err fault) answered narro
       wrote = (
         so_far.text,
         (
-          M,
-          subst (λ (lines : List (List ℕ)). AnswersLines P lines (opening P) so_far.text M) (on.whole from (omega arith))
-              (subst (λ (t : List ℕ). AnswersLines P (lines_from from on.input) (opening P) t M) (append-nil so_far.text) all),
+          J,
+          subst (λ (lines : List (List ℕ)). AnswersLines P lines [] so_far.text J) (on.whole from (omega arith))
+              (subst (λ (t : List ℕ). AnswersLines P (lines_from from on.input) [] t J) (append-nil so_far.text) all),
         ),
         so_far.written,
       );

@@ -1,32 +1,32 @@
 -- What was written for a command line.
-use Rattle.std.proofs.Common.{ℕ, List, [], Option, Some, None, Result, Ok, Err, refl}
+use Rattle.std.proofs.Common.{◌⊎◌, ℕ, List, [], Option, Some, None, Result, Ok, Err, refl}
 use Rattle.dbg_base.specs.declared.refusal.Refusal.{Refusal}
 use Rattle.dbg_base.specs.declared.said.Said.{Said}
 use Rattle.dbg_base.specs.Calls.{call_of}
 use Rattle.dbg_base.specs.Trees.{Program}
-use Rattle.dbg_base.specs.ModelStates.{ModelState}
+use Rattle.dbg_base.specs.Journals.{Journal, Enters, Misses}
 use Rattle.dbg_base.specs.Replies.{reply_text, refusal_text}
-use Rattle.dbg_base.specs.Shell.{as_line, SaysOrRefuses}
+use Rattle.dbg_base.specs.Shell.{as_line}
 use Rattle.reply_lines.specs.Writing.{Writes}
 use Rattle.dbg_shell.specs.Serving.{WritesAnswer}
 use Rattle.reply_lines.specs.declared.outcome.ServeFault.{ServeFault}
 use Rattle.command_line.specs.declared.line.Line.{Line}
 use Rattle.command_line.specs.Lines.{IsParsed, requested}
 
-module _ {A : Type 0} (P : Program) (bytes : List ℕ) (M : ModelState) (old : Option (List ℕ)) (r : Result A ServeFault) where
+module _ {A : Type 0} (P : Program) (bytes : List ℕ) (J : Journal) (old : Option (List ℕ)) (r : Result A ServeFault) where
   -- the answer to a call was written, or a front of it
-  pub answers_call : (M' : ModelState) (line : Line) (said : Said) (new : Option (List ℕ)) → IsParsed P bytes (Ok (Some line))
-      → SaysOrRefuses P line.seat (call_of line.call) M said M' → Writes old new r (as_line (reply_text P (call_of line.call) said))
-      → WritesAnswer P bytes M old r new M'
-  answers_call M' line said new parsed says wrote = record {
+  pub answers_call : (J' : Journal) (line : Line) (said : Said) (new : Option (List ℕ)) → IsParsed P bytes (Ok (Some line))
+      → Enters P J line.seat (call_of line.call) said J' ⊎ Misses J said J'
+      → Writes old new r (as_line (reply_text P (call_of line.call) said)) → WritesAnswer P bytes J old r new J'
+  answers_call J' line said new parsed entered wrote = record {
     text = as_line (reply_text P (call_of line.call) said);
-    answers = (Ok (Some (requested line)), parsed, (said, says, refl));
+    answers = (Ok (Some (requested line)), parsed, (said, entered, refl));
     written = wrote;
   }
 
   -- a refusal was written, or a front of it
   pub answers_refusal : (refusal : Refusal) (new : Option (List ℕ)) → IsParsed P bytes (Err refusal)
-      → Writes old new r (as_line (refusal_text P refusal)) → WritesAnswer P bytes M old r new M
+      → Writes old new r (as_line (refusal_text P refusal)) → WritesAnswer P bytes J old r new J
   answers_refusal refusal new parsed wrote = record {
     text = as_line (refusal_text P refusal);
     answers = (Err refusal, parsed, (refl, refl));
@@ -34,5 +34,5 @@ module _ {A : Type 0} (P : Program) (bytes : List ℕ) (M : ModelState) (old : O
   }
 
   -- nothing was asked for, and nothing was written
-  pub answers_nothing : IsParsed P bytes (Ok None) → Writes old old r [] → WritesAnswer P bytes M old r old M
+  pub answers_nothing : IsParsed P bytes (Ok None) → Writes old old r [] → WritesAnswer P bytes J old r old J
   answers_nothing parsed wrote = record { text = []; answers = (Ok None, parsed, (refl, refl)); written = wrote }

@@ -13,9 +13,9 @@ use Rattle.dbg_base.specs.declared.said.Said.TheVariants.{Refused}
 use Rattle.dbg_base.specs.Trees.{Program}
 use Rattle.dbg_base.specs.Calls.{Call}
 use Rattle.dbg_base.specs.CommandLines.{Request, map_ok, without_return, next_word, after_word, seat_word, name_word, parts_in}
-use Rattle.dbg_base.specs.CommandLines.{call_of_words, words_of}
-use Rattle.dbg_base.specs.Requests.{AsksBreak, AsksBy, AsksWithin, AsksOrRefuses}
-use Rattle.dbg_base.specs.ModelStates.{ModelState}
+use Rattle.dbg_base.specs.CommandLines.{call_of_words, words_of, sets_break}
+use Rattle.dbg_base.specs.Requests.{AsksBreak, AsksOne, AsksBatch, AsksCall, AsksBy, AsksWithin, AsksOrRefuses, MayTakeMemory}
+use Rattle.dbg_base.specs.Journals.{Journal}
 use Rattle.dbg_base.specs.Replies.{reply_text, refusal_text}
 use Rattle.dbg_base.specs.Shell.{as_line, AnswersParsed, AnswersLines}
 
@@ -45,26 +45,28 @@ module _ (P : Program) (line : List ℕ) where
           short_asks asked (subst (λ (t : Bool). MatchBool t (asked ≡ Ok None) (AsksBy P (seat_word (next_word within)) rest asked))
           (sym some) (subst (λ (s : Option ℕ). AsksBy P s rest asked) (sym is) asks))
 
-      by_word : (seat : ℕ) → seat_word (next_word within) ≡ Some seat → (t : Bool) → bytes_eq (next_word rest) (codes "break") ≡ t → Known
-      by_word seat is true word = (
-        Err Memory,
-        inr (
-          record { short = grind (arith, nat_tests); word = (bytes_eq-Decides (next_word rest) (codes "break")).0 word },
-          refl,
-        ),
-      )
-      by_word seat is false word =
+      -- a command that may take memory is refused for want of it
+      wanting : MayTakeMemory rest → Known
+      wanting command = (Err Memory, inr (record { short = grind (arith, nat_tests); command = command }, refl))
+
+      asks_call : (seat : ℕ) → seat_word (next_word within) ≡ Some seat → (call : Result Call Refusal) → AsksCall P rest call → Known
+      asks_call seat is call asks =
+          seat_asks (Some seat) is (map_ok (λ made. Some (record { seat = seat; call = made })) call) (call, asks, refl)
+
+      by_word : (seat : ℕ) → seat_word (next_word within) ≡ Some seat → (breaks batch : Bool) → sets_break rest ≡ breaks
+          → bytes_eq (next_word rest) (codes "batch") ≡ batch → Known
+      by_word seat is breaks true word other = wanting (inr ((bytes_eq-Decides (next_word rest) (codes "batch")).0 other))
+      by_word seat is true false word other = wanting (inl ((bytes_eq-Decides (next_word rest) (codes "break")).0 word))
+      by_word seat is false false word other =
           let call : Result Call Refusal = call_of_words P (next_word rest) (words_of (after_word rest)) in
-          seat_asks (Some seat) is (map_ok (λ made. Some (record { seat = seat; call = made })) call) (
-            call,
-            subst (λ (t : Bool). MatchBool t (AsksBreak P (name_word (next_word (after_word rest)))
-                (parts_in (after_word (after_word rest))) call) (call ≡ call)) (sym word) refl,
-            refl,
-          )
+          asks_call seat is call
+          (subst (λ (t : Bool). MatchBool t (AsksBatch P (after_word rest) call) (AsksOne P rest call)) (sym other)
+          (subst (λ (t : Bool). MatchBool t (AsksBreak P (name_word (next_word (after_word rest)))
+          (parts_in (after_word (after_word rest))) call) (call ≡ call)) (sym word) refl))
 
       by_seat : (seat : Option ℕ) → seat_word (next_word within) ≡ seat → Known
       by_seat None is = seat_asks None is (Err BadLine) refl
-      by_seat (Some seat) is = by_word seat is (bytes_eq (next_word rest) (codes "break")) refl
+      by_seat (Some seat) is = by_word seat is (sets_break rest) (bytes_eq (next_word rest) (codes "batch")) refl refl
 
     by_front : (t : Bool) → nat_le (length (next_word within)) 0 ≡ t → Known
     by_front true blank =
@@ -81,20 +83,20 @@ module _ (P : Program) (line : List ℕ) where
   known = by_length (nat_lt LINE_BYTES (length line)) refl
 
 -- a line of which this is known, where each call may be refused for want of memory
-abbrev Answer : Program → Result (Option Request) Refusal → ModelState → Type 0
-Answer P asked M = (out : List ℕ) × (M' : ModelState) × AnswersParsed P asked M out M'
+abbrev Answer : Program → Result (Option Request) Refusal → Journal → Type 0
+Answer P asked J = (out : List ℕ) × (J' : Journal) × AnswersParsed P asked J out J'
 
-some_answer : (P : Program) (asked : Result (Option Request) Refusal) (M : ModelState) → Answer P asked M
-some_answer P (Err refusal) M = (as_line (refusal_text P refusal), M, (refl, refl))
-some_answer P (Ok None) M = ([], M, (refl, refl))
-some_answer P (Ok (Some request)) M =
-    (as_line (reply_text P request.call (Refused Memory)), M, (Refused Memory, inr (refl, refl), refl))
+some_answer : (P : Program) (asked : Result (Option Request) Refusal) (J : Journal) → Answer P asked J
+some_answer P (Err refusal) J = (as_line (refusal_text P refusal), J, (refl, refl))
+some_answer P (Ok None) J = ([], J, (refl, refl))
+some_answer P (Ok (Some request)) J =
+    (as_line (reply_text P request.call (Refused Memory)), J, (Refused Memory, inr (record { told = refl; left = refl }), refl))
 
-pub some_answers : (P : Program) (lines : List (List ℕ)) (M : ModelState)
-    → (out : List ℕ) × (M' : ModelState) × AnswersLines P lines M out M'
-some_answers P [] M = ([], M, (refl, refl))
-some_answers P (line ∷ lines) M =
+pub some_answers : (P : Program) (lines : List (List ℕ)) (J : Journal)
+    → (out : List ℕ) × (J' : Journal) × AnswersLines P lines J out J'
+some_answers P [] J = ([], J, (refl, refl))
+some_answers P (line ∷ lines) J =
     let asked = known P line in
-    let first = some_answer P asked.0 M in
+    let first = some_answer P asked.0 J in
     let others = some_answers P lines first.1 in
     (first.0 ++ others.0, others.1, (first.0, others.0, first.1, (asked.0, asked.1, first.2), others.2, refl))

@@ -5,7 +5,7 @@ use Rattle.std.specs.Io.KnownBytes.{Appends}
 use Rattle.dbg_base.specs.declared.limits.TheConstants.{INPUT_BYTES}
 use Rattle.dbg_base.specs.Trees.{Program}
 use Rattle.dbg_base.specs.Checks.{Reads, IsFault}
-use Rattle.dbg_base.specs.ModelStates.{ModelState, opening}
+use Rattle.dbg_base.specs.Journals.{Journal}
 use Rattle.dbg_base.specs.Shell.{Parts, lines_of, parts_of, read_lines, is_too_long, AnswersLine, AnswersLines, end_text}
 use Rattle.dbg_base.specs.Shell.{WholeText, Text}
 use Rattle.dbg_base.specs.declared.fault.ProgFault.{ProgFault}
@@ -91,16 +91,16 @@ abbrev pub SplitsAny : List ℕ → Bool → ℕ → ℕ → TextEnd → Type 0
 SplitsAny bytes ended at new end = (input : List ℕ) → MayBe bytes ended input → Splits input bytes at new end
 
 -- the answer to the line was written, or where the writer failed a front of it
-pub record WritesAnswer {A : Type 0} (P : Program) (line : List ℕ) (M : ModelState) (old : Option (List ℕ)) (result : Result A ServeFault)
-    (new : Option (List ℕ)) (M' : ModelState) : Type 0 where
+pub record WritesAnswer {A : Type 0} (P : Program) (line : List ℕ) (J : Journal) (old : Option (List ℕ)) (result : Result A ServeFault)
+    (new : Option (List ℕ)) (J' : Journal) : Type 0 where
   pub text : List ℕ
-  pub answers : AnswersLine P line M text M'
+  pub answers : AnswersLine P line J text J'
   pub written : Writes old new result text
 
 -- what is written for these lines and at the end of the input
 abbrev pub RepliesTo : Program → List (List ℕ) → List ℕ → List ℕ → Type 0
 RepliesTo P lines input out =
-    (replies : List ℕ) × (M : ModelState) × AnswersLines P lines (opening P) replies M × (out ≡ replies ++ end_text input)
+    (replies : List ℕ) × (J : Journal) × AnswersLines P lines [] replies J × (out ≡ replies ++ end_text input)
 
 -- The command lines from a place on were answered, whatever the input may be.
 abbrev pub ServesLines : Program → List ℕ → Bool → ℕ → Served → Option (List ℕ) → Option (List ℕ) → Type 0
@@ -117,4 +117,4 @@ pub record BreaksLines (P : Program) (bytes : List ℕ) (ended : Bool) (from : �
   pub at : ℕ
   pub begun : from ≤ at
   pub under_way : IsUnderWay bytes ended at
-  pub wrote : WritesSome old new (λ out. (M : ModelState) × AnswersLines P (lines_of (drop from bytes)).whole (opening P) out M)
+  pub wrote : WritesSome old new (λ out. (J : Journal) × AnswersLines P (lines_of (drop from bytes)).whole [] out J)

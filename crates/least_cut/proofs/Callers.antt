@@ -18,7 +18,7 @@ use Rattle.least_cut.specs.Watches.{TruthLine, WatchState}
 use Rattle.least_cut.specs.Searches.{IsTrailFrom, IsSettledAt, none_of}
 use Rattle.least_cut.specs.Detectors.{DetectorState, lines_of, HasRoomUpTo, IsDetectorOf, IsSameButRoom, IsGrown, IsShrunk}
 use Rattle.least_cut.specs.Detectors.{IsMoved, WasOf, Begins}
-use Rattle.least_cut.proofs.Beginnings.{begins_rollback, begins_undo}
+use Rattle.least_cut.proofs.Beginnings.{begins_rollback}
 use Rattle.least_cut.proofs.Moving.{room_less, states_kept, seen_kept}
 
 -- a detector stays one where it gets room
@@ -47,13 +47,6 @@ module _ (P : Program) (before : Scene) (of : IsWorldOf P before) (cut : List �
   begins_at_cut w state =
       subst (λ (M : SystemState). Begins (history_of M) (history_of before.state)) (sym state)
       (begins_rollback before.state of.state.within cut within_places)
-
--- what is left where the last event of a process was taken back
-pub begins_at_undo : (P : Program) (before : Scene) → IsWorldOf P before → (w : Scene) (p : ℕ) → w.state ≡ after_undo before.state p
-    → Begins (history_of w.state) (history_of before.state)
-begins_at_undo P before of w p state =
-    subst (λ (M : SystemState). Begins (history_of M) (history_of before.state)) (sym state)
-    (begins_undo before.state of.state.within p)
 
 module _ (P : Program) (before w : Scene) (of : IsWorldOf P before) (p : ℕ) (here : p < length P) where
   size : p < length (history_of before.state)

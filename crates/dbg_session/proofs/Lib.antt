@@ -1,0 +1,3 @@
+pub mod Stacks
+pub mod Unwinding
+pub mod Fitting

@@ -1,0 +1,137 @@
+//! A program, a table that follows the commands, and the commands that were accepted and are not taken back.
+
+ghost use Rattle.std.specs.Prelude.{◌≡◌, ◌⊎◌, [], Err, IfOk, IfErr, IfSome, OnErr};
+ghost use Rattle.dbg_base.specs.declared.refusal.Refusal.TheVariants.{Memory};
+ghost use Rattle.dbg_base.specs.Calls.{Give, Back, Ask, query_of};
+ghost use Rattle.dbg_base.specs.ModelStates.{opening};
+ghost use Rattle.dbg_base.specs.Journals.{StandsAt, AnswersBack, counting, last_given};
+ghost use Rattle.dbg_base.specs.Fits.{FitsCall};
+ghost use Rattle.proc_lang.specs.Programs.{program_of};
+ghost use Rattle.dbg_command.specs.Tables.{AnswersOrRefuses, FollowsOrRefuses, said_of, told_of};
+ghost use Rattle.dbg_command.specs.Boxes.{IsScanFor};
+
+use dbg_base::{Answer, Done, Query, Refusal, Reply};
+use dbg_command::{Command, Table};
+use least_cut::Scan;
+use proc_lang::Program;
+use std::alloc::Global;
+use std::marker::Model;
+
+// A command that was accepted, and the seat that gave it.
+#[derive(Drop)]
+struct Stacked<C> {
+    seat: u32,
+    command: C,
+}
+
+/// A program, the commands that were accepted and are not taken back, and the state to which they lead. Each of them can be taken back,
+/// the last one first. Contracts see it as the program, the orders that count with the seats that gave them, and the state.
+#[derive(Drop)]
+pub struct Session<C: Command> {
+    program: Program,
+    table: Table,
+    // The oldest first.
+    stack: Vec<Stacked<C>>,
+}
+
+impl<C: Command> Model for Session<C> {
+    ghost use Rattle.std.specs.Prelude.{map};
+    ghost use Rattle.std.specs.Coded.{codes};
+    ghost use Rattle.proc_lang.specs.Programs.{program_of};
+    ghost use Rattle.dbg_command.specs.Tables.{state_of};
+    ghost use Rattle.least_cut.specs.TreeCodes.{coded_tree};
+    ghost use Rattle.dbg_session.specs.Sessions.{SessionState, IsSession, given_of};
+
+    ghost Value = { SessionState };
+
+    ghost coded = { Prim.hlevel (codes, coded_tree) };
+
+    ghost view = { λ session. record {
+      program = program_of session.program;
+      effective = map (given_of C.order) session.stack.items;
+      state = state_of session.table;
+    } };
+
+    ghost invariant = { λ session. IsSession C.order C.MayGoBack C.before (program_of session.program) session.table session.stack.items };
+}
+
+impl<C: Command> Session<C> {
+    /// A session of this program, in its opening state, in which no command counts. It is refused only as `Memory`, where that runs out.
+    pub fn new(alloc: Global, program: Program) -> Result<Session<C>, Refusal>
+        ensures program { IfOk result (λ session. session.program ≡ program_of program) }
+        ensures effective { IfOk result (λ session. session.effective ≡ []) }
+        ensures opens { IfOk result (λ session. session.state ≡ opening (program_of program)) }
+        ensures refuses { IfErr result (λ refusal. refusal ≡ Memory) }
+    {
+        let table = Table::new(alloc, &program)?;
+        Ok(Session {
+            program,
+            table,
+            stack: Vec::new(alloc),
+        })
+    }
+
+    /// The program. It takes no memory.
+    pub fn program(&self) -> &Program
+        ensures { program_of result.now ≡ self.now.program }
+    {
+        &self.program
+    }
+
+    /// Gives a command for the seat, which counts from then on where it is accepted. A command that sets a breakpoint may be given the
+    /// scan of its conjuncts; no other looks at one. It is refused, and changes nothing, as its kind says, or as `Memory`, where that
+    /// runs out.
+    pub fn perform(
+        &mut self,
+        alloc: Global,
+        seat: u32,
+        command: C,
+        scan: Option<Scan>,
+    ) -> Result<Reply, Refusal>
+        requires fresh { C.IsFresh command }
+        requires scan { IfSome scan (IsScanFor (C.order command) self.old.program self.old.state) }
+        ensures program { self.new.program ≡ self.old.program }
+        ensures follows { FollowsOrRefuses self.old.program (C.order command) self.old.state result self.new.state }
+        ensures effective { self.new.effective ≡ counting self.old.effective seat (Give (C.order command)) (said_of result) }
+        ensures stands { StandsAt self.new.program self.new.effective self.new.state }
+        ensures fits { FitsCall self.old.program (Give (C.order command)) (said_of result) }
+        ensures kept { OnErr result (self.new ≡ self.old) }
+    {
+        let mut command = command;
+        self.stack.reserve(1)?;
+        let reply = command.apply(alloc, &self.program, &mut self.table, scan)?;
+        self.stack.push_reserved(Stacked { seat, command });
+        Ok(reply)
+    }
+
+    /// Takes back, for the seat, the last command that counts: the session stands as though it had never been given. It is refused, and
+    /// changes nothing, as `NothingBack`, where no command counts, as `OtherSeat`, where another seat gave the last one, or as
+    /// `Memory`, where that runs out.
+    pub fn back(&mut self, seat: u32) -> Result<Reply, Refusal>
+        ensures program { self.new.program ≡ self.old.program }
+        ensures due { AnswersBack self.old.program self.old.effective seat (last_given self.old.effective) (said_of result)
+            ⊎ (result ≡ Err Memory) }
+        ensures effective { self.new.effective ≡ counting self.old.effective seat Back (said_of result) }
+        ensures stands { StandsAt self.new.program self.new.effective self.new.state }
+        ensures fits { FitsCall self.old.program Back (said_of result) }
+        ensures kept { OnErr result (self.new ≡ self.old) }
+    {
+        let Some(last) = self.stack.last_mut() else {
+            return Err(Refusal::NothingBack);
+        };
+        if last.seat != seat {
+            return Err(Refusal::OtherSeat(last.seat));
+        }
+        last.command.revert(&mut self.table)?;
+        let _taken = self.stack.pop();
+        Ok(self.table.reply(Done::Plain))
+    }
+
+    /// Answers a question, which changes nothing. It is refused as its kind says, or as `Memory`, where that runs out.
+    pub fn ask(&self, alloc: Global, query: &Query) -> Result<Answer, Refusal>
+        ensures answers { AnswersOrRefuses self.now.program self.now.state (query_of query.now) result }
+        ensures fits { FitsCall self.now.program (Ask (query_of query.now)) (told_of result) }
+    {
+        self.table.ask(alloc, &self.program, query)
+    }
+}
