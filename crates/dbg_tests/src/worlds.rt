@@ -182,6 +182,19 @@ fn an_undo_and_forth(rt: HostRuntime) -> Result<(), Fail> {
 }
 
 #[test]
+fn a_copied_world_is_apart(rt: HostRuntime) -> Result<(), Fail> {
+    let alloc = rt.alloc();
+    let program = relay(alloc)?;
+    let mut world = played(alloc, &program)?;
+    let made = world.copy()?;
+    undo(&mut world, alloc, &program, C)?;
+    assert_eq!(&rt; world.places(alloc)?.counts(), [2, 2, 0].as_slice());
+    assert_eq!(&rt; made.places(alloc)?.counts(), [2, 2, 1].as_slice());
+    expect(&rt, alloc, &world, &RECEIVED_BACK)?;
+    expect(&rt, alloc, &made, &PLAYED)
+}
+
+#[test]
 fn a_redo_is_taken_back(rt: HostRuntime) -> Result<(), Fail> {
     let alloc = rt.alloc();
     let program = relay(alloc)?;
