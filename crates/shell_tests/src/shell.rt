@@ -1,7 +1,10 @@
 //! Tests of `dbg_shell`, with expected texts from the tables of the program's documents.
 
+mod back;
+mod batches;
 mod break_lines;
 mod breakpoints;
+mod deep_back;
 mod examples;
 mod faults;
 mod fits;
@@ -15,6 +18,7 @@ mod rings;
 mod rollback;
 mod sessions;
 mod undo;
+mod views;
 
 use dbg_shell::{check, serve, status};
 use proc_lang::{Program, parse_program};

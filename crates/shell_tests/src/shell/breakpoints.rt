@@ -20,6 +20,8 @@ const ROWS: [(&str, &str, &str, &str); 11] = [
 1 place a
 1 vars a
 1 chan a b
+1 back
+1 place a
 ",
         "ok
 ok a 0
@@ -31,6 +33,8 @@ ok a=1 b=1 halted k
 place a 1 of 2
 vars a x=1
 chan a b
+ok halted k
+place a 2 of 2
 ",
     ),
     // What b has received was sent, and then x is not 0 any more.
@@ -187,6 +191,11 @@ no 1
 1 breaks
 1 clear k
 1 breaks
+1 back
+1 breaks
+1 break k a (x = 1)
+1 clear z
+1 pass m
 ",
         "ok halted k
 cut k a=0 b=0
@@ -195,6 +204,11 @@ ok
 breaks k off m on
 ok
 breaks m on
+ok
+breaks k off m on
+no 11
+no 12
+no 13
 ",
     ),
     // A refused line changes no breakpoint.

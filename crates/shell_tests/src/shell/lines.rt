@@ -17,6 +17,7 @@ enum Asked {
     Clock(u32),
     Place(u32),
     Can(u32),
+    Back,
     Other,
 }
 
@@ -32,6 +33,7 @@ fn asked_of(call: &Call) -> Asked {
         Call::Ask(Query::Clock(pid)) => Asked::Clock(pid.0),
         Call::Ask(Query::Place(pid)) => Asked::Place(pid.0),
         Call::Ask(Query::Can(pid)) => Asked::Can(pid.0),
+        Call::Back => Asked::Back,
         _ => Asked::Other,
     }
 }
@@ -44,7 +46,7 @@ fn told(parsed: Result<Option<Line>, Refusal>) -> Result<Option<(u32, Asked)>, R
     }
 }
 
-const LINES: [(&str, Result<Option<(u32, Asked)>, Refusal>); 66] = [
+const LINES: [(&str, Result<Option<(u32, Asked)>, Refusal>); 68] = [
     ("1 next a", Ok(Some((1, Asked::Next(0))))),
     ("1 next b", Ok(Some((1, Asked::Next(1))))),
     ("16 vars b", Ok(Some((16, Asked::Vars(1))))),
@@ -103,7 +105,9 @@ const LINES: [(&str, Result<Option<(u32, Asked)>, Refusal>); 66] = [
     ("1 chan d A", Err(Refusal::BadLine)),
     ("1 next a 0", Err(Refusal::BadLine)),
     ("1 can a b", Err(Refusal::BadLine)),
-    ("1 back", Err(Refusal::BadLine)),
+    ("1 back", Ok(Some((1, Asked::Back)))),
+    ("16 back", Ok(Some((16, Asked::Back)))),
+    ("1 back a", Err(Refusal::BadLine)),
     ("1 clock", Err(Refusal::BadLine)),
     ("1 clock a b", Err(Refusal::BadLine)),
     ("1 rollback a", Err(Refusal::BadLine)),

@@ -37,6 +37,8 @@ const ROWS: [(&str, &str, &str, &str); 14] = [
 1 vars b
 1 vars c
 1 chan a b
+1 back
+1 vars b
 ",
         "ok a 0
 ok c 0
@@ -47,6 +49,8 @@ ok a=0 b=0 c=2
 vars b y=0 n=0
 vars c z=2
 chan a b
+ok
+vars b y=1 n=1
 ",
     ),
     (
@@ -69,6 +73,8 @@ chan a b
 1 undo b
 1 rollback a 0
 1 clock c
+1 back
+1 clock c
 ",
         "ok a 0
 ok a 0
@@ -80,6 +86,8 @@ clock a a=2 b=0 c=0
 no 7 c
 ok a=0 b=0 c=0
 clock c a=0 b=0 c=0
+ok
+clock c a=1 b=2 c=1
 ",
     ),
     (

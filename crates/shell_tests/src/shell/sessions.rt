@@ -52,7 +52,7 @@ const OPERATORS: &str = "process a {
 ";
 
 // A name, a program, the lines behind it and what is written for them.
-const SESSIONS: [(&str, &str, &str, &str); 27] = [
+const SESSIONS: [(&str, &str, &str, &str); 22] = [
     ("no line", TWO, "%%\n", ""),
     ("no line, and no line end", TWO, "%%", ""),
     (
@@ -113,7 +113,7 @@ const SESSIONS: [(&str, &str, &str, &str); 27] = [
     (
         "words that are not there",
         TWO,
-        "%%\n1 jump a\n1 step a\n1 back\n",
+        "%%\n1 jump a\n1 step a\n1 back a\n",
         "no 22\nno 22\nno 22\n",
     ),
     (
@@ -169,36 +169,6 @@ const SESSIONS: [(&str, &str, &str, &str); 27] = [
         "process a { }\n",
         "%%\n1 vars a\n1 next a\n",
         "vars a\nno 24\n",
-    ),
-    (
-        "a batch",
-        TWO,
-        "%%\n1 batch next a ; next b ; undo b\n1 place b\n1 vars a\n2 redo b\n",
-        "ok\nplace b 0 of 1\nvars a x=1\nok b 0\n",
-    ),
-    (
-        "a batch that is refused changes nothing",
-        TWO,
-        "%%\n1 next a\n1 batch next b ; next a ; step b 1 ; step b 1\n1 place a\n1 place b\n1 chan a b\n",
-        "ok a 0\nno 25 4 3\nplace a 1 of 1\nplace b 0 of 0\nchan a b 1\n",
-    ),
-    (
-        "a batch goes no further than to a halt",
-        TWO,
-        "%%\n1 batch break k a (x = 1) ; next a ; next a\n1 breaks\n1 place a\n1 batch break k a (x = 1) ; next a\n1 batch next a\n1 batch pass k ; next a ; arm k\n",
-        "no 25 3 9\nbreaks\nplace a 0 of 0\nok halted k\nno 25 1 9\nok halted k\n",
-    ),
-    (
-        "shapes of batches",
-        TWO,
-        "%%\n1 batch\n1 batch back\n1 batch vars a\n1 batch batch next a\n1 batch next a ;\n1 batch ; next a\n1 batch next a;next a\n1 batch break k a ; next a\n1 batch break k a (x = 1); next a\n1 batch next d ; jump a\n1 place a\n",
-        "no 22\nno 22\nno 22\nno 22\nno 22\nno 22\nno 22\nno 22\nno 22\nno 22\nplace a 0 of 0\n",
-    ),
-    (
-        "what the commands of a batch name",
-        TWO,
-        "%%\n1 batch next d ; next a\n1 batch break k a (x ; 1) ; next d\n1 batch next d ; break k a (x ; 1)\n1 batch break k a (x = 0 ; next a\n1 batch clear z\n1 batch break k b (n = 1) ; next a ; next b ; goto k ; clear k\n1 breaks\n",
-        "no 1\nno 23\nno 1\nno 23\nno 25 1 12\nok\nbreaks\n",
     ),
 ];
 

@@ -71,10 +71,33 @@ can a no 6
         "ok a 0\nok a 0\nok b 0\nok b 0\nchan a b 1 2\nok b 0\nok a 0\nvars b y=1 n=1\nno 7 b\nok b 0\nok a 0\nchan a b 1 2\n",
     ),
     (
-        "a step cuts the redo line",
+        "a step cuts the redo line until it is taken back",
         TWO,
-        "%%\n1 next a\n1 next a\n1 undo a\n1 undo a\n1 place a\n1 step a 0\n1 place a\n1 redo a\n",
-        "ok a 0\nok a 0\nok a 0\nok a 0\nplace a 0 of 2\nok a 0\nplace a 1 of 1\nno 8\n",
+        "%%
+1 next a
+1 next a
+1 undo a
+1 undo a
+1 place a
+1 step a 0
+1 place a
+1 redo a
+1 back
+1 place a
+1 redo a
+",
+        "ok a 0
+ok a 0
+ok a 0
+ok a 0
+place a 0 of 2
+ok a 0
+place a 1 of 1
+no 8
+ok
+place a 0 of 2
+ok a 0
+",
     ),
     (
         "a fault changes nothing",
