@@ -220,3 +220,81 @@ no 10
 fn a_backup_is_rolled_back(rt: HostRuntime) {
     expect_served(&rt, rt.alloc(), ROLLBACK.as_bytes(), ROLLED);
 }
+
+// The text of examples/two_hands.rdbg: frames that are sent again are delivered again. Seat 1 steps the sender, and seat 2 the receiver.
+const TWO_HANDS: &str = "process sender {
+  var frame = 1;
+  var heard = 0;
+  when true : recv receiver heard;
+  when (heard = frame) : frame := (frame + 1);
+  when true : send receiver frame;
+}
+process receiver {
+  var frame = 0;
+  var delivered = 0;
+  when (sent(sender) < got(sender)) : send sender frame;
+  when true : recv sender frame, delivered := (delivered + 1);
+}
+%%
+1 break twice sender (frame = 1) receiver (delivered = 2)
+1 next sender
+2 next receiver
+2 next receiver
+1 next sender
+1 next sender
+1 rollback sender 1
+1 place sender
+1 step sender 2
+1 place sender
+2 next receiver
+1 cut twice
+1 clear twice
+1 breaks
+1 next sender
+1 vars sender
+1 back
+1 back
+1 cut twice
+1 back
+2 back
+1 back
+1 place sender
+1 redo sender
+1 redo sender
+1 vars sender
+";
+
+// The first frame was acknowledged. Seat 1 tries what comes of not waiting for that, and takes back what it did; what seat 2 did in
+// between is for seat 2 to take back. Then the sender's redo line is there again, and the sender goes on as it had.
+const TAKEN_BACK: &str = "ok
+ok sender 2
+ok receiver 1
+ok receiver 0
+ok sender 0
+ok sender 1
+ok sender=1 receiver=2
+place sender 1 of 3
+ok sender 2
+place sender 2 of 2
+ok receiver 1 halted twice
+cut twice sender=2 receiver=3
+ok
+breaks
+ok sender 0
+vars sender frame=1 heard=1
+ok
+ok halted twice
+cut twice sender=2 receiver=3
+no 17 2
+ok
+ok
+place sender 1 of 3
+ok sender 0
+ok sender 1
+vars sender frame=2 heard=1
+";
+
+#[test]
+fn two_seats_take_back_what_they_did(rt: HostRuntime) {
+    expect_served(&rt, rt.alloc(), TWO_HANDS.as_bytes(), TAKEN_BACK);
+}
