@@ -6,7 +6,7 @@ use Rattle.std.specs.Io.KnownBytes.{Appends}
 use Rattle.std.proofs.lemmas.List.{append-nil}
 use Rattle.std.proofs.KnownBytes.{Appends-nil, Appends-trans}
 use Rattle.dbg_base.specs.Trees.{Program}
-use Rattle.dbg_base.specs.Journals.{Journal}
+use Rattle.dbg_base.specs.Journals.{Given, Journal, effective}
 use Rattle.dbg_base.specs.Shell.{AnswersLine, AnswersLines, is_too_long, end_text, too_long_text}
 use Rattle.dbg_shell.specs.declared.framing.Span.{Span}
 use Rattle.dbg_shell.specs.declared.framing.Next.{Next}
@@ -91,19 +91,32 @@ answered_stops P whole line from at new J next a b c text answered here answers 
       subst (λ (t : List ℕ). AppendsFront a c t) (regrouped answered.text text more.0 (end_text whole)) longer,
     )
 
--- The lines were answered so far, whatever the input may be.
-abbrev pub AnsweredAny : Program → List ℕ → Bool → ℕ → ℕ → Journal → Option (List ℕ) → Option (List ℕ) → Type 0
-AnsweredAny P bytes ended from at J old new = (input : List ℕ) → MayBe bytes ended input → Answered P input from at J old new
+-- The lines were answered so far, whatever the input may be, and these orders count.
+pub record AnsweredAny (P : Program) (bytes : List ℕ) (ended : Bool) (from at : ℕ) (given : List Given) (old new : Option (List ℕ))
+    : Type 0 where
+  pub journal : Journal
+  pub counts : effective journal ≡ given
+  pub so_far : (input : List ℕ) → MayBe bytes ended input → Answered P input from at journal old new
 
-pub any_answered : (P : Program) (bytes : List ℕ) (ended : Bool) (from : ℕ) (J : Journal) (a : Option (List ℕ)) → J ≡ []
-    → AnsweredAny P bytes ended from from J a a
-any_answered P bytes ended from J a e input may = answered_begins P input from J a e
+pub any_answered : (P : Program) (bytes : List ℕ) (ended : Bool) (from : ℕ) (given : List Given) (a : Option (List ℕ)) → given ≡ []
+    → AnsweredAny P bytes ended from from given a a
+any_answered P bytes ended from given a none = record {
+  journal = [];
+  counts = sym none;
+  so_far = λ input may. answered_begins P input from [] a refl;
+}
 
-module _ (P : Program) (before : List ℕ) (was : Bool) (bytes : List ℕ) (ended : Bool) (from at new : ℕ) (next : Next) (J : Journal)
+module _ (P : Program) (before : List ℕ) (was : Bool) (bytes : List ℕ) (ended : Bool) (from at new : ℕ) (next : Next) (given : List Given)
     (old mid : Option (List ℕ))
-    (answered : AnsweredAny P before was from at J old mid) (narrows : Narrows before was bytes ended)
+    (answered : AnsweredAny P before was from at given old mid) (narrows : Narrows before was bytes ended)
     (told : TellsAny bytes ended at new next) where
-  module _ (line : List ℕ) (span : Span) (J' : Journal) (out : Option (List ℕ)) (is : next ≡ nexts.Line span)
+  abbrev J : Journal
+  J = answered.journal
+
+  abbrev here_of : (input : List ℕ) → MayBe bytes ended input → Answered P input from at J old mid
+  here_of input may = answered.so_far input (narrows input may)
+
+  module _ (line : List ℕ) (span : Span) (out : Option (List ℕ)) (counting : List Given) (is : next ≡ nexts.Line span)
       (seen : span.from ≤ span.to → span.to ≤ length bytes → line ≡ slice_range bytes span.from span.to) where
     line_here : (input : List ℕ) → MayBe bytes ended input → lines_from at input ≡ line ∷ lines_from new input
     line_here input may =
@@ -111,26 +124,40 @@ module _ (P : Program) (before : List ℕ) (was : Bool) (bytes : List ℕ) (ende
         let same : line ≡ slice_range bytes span.from span.to = seen here.2 here.3 in
         here.0 ∙ ap (λ (l : List ℕ). l ∷ lines_from new input) (sym same)
 
-    pub any_goes_on : {A : Type 0} (u : A) → WritesAnswer P line J mid (Ok u) out J' → AnsweredAny P bytes ended from new J' old out
-    any_goes_on u wrote input may =
-        answered_on P input line from at new J J' old mid out wrote.text (answered input (narrows input may)) (line_here input may)
-        wrote.answers wrote.written.whole
+    module _ {A : Type 0} (Q : Program) (result : Result A ServeFault) (of : Q ≡ P)
+        (wrote : (journal : Journal) → effective journal ≡ given → WritesAnswer Q line journal mid result out counting) where
+      wrote_here : WritesAnswer P line J mid result out counting
+      wrote_here = subst (λ (R : Program). WritesAnswer R line J mid result out counting) of (wrote J answered.counts)
 
-    pub any_stops : {A : Type 0} (e : ServeFault) (r : Result Served ServeFault) → WritesAnswer {A = A} P line J mid (Err e) out J'
+    pub any_goes_on : {A : Type 0} (Q : Program) (u : A) → Q ≡ P
+        → ((journal : Journal) → effective journal ≡ given → WritesAnswer Q line journal mid (Ok u) out counting)
+        → AnsweredAny P bytes ended from new counting old out
+    any_goes_on Q u of wrote =
+        let wrote_here = wrote_here Q (Ok u) of wrote in
+        record {
+          journal = wrote_here.after;
+          counts = wrote_here.counts;
+          so_far = λ input may.
+              answered_on P input line from at new J wrote_here.after old mid out wrote_here.text (here_of input may) (line_here input may)
+              wrote_here.answers wrote_here.written.whole;
+        }
+
+    pub any_stops : {A : Type 0} (Q : Program) (e : ServeFault) (r : Result Served ServeFault) → Q ≡ P
+        → ((journal : Journal) → effective journal ≡ given → WritesAnswer {A = A} Q line journal mid (Err e) out counting)
         → IfErr r (λ fault. fault ≡ Write → StopsLines P bytes ended from old out)
-    any_stops e (Ok served) wrote = tt
-    any_stops e (Err fault) wrote =
+    any_stops Q e (Ok served) of wrote = tt
+    any_stops Q e (Err fault) of wrote =
         λ is_write input may.
-        answered_stops P input line from at new J J' old mid out wrote.text (answered input (narrows input may)) (line_here input may)
-        wrote.answers wrote.written.part
+        let wrote_here = wrote_here Q (Err e) of wrote in
+        answered_stops P input line from at new J wrote_here.after old mid out wrote_here.text (here_of input may) (line_here input may)
+        wrote_here.answers wrote_here.written.part
 
   pub any_ends : next ≡ nexts.End → ServesLines P bytes ended from ends.Done old mid
   any_ends is input may =
       let here : Tells input bytes at new nexts.End = told_of bytes ended at new next nexts.End told is input may in
       let no : is_too_long input ≡ false = here.1 in (
         rw no refl,
-        answered_ends P input from at J old mid mid [] (answered input (narrows input may)) here.0 (Appends-nil mid)
-            (rw no refl),
+        answered_ends P input from at J old mid mid [] (here_of input may) here.0 (Appends-nil mid) (rw no refl),
       )
 
   pub any_is_too_long : (r : Result Served ServeFault) (out : Option (List ℕ)) → next ≡ nexts.TooLong → Writes mid out r too_long_text
@@ -141,8 +168,7 @@ module _ (P : Program) (before : List ℕ) (was : Bool) (bytes : List ℕ) (ende
       let here : Tells input bytes at new nexts.TooLong = told_of bytes ended at new next nexts.TooLong told is input may in
       let long : is_too_long input ≡ true = here.1 in (
         same ∙ rw long refl,
-        answered_ends P input from at J old mid out too_long_text (answered input (narrows input may)) here.0
-            wrote.whole (rw long refl),
+        answered_ends P input from at J old mid out too_long_text (here_of input may) here.0 wrote.whole (rw long refl),
       )
 
   pub any_is_cut : (r : Result Served ServeFault) (out : Option (List ℕ)) → next ≡ nexts.TooLong → Writes mid out r too_long_text
@@ -152,27 +178,27 @@ module _ (P : Program) (before : List ℕ) (was : Bool) (bytes : List ℕ) (ende
       λ is_write input may.
       let here : Tells input bytes at new nexts.TooLong = told_of bytes ended at new next nexts.TooLong told is input may in
       let long : is_too_long input ≡ true = here.1 in
-      let so_far : Answered P input from at J old mid = answered input (narrows input may) in (
+      let so_far : Answered P input from at J old mid = here_of input may in (
         so_far.text ++ too_long_text,
         replies_end P input from at J old mid too_long_text so_far here.0 (rw long refl),
         front_then old mid out so_far.text too_long_text so_far.written wrote.part,
       )
 
 -- where no more can be read, the whole lines were answered
-pub any_breaks : (P : Program) (before : List ℕ) (was : Bool) (bytes : List ℕ) (ended : Bool) (from at : ℕ) (J : Journal)
+pub any_breaks : (P : Program) (before : List ℕ) (was : Bool) (bytes : List ℕ) (ended : Bool) (from at : ℕ) (given : List Given)
     (old mid : Option (List ℕ))
-    (r : Result Served ServeFault) → AnsweredAny P before was from at J old mid → Narrows before was bytes ended → from ≤ at
+    (r : Result Served ServeFault) → AnsweredAny P before was from at given old mid → Narrows before was bytes ended → from ≤ at
     → IsUnderWay bytes ended at
     → IfErr r (λ fault. fault ≡ Read → BreaksLines P bytes ended from old mid)
-any_breaks P before was bytes ended from at J old mid (Ok served) answered narrows begun way = tt
-any_breaks P before was bytes ended from at J old mid (Err fault) answered narrows begun way =
+any_breaks P before was bytes ended from at given old mid (Ok served) answered narrows begun way = tt
+any_breaks P before was bytes ended from at given old mid (Err fault) answered narrows begun way =
     λ is_read.
     let on = goes_on bytes ended at way in
-    let so_far : Answered P on.input from at J old mid = answered on.input (narrows on.input on.may) in
+    let J : Journal = answered.journal in
+    let so_far : Answered P on.input from at J old mid = answered.so_far on.input (narrows on.input on.may) in
     let held : at ≤ length bytes = way.begun in
     let all : AnswersLines P (lines_from from on.input) [] (so_far.text ++ []) J =
-    so_far.goes_on [] J (subst (λ (lines : List (List ℕ)). AnswersLines P lines J [] J) (sym (none_left bytes ended at way))
-    (refl, refl)) in
+    so_far.goes_on [] J (subst (λ (lines : List (List ℕ)). AnswersLines P lines J [] J) (sym (none_left bytes ended at way)) (refl, refl)) in
     record {
       at = at;
       begun = begun;

@@ -14,7 +14,7 @@ use Rattle.dbg_base.specs.Trees.{Program}
 use Rattle.dbg_base.specs.Calls.{Call}
 use Rattle.dbg_base.specs.CommandLines.{Request, map_ok, without_return, next_word, after_word, seat_word, name_word, parts_in}
 use Rattle.dbg_base.specs.CommandLines.{call_of_words, words_of, sets_break}
-use Rattle.dbg_base.specs.Requests.{AsksBreak, AsksOne, AsksBatch, AsksCall, AsksBy, AsksWithin, AsksOrRefuses, MayTakeMemory}
+use Rattle.dbg_base.specs.Requests.{AsksBreak, AsksOne, AsksBatch, AsksBy, AsksWithin, MayTakeMemory, AsksOrRefuses}
 use Rattle.dbg_base.specs.Journals.{Journal}
 use Rattle.dbg_base.specs.Replies.{reply_text, refusal_text}
 use Rattle.dbg_base.specs.Shell.{as_line, AnswersParsed, AnswersLines}
@@ -45,28 +45,30 @@ module _ (P : Program) (line : List ℕ) where
           short_asks asked (subst (λ (t : Bool). MatchBool t (asked ≡ Ok None) (AsksBy P (seat_word (next_word within)) rest asked))
           (sym some) (subst (λ (s : Option ℕ). AsksBy P s rest asked) (sym is) asks))
 
-      -- a command that may take memory is refused for want of it
-      wanting : MayTakeMemory rest → Known
-      wanting command = (Err Memory, inr (record { short = grind (arith, nat_tests); command = command }, refl))
+      -- a command that takes memory may be refused for want of it
+      for_memory : MayTakeMemory rest → Known
+      for_memory command = (Err Memory, inr (record { short = grind (arith, nat_tests); command = command }, refl))
 
-      asks_call : (seat : ℕ) → seat_word (next_word within) ≡ Some seat → (call : Result Call Refusal) → AsksCall P rest call → Known
-      asks_call seat is call asks =
-          seat_asks (Some seat) is (map_ok (λ made. Some (record { seat = seat; call = made })) call) (call, asks, refl)
-
-      by_word : (seat : ℕ) → seat_word (next_word within) ≡ Some seat → (breaks batch : Bool) → sets_break rest ≡ breaks
-          → bytes_eq (next_word rest) (codes "batch") ≡ batch → Known
-      by_word seat is breaks true word other = wanting (inr ((bytes_eq-Decides (next_word rest) (codes "batch")).0 other))
-      by_word seat is true false word other = wanting (inl ((bytes_eq-Decides (next_word rest) (codes "break")).0 word))
-      by_word seat is false false word other =
+      by_break : (seat : ℕ) → seat_word (next_word within) ≡ Some seat → bytes_eq (next_word rest) (codes "batch") ≡ false
+          → (t : Bool) → sets_break rest ≡ t → Known
+      by_break seat is one true word = for_memory (inl ((bytes_eq-Decides (next_word rest) (codes "break")).0 word))
+      by_break seat is one false word =
           let call : Result Call Refusal = call_of_words P (next_word rest) (words_of (after_word rest)) in
-          asks_call seat is call
-          (subst (λ (t : Bool). MatchBool t (AsksBatch P (after_word rest) call) (AsksOne P rest call)) (sym other)
-          (subst (λ (t : Bool). MatchBool t (AsksBreak P (name_word (next_word (after_word rest)))
-          (parts_in (after_word (after_word rest))) call) (call ≡ call)) (sym word) refl))
+          seat_asks (Some seat) is (map_ok (λ made. Some (record { seat = seat; call = made })) call) (
+            call,
+            subst (λ (t : Bool). MatchBool t (AsksBatch P (after_word rest) call) (AsksOne P rest call)) (sym one)
+                (subst (λ (t : Bool). MatchBool t (AsksBreak P (name_word (next_word (after_word rest)))
+                (parts_in (after_word (after_word rest))) call) (call ≡ call)) (sym word) refl),
+            refl,
+          )
+
+      by_word : (seat : ℕ) → seat_word (next_word within) ≡ Some seat → (t : Bool) → bytes_eq (next_word rest) (codes "batch") ≡ t → Known
+      by_word seat is true word = for_memory (inr ((bytes_eq-Decides (next_word rest) (codes "batch")).0 word))
+      by_word seat is false word = by_break seat is word (sets_break rest) refl
 
       by_seat : (seat : Option ℕ) → seat_word (next_word within) ≡ seat → Known
       by_seat None is = seat_asks None is (Err BadLine) refl
-      by_seat (Some seat) is = by_word seat is (sets_break rest) (bytes_eq (next_word rest) (codes "batch")) refl refl
+      by_seat (Some seat) is = by_word seat is (bytes_eq (next_word rest) (codes "batch")) refl
 
     by_front : (t : Bool) → nat_le (length (next_word within)) 0 ≡ t → Known
     by_front true blank =

@@ -1,3 +1,4 @@
 pub mod Spans
 pub mod Checking
 pub mod Serving
+pub mod Answering

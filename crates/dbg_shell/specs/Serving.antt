@@ -1,11 +1,11 @@
 -- What serving an input does.
-use Rattle.std.specs.Prelude.{◌≡◌, ℕ, ◌+◌, ◌≤◌, Bool, true, false, List, ◌++◌, length, drop, slice_range, Option, Some, None, Result}
+use Rattle.std.specs.Prelude.{◌≡◌, ℕ, ◌+◌, ◌≤◌, Bool, true, false, List, [], ◌++◌, length, drop, slice_range, Option, Some, None, Result}
 use Rattle.std.specs.Prelude.{if◌then◌else◌, ◌⊎◌}
 use Rattle.std.specs.Io.KnownBytes.{Appends}
 use Rattle.dbg_base.specs.declared.limits.TheConstants.{INPUT_BYTES}
 use Rattle.dbg_base.specs.Trees.{Program}
 use Rattle.dbg_base.specs.Checks.{Reads, IsFault}
-use Rattle.dbg_base.specs.Journals.{Journal}
+use Rattle.dbg_base.specs.Journals.{Given, Journal, effective}
 use Rattle.dbg_base.specs.Shell.{Parts, lines_of, parts_of, read_lines, is_too_long, AnswersLine, AnswersLines, end_text}
 use Rattle.dbg_base.specs.Shell.{WholeText, Text}
 use Rattle.dbg_base.specs.declared.fault.ProgFault.{ProgFault}
@@ -90,11 +90,13 @@ Splits input bytes at new ends.TooLong = (parts_of (lines_from at input) ≡ Non
 abbrev pub SplitsAny : List ℕ → Bool → ℕ → ℕ → TextEnd → Type 0
 SplitsAny bytes ended at new end = (input : List ℕ) → MayBe bytes ended input → Splits input bytes at new end
 
--- the answer to the line was written, or where the writer failed a front of it
+-- The answer to the line was written, or where the writer failed a front of it, and these orders count behind it.
 pub record WritesAnswer {A : Type 0} (P : Program) (line : List ℕ) (J : Journal) (old : Option (List ℕ)) (result : Result A ServeFault)
-    (new : Option (List ℕ)) (J' : Journal) : Type 0 where
+    (new : Option (List ℕ)) (given : List Given) : Type 0 where
   pub text : List ℕ
-  pub answers : AnswersLine P line J text J'
+  pub after : Journal
+  pub answers : AnswersLine P line J text after
+  pub counts : effective after ≡ given
   pub written : Writes old new result text
 
 -- what is written for these lines and at the end of the input

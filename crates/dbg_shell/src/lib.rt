@@ -6,6 +6,7 @@
 
 mod checking;
 mod framing;
+mod givable;
 mod jobs;
 mod program_text;
 mod serving;

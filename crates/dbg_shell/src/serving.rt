@@ -1,22 +1,30 @@
 //! A program text and the command lines behind it.
 
-ghost use Rattle.std.specs.Prelude.{◌≡◌, ◌≢◌, IfOk, IfErr, IfSome};
+ghost use Rattle.std.specs.Prelude.{◌≡◌, ◌≢◌, [], IfOk, IfErr, IfSome};
 ghost use Rattle.std.specs.Io.KnownBytes.{Keeps};
-ghost use Rattle.dbg_base.specs.ModelStates.{opening};
+ghost use Rattle.dbg_base.specs.declared.refusal.Refusal.TheVariants as refusals;
+ghost use Rattle.dbg_base.specs.Calls.{order_of};
+ghost use Rattle.dbg_base.specs.Journals.{Journal, effective};
 ghost use Rattle.proc_lang.specs.Programs.{program_of};
-ghost use Rattle.dbg_command.specs.Tables.{IsTableOf, state_of};
 ghost use Rattle.reply_lines.specs.declared.outcome.ServeFault.TheVariants.{Memory, Read, Write};
 ghost use Rattle.reply_lines.specs.declared.outcome.Served.{Served};
 ghost use Rattle.dbg_shell.specs.Spans.{EndsWith, ReadsOn};
 ghost use Rattle.reply_lines.specs.declared.outcome.Served.TheVariants.{Refused};
 ghost use Rattle.dbg_shell.specs.Serving.{ServesInput, BreaksInput, ReadsFew, ReadsProgram, WritesAnswer, WritesSome, WritesFront};
 ghost use Rattle.dbg_shell.specs.Serving.{ServesLines, StopsLines, BreaksLines};
+ghost use Rattle.dbg_shell.specs.Answering.{Makes, IsStanding};
 
 use crate::framing::{Input, Next};
+use crate::givable::Givable;
 use crate::program_text::{TextEnd, read_program_text};
 use crate::session::answer;
 use command_line::parse_line;
-use dbg_command::Table;
+use dbg_base::{Plan, Refusal};
+use dbg_command::{
+    ArmCmd, BatchCmd, BreakCmd, ClearCmd, Command, GotoCmd, NextCmd, PassCmd, RedoCmd, RollbackCmd,
+    StepCmd, UndoCmd,
+};
+use dbg_session::Session;
 use proc_lang::{ProgError, Program, parse_program};
 use reply_lines::{
     ServeFault, Served, hand_on, print_refusal, print_reply, tell_fault, tell_no_end_line,
@@ -25,68 +33,77 @@ use reply_lines::{
 use std::alloc::Global;
 use std::io::{Read, Write};
 
-// The table of the program at its start.
-fn open(alloc: Global, program: &Program) -> Result<Table, ServeFault>
-    ensures of { IfOk result (IsTableOf (program_of program.now)) }
-    ensures opens { IfOk result (λ table. state_of table ≡ opening (program_of program.now)) }
+// A session of the program, in which no command counts.
+fn open<C: Command>(alloc: Global, program: Program) -> Result<Session<C>, ServeFault>
+    ensures program { IfOk result (λ session. session.program ≡ program_of program) }
+    ensures effective { IfOk result (λ session. session.effective ≡ []) }
+    ensures stands { IfOk result IsStanding }
     ensures memory { IfErr result (λ fault. fault ≡ Memory) }
 {
-    Table::new(alloc, program).map_err(|_| ServeFault::Memory)
+    Session::new(alloc, program).map_err(|_| ServeFault::Memory)
 }
 
 // Answers one command line: what is written is handed on before the next line is asked for.
-fn serve_line<W: Write>(
+fn serve_line<C: Command, M: Fn(Givable) -> Result<C, Refusal>, W: Write>(
     alloc: Global,
-    program: &Program,
-    table: &mut Table,
+    make: &M,
+    session: &mut Session<C>,
     line: &[u8],
     writer: &mut W,
 ) -> Result<(), ServeFault>
-    requires { IsTableOf (program_of program.now) table.old }
-    ensures of { IsTableOf (program_of program.now) table.new }
-    ensures answers { WritesAnswer (program_of program.now) line.now (state_of table.old) (W.contents writer.old) result
-        (W.contents writer.new) (state_of table.new) }
+    requires may { M.IsAlwaysCallable make.now }
+    requires makes { Makes (M.post make.now) C.IsFresh C.order }
+    requires stands { IsStanding session.old }
+    ensures program { session.new.program ≡ session.old.program }
+    ensures stands { IsStanding session.new }
+    ensures answers { (J : Journal) → effective J ≡ session.old.effective → WritesAnswer session.old.program line.now J
+        (W.contents writer.old) result (W.contents writer.new) session.new.effective }
 {
-    match parse_line(alloc, program, line) {
+    match parse_line(alloc, session.program(), line) {
         Ok(Some(line)) => {
-            let said = answer(table, alloc, program, &line);
-            let written = print_reply(program, &line.call, &said, writer);
+            let (call, said) = answer(session, alloc, make, line);
+            let written = print_reply(session.program(), &call, &said, writer);
             hand_on(written, writer)
         }
         Ok(None) => Ok(()),
         Err(refusal) => {
-            let written = print_refusal(program, &refusal, writer);
+            let written = print_refusal(session.program(), &refusal, writer);
             hand_on(written, writer)
         }
     }
 }
 
 // Answers the command lines.
-fn serve_lines<R: Read, W: Write>(
+fn serve_lines<C: Command, M: Fn(Givable) -> Result<C, Refusal>, R: Read, W: Write>(
     alloc: Global,
-    program: &Program,
+    make: &M,
+    program: Program,
     input: &mut Input,
     reader: &mut R,
     writer: &mut W,
 ) -> Result<Served, ServeFault>
-    requires { EndsWith input.old.ended (R.remaining reader.old) }
+    requires may { M.IsAlwaysCallable make.now }
+    requires makes { Makes (M.post make.now) C.IsFresh C.order }
+    requires ends { EndsWith input.old.ended (R.remaining reader.old) }
     ensures reads { ReadsOn input.old.bytes.items input.old.ended (R.remaining reader.old) input.new.bytes.items input.new.ended
         (R.remaining reader.new) }
-    ensures served { IfOk result (λ served. ServesLines (program_of program.now) input.new.bytes.items input.new.ended input.old.at served
+    ensures served { IfOk result (λ served. ServesLines (program_of program) input.new.bytes.items input.new.ended input.old.at served
         (W.contents writer.old) (W.contents writer.new)) }
-    ensures stopped { IfErr result (λ fault. fault ≡ Write → StopsLines (program_of program.now) input.new.bytes.items input.new.ended
+    ensures stopped { IfErr result (λ fault. fault ≡ Write → StopsLines (program_of program) input.new.bytes.items input.new.ended
         input.old.at (W.contents writer.old) (W.contents writer.new)) }
-    ensures broken { IfErr result (λ fault. fault ≡ Read → BreaksLines (program_of program.now) input.new.bytes.items input.new.ended
+    ensures broken { IfErr result (λ fault. fault ≡ Read → BreaksLines (program_of program) input.new.bytes.items input.new.ended
         input.old.at (W.contents writer.old) (W.contents writer.new)) }
     ensures memory { IfErr result (λ fault. fault ≡ Memory → Keeps (W.contents writer.old) (W.contents writer.new)) }
     ensures untouched { IfErr result (λ fault. fault ≡ Memory → (input.new.bytes.items ≡ input.old.bytes.items)
         × (R.remaining reader.new ≡ R.remaining reader.old)) }
     ensures ends { IfOk result (λ served. served ≢ Refused) }
 {
-    let mut table = open(alloc, program)?;
+    let mut session = open::<C>(alloc, program)?;
     loop {
         match input.next_line(reader)? {
-            Next::Line(span) => serve_line(alloc, program, &mut table, input.line(span), writer)?,
+            Next::Line(span) => {
+                serve_line(alloc, make, &mut session, input.line(span), writer)?
+            },
             Next::End => return Ok(Served::Done),
             Next::TooLong => return tell_too_long(writer),
         }
@@ -124,10 +141,32 @@ pub fn serve<R: Read, W: Write>(
     // However it ends, at most 1,048,577 bytes were read.
     ensures few { IfSome (R.remaining reader.old) (λ input. ReadsFew input (R.remaining reader.new)) }
 {
+    let make = |given: Givable| -> Result<Box<dyn Command>, Refusal>
+        ensures makes { IfOk result (λ command. IsFresh command × (order command ≡ order_of given.plan)) }
+        ensures refuses { IfErr result (λ refusal. refusal ≡ refusals.Memory) }
+    {
+        let Givable { plan } = given;
+        let command: Box<dyn Command> = match plan {
+            Plan::Step(pid, choice) => Box::new(alloc, StepCmd::new(pid, choice))?,
+            Plan::Next(pid) => Box::new(alloc, NextCmd::new(pid))?,
+            Plan::Undo(pid) => Box::new(alloc, UndoCmd::new(pid))?,
+            Plan::Redo(pid) => Box::new(alloc, RedoCmd::new(pid))?,
+            Plan::Rollback(pid, place) => Box::new(alloc, RollbackCmd::new(pid, place))?,
+            Plan::Goto(name) => Box::new(alloc, GotoCmd::new(name))?,
+            Plan::Break(name, conjuncts) => Box::new(alloc, BreakCmd::new(name, conjuncts))?,
+            Plan::Clear(name) => Box::new(alloc, ClearCmd::new(name))?,
+            Plan::Arm(name) => Box::new(alloc, ArmCmd::new(name))?,
+            Plan::Pass(name) => Box::new(alloc, PassCmd::new(name))?,
+            Plan::Batch(plans) => Box::new(alloc, BatchCmd::new(plans))?,
+        };
+        Ok(command)
+    };
     let mut input = Input::new(alloc)?;
     match read_program_text(&mut input, reader)? {
         TextEnd::Before(span) => match parse_program(alloc, input.before(span)) {
-            Ok(program) => serve_lines(alloc, &program, &mut input, reader, writer),
+            Ok(program) => serve_lines::<Box<dyn Command>, _, _, _>(
+                alloc, &make, program, &mut input, reader, writer,
+            ),
             Err(ProgError::Bad(fault)) => tell_fault(&fault, writer),
             Err(ProgError::Memory) => Err(ServeFault::Memory),
         },

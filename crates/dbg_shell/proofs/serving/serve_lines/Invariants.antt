@@ -1,21 +1,22 @@
-use Rattle.std.proofs.Common.{◌-◌, ◌≤◌}
+use Rattle.std.proofs.Common.{◌≡◌, ◌-◌, ◌≤◌}
 use Rattle.dbg_base.specs.declared.limits.TheConstants.{INPUT_BYTES}
 use Rattle.proc_lang.specs.Programs.{program_of}
-use Rattle.dbg_command.specs.Tables.{IsTableOf, state_of}
 use Rattle.dbg_shell.specs.Spans.{ReadsOn}
+use Rattle.dbg_shell.specs.Answering.{IsStanding}
 use Rattle.dbg_shell.proofs.LineReplies.{AnsweredAny}
 use Rattle.dbg_shell.proofs.serving.serve_lines.Given as goal
 
-abbrev pub invariant-loop-table : goal.invariant-loop-table
-invariant-loop-table g l = record {
+abbrev pub invariant-loop-session : goal.invariant-loop-session
+invariant-loop-session g l = record {
   reads : ReadsOn l.fn.input.bytes.items l.fn.input.ended (g.R.Read.remaining l.fn.reader) l.input.bytes.items l.input.ended
       (g.R.Read.remaining l.reader);
   begun : l.fn.input.at ≤ l.input.at;
-  of : IsTableOf (program_of l.program) l.table;
-  answered : AnsweredAny (program_of l.program) l.input.bytes.items l.input.ended l.fn.input.at l.input.at (state_of l.table)
+  program : l.session.program ≡ program_of l.fn.program;
+  stands : IsStanding l.session;
+  answered : AnsweredAny (program_of l.fn.program) l.input.bytes.items l.input.ended l.fn.input.at l.input.at l.session.effective
       (g.W.Write.contents l.fn.writer) (g.W.Write.contents l.writer);
 }
 
 -- the bytes that no line was made of yet
-abbrev pub decreases-loop-table : goal.decreases-loop-table
-decreases-loop-table g l = INPUT_BYTES - l.input.at
+abbrev pub decreases-loop-session : goal.decreases-loop-session
+decreases-loop-session g l = INPUT_BYTES - l.input.at

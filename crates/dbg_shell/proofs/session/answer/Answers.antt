@@ -1,25 +1,14 @@
-use Rattle.std.proofs.Common.{rules}
-use Rattle.dbg_base.specs.declared.said.Said.TheVariants.{Answered, Refused}
+use Rattle.std.proofs.Common.{sym, subst}
+use Rattle.dbg_base.specs.declared.call.Call as call
+use Rattle.dbg_base.specs.declared.said.Said.{Said}
 use Rattle.dbg_base.specs.Calls.{call_of}
-use Rattle.dbg_base.specs.Shell.{SaysOrRefuses}
-use Rattle.proc_lang.specs.Programs.{program_of}
-use Rattle.histories.proofs.SaidFits.{says_fits}
-use Rattle.dbg_command.specs.Tables.{state_of}
+use Rattle.dbg_command.specs.Tables.{said_of}
+use Rattle.dbg_shell.specs.Answering.{Says}
 use Rattle.dbg_shell.proofs.session.answer.Goals as goal
 
-pub returns-in-Err-clause-fits : goal.returns-in-Err-clause-fits
-returns-in-Err-clause-fits c =
-    let P = program_of c.args.program.now in
-    let M = state_of c.args.table.now in
-    let says : SaysOrRefuses P c.args.line.now.seat (call_of c.args.line.now.call) M (Refused c.in-Err.refusal) (state_of c.give.new.self) =
-    search rules in
-    says_fits P M c.args.program.now.well_formed c.requires.world.state c.requires.world.possible c.args.line.now.seat
-    (call_of c.args.line.now.call) (Refused c.in-Err.refusal) (state_of c.give.new.self) says
-
-pub returns-in-Ok-ask-clause-fits : goal.returns-in-Ok-ask-clause-fits
-returns-in-Ok-ask-clause-fits c =
-    let P = program_of c.args.program.now in
-    let M = state_of c.args.table.now in
-    let says : SaysOrRefuses P c.args.line.now.seat (call_of c.args.line.now.call) M (Answered c.in-Ok-ask.told) M = search rules in
-    says_fits P M c.args.program.now.well_formed c.requires.world.state c.requires.world.possible c.args.line.now.seat
-    (call_of c.args.line.now.call) (Answered c.in-Ok-ask.told) M says
+pub returns-in-Give-clause-says : goal.returns-in-Give-clause-says
+returns-in-Give-clause-says g c =
+    subst (λ (said : Said). Says c.args.session.now c.args.line.seat (call_of c.args.line.call) said c.give.new.session)
+    (sym c.told.ensures)
+    (subst (λ (made : call.Call). Says c.args.session.now c.args.line.seat (call_of made) (said_of c.give.result) c.give.new.session)
+    (sym c.in-Give.is) c.give.ensures.says)
