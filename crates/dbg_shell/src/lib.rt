@@ -1,7 +1,7 @@
 //! The shell: bytes of input become lines, lines become calls of a session, and what the session says becomes bytes of output.
 //!
 //! `serve` answers a program text and the command lines behind it, `check` looks at a program text alone, and `job` reads the words
-//! of the program's own command line. Its session is a table, which the calls of the seats change in place.
+//! of the program's own command line. Each plan of a line is made a command of its kind in `serve`, which alone knows the kinds.
 #![tactic(auto)]
 
 mod checking;

@@ -53,10 +53,11 @@ Command lines, each behind a seat from 1 to 16:
   break B P E [P E ..]           set the breakpoint B, which halts where E holds in P, and so on for each pair
   arm B, pass B, clear B         let B halt again, let it halt no longer, remove it
   batch C ; C ..                 give these commands as one, all or none
+  back                           take back the last accepted command, if the same seat gave it
   vars P, chan P Q, clock P, place P, can P, cut B, why B, breaks
                                  show what there is
 
-Refusals: `no`, a number, for 7 and 9 a name, and for 25 two numbers. A refused line changes nothing.
+Refusals: `no`, a number, for 7 and 9 a name, for 17 a seat, and for 25 two numbers. A refused line changes nothing.
   1   no process has the name
   2   the process has no such command
   3   the guard of the command is false
@@ -72,6 +73,8 @@ Refusals: `no`, a number, for 7 and 9 a name, and for 25 two numbers. A refused 
   13  the breakpoint has no cut
   14  the breakpoint is not armed
   15  the breakpoint is armed
+  16  no command is left to take back
+  17  this seat gave the last command
   18  the process has 20,000 events, the most there may be
   19  there are 64 breakpoints, the most there may be
   21  memory ran out
