@@ -6,3 +6,4 @@ pub mod GivenEach
 pub mod Restoring
 pub mod GoingBack
 pub mod Boxed
+pub mod Sending

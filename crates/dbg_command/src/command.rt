@@ -16,7 +16,7 @@ use proc_lang::Program;
 use std::alloc::Global;
 
 /// A command that is applied to a table at most once, and then keeps what takes it back. Others know it by this alone.
-pub trait Command: Drop {
+pub trait Command: Drop + Send {
     // What it is to do, or did.
     ghost order: { Self → Order };
 

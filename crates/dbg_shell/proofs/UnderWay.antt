@@ -1,7 +1,7 @@
 -- An input that goes on without a line end until it is too long. Its lines are the whole lines of the bytes that were read, so what is
 -- known of whatever the input may be is known of these.
 use Rattle.std.proofs.Common.{◌≡◌, ℕ, suc, ◌+◌, ◌-◌, ◌<◌, ◌≤◌, Bool, true, false, eqb, cond, List, [], ◌∷◌, ◌++◌, length, take, drop}
-use Rattle.std.proofs.Common.{replicate, refl, sym, ap, subst, ◌∙◌, arith}
+use Rattle.std.proofs.Common.{replicate, refl, sym, ap, ◌∙◌, arith}
 use Rattle.std.specs.Prelude.{nat_lt, IfErr, OnErr, Result, Ok, Err}
 use Rattle.std.proofs.lemmas.Bool.Decides.{nat_tests}
 use Rattle.std.proofs.lemmas.List.{drop-append-le, length-append, length-drop, length-replicate, take-append-drop}
@@ -10,7 +10,7 @@ use Rattle.std.proofs.Math.Seq.{take-append-add}
 use Rattle.dbg_base.specs.declared.limits.TheConstants.{INPUT_BYTES}
 use Rattle.dbg_base.specs.Shell.{Lines, lines_of, byte_before, lines_within}
 use Rattle.reply_lines.specs.declared.outcome.ServeFault.{ServeFault}
-use Rattle.reply_lines.specs.declared.outcome.ServeFault.TheVariants.{Memory, Read, Write}
+use Rattle.reply_lines.specs.declared.outcome.ServeFault.TheVariants.{Write}
 use Rattle.dbg_shell.specs.Spans.{is_inside, is_unended, lines_from, MayBe, IsUnderWay}
 use Rattle.dbg_shell.proofs.LineEnds.{no_line_of}
 use Rattle.proc_lang.proofs.Runs.{and_first}
@@ -107,14 +107,7 @@ where_fault (Ok x) kind p = tt
 where_fault (Err fault) kind p = λ is. p
 
 -- a fault of the writer is of no other kind
-pub of_writer : {A : Type 0} (P : Type 0) (r : Result A ServeFault) (fault kind : ServeFault) → r ≡ Err fault → fault ≡ Write → (kind ≡ Write → ⊥)
-    → IfErr r (λ other. other ≡ kind → P)
-of_writer {A} P r fault kind is write apart =
-    subst (λ (q : Result A ServeFault). IfErr q (λ (other : ServeFault). other ≡ kind → P)) (sym is)
-    (λ same. absurd (apart (sym same ∙ write)))
-
-pub read_apart : Read ≡ Write → ⊥
-read_apart same = cc
-
-pub memory_apart : Memory ≡ Write → ⊥
-memory_apart same = cc
+pub where_other : {A : Type 0} (P : Type 0) (r : Result A ServeFault) (kind : ServeFault) → ¬ (Write ≡ kind)
+    → IfErr r (λ fault. fault ≡ Write) → IfErr r (λ fault. fault ≡ kind → P)
+where_other P (Ok x) kind other is = tt
+where_other P (Err fault) kind other is = λ same. absurd (other (sym is ∙ same))

@@ -58,6 +58,7 @@ fn serve_line<C: Command, M: Fn(Givable) -> Result<C, Refusal>, W: Write>(
     ensures stands { IsStanding session.new }
     ensures answers { (J : Journal) → effective J ≡ session.old.effective → WritesAnswer session.old.program line.now J
         (W.contents writer.old) result (W.contents writer.new) session.new.effective }
+    ensures fault { IfErr result (λ fault. fault ≡ Write) }
 {
     match parse_line(alloc, session.program(), line) {
         Ok(Some(line)) => {
@@ -111,7 +112,9 @@ fn serve_lines<C: Command, M: Fn(Givable) -> Result<C, Refusal>, R: Read, W: Wri
 }
 
 /// Reads a program text up to a line `%%`, and then answers each command line behind it, in order: a reply is written and flushed
-/// before the next line is read. A text without that line, and one that is no program, is refused, and nothing else is written.
+/// before the next line is read. The lines are calls of one session: a batch of commands is accepted whole or not at all, and `back`
+/// takes back the last accepted command, for the seat that gave it. A text without the line `%%`, and one that is no program, is
+/// refused, and nothing else is written.
 ///
 /// At most 1,048,577 bytes are read. Where there are more than 1,048,576, the lines that end within those are treated as ever, and
 /// then it is told that the input is too long. A fault of the reader comes after the replies to all whole lines before it; of a fault

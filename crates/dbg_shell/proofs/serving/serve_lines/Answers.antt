@@ -1,9 +1,9 @@
-use Rattle.std.proofs.Common.{◌∙◌, arith}
-use Rattle.std.proofs.lemmas.Result.{err_from_is_err_and}
+use Rattle.std.proofs.Common.{◌≡◌, ◌∙◌, arith, rules}
+use Rattle.std.specs.Prelude.{IfErr}
+use Rattle.reply_lines.specs.declared.outcome.ServeFault.TheVariants.{Memory, Read, Write}
 use Rattle.proc_lang.specs.Programs.{program_of}
-use Rattle.reply_lines.specs.declared.outcome.ServeFault.TheVariants.{Memory, Read}
+use Rattle.dbg_shell.proofs.UnderWay.{where_other}
 use Rattle.dbg_shell.proofs.Reading.{reads_nothing, reads_then}
-use Rattle.dbg_shell.proofs.UnderWay.{of_writer, read_apart, memory_apart}
 use Rattle.dbg_shell.proofs.Splits.{further_on}
 use Rattle.dbg_shell.proofs.LineReplies.{any_answered, any_goes_on, any_stops, any_ends, any_is_too_long, any_is_cut, any_breaks}
 use Rattle.dbg_shell.proofs.serving.serve_lines.Goals as goal
@@ -62,21 +62,21 @@ returns-in_err-serve_line-in-Line-clause-reads g c = reads_then c.loop-session.i
 
 pub returns-in_err-serve_line-in-Line-clause-broken : goal.returns-in_err-serve_line-in-Line-clause-broken
 returns-in_err-serve_line-in-Line-clause-broken g c =
-    let answered = c.loop-session.invariant.answered in
-    let told = err_from_is_err_and c.from_residual-in_err-serve_line-in-Line.result c.from_residual-in_err-serve_line-in-Line.ensures.1 in
-    of_writer _ _ _ Read told.1 (told.2
-    ∙ (c.in_err-serve_line-in-Line.ensures.answers answered.journal answered.counts).written.fault) read_apart
+    let told = c.from_residual-in_err-serve_line-in-Line.ensures in
+    let was = c.in_err-serve_line-in-Line.ensures.fault in
+    let fault : IfErr c.from_residual-in_err-serve_line-in-Line.result (λ fault. fault ≡ Write) = search rules in
+    where_other _ c.from_residual-in_err-serve_line-in-Line.result Read (λ same. cc) fault
 
 pub returns-in_err-serve_line-in-Line-clause-memory : goal.returns-in_err-serve_line-in-Line-clause-memory
 returns-in_err-serve_line-in-Line-clause-memory g c =
-    let answered = c.loop-session.invariant.answered in
-    let told = err_from_is_err_and c.from_residual-in_err-serve_line-in-Line.result c.from_residual-in_err-serve_line-in-Line.ensures.1 in
-    of_writer _ _ _ Memory told.1 (told.2
-    ∙ (c.in_err-serve_line-in-Line.ensures.answers answered.journal answered.counts).written.fault) memory_apart
+    let told = c.from_residual-in_err-serve_line-in-Line.ensures in
+    let was = c.in_err-serve_line-in-Line.ensures.fault in
+    let fault : IfErr c.from_residual-in_err-serve_line-in-Line.result (λ fault. fault ≡ Write) = search rules in
+    where_other _ c.from_residual-in_err-serve_line-in-Line.result Memory (λ same. cc) fault
 
 pub returns-in_err-serve_line-in-Line-clause-untouched : goal.returns-in_err-serve_line-in-Line-clause-untouched
 returns-in_err-serve_line-in-Line-clause-untouched g c =
-    let answered = c.loop-session.invariant.answered in
-    let told = err_from_is_err_and c.from_residual-in_err-serve_line-in-Line.result c.from_residual-in_err-serve_line-in-Line.ensures.1 in
-    of_writer _ _ _ Memory told.1 (told.2
-    ∙ (c.in_err-serve_line-in-Line.ensures.answers answered.journal answered.counts).written.fault) memory_apart
+    let told = c.from_residual-in_err-serve_line-in-Line.ensures in
+    let was = c.in_err-serve_line-in-Line.ensures.fault in
+    let fault : IfErr c.from_residual-in_err-serve_line-in-Line.result (λ fault. fault ≡ Write) = search rules in
+    where_other _ c.from_residual-in_err-serve_line-in-Line.result Memory (λ same. cc) fault
