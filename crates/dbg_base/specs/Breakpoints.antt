@@ -1,5 +1,6 @@
 -- Breakpoints: predicates by name, in the order in which they were set, and which of them halts a session.
-use Rattle.std.specs.Prelude.{◌≡◌, ℕ, Bool, List, [], ◌∷◌, length, Option, Some, None, is_some, nat_lt, if◌then◌else◌, ◌⊎◌}
+use Rattle.std.specs.Prelude.{◌≡◌, ℕ, ◌-◌, ◌<◌, Bool, List, [], ◌∷◌, length, Option, Some, None, is_some, nat_lt, if◌then◌else◌, ◌⊎◌}
+use Rattle.std.specs.Prelude.{slice_get}
 use Rattle.std.specs.Bool.{MatchBool}
 use Rattle.std.specs.Str.{bytes_eq}
 use Rattle.dbg_base.specs.declared.refusal.Refusal.{Refusal}
@@ -48,3 +49,15 @@ IsHaltedBy P H (b ∷ breakpoints) halted =
     MatchBool b.armed
     ((HasCut P H b × (halted ≡ Some b.name)) ⊎ (NoCut P H b.conjuncts × IsHaltedBy P H breakpoints halted))
     (IsHaltedBy P H breakpoints halted)
+
+-- the breakpoint of this name stands at this place, counted from 1; no name stands at 0
+abbrev pub IsAtPlace : List Breakpoint → Option (List ℕ) → ℕ → Type 0
+IsAtPlace breakpoints None place = place ≡ 0
+IsAtPlace breakpoints (Some name) place =
+    (0 < place) × (b : Breakpoint) × (slice_get breakpoints (place - 1) ≡ Some b) × (b.name ≡ name)
+
+-- the place of the breakpoint that halts the session, or 0 where none does
+pub record HaltsAt (P : Program) (H : History) (breakpoints : List Breakpoint) (place : ℕ) : Type 0 where
+  pub halted : Option (List ℕ)
+  pub is : IsHaltedBy P H breakpoints halted
+  pub at : IsAtPlace breakpoints halted place

@@ -1,11 +1,12 @@
 -- What a session was asked and what it said, and which of its commands count.
-use Rattle.std.specs.Prelude.{◌≡◌, ℕ, ◌-◌, ◌==◌, List, [], ◌∷◌, ◌++◌, length, Option, Some, None, slice_get}
+use Rattle.std.specs.Prelude.{◌≡◌, ◌⊎◌, ℕ, ◌-◌, ◌<◌, ◌≤◌, ◌==◌, List, [], ◌∷◌, ◌++◌, length, Option, Some, None, slice_get}
 use Rattle.std.specs.Bool.{MatchBool}
 use Rattle.dbg_base.specs.declared.said.Done.TheVariants.{Plain}
 use Rattle.dbg_base.specs.declared.said.Reply.{Reply}
 use Rattle.dbg_base.specs.declared.said.Said.{Said}
 use Rattle.dbg_base.specs.declared.said.Said.TheVariants.{Accepted, Refused}
-use Rattle.dbg_base.specs.declared.refusal.Refusal.TheVariants.{NothingBack, OtherSeat, Memory}
+use Rattle.dbg_base.specs.declared.refusal.Refusal.TheVariants.{NothingBack, OtherSeat, JournalFull, Memory}
+use Rattle.dbg_base.specs.declared.limits.TheConstants.{CALLS}
 use Rattle.dbg_base.specs.Trees.{Program}
 use Rattle.dbg_base.specs.Reversal.{without_back}
 use Rattle.dbg_base.specs.Calls.{Order, Call, Give, Back, Ask}
@@ -80,3 +81,26 @@ pub record Enters (P : Program) (J : Journal) (seat : ℕ) (call : Call) (said :
 pub record Misses (J : Journal) (said : Said) (J' : Journal) : Type 0 where
   pub told : said ≡ Refused Memory
   pub left : J' ≡ J
+
+-- it was refused, and not entered, since as many calls were entered as may be
+pub record Overflows (J : Journal) (said : Said) (J' : Journal) : Type 0 where
+  pub full : length J ≡ CALLS
+  pub told : said ≡ Refused JournalFull
+  pub left : J' ≡ J
+
+-- what a seat's call makes of a journal that takes so many calls and no more
+abbrev pub Makes : Program → Journal → ℕ → Call → Said → Journal → Type 0
+Makes P J seat call said J' =
+    ((length J < CALLS) × (Enters P J seat call said J' ⊎ Misses J said J')) ⊎ Overflows J said J'
+
+-- each of these calls, of which the first was made where these orders counted, was told what is due there
+abbrev pub AreDue : Program → List Given → Journal → Type 0
+AreDue P given [] = Unit {0}
+AreDue P given (entry ∷ J) =
+    IsDue P given entry.seat entry.call entry.said × AreDue P (counting given entry.seat entry.call entry.said) J
+
+-- A journal that a single caller could have made, one call after the other: each call was told what is due where those before it leave
+-- the session.
+pub record IsLegal (P : Program) (J : Journal) : Type 0 where
+  pub few : length J ≤ CALLS
+  pub due : AreDue P [] J

@@ -2,7 +2,7 @@
 use Rattle.std.specs.Prelude.{ℕ, List, [], Option}
 use Rattle.dbg_base.specs.Trees.{Program}
 use Rattle.dbg_base.specs.SystemStates.{SystemState, history_of, opening_state}
-use Rattle.dbg_base.specs.Breakpoints.{Breakpoint, IsHaltedBy}
+use Rattle.dbg_base.specs.Breakpoints.{Breakpoint, IsHaltedBy, HaltsAt}
 
 -- the system, and the breakpoints in the order in which they were set
 pub record ModelState : Type 0 where
@@ -20,3 +20,7 @@ with_system M system = record M { system = system }
 -- this breakpoint halts the session, or none
 abbrev pub IsHalted : Program → ModelState → Option (List ℕ) → Type 0
 IsHalted P M halted = IsHaltedBy P (history_of M.system) M.breakpoints halted
+
+-- at this place stands the breakpoint that halts the session, or none does
+abbrev pub IsHaltPlace : Program → ModelState → ℕ → Type 0
+IsHaltPlace P M place = HaltsAt P (history_of M.system) M.breakpoints place

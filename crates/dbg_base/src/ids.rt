@@ -1,6 +1,7 @@
 //! Numbers of processes and commands, and cuts.
 
-ghost use Rattle.std.specs.Prelude.{◌≡◌, ◌<◌, length, slice_index, slice_set};
+ghost use Rattle.std.specs.Prelude.{◌≡◌, ◌<◌, ◌≤◌, [], length, slice_index, slice_set};
+ghost use Rattle.std.specs.Vec.{vec_capacity};
 ghost use Rattle.dbg_base.specs.Copies.{IsCopy};
 
 use crate::refusal::Refusal;
@@ -70,5 +71,18 @@ impl Cut {
         ensures { IsCopy result (λ made. made ≡ self.now) }
     {
         Ok(Cut::new(self.counts.clone()?))
+    }
+
+    /// The same cut once more, in the memory of this list, which is empty and has room for it. It takes no memory.
+    pub fn copy_into(&self, room: Vec<u32>) -> Cut
+        requires empty { room.items ≡ [] }
+        requires room { length self.now ≤ vec_capacity room }
+        ensures { result ≡ self.now }
+    {
+        let mut counts = room;
+        for count in self.counts() {
+            counts.push_reserved(*count);
+        }
+        Cut::new(counts)
     }
 }

@@ -1,7 +1,8 @@
 //! What a session answers.
 
-ghost use Rattle.std.specs.Prelude.{◌≡◌};
-ghost use Rattle.dbg_base.specs.Copies.{IsCopy};
+ghost use Rattle.std.specs.Prelude.{◌≡◌, ◌≤◌, []};
+ghost use Rattle.std.specs.Vec.{vec_capacity};
+ghost use Rattle.dbg_base.specs.Copies.{IsCopy, counts_in};
 
 use crate::ids::{Choice, Cut, Pid};
 use crate::name::Name;
@@ -33,6 +34,20 @@ impl Done {
             Done::Plain => Ok(Done::Plain),
         }
     }
+
+    // The same once more, in the memory of this list.
+    fn copy_into(&self, room: Vec<u32>) -> Done
+        requires empty { room.items ≡ [] }
+        requires room { counts_in self.now ≤ vec_capacity room }
+        ensures { result ≡ self.now }
+    {
+        match self {
+            Done::Played(pid, choice) => Done::Played(*pid, *choice),
+            Done::Undone(pid, choice) => Done::Undone(*pid, *choice),
+            Done::Places(places) => Done::Places(places.copy_into(room)),
+            Done::Plain => Done::Plain,
+        }
+    }
 }
 
 /// The answer to an accepted command.
@@ -53,6 +68,19 @@ impl Reply {
             done,
             halted: self.halted,
         })
+    }
+
+    /// The same reply once more, in the memory of this list, which is empty and has room for the places that the reply tells, if it does.
+    /// It takes no memory.
+    pub fn copy_into(&self, room: Vec<u32>) -> Reply
+        requires empty { room.items ≡ [] }
+        requires room { counts_in self.now.done ≤ vec_capacity room }
+        ensures { result ≡ self.now }
+    {
+        Reply {
+            done: self.done.copy_into(room),
+            halted: self.halted,
+        }
     }
 }
 
@@ -87,8 +115,8 @@ pub enum Answer {
 }
 
 impl Answer {
-    // The same answer once more.
-    fn copy(&self) -> Result<Answer, Refusal>
+    /// The same answer once more. It is refused only as `Memory`, where that runs out.
+    pub fn copy(&self) -> Result<Answer, Refusal>
         ensures { IsCopy result (λ made. made ≡ self.now) }
     {
         match self {

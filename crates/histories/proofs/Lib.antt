@@ -17,3 +17,6 @@ pub mod Keeping
 pub mod OneOutcome
 pub mod There
 pub mod SaidFits
+pub mod Legal
+pub mod Standing
+pub mod OneAnswer

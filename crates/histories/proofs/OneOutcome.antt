@@ -84,7 +84,7 @@ halts_one : (P : Program) (M : ModelState) → HasHalt P (history_of M.system) M
 halts_one P M = one_halt P (history_of M.system) M.breakpoints
 
 -- a command was accepted, did this, and left this state
-changes_one : (P : Program) (done : Done) (N : ModelState) → HasOne (λ said after. Accepts P done said after × (after ≡ N))
+pub changes_one : (P : Program) (done : Done) (N : ModelState) → HasOne (λ said after. Accepts P done said after × (after ≡ N))
 changes_one P done N =
     let halt = halts_one P N in
     record {
@@ -259,7 +259,7 @@ cannot_cases P M p refusal wrong = absurd wrong
 one_target : {A : Type 0} (o : Option A) (x y : A) → o ≡ Some x → o ≡ Some y → x ≡ y
 one_target o x y is other = cc
 
-one_cannot : (P : Program) (M : SystemState) (p : ℕ) (one other : Refusal) → CannotUndo P M p one → CannotUndo P M p other → other ≡ one
+pub one_cannot : (P : Program) (M : SystemState) (p : ℕ) (one other : Refusal) → CannotUndo P M p one → CannotUndo P M p other → other ≡ one
 one_cannot P M p one other is too = by (cannot_cases P M p one is) (cannot_cases P M p other too)
   where
     by : ((one ≡ NothingToUndo) × (place_at M p ≡ 0)) ⊎ ((q : ℕ) × (one ≡ Consequence (record { 0 = q })) × IsNeeded P M p q)
@@ -281,6 +281,15 @@ module _ (P : Program) (M : ModelState) (of : IsStateOf P M.system) (possible : 
   events_of =
       ap (λ (l : List ℕ). length l) (cut_at M.system.lines M.system.places p)
       ∙ length-take-le (place_at M.system p) (line_of M.system p) (of.within p)
+
+  -- where it may be taken back, nothing keeps it
+  pub may_or_stays : (refusal : Refusal) → MayUndo P (history_of M.system) p → CannotUndo P M.system p refusal → ⊥
+  may_or_stays refusal may why =
+      ⊎_elim
+      (λ (none : (refusal ≡ NothingToUndo) × (place_at M.system p ≡ 0)).
+      let some = may.some in absurd (omega (arith, some, none.1, events_of)))
+      (λ (needed : (q : ℕ) × (refusal ≡ Consequence (record { 0 = q })) × IsNeeded P M.system p q). needed.2.impossible may.rest)
+      (cannot_cases P M.system p refusal why)
 
   last_of : (n : ℕ) → place_at M.system p ≡ suc n
       → (last_choice M.system p ≡ Some (get_or (line_of M.system p) n 0))
@@ -330,14 +339,7 @@ module _ (P : Program) (M : ModelState) (of : IsStateOf P M.system) (possible : 
                       (one_target (last_choice M.system p) back.choice k back.was was) back.told,
                   back.left,
                 ))
-                (λ (stays : KeepsEvent P p M other after).
-                ⊎_elim
-                (λ (none : (stays.refusal ≡ NothingToUndo) × (place_at M.system p ≡ 0)).
-                let some = may.some in absurd (omega (arith, some, none.1, events_of)))
-                (λ (needed : (q : ℕ) × (stays.refusal ≡ Consequence (record { 0 = q })) × IsNeeded P M.system p q).
-                absurd (needed.2.impossible may.rest))
-                (cannot_cases P M.system p stays.refusal stays.why))
-                acts;
+                (λ (stays : KeepsEvent P p M other after). absurd (may_or_stays stays.refusal may stays.why)) acts;
           }
 
       by : (n : ℕ) → place_at M.system p ≡ n → HasOne (λ said after. TakesBack P p M said after ⊎ KeepsEvent P p M said after)

@@ -1,4 +1,4 @@
--- What is determined: a reply, and the state behind it.
+-- What is determined: a reply, and the state behind it; or a state.
 use Rattle.std.specs.Prelude.{◌≡◌}
 use Rattle.dbg_base.specs.declared.said.Said.{Said}
 use Rattle.dbg_base.specs.ModelStates.{ModelState}
@@ -9,3 +9,9 @@ pub record HasOne (Is : Said → ModelState → Type 0) : Type 0 where
   pub left : ModelState
   pub is : Is said left
   pub only : (other : Said) (after : ModelState) → Is other after → (other ≡ said) × (after ≡ left)
+
+-- there is exactly one state of which this holds
+pub record HasOneState (Is : ModelState → Type 0) : Type 0 where
+  pub state : ModelState
+  pub is : Is state
+  pub only : (other : ModelState) → Is other → other ≡ state

@@ -1,6 +1,7 @@
 //! Laws of orders and histories, over their definitions alone.
 
-ghost use Rattle.std.specs.Prelude.{◌≡◌, ℕ, List, length, Ok};
+ghost use Rattle.std.specs.Prelude.{◌≡◌, ℕ, List, length, map, Ok};
+ghost use Rattle.dbg_base.specs.declared.said.Said.{Said};
 ghost use Rattle.dbg_base.specs.Trees.{Program};
 ghost use Rattle.dbg_base.specs.Configurations.{Configuration, start_of};
 ghost use Rattle.dbg_base.specs.Histories.{History, IsPossible, play, progress_of};
@@ -9,9 +10,11 @@ ghost use Rattle.dbg_base.specs.Cuts.{IsConsistent, history_at};
 ghost use Rattle.dbg_base.specs.Reversal.{IsPermitted, after_undos, unfire_all};
 ghost use Rattle.dbg_base.specs.SystemStates.{IsStateOf, history_of};
 ghost use Rattle.dbg_base.specs.ModelStates.{ModelState};
-ghost use Rattle.dbg_base.specs.Calls.{Order};
+ghost use Rattle.dbg_base.specs.Calls.{Order, Call};
 ghost use Rattle.dbg_base.specs.Acts.{Follows};
-ghost use Rattle.histories.specs.Outcomes.{HasOne};
+ghost use Rattle.dbg_base.specs.Journals.{Journal, effective, StandsAt, IsDue, IsLegal};
+ghost use Rattle.histories.specs.Outcomes.{HasOne, HasOneState};
+ghost use Rattle.histories.specs.Remaining.{call_in, given_call};
 
 /// The order of independent events does not matter. A list of events that fire one after the other makes a possible history, and ends
 /// where the play of that history ends, with the same local states on the way. Two such lists with one history go over into each other
@@ -43,4 +46,17 @@ pub fn any_undo()
 pub fn one_outcome()
     ensures { (P : Program) (order : Order) (M : ModelState) → IsStateOf P M.system → IsPossible P (history_of M.system)
         → HasOne (Follows P order M) }
+{}
+
+/// What a session shows depends on the commands that remain alone, as though each command that was taken back had never been given.
+/// Where each call was told what is due, the commands that count lead to exactly one state. Where the same commands count after two such
+/// journals, each further call, be it a command, `back` or a question, is told the same after both. And the commands that count can be
+/// given alone, in their order and by the same seats: each is accepted, and the same commands count then.
+pub fn never_given()
+    ensures stands { (P : Program) (J : Journal) → IsLegal P J → HasOneState (StandsAt P (effective J)) }
+    ensures same { (P : Program) (J J' : Journal) → IsLegal P J → IsLegal P J' → effective J ≡ effective J'
+        → (seat : ℕ) (call : Call) (said said' : Said) → IsDue P (effective J) seat call said → IsDue P (effective J') seat call said'
+        → said ≡ said' }
+    ensures remaining { (P : Program) (J : Journal) → IsLegal P J
+        → (J' : Journal) × IsLegal P J' × (map call_in J' ≡ map given_call (effective J)) × (effective J' ≡ effective J) }
 {}
