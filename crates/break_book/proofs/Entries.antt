@@ -27,7 +27,7 @@ names_of book = map (λ (entry : Entry). entry.0) book
 abbrev pub position_of : List ℕ → List Entry → Option ℕ
 position_of name book = position (bytes_eq name) (names_of book)
 
-same_in : {A : Type 0} (x y : A) → Some x ≡ Some y → x ≡ y
+pub same_in : {A : Type 0} (x y : A) → Some x ≡ Some y → x ≡ y
 same_in x y is = cc
 
 none_in : {A : Type 0} (o : Option A) → is_some o ≡ false → o ≡ None

@@ -1,15 +1,21 @@
 -- Which breakpoint halts the session.
-use Rattle.std.proofs.Common.{◌≡◌, ℕ, Bool, true, false, List, ◌∷◌, Option, Some, None, Bor, is_some, refl, inl, inr, ⊎_elim}
-use Rattle.std.specs.Prelude.{MatchOption, ◌⊎◌}
+use Rattle.std.proofs.Common.{◌≡◌, ℕ, ◌+◌, ◌-◌, Bool, true, false, List, [], ◌∷◌, Option, Some, None, Bor, is_some, refl, ap, ◌∙◌}
+use Rattle.std.proofs.Common.{inl, inr, ⊎_elim, arith}
+use Rattle.std.specs.Prelude.{MatchOption, ◌⊎◌, slice_get, if◌then◌else◌}
 use Rattle.std.specs.Bool.{MatchBool}
+use Rattle.std.specs.Option.{option_map}
+use Rattle.std.specs.Str.{bytes_eq}
+use Rattle.std.proofs.lemmas.Option.{slice_get-map}
+use Rattle.std.proofs.lemmas.Slice.Eq.{bytes_eq-Decides}
 use Rattle.dbg_base.specs.Trees.{Program}
 use Rattle.dbg_base.specs.Histories.{History}
 use Rattle.dbg_base.specs.Predicates.{Conjunct, IsLeast, NoCut}
-use Rattle.dbg_base.specs.Breakpoints.{Breakpoint, HasCut, IsHaltedBy}
+use Rattle.dbg_base.specs.Breakpoints.{Breakpoint, HasCut, IsHaltedBy, named}
 use Rattle.dbg_base.specs.SystemStates.{history_of}
 use Rattle.causal_world.specs.Scenes.{Scene, IsWorldOf}
 use Rattle.least_cut.specs.Detectors.{conjuncts_of}
 use Rattle.break_book.specs.Books.{Kept, Entry, breakpoint_of, breakpoints_of, AreDetectorsOf, TellsWhether, Halts, HaltsNot}
+use Rattle.break_book.proofs.Entries.{same_in}
 
 match_true : (b : Bool) (A B : Type 0) → b ≡ true → A → MatchBool b A B
 match_true true A B e a = a
@@ -59,3 +65,29 @@ IsPassed book rest =
     → AreDetectorsOf w rest
     × ((halted : Option (List ℕ)) → IsHaltedBy P (history_of w.state) (breakpoints_of rest) halted
     → IsHaltedBy P (history_of w.state) (breakpoints_of book) halted)
+
+-- the breakpoint that halts is there
+pub halted_there : (P : Program) (H : History) (breakpoints : List Breakpoint) (name : List ℕ) → IsHaltedBy P H breakpoints (Some name)
+    → named name breakpoints ≡ None → ⊥
+halted_there P H [] name is none = cc
+halted_there P H (b ∷ breakpoints) name is none =
+    by b.armed is (bytes_eq name b.name) refl none (halted_there P H breakpoints name)
+  where
+    by : (armed : Bool)
+        → MatchBool armed ((HasCut P H b × (Some name ≡ Some b.name)) ⊎ (NoCut P H b.conjuncts × IsHaltedBy P H breakpoints (Some name)))
+        (IsHaltedBy P H breakpoints (Some name)) → (same : Bool) → bytes_eq name b.name ≡ same
+        → (if same then Some b else named name breakpoints) ≡ None
+        → (IsHaltedBy P H breakpoints (Some name) → named name breakpoints ≡ None → ⊥) → ⊥
+    by armed is true eq none rest = cc
+    by true (inl here) false eq none rest =
+        let found : bytes_eq name b.name ≡ true = (bytes_eq-Decides name b.name).1 (same_in name b.name here.1) in cc
+    by true (inr later) false eq none rest = rest later.1 none
+    by false later false eq none rest = rest later none
+
+-- where its entry stands, counted from 0, the breakpoint stands, counted from 1
+pub stands_there : (book : List Entry) (i : ℕ) (kept : Entry) → slice_get book i ≡ Some kept
+    → slice_get (breakpoints_of book) (i + 1 - 1) ≡ Some (breakpoint_of kept)
+stands_there book i kept is =
+    let place : i + 1 - 1 ≡ i = omega arith in
+    ap (λ (k : ℕ). slice_get (breakpoints_of book) k) place ∙ slice_get-map breakpoint_of book i
+    ∙ ap (λ (o : Option Entry). option_map breakpoint_of o) is

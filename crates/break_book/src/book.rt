@@ -8,7 +8,7 @@ ghost use Rattle.dbg_base.specs.declared.limits.TheConstants.{BREAKPOINTS};
 ghost use Rattle.dbg_base.specs.Trees as tree;
 ghost use Rattle.dbg_base.specs.Calls.{conjunct_of};
 ghost use Rattle.dbg_base.specs.Copies.{IsCopy};
-ghost use Rattle.dbg_base.specs.Breakpoints.{named, without, with_mark, name_refusal, IsHaltedBy};
+ghost use Rattle.dbg_base.specs.Breakpoints.{named, without, with_mark, name_refusal, IsHaltedBy, HaltsAt};
 ghost use Rattle.dbg_base.specs.SystemStates.{history_of};
 ghost use Rattle.dbg_base.specs.Views.{mark_of};
 ghost use Rattle.causal_world.specs.Scenes.{Scene, IsWorldOf};
@@ -233,6 +233,22 @@ impl Book {
         None
     }
 
+    /// The place of the breakpoint that halts the session, counted from 1 in the order in which they were set, or 0 where none does. It
+    /// takes no memory.
+    pub fn halt_place(&self) -> u32
+        ensures place { (w : Scene) (P : tree.Program) → AreDetectorsOf w self.now → IsWorldOf P w
+            → HaltsAt P (history_of w.state) (breakpoints_of self.now) result }
+        ensures few { result ≤ BREAKPOINTS }
+    {
+        let Some(name) = self.halted() else {
+            return 0;
+        };
+        match self.entry(name) {
+            Ok((position, _)) => position as u32 + 1,
+            Err(_) => 0,
+        }
+    }
+
     /// The names in order, each with its mark: is it armed. It is refused only as `Memory`, where that runs out.
     pub fn list(&self, alloc: Global) -> Result<Sequence<(Name, bool)>, Refusal>
         ensures marks { IfOk result (λ marks. marks ≡ map mark_of (breakpoints_of self.now)) }
@@ -261,6 +277,7 @@ impl Book {
     fn entry(&self, name: Name) -> Result<(usize, &Breakpoint), Refusal>
         ensures found { IfOk result (λ found. StandsAt name self.now found.0 found.1.now) }
         ensures refuses { IfErr result (λ refusal. (named name (breakpoints_of self.now) ≡ None) × (refusal ≡ UnknownBreak)) }
+        ensures few { length self.now ≤ BREAKPOINTS }
     {
         let Some((position, _, found)) = self.breaks.get_full(&name) else {
             return Err(Refusal::UnknownBreak);

@@ -1,10 +1,11 @@
 //! The table, and which breakpoint halts it.
 
-ghost use Rattle.std.specs.Prelude.{◌≡◌, ◌<◌, length, IfOk, IfErr, OnOk, None};
+ghost use Rattle.std.specs.Prelude.{◌≡◌, ◌<◌, ◌≤◌, length, IfOk, IfErr, OnOk, None};
 ghost use Rattle.dbg_base.specs.declared.refusal.Refusal.TheVariants.{Memory};
 ghost use Rattle.dbg_base.specs.Trees as tree;
 ghost use Rattle.dbg_base.specs.Copies.{IsCopy};
-ghost use Rattle.dbg_base.specs.ModelStates.{opening, IsHalted};
+ghost use Rattle.dbg_base.specs.declared.limits.TheConstants.{BREAKPOINTS};
+ghost use Rattle.dbg_base.specs.ModelStates.{opening, IsHalted, IsHaltPlace};
 ghost use Rattle.proc_lang.specs.Programs.{program_of};
 ghost use Rattle.break_book.specs.Books.{breakpoints_of, shown_of};
 ghost use Rattle.dbg_command.specs.Tables.{IsTableOf, IsReady, Unready, UnknownIn, HaltedAt, Replies, shown, state_of, IsCutOf};
@@ -92,6 +93,15 @@ impl Table {
             done,
             halted: self.book.halted(),
         }
+    }
+
+    /// The place of the breakpoint that halts the session, counted from 1 in the order in which they were set, or 0 where none does. It
+    /// takes no memory.
+    pub fn halt_place(&self) -> u32
+        ensures place { (P : tree.Program) → IsTableOf P self.now → IsHaltPlace P (state_of self.now) result }
+        ensures few { result ≤ BREAKPOINTS }
+    {
+        self.book.halt_place()
     }
 
     // Refuses to go on where a breakpoint halts the session.

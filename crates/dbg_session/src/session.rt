@@ -1,9 +1,10 @@
 //! A program, a table that follows the commands, and the commands that were accepted and are not taken back.
 
-ghost use Rattle.std.specs.Prelude.{◌≡◌, ◌⊎◌, [], Err, IfOk, IfErr, IfSome, OnErr};
+ghost use Rattle.std.specs.Prelude.{◌≡◌, ◌≤◌, ◌⊎◌, [], Err, IfOk, IfErr, IfSome, OnErr};
 ghost use Rattle.dbg_base.specs.declared.refusal.Refusal.TheVariants.{Memory};
 ghost use Rattle.dbg_base.specs.Calls.{Give, Back, Ask, query_of};
-ghost use Rattle.dbg_base.specs.ModelStates.{opening};
+ghost use Rattle.dbg_base.specs.declared.limits.TheConstants.{BREAKPOINTS};
+ghost use Rattle.dbg_base.specs.ModelStates.{opening, IsHaltPlace};
 ghost use Rattle.dbg_base.specs.Journals.{StandsAt, AnswersBack, counting, last_given};
 ghost use Rattle.dbg_base.specs.Fits.{FitsCall};
 ghost use Rattle.proc_lang.specs.Programs.{program_of};
@@ -133,5 +134,13 @@ impl<C: Command> Session<C> {
         ensures fits { FitsCall self.now.program (Ask (query_of query.now)) (told_of result) }
     {
         self.table.ask(alloc, &self.program, query)
+    }
+    /// The place of the breakpoint that halts the session, counted from 1 in the order in which they were set, or 0 where none does. It
+    /// takes no memory.
+    pub fn halt_at(&self) -> u32
+        ensures place { IsHaltPlace self.now.program self.now.state result }
+        ensures few { result ≤ BREAKPOINTS }
+    {
+        self.table.halt_place()
     }
 }
