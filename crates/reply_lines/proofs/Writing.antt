@@ -119,3 +119,14 @@ row_spaced f [] = refl
 row_spaced f (x ∷ []) = append-nil (spaced (f x))
 row_spaced f (x ∷ y ∷ xs) =
     ap (λ t. spaced (f x) ++ t) (row_spaced f (y ∷ xs)) ∙ sym (flat_map-append (λ word. codes " " ++ word) (f x) (in_a_row f (y ∷ xs)))
+
+-- what was written is this text, too
+pub writes_same : {A : Type 0} {a b : Option (List ℕ)} {r : Result A ServeFault} {x y : List ℕ} → x ≡ y → Writes a b r x → Writes a b r y
+writes_same {a = a} {b = b} {r = r} same wrote = subst (λ (t : List ℕ). Writes a b r t) same wrote
+
+-- one word, and two words
+pub spaced_one : (word : List ℕ) → spaced (word ∷ []) ≡ codes " " ++ word
+spaced_one word = append-nil (codes " " ++ word)
+
+pub spaced_two : (word other : List ℕ) → spaced (word ∷ other ∷ []) ≡ (codes " " ++ word) ++ (codes " " ++ other)
+spaced_two word other = ap (λ (t : List ℕ). (codes " " ++ word) ++ t) (spaced_one other)

@@ -142,13 +142,21 @@ impl Item {
     }
 }
 
+// Writes an item, with a space before it.
+fn write_item<W: Write>(item: &Item, writer: &mut W) -> Result<(), ServeFault>
+    ensures { Writes (W.contents writer.old) (W.contents writer.new) result (codes " " ++ item_text item.now) }
+{
+    let mut buffer = Buffer::new();
+    write_behind(b" ", item.bytes(&mut buffer), writer)
+}
+
 // Writes a word, with a space before it.
 fn write_word<W: Write>(word: &Word, writer: &mut W) -> Result<(), ServeFault>
     ensures { Writes (W.contents writer.old) (W.contents writer.new) result (codes " " ++ word_text word.now) }
 {
     let mut buffer = Buffer::new();
     match word {
-        Word::Plain(item) => write_behind(b" ", item.bytes(&mut buffer), writer),
+        Word::Plain(item) => write_item(item, writer),
         Word::Pair(name, item) => write_pair(name.bytes(), b"=", item.bytes(&mut buffer), writer),
         Word::Mark(name, true) => write_pair(name.bytes(), b" ", b"on", writer),
         Word::Mark(name, false) => write_pair(name.bytes(), b" ", b"off", writer),
@@ -251,7 +259,8 @@ impl Piece<'_> {
     }
 }
 
-fn write_piece<W: Write>(piece: &Piece<'_>, writer: &mut W) -> Result<(), ServeFault>
+// Writes the words of a piece, one after the other.
+fn write_words<W: Write>(piece: &Piece<'_>, writer: &mut W) -> Result<(), ServeFault>
     ensures { Writes (W.contents writer.old) (W.contents writer.new) result (spaced (piece_words piece.now)) }
 {
     for place in 0..piece.limit() {
@@ -261,6 +270,21 @@ fn write_piece<W: Write>(piece: &Piece<'_>, writer: &mut W) -> Result<(), ServeF
         }
     }
     Ok(())
+}
+
+// Most lines have short pieces alone, whose words are written as they are.
+fn write_piece<W: Write>(piece: &Piece<'_>, writer: &mut W) -> Result<(), ServeFault>
+    ensures { Writes (W.contents writer.old) (W.contents writer.new) result (spaced (piece_words piece.now)) }
+{
+    match piece {
+        Piece::Nothing | Piece::Halted(None) => Ok(()),
+        Piece::Item(item) => write_item(item, writer),
+        Piece::Both(first, second) => {
+            write_item(first, writer)?;
+            write_item(second, writer)
+        }
+        _ => write_words(piece, writer),
+    }
 }
 
 fn write_pieces<W: Write>(pieces: &[Piece<'_>], writer: &mut W) -> Result<(), ServeFault>

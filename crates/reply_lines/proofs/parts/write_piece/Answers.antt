@@ -1,28 +1,15 @@
-use Rattle.std.proofs.Common.{◌++◌, ap, sym, arith}
-use Rattle.std.proofs.lemmas.List.{drop_all}
-use Rattle.std.specs.Prelude.{codes}
+use Rattle.std.proofs.Common.{List, ℕ, sym, ap, ◌∙◌}
 use Rattle.dbg_base.specs.Replies.{spaced}
-use Rattle.reply_lines.specs.Pieces.{piece_words}
-use Rattle.reply_lines.proofs.Writing.{progress_more, progress_fails, progress_ends, next_of, none_of}
+use Rattle.reply_lines.specs.Pieces.{item_text, piece_words}
+use Rattle.reply_lines.proofs.Writing.{stopped, writes_then, spaced_two, writes_same}
 use Rattle.reply_lines.proofs.parts.write_piece.Goals as goal
 
-pub returns-in_err-write_word-in-Some : goal.returns-in_err-write_word-in-Some
-returns-in_err-write_word-in-Some g c =
-    progress_fails _ _ _ _ _ _ _ c.loop-place.invariant
-    (next_of (λ word. codes " " ++ word) (piece_words c.args.piece.now) _ _ (sym c.in-Some.ensures))
-    c.in_err-write_word-in-Some.ensures c.from_residual.ensures.1
+pub returns-in_err-write_item-in-Both : goal.returns-in_err-write_item-in-Both
+returns-in_err-write_item-in-Both g c =
+    writes_same (sym (spaced_two (item_text c.in-Both.first) (item_text c.in-Both.second)) ∙ sym (ap (λ p. spaced (piece_words p)) c.in-Both.is))
+    (stopped _ c.in_err-write_item-in-Both.ensures c.from_residual.ensures.1)
 
-pub loop-place-preserved : goal.loop-place-preserved
-loop-place-preserved g c =
-    progress_more _ _ _ _ _ _ _ c.loop-place.invariant
-    (next_of (λ word. codes " " ++ word) (piece_words c.args.piece.now) _ _ (sym c.in-Some.ensures))
-    c.in_ok-write_word-in-Some.ensures
-
-pub returns-in-None : goal.returns-in-None
-returns-in-None g c =
-    progress_ends _ _ _ _ c.loop-place.invariant
-    (none_of (λ word. codes " " ++ word) (piece_words c.args.piece.now) _ (sym c.in-None.ensures))
-
-pub returns : goal.returns
-returns g c = progress_ends _ _ _ _ c.loop-place.invariant
-    (ap spaced (drop_all c.loop-place.place (piece_words c.args.piece.now) (omega arith)))
+pub returns-in_ok-write_item-in-Both : goal.returns-in_ok-write_item-in-Both
+returns-in_ok-write_item-in-Both g c =
+    writes_same (sym (spaced_two (item_text c.in-Both.first) (item_text c.in-Both.second)) ∙ sym (ap (λ p. spaced (piece_words p)) c.in-Both.is))
+    (writes_then c.in_ok-write_item-in-Both.ensures c.write_item-in-Both-2.ensures)
