@@ -1,0 +1,5 @@
+use Rattle.dbg_board.proofs.Steps.{opens}
+use Rattle.dbg_board.proofs.board.Board.new.Goals as goal
+
+pub of_words-requires : goal.of_words-requires
+of_words-requires c = opens
