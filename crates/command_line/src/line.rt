@@ -1,6 +1,7 @@
 //! Command lines become calls.
 
-ghost use Rattle.std.specs.Prelude.{◌≡◌, IfErr, IfOk};
+ghost use Rattle.std.specs.Prelude.{◌≡◌, ◌<◌, ◌≤◌, IfErr, IfOk, IfSome};
+ghost use Rattle.dbg_base.specs.declared.limits.TheConstants.{SEATS};
 ghost use Rattle.dbg_base.specs.CommandLines.{without_return};
 ghost use Rattle.proc_lang.specs.Programs.{program_of};
 ghost use Rattle.command_line.specs.Lines.{IsParsed, IsLineRefusal, IsLineGivable};
@@ -36,6 +37,7 @@ pub fn parse_line(alloc: Global, program: &Program, bytes: &[u8]) -> Result<Opti
     ensures asks { IsParsed (program_of program.now) bytes.now result }
     ensures refuses { IfErr result (IsLineRefusal bytes.now) }
     ensures fits { IfOk result IsLineGivable }
+    ensures seat { IfOk result (λ line. IfSome line (λ line. (0 < line.seat) × (line.seat ≤ SEATS))) }
 {
     if bytes.len() > LINE_BYTES {
         return Err(Refusal::BadLine);

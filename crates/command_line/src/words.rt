@@ -1,7 +1,8 @@
 //! Words: the runs of bytes between blanks, and what they name.
 
-ghost use Rattle.std.specs.Prelude.{◌≡◌, ◌<◌, ◌∷◌, [], not, length, MatchOption, IfOk};
+ghost use Rattle.std.specs.Prelude.{◌≡◌, ◌<◌, ◌≤◌, ◌∷◌, [], not, length, MatchOption, IfOk, IfSome};
 ghost use Rattle.std.specs.List.{list_all, prefix_len};
+ghost use Rattle.dbg_base.specs.declared.limits.TheConstants.{SEATS};
 ghost use Rattle.dbg_base.specs.Tokens.{is_letter, is_word_byte};
 ghost use Rattle.dbg_base.specs.CommandLines.{is_blank, words_of, without_blanks, next_word, after_word, number_word, seat_word, name_word};
 ghost use Rattle.dbg_base.specs.CommandLines.{map_ok, named_process};
@@ -82,7 +83,8 @@ pub(crate) fn number_word(word: &[u8]) -> Option<u32>
 
 // A number from 1 to 16.
 pub(crate) fn seat_word(word: &[u8]) -> Option<u32>
-    ensures { result ≡ seat_word word.now }
+    ensures is { result ≡ seat_word word.now }
+    ensures range { IfSome result (λ seat. (0 < seat) × (seat ≤ SEATS)) }
 {
     match number_word(word) {
         Some(seat) if seat >= 1 && seat <= SEATS => Some(seat),

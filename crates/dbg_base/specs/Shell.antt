@@ -11,7 +11,7 @@ use Rattle.dbg_base.specs.Trees.{Program}
 use Rattle.dbg_base.specs.declared.fault.ProgFault.{ProgFault}
 use Rattle.dbg_base.specs.Faults.{kind_number}
 use Rattle.dbg_base.specs.Checks.{Reads, IsFault}
-use Rattle.dbg_base.specs.Journals.{Journal, Enters, Misses}
+use Rattle.dbg_base.specs.Journals.{Journal, Makes, IsLegal}
 use Rattle.dbg_base.specs.CommandLines.{Request, without_return}
 use Rattle.dbg_base.specs.Requests.{AsksOrRefuses}
 use Rattle.dbg_base.specs.Replies.{joined, reply_text, refusal_text}
@@ -80,12 +80,12 @@ parts_of (line ∷ lines) =
 abbrev pub as_line : List ℕ → List ℕ
 as_line text = text ++ 10 ∷ []
 
--- what is written for a line where the journal is J, and the journal behind it: a call is entered in it, or refused for want of memory
+-- what is written for a line where the journal is J, and the journal behind it
 abbrev pub AnswersParsed : Program → Result (Option Request) Refusal → Journal → List ℕ → Journal → Type 0
 AnswersParsed P (Err refusal) J out J' = (out ≡ as_line (refusal_text P refusal)) × (J' ≡ J)
 AnswersParsed P (Ok None) J out J' = (out ≡ []) × (J' ≡ J)
 AnswersParsed P (Ok (Some request)) J out J' =
-    (said : Said) × (Enters P J request.seat request.call said J' ⊎ Misses J said J') × (out ≡ as_line (reply_text P request.call said))
+    (said : Said) × Makes P J request.seat request.call said J' × (out ≡ as_line (reply_text P request.call said))
 
 abbrev pub AnswersLine : Program → List ℕ → Journal → List ℕ → Journal → Type 0
 AnswersLine P line J out J' =
@@ -122,11 +122,14 @@ abbrev pub size_text : ℕ → ℕ → List ℕ
 size_text processes commands =
     as_line (joined (codes "ok" ∷ decimal processes ∷ codes "processes" ∷ decimal commands ∷ codes "commands" ∷ []))
 
+-- what is written for these lines from the opening on: the calls that they make are a legal journal
+abbrev pub AnswersAll : Program → List (List ℕ) → List ℕ → Type 0
+AnswersAll P lines out = (J : Journal) × AnswersLines P lines [] out J × IsLegal P J
+
 -- the program was read, and each line behind it was answered in turn
 abbrev pub AnswersCommands : List ℕ → Parts → List ℕ → Type 0
 AnswersCommands input parts out =
-    (P : Program) × Reads parts.program P × (replies : List ℕ) × (J : Journal)
-    × AnswersLines P parts.commands [] replies J × (out ≡ replies ++ end_text input)
+    (P : Program) × Reads parts.program P × (replies : List ℕ) × AnswersAll P parts.commands replies × (out ≡ replies ++ end_text input)
 
 -- the program was refused, and nothing else is written
 abbrev pub RefusesProgram : Parts → List ℕ → Type 0
@@ -139,8 +142,7 @@ TextOfParts input (Some parts) out = AnswersCommands input parts out ⊎ Refuses
 -- what is written for some lines of the input: the replies to those behind the program text, and nothing where no line ends it
 abbrev pub AnswersParts : Option Parts → List ℕ → Type 0
 AnswersParts None out = out ≡ []
-AnswersParts (Some parts) out =
-    (P : Program) × Reads parts.program P × (J : Journal) × AnswersLines P parts.commands [] out J
+AnswersParts (Some parts) out = (P : Program) × Reads parts.program P × AnswersAll P parts.commands out
 
 -- what is written where no more of the input can be read than these bytes: the replies to the whole lines among them
 abbrev pub WholeText : List ℕ → List ℕ → Type 0

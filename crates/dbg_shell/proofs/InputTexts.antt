@@ -7,7 +7,7 @@ use Rattle.dbg_base.specs.declared.limits.TheConstants.{INPUT_BYTES}
 use Rattle.dbg_base.specs.declared.fault.ProgFault.{ProgFault}
 use Rattle.dbg_base.specs.Trees.{Program}
 use Rattle.dbg_base.specs.Checks.{Reads, IsFault}
-use Rattle.dbg_base.specs.Shell.{Parts, lines_of, parts_of, read_lines, lines_within, is_too_long, AnswersLines, AnswersParts, TextOfParts}
+use Rattle.dbg_base.specs.Shell.{Parts, lines_of, parts_of, read_lines, lines_within, is_too_long, AnswersAll, AnswersParts, TextOfParts}
 use Rattle.dbg_base.specs.Shell.{WholeText, fault_text, too_long_text, no_end_line_text}
 use Rattle.dbg_shell.specs.declared.framing.Span.{Span}
 use Rattle.reply_lines.specs.declared.outcome.Served.{Served}
@@ -76,7 +76,7 @@ module _ (bytes : List ℕ) (ended : Bool) (begin new : ℕ) (end : TextEnd) (be
           let program : Reads (slice_range bytes 0 span.from) P =
           subst (λ (t : List ℕ). Reads t P) (text_from_start bytes text span.from (seen here.1)) reads in
           by_parts input _ served out here.0
-          (inl (P, program, told.0), inl (P, program, told.1.0, told.1.1, told.1.2, told.1.3))
+          (inl (P, program, told.0), inl (P, program, told.1.0, told.1.1, told.1.2))
 
       pub serves_program : (known : Option (List ℕ)) (r : Result Served ServeFault) (old out : Option (List ℕ))
           → IfSome known (MayBe more over)
@@ -113,10 +113,7 @@ module _ (bytes : List ℕ) (ended : Bool) (begin new : ℕ) (end : TextEnd) (be
           subst (λ (o : Option Parts). AnswersParts o out) (sym (ap parts_of (sym (on.whole 0 (omega arith))) ∙ here.0)) (
             P,
             subst (λ (t : List ℕ). Reads t P) (text_from_start bytes text span.from (seen here.1)) reads,
-            broken.wrote.1.0,
-            subst (λ (lines : List (List ℕ)). AnswersLines P lines [] out broken.wrote.1.0)
-                (sym (on.whole new (omega arith)))
-                broken.wrote.1.1,
+            subst (λ (lines : List (List ℕ)). AnswersAll P lines out) (sym (on.whole new (omega arith))) broken.wrote.1,
           )
 
       pub breaks_program : (first : List ℕ) (known left : Option (List ℕ)) (r : Result Served ServeFault) (old out : Option (List ℕ))

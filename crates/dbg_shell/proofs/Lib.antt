@@ -8,3 +8,4 @@ pub mod LineReplies
 pub mod Known
 pub mod InputTexts
 pub mod CheckTexts
+pub mod Seats

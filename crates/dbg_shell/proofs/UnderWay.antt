@@ -10,7 +10,7 @@ use Rattle.std.proofs.Math.Seq.{take-append-add}
 use Rattle.dbg_base.specs.declared.limits.TheConstants.{INPUT_BYTES}
 use Rattle.dbg_base.specs.Shell.{Lines, lines_of, byte_before, lines_within}
 use Rattle.reply_lines.specs.declared.outcome.ServeFault.{ServeFault}
-use Rattle.reply_lines.specs.declared.outcome.ServeFault.TheVariants.{Write}
+use Rattle.reply_lines.specs.declared.outcome.ServeFault.TheVariants.{Read, Write}
 use Rattle.dbg_shell.specs.Spans.{is_inside, is_unended, lines_from, MayBe, IsUnderWay}
 use Rattle.dbg_shell.proofs.LineEnds.{no_line_of}
 use Rattle.proc_lang.proofs.Runs.{and_first}
@@ -105,6 +105,10 @@ where_failed (Err e) p = p
 pub where_fault : {A P : Type 0} (r : Result A ServeFault) (kind : ServeFault) → P → IfErr r (λ fault. fault ≡ kind → P)
 where_fault (Ok x) kind p = tt
 where_fault (Err fault) kind p = λ is. p
+
+-- a fault of the writer is none of the reader
+pub not_read : ¬ (Write ≡ Read)
+not_read same = cc
 
 -- a fault of the writer is of no other kind
 pub where_other : {A : Type 0} (P : Type 0) (r : Result A ServeFault) (kind : ServeFault) → ¬ (Write ≡ kind)

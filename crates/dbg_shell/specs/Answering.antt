@@ -1,13 +1,11 @@
--- What a session says to the call of a seat, and what makes its commands.
-use Rattle.std.specs.Prelude.{◌≡◌, ◌⊎◌, ℕ, Result, Ok, Err}
+-- What makes the commands of a session, and who gives them.
+use Rattle.std.specs.Prelude.{◌≡◌, ℕ, suc, ◌<◌, List, length, slice_index_or, Result, Ok, Err}
 use Rattle.dbg_base.specs.declared.call.Plan as plan
 use Rattle.dbg_base.specs.declared.refusal.Refusal.{Refusal}
 use Rattle.dbg_base.specs.declared.refusal.Refusal.TheVariants.{Memory}
-use Rattle.dbg_base.specs.declared.said.Said.{Said}
-use Rattle.dbg_base.specs.declared.said.Said.TheVariants.{Refused}
-use Rattle.dbg_base.specs.Calls.{Order, order_of, Call}
-use Rattle.dbg_base.specs.Journals.{StandsAt, IsDue, counting}
-use Rattle.dbg_session.specs.Sessions.{SessionState}
+use Rattle.dbg_base.specs.declared.limits.TheConstants.{SEATS}
+use Rattle.dbg_base.specs.Calls.{Order, order_of}
+use Rattle.dbg_desk.specs.Desks.{SeatState}
 use Rattle.dbg_shell.specs.declared.givable.Givable.{Givable}
 
 -- what is made of a plan: a command of its order that was not applied yet, or memory ran out
@@ -16,17 +14,10 @@ IsMade IsFresh order given (Ok command) = IsFresh command × (order command ≡ 
 IsMade IsFresh order given (Err refusal) = refusal ≡ Memory
 
 -- what makes commands makes them so
-abbrev pub Makes : {C : Type 0} → (Givable → Result C Refusal → Type 0) → (C → Type 0) → (C → Order) → Type 0
-Makes {C} post IsFresh order = (given : Givable) (made : Result C Refusal) → post given made → IsMade IsFresh order given.plan made
+abbrev pub IsMaker : {C : Type 0} → (Givable → Result C Refusal → Type 0) → (C → Type 0) → (C → Order) → Type 0
+IsMaker {C} post IsFresh order = (given : Givable) (made : Result C Refusal) → post given made → IsMade IsFresh order given.plan made
 
--- the session stands where the orders that count lead
-abbrev pub IsStanding : SessionState → Type 0
-IsStanding session = StandsAt session.program session.effective session.state
-
--- A seat's call was made, and this was said: it was due, or memory ran out. The session is of the same program, and stands where the
--- orders lead that count then.
-pub record Says (old : SessionState) (seat : ℕ) (call : Call) (said : Said) (new : SessionState) : Type 0 where
-  pub program : new.program ≡ old.program
-  pub due : IsDue old.program old.effective seat call said ⊎ (said ≡ Refused Memory)
-  pub counts : new.effective ≡ counting old.effective seat call said
-  pub stands : IsStanding new
+-- these are all seats, in the order of their numbers, which go from 1 on
+pub record AreAllSeats (seats : List SeatState) : Type 0 where
+  pub all : length seats ≡ SEATS
+  pub numbered : (i : ℕ) (other : SeatState) → i < SEATS → (slice_index_or seats i other).number ≡ suc i

@@ -1,12 +1,12 @@
 -- What serving an input does.
-use Rattle.std.specs.Prelude.{◌≡◌, ℕ, ◌+◌, ◌≤◌, Bool, true, false, List, [], ◌++◌, length, drop, slice_range, Option, Some, None, Result}
+use Rattle.std.specs.Prelude.{◌≡◌, ℕ, ◌+◌, ◌≤◌, Bool, true, false, List, ◌++◌, length, drop, slice_range, Option, Some, None, Result}
 use Rattle.std.specs.Prelude.{if◌then◌else◌, ◌⊎◌}
 use Rattle.std.specs.Io.KnownBytes.{Appends}
 use Rattle.dbg_base.specs.declared.limits.TheConstants.{INPUT_BYTES}
 use Rattle.dbg_base.specs.Trees.{Program}
 use Rattle.dbg_base.specs.Checks.{Reads, IsFault}
-use Rattle.dbg_base.specs.Journals.{Given, Journal, effective}
-use Rattle.dbg_base.specs.Shell.{Parts, lines_of, parts_of, read_lines, is_too_long, AnswersLine, AnswersLines, end_text}
+use Rattle.dbg_base.specs.Journals.{Journal}
+use Rattle.dbg_base.specs.Shell.{Parts, lines_of, parts_of, read_lines, is_too_long, AnswersLine, AnswersAll, end_text}
 use Rattle.dbg_base.specs.Shell.{WholeText, Text}
 use Rattle.dbg_base.specs.declared.fault.ProgFault.{ProgFault}
 use Rattle.dbg_shell.specs.declared.framing.TheConstants.{CHUNK}
@@ -90,19 +90,16 @@ Splits input bytes at new ends.TooLong = (parts_of (lines_from at input) ≡ Non
 abbrev pub SplitsAny : List ℕ → Bool → ℕ → ℕ → TextEnd → Type 0
 SplitsAny bytes ended at new end = (input : List ℕ) → MayBe bytes ended input → Splits input bytes at new end
 
--- The answer to the line was written, or where the writer failed a front of it, and these orders count behind it.
+-- The answer to the line was written, or where the writer failed a front of it, and this is the journal behind it.
 pub record WritesAnswer {A : Type 0} (P : Program) (line : List ℕ) (J : Journal) (old : Option (List ℕ)) (result : Result A ServeFault)
-    (new : Option (List ℕ)) (given : List Given) : Type 0 where
+    (new : Option (List ℕ)) (after : Journal) : Type 0 where
   pub text : List ℕ
-  pub after : Journal
   pub answers : AnswersLine P line J text after
-  pub counts : effective after ≡ given
   pub written : Writes old new result text
 
 -- what is written for these lines and at the end of the input
 abbrev pub RepliesTo : Program → List (List ℕ) → List ℕ → List ℕ → Type 0
-RepliesTo P lines input out =
-    (replies : List ℕ) × (J : Journal) × AnswersLines P lines [] replies J × (out ≡ replies ++ end_text input)
+RepliesTo P lines input out = (replies : List ℕ) × AnswersAll P lines replies × (out ≡ replies ++ end_text input)
 
 -- The command lines from a place on were answered, whatever the input may be.
 abbrev pub ServesLines : Program → List ℕ → Bool → ℕ → Served → Option (List ℕ) → Option (List ℕ) → Type 0
@@ -119,4 +116,4 @@ pub record BreaksLines (P : Program) (bytes : List ℕ) (ended : Bool) (from : �
   pub at : ℕ
   pub begun : from ≤ at
   pub under_way : IsUnderWay bytes ended at
-  pub wrote : WritesSome old new (λ out. (J : Journal) × AnswersLines P (lines_of (drop from bytes)).whole [] out J)
+  pub wrote : WritesSome old new (AnswersAll P (lines_of (drop from bytes)).whole)

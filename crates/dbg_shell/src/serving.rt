@@ -1,10 +1,11 @@
 //! A program text and the command lines behind it.
 
-ghost use Rattle.std.specs.Prelude.{◌≡◌, ◌≢◌, [], IfOk, IfErr, IfSome};
+ghost use Rattle.std.specs.Prelude.{◌≡◌, ◌≢◌, [], replicate, IfOk, IfErr, IfSome};
 ghost use Rattle.std.specs.Io.KnownBytes.{Keeps};
 ghost use Rattle.dbg_base.specs.declared.refusal.Refusal.TheVariants as refusals;
 ghost use Rattle.dbg_base.specs.Calls.{order_of};
-ghost use Rattle.dbg_base.specs.Journals.{Journal, effective};
+ghost use Rattle.dbg_base.specs.declared.limits.TheConstants.{SEATS};
+ghost use Rattle.dbg_board.specs.Boards.{listing};
 ghost use Rattle.proc_lang.specs.Programs.{program_of};
 ghost use Rattle.reply_lines.specs.declared.outcome.ServeFault.TheVariants.{Memory, Read, Write};
 ghost use Rattle.reply_lines.specs.declared.outcome.Served.{Served};
@@ -12,19 +13,21 @@ ghost use Rattle.dbg_shell.specs.Spans.{EndsWith, ReadsOn};
 ghost use Rattle.reply_lines.specs.declared.outcome.Served.TheVariants.{Refused};
 ghost use Rattle.dbg_shell.specs.Serving.{ServesInput, BreaksInput, ReadsFew, ReadsProgram, WritesAnswer, WritesSome, WritesFront};
 ghost use Rattle.dbg_shell.specs.Serving.{ServesLines, StopsLines, BreaksLines};
-ghost use Rattle.dbg_shell.specs.Answering.{Makes, IsStanding};
+ghost use Rattle.dbg_shell.specs.Answering.{IsMaker, AreAllSeats};
 
 use crate::framing::{Input, Next};
 use crate::givable::Givable;
 use crate::program_text::{TextEnd, read_program_text};
 use crate::session::answer;
 use command_line::parse_line;
+use dbg_base::limits::SEATS;
 use dbg_base::{Plan, Refusal};
+use dbg_board::{Board, Publisher, SeatView};
 use dbg_command::{
     ArmCmd, BatchCmd, BreakCmd, ClearCmd, Command, GotoCmd, NextCmd, PassCmd, RedoCmd, RollbackCmd,
     StepCmd, UndoCmd,
 };
-use dbg_session::Session;
+use dbg_desk::{Locked, Run, Seat};
 use proc_lang::{ProgError, Program, parse_program};
 use reply_lines::{
     ServeFault, Served, hand_on, print_refusal, print_reply, tell_fault, tell_no_end_line,
@@ -32,49 +35,140 @@ use reply_lines::{
 };
 use std::alloc::Global;
 use std::io::{Read, Write};
+use std::marker::Brand;
+use std::sync::ledger::Blank;
 
-// A session of the program, in which no command counts.
-fn open<C: Command>(alloc: Global, program: Program) -> Result<Session<C>, ServeFault>
-    ensures program { IfOk result (λ session. session.program ≡ program_of program) }
-    ensures effective { IfOk result (λ session. session.effective ≡ []) }
-    ensures stands { IfOk result IsStanding }
-    ensures memory { IfErr result (λ fault. fault ≡ Memory) }
-{
-    Session::new(alloc, program).map_err(|_| ServeFault::Memory)
-}
-
-// Answers one command line: what is written is handed on before the next line is asked for.
-fn serve_line<C: Command, M: Fn(Givable) -> Result<C, Refusal>, W: Write>(
+// Answers one command line, as a call of its seat: what is written is handed on before the next line is asked for.
+fn serve_line<L: Run, C: Command, M: Fn(Givable) -> Result<C, Refusal>, W: Write>(
     alloc: Global,
     make: &M,
-    session: &mut Session<C>,
+    locked: &mut Locked<L, C>,
+    seats: &mut [Seat<L>],
     line: &[u8],
     writer: &mut W,
 ) -> Result<(), ServeFault>
     requires may { M.IsAlwaysCallable make.now }
-    requires makes { Makes (M.post make.now) C.IsFresh C.order }
-    requires stands { IsStanding session.old }
-    ensures program { session.new.program ≡ session.old.program }
-    ensures stands { IsStanding session.new }
-    ensures answers { (J : Journal) → effective J ≡ session.old.effective → WritesAnswer session.old.program line.now J
-        (W.contents writer.old) result (W.contents writer.new) session.new.effective }
+    requires makes { IsMaker (M.post make.now) C.IsFresh C.order }
+    requires seats { AreAllSeats seats.old }
+    ensures seats { AreAllSeats seats.new }
+    ensures answers { WritesAnswer L.program line.now locked.old.journal (W.contents writer.old) result (W.contents writer.new)
+        locked.new.journal }
     ensures fault { IfErr result (λ fault. fault ≡ Write) }
 {
-    match parse_line(alloc, session.program(), line) {
+    match parse_line(alloc, locked.program(), line) {
         Ok(Some(line)) => {
-            let (call, said) = answer(session, alloc, make, line);
-            let written = print_reply(session.program(), &call, &said, writer);
+            let seat = &mut seats[line.seat as usize - 1];
+            let (call, said) = answer(locked, alloc, make, seat, line.call);
+            let written = print_reply(locked.program(), &call, &said, writer);
             hand_on(written, writer)
         }
         Ok(None) => Ok(()),
         Err(refusal) => {
-            let written = print_refusal(session.program(), &refusal, writer);
+            let written = print_refusal(locked.program(), &refusal, writer);
             hand_on(written, writer)
         }
     }
 }
 
-// Answers the command lines.
+// Answers the command lines of a run in which no call was made yet.
+fn serve_run<L: Run, C: Command, M: Fn(Givable) -> Result<C, Refusal>, R: Read, W: Write>(
+    alloc: Global,
+    make: &M,
+    locked: Locked<L, C>,
+    seats: Vec<Seat<L>>,
+    input: &mut Input,
+    reader: &mut R,
+    writer: &mut W,
+) -> Result<Served, ServeFault>
+    requires may { M.IsAlwaysCallable make.now }
+    requires makes { IsMaker (M.post make.now) C.IsFresh C.order }
+    requires journal { locked.journal ≡ [] }
+    requires seats { AreAllSeats seats.items }
+    requires ends { EndsWith input.old.ended (R.remaining reader.old) }
+    ensures reads { ReadsOn input.old.bytes.items input.old.ended (R.remaining reader.old) input.new.bytes.items input.new.ended
+        (R.remaining reader.new) }
+    ensures served { IfOk result (λ served. ServesLines L.program input.new.bytes.items input.new.ended input.old.at served
+        (W.contents writer.old) (W.contents writer.new)) }
+    ensures stopped { IfErr result (λ fault. fault ≡ Write → StopsLines L.program input.new.bytes.items input.new.ended input.old.at
+        (W.contents writer.old) (W.contents writer.new)) }
+    ensures broken { IfErr result (λ fault. fault ≡ Read → BreaksLines L.program input.new.bytes.items input.new.ended input.old.at
+        (W.contents writer.old) (W.contents writer.new)) }
+    ensures begun { IfErr result (λ fault. fault ≢ Memory) }
+    ensures ends { IfOk result (λ served. served ≢ Refused) }
+{
+    let mut locked = locked;
+    let mut seats = seats;
+    loop {
+        match input.next_line(reader)? {
+            Next::Line(span) => {
+                serve_line(
+                    alloc,
+                    make,
+                    &mut locked,
+                    &mut seats,
+                    input.line(span),
+                    writer,
+                )?
+            },
+            Next::End => return Ok(Served::Done),
+            Next::TooLong => return tell_too_long(writer),
+        }
+    }
+}
+
+// What a run is made of: its program, the ledger of its calls, and its board.
+#[derive(Drop)]
+struct Beginning {
+    program: Program,
+    blank: Blank,
+    publisher: Publisher,
+    views: Vec<SeatView>,
+}
+
+// Begins a run, and answers the command lines.
+fn begin_run<L: Run, C: Command, M: Fn(Givable) -> Result<C, Refusal>, R: Read, W: Write>(
+    alloc: Global,
+    make: &M,
+    beginning: Beginning,
+    input: &mut Input,
+    reader: &mut R,
+    writer: &mut W,
+) -> Result<Served, ServeFault>
+    requires may { M.IsAlwaysCallable make.now }
+    requires makes { IsMaker (M.post make.now) C.IsFresh C.order }
+    requires program { program_of beginning.program ≡ L.program }
+    requires name { beginning.blank.name ≡ L.name }
+    requires parts { (beginning.blank.parts ≡ L.parts) × (beginning.blank.parts ≡ L.seats) }
+    requires board { beginning.publisher ≡ listing L.board [] }
+    requires views { beginning.views.items ≡ replicate L.seats (listing L.board []) }
+    requires seats { L.seats ≡ SEATS }
+    requires ends { EndsWith input.old.ended (R.remaining reader.old) }
+    ensures reads { ReadsOn input.old.bytes.items input.old.ended (R.remaining reader.old) input.new.bytes.items input.new.ended
+        (R.remaining reader.new) }
+    ensures served { IfOk result (λ served. ServesLines L.program input.new.bytes.items input.new.ended input.old.at served
+        (W.contents writer.old) (W.contents writer.new)) }
+    ensures stopped { IfErr result (λ fault. fault ≡ Write → StopsLines L.program input.new.bytes.items input.new.ended input.old.at
+        (W.contents writer.old) (W.contents writer.new)) }
+    ensures broken { IfErr result (λ fault. fault ≡ Read → BreaksLines L.program input.new.bytes.items input.new.ended input.old.at
+        (W.contents writer.old) (W.contents writer.new)) }
+    ensures memory { IfErr result (λ fault. fault ≡ Memory → Keeps (W.contents writer.old) (W.contents writer.new)) }
+    ensures untouched { IfErr result (λ fault. fault ≡ Memory → (input.new.bytes.items ≡ input.old.bytes.items)
+        × (R.remaining reader.new ≡ R.remaining reader.old)) }
+    ensures ends { IfOk result (λ served. served ≢ Refused) }
+{
+    let Beginning {
+        program,
+        blank,
+        publisher,
+        views,
+    } = beginning;
+    match Locked::<L, C>::new(alloc, blank, publisher, views, program) {
+        Ok((locked, seats)) => serve_run(alloc, make, locked, seats, input, reader, writer),
+        Err(_) => Err(ServeFault::Memory),
+    }
+}
+
+// Answers the command lines, as calls of the seats of a run of this program.
 fn serve_lines<C: Command, M: Fn(Givable) -> Result<C, Refusal>, R: Read, W: Write>(
     alloc: Global,
     make: &M,
@@ -84,7 +178,7 @@ fn serve_lines<C: Command, M: Fn(Givable) -> Result<C, Refusal>, R: Read, W: Wri
     writer: &mut W,
 ) -> Result<Served, ServeFault>
     requires may { M.IsAlwaysCallable make.now }
-    requires makes { Makes (M.post make.now) C.IsFresh C.order }
+    requires makes { IsMaker (M.post make.now) C.IsFresh C.order }
     requires ends { EndsWith input.old.ended (R.remaining reader.old) }
     ensures reads { ReadsOn input.old.bytes.items input.old.ended (R.remaining reader.old) input.new.bytes.items input.new.ended
         (R.remaining reader.new) }
@@ -99,15 +193,17 @@ fn serve_lines<C: Command, M: Fn(Givable) -> Result<C, Refusal>, R: Read, W: Wri
         × (R.remaining reader.new ≡ R.remaining reader.old)) }
     ensures ends { IfOk result (λ served. served ≢ Refused) }
 {
-    let mut session = open::<C>(alloc, program)?;
-    loop {
-        match input.next_line(reader)? {
-            Next::Line(span) => {
-                serve_line(alloc, make, &mut session, input.line(span), writer)?
-            },
-            Next::End => return Ok(Served::Done),
-            Next::TooLong => return tell_too_long(writer),
+    match Board::new(alloc, SEATS) {
+        Ok((_board, publisher, views)) => {
+            let beginning = Beginning {
+                program,
+                blank: Blank::new(u64::from(SEATS)),
+                publisher,
+                views,
+            };
+            begin_run::<Brand, C, M, R, W>(alloc, make, beginning, input, reader, writer)
         }
+        Err(_) => Err(ServeFault::Memory),
     }
 }
 
@@ -119,7 +215,7 @@ fn serve_lines<C: Command, M: Fn(Givable) -> Result<C, Refusal>, R: Read, W: Wri
 /// At most 1,048,577 bytes are read. Where there are more than 1,048,576, the lines that end within those are treated as ever, and
 /// then it is told that the input is too long. A fault of the reader comes after the replies to all whole lines before it; of a fault
 /// of the writer a front of the replies is left. Neither is tried again. Want of memory before the first command line writes nothing;
-/// later the line is answered `no 21`, and changes nothing.
+/// later the line is answered `no 21`, and changes nothing. Behind 100,000 calls that were entered each further one is answered `no 20`.
 pub fn serve<R: Read, W: Write>(
     alloc: Global,
     reader: &mut R,

@@ -41,6 +41,7 @@ Refusals: `no`, a number, for 7 and 9 a name, for 17 a seat, and for 25 two numb
   17  this seat gave the last command
   18  the process has 20,000 events, the most there may be
   19  there are 64 breakpoints, the most there may be
+  20  100,000 calls were entered, the most there may be
   21  memory ran out
   22  the line has no form of a command line
   23  a predicate is none of its process, or the process has one already

@@ -1,0 +1,58 @@
+use Rattle.std.proofs.Common.{◌≡◌, ◌<◌, List, [], ◌∷◌, ◌++◌, length, map, vec_len, refl, ap, ◌∙◌, subst, rules, Err}
+use Rattle.dbg_base.specs.declared.limits.TheConstants.{CALLS}
+use Rattle.dbg_base.specs.declared.refusal.Refusal.TheVariants.{Memory}
+use Rattle.dbg_base.specs.Trees.{Program}
+use Rattle.std.specs.Prelude.{IsTrue}
+use Rattle.dbg_base.specs.Calls.{Order, Give}
+use Rattle.dbg_base.specs.Journals.{effective}
+use Rattle.dbg_board.specs.declared.glance.Glance.{Glance}
+use Rattle.dbg_board.specs.Boards.{Listing}
+use Rattle.dbg_command.specs.Tables.{FollowsOrRefuses, said_of}
+use Rattle.dbg_desk.specs.declared.entry.Entry as entry
+use Rattle.dbg_desk.specs.declared.entry.Own as own
+use Rattle.dbg_desk.specs.Desks.{entry_of, own_of}
+use Rattle.dbg_desk.proofs.Making.{IsEntered, due_given, entered}
+use Rattle.dbg_desk.proofs.locked.Locked.enter.Goals as goal
+
+here : (g : _) (c : goal.After-enter g)
+    → IsEntered g.L.Run.program g.L.Run.seats (Give (g.C.Command.order c.args.command)) (said_of c.perform-outcome.result) c.args.self.now
+    c.args.seat.now c.perform-outcome.new.self (map entry_of c.enter.new.self.journal.items) c.enter.new.self.publisher.pairs
+    (record { number = c.seat.inside.number; own = map own_of c.enter.new.own.items; seen = c.enter.new.view.pairs })
+here g c =
+    let P = g.L.Run.program in
+    let items = c.self.inside.log.journal.items in
+    let session = c.self.inside.session in
+    let after = c.perform-outcome.new.self in
+    let order = g.C.Command.order c.args.command in
+    let result = c.perform-outcome.result in
+    let kept : entry.Entry = record { seat = c.seat.inside.number; call = c.in_ok-ready.ready.call; said = c.say-said.result.0 } in
+    let mine : own.Own = record { call = c.in_ok-ready.ready.own_call; said = c.say-said.result.1 } in
+    let pair : Glance = record { calls = vec_len c.enter.new.self.journal; halt = c.halt_at.result } in
+    let few : length items < CALLS = search rules in
+    let long : vec_len c.enter.new.self.journal ≡ length c.enter.new.self.journal.items = search rules in
+    let there : result ≡ Err Memory → ⊥ =
+    λ is. let ran : IsTrue c.ran_out.result = c.ran_out.ensures.1 is in let not = c.if-ran_out.false in cc in
+    let follows : FollowsOrRefuses P order session.state result after.state =
+    subst (λ (Q : Program). FollowsOrRefuses Q order session.state result after.state) c.self.invariant.program
+    c.perform-outcome.ensures.follows in
+    let due = due_given P (effective (map entry_of items)) c.seat.inside.number order session.state after.state result
+    c.self.invariant.stands follows there in
+    entered P g.L.Run.seats session items c.self.inside.log.publisher.pairs c.self.invariant c.seat.inside.number
+    (Give order) (said_of result) few due
+    kept refl (c.in_ok-ready.ensures.call ∙ ap (λ (o : Order). Give o) c.plan.ensures) c.say-said.ensures.said c.enter.new.self.journal.items
+    (c.enter.ensures.journal ∙ ap (λ (l : List entry.Entry). l ++ kept ∷ []) c.prepare.ensures.journal)
+    after c.perform-outcome.ensures.program c.perform-outcome.ensures.effective c.perform-outcome.ensures.stands c.halt_at.result
+    c.halt_at.ensures.place (vec_len c.enter.new.self.journal) long c.enter.new.self.publisher.pairs
+    (c.enter.ensures.pairs ∙ ap (λ (l : Listing). l.pairs ++ pair ∷ []) c.prepare.ensures.publisher)
+    c.seat.invariant.among c.args.self.now c.args.seat.now mine c.seat.inside.own.items c.enter.new.own.items c.seat.inside.view.pairs
+    c.enter.new.view.pairs c.self.view_is c.seat.view_is
+    (c.in_ok-ready.ensures.own_call ∙ ap (λ (o : Order). Give o) c.plan.ensures) c.say-said.ensures.own
+    (c.enter.ensures.own ∙ ap (λ (l : List own.Own). l ++ mine ∷ []) c.prepare.ensures.own)
+    (ap (λ (l : Listing). l.pairs) c.enter.ensures.told)
+    c.enter.ensures.begins
+
+pub invariant_of-self-2 : goal.invariant_of-self-2
+invariant_of-self-2 g c = (here g c).locked
+
+pub returns-clause-notes : goal.returns-clause-notes
+returns-clause-notes g c = (here g c).notes

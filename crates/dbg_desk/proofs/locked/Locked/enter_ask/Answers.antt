@@ -1,0 +1,50 @@
+use Rattle.std.proofs.Common.{◌≡◌, ◌<◌, List, [], ◌∷◌, ◌++◌, length, map, vec_len, refl, ap, ◌∙◌, subst, rules}
+use Rattle.dbg_base.specs.declared.limits.TheConstants.{CALLS}
+use Rattle.dbg_base.specs.declared.call.Call.TheVariants as calls
+use Rattle.dbg_base.specs.Trees.{Program}
+use Rattle.dbg_base.specs.Calls.{Ask, query_of}
+use Rattle.dbg_base.specs.Journals.{effective}
+use Rattle.dbg_board.specs.declared.glance.Glance.{Glance}
+use Rattle.dbg_board.specs.Boards.{Listing}
+use Rattle.dbg_command.specs.Tables.{AnswersOrRefuses, told_of}
+use Rattle.dbg_desk.specs.declared.entry.Entry as entry
+use Rattle.dbg_desk.specs.declared.entry.Own as own
+use Rattle.dbg_desk.specs.Desks.{entry_of, own_of}
+use Rattle.dbg_desk.proofs.Making.{IsEntered, due_asked, stands_still, entered}
+use Rattle.dbg_desk.proofs.locked.Locked.enter_ask.Goals as goal
+
+here : (g : _) (c : goal.After-enter g)
+    → IsEntered g.L.Run.program g.L.Run.seats (Ask (query_of c.args.query)) (told_of c.ask-answered.result) c.args.self.now c.args.seat.now
+    c.self.inside.session (map entry_of c.enter.new.self.journal.items) c.enter.new.self.publisher.pairs
+    (record { number = c.seat.inside.number; own = map own_of c.enter.new.own.items; seen = c.enter.new.view.pairs })
+here g c =
+    let items = c.self.inside.log.journal.items in
+    let session = c.self.inside.session in
+    let kept : entry.Entry = record { seat = c.seat.inside.number; call = calls.Ask c.args.query; said = c.in_ok-said.said } in
+    let mine : own.Own = record { call = calls.Ask c.args.query; said = c.in_ok-said.own_said } in
+    let pair : Glance = record { calls = vec_len c.enter.new.self.journal; halt = c.halt_at.result } in
+    let few : length items < CALLS = search rules in
+    let long : vec_len c.enter.new.self.journal ≡ length c.enter.new.self.journal.items = search rules in
+    let answers : AnswersOrRefuses g.L.Run.program session.state (query_of c.args.query) c.ask-answered.result =
+    subst (λ (P : Program). AnswersOrRefuses P session.state (query_of c.args.query) c.ask-answered.result) c.self.invariant.program
+    c.ask-answered.ensures.answers in
+    let due = due_asked g.L.Run.program (effective (map entry_of items)) c.seat.inside.number (query_of c.args.query) session.state
+    c.ask-answered.result c.self.invariant.stands answers c.in_ok-said.ensures.there in
+    entered g.L.Run.program g.L.Run.seats session items c.self.inside.log.publisher.pairs c.self.invariant c.seat.inside.number
+    (Ask (query_of c.args.query)) (told_of c.ask-answered.result) few due
+    kept refl refl c.in_ok-said.ensures.said c.enter.new.self.journal.items
+    (c.enter.ensures.journal ∙ ap (λ (l : List entry.Entry). l ++ kept ∷ []) c.make_room.ensures.journal)
+    session refl refl (stands_still _ _ _ _ _ c.self.invariant) c.halt_at.result c.halt_at.ensures.place (vec_len c.enter.new.self.journal) long
+    c.enter.new.self.publisher.pairs
+    (c.enter.ensures.pairs ∙ ap (λ (l : Listing). l.pairs ++ pair ∷ []) c.make_room.ensures.publisher)
+    c.seat.invariant.among c.args.self.now c.args.seat.now mine c.seat.inside.own.items c.enter.new.own.items c.seat.inside.view.pairs
+    c.enter.new.view.pairs c.self.view_is c.seat.view_is refl c.in_ok-said.ensures.own
+    (c.enter.ensures.own ∙ ap (λ (l : List own.Own). l ++ mine ∷ []) c.make_room.ensures.own)
+    (ap (λ (l : Listing). l.pairs) c.enter.ensures.told)
+    c.enter.ensures.begins
+
+pub invariant_of-self-2 : goal.invariant_of-self-2
+invariant_of-self-2 g c = (here g c).locked
+
+pub returns-clause-notes : goal.returns-clause-notes
+returns-clause-notes g c = (here g c).notes

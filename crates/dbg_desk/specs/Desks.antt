@@ -1,0 +1,111 @@
+-- What contracts see of a journal under its lock, and of a seat, and what a seat's call makes of both.
+use Rattle.std.specs.Prelude.{◌≡◌, ◌⊎◌, ℕ, zero, suc, ◌<◌, ◌≤◌, List, [], ◌∷◌, ◌++◌, length, Option, Some, None}
+use Rattle.std.specs.Borrow.{Bor}
+use Rattle.std.specs.List.{AllByRecursion}
+use Rattle.dbg_base.specs.declared.said.Said.{Said}
+use Rattle.dbg_base.specs.Trees.{Program}
+use Rattle.dbg_base.specs.declared.call.Plan as plan
+use Rattle.dbg_base.specs.Calls.{Call, Give, Back, order_of, call_of}
+use Rattle.dbg_base.specs.ModelStates.{ModelState, IsHaltPlace}
+use Rattle.dbg_base.specs.Journals as model
+use Rattle.dbg_base.specs.Journals.{Journal, StandsAt, IsLegal, effective}
+use Rattle.dbg_board.specs.declared.glance.Glance.{Glance}
+use Rattle.dbg_board.specs.Boards.{BoardId, Listing}
+use Rattle.dbg_board.specs.Pairs.{Begins}
+use Rattle.dbg_session.specs.Sessions.{SessionState}
+use Rattle.dbg_desk.specs.declared.entry.Entry as entry
+use Rattle.dbg_desk.specs.declared.entry.Own as own
+
+-- an entry of the journal, as the model has it
+abbrev pub entry_of : entry.Entry → model.Entry
+entry_of kept = record { seat = kept.seat; call = call_of kept.call; said = kept.said }
+
+-- the call that gives this command, or takes the last one back
+abbrev pub asked : Option (Bor plan.Plan) → Call
+asked (Some given) = Give (order_of given.now)
+asked None = Back
+
+-- a call of a seat's own, and what was said to it
+pub record Own : Type 0 where
+  pub call : Call
+  pub said : Said
+
+abbrev pub own_of : own.Own → Own
+own_of kept = record { call = call_of kept.call; said = kept.said }
+
+-- the calls that were entered, and what was published of them
+pub record Standing : Type 0 where
+  pub journal : Journal
+  pub pairs : List Glance
+
+-- a seat's number, its own calls, and what it has seen of the board
+pub record SeatState : Type 0 where
+  pub number : ℕ
+  pub own : List Own
+  pub seen : List Glance
+
+-- the board of a run that nobody started
+abbrev pub no_board : BoardId
+no_board = record { words = 0; slots = 0; views_name = 0; atom = 0; block = 0; offset = 0; slot_names = [] }
+
+-- this seat was made, of so many
+abbrev pub IsAmong : ℕ → ℕ → Type 0
+IsAmong seats number = (0 < number) × (number ≤ seats)
+
+-- What is told of the journal J: how many calls it has, and the place of the breakpoint that halts the session where they leave it, or 0.
+pub record Shows (P : Program) (J : Journal) (pair : Glance) : Type 0 where
+  pub calls : pair.calls ≡ length J
+  pub state : ModelState
+  pub stands : StandsAt P (effective J) state
+  pub halt : IsHaltPlace P state pair.halt
+
+-- Behind the journal J these calls were made, and of each one it was told in turn.
+abbrev pub ArePairs : Program → Journal → Journal → List Glance → Type 0
+ArePairs P J [] [] = Unit {0}
+ArePairs P J (entry ∷ others) (pair ∷ pairs) =
+    Shows P (J ++ entry ∷ []) pair × ArePairs P (J ++ entry ∷ []) others pairs
+ArePairs P J others pairs = ⊥
+
+-- What lies under the lock: the session stands where its journal leads, which is a legal one, and names the run's seats alone. All of it
+-- was told.
+pub record IsLocked (P : Program) (seats : ℕ) (session : SessionState) (J : Journal) (pairs : List Glance) : Type 0 where
+  pub program : session.program ≡ P
+  pub legal : IsLegal P J
+  pub effective : session.effective ≡ effective J
+  pub stands : StandsAt P (model.effective J) session.state
+  pub among : AllByRecursion (λ entry. IsAmong seats entry.seat) J
+  pub shown : ArePairs P [] J pairs
+
+-- A seat of a run has one part of its ledger, in which its own calls count, and has seen as many pairs, at least, of the run's board.
+pub record IsSeat (board : BoardId) (seats number own parts amount : ℕ) (view : Listing) : Type 0 where
+  pub among : IsAmong seats number
+  pub one : parts ≡ 1
+  pub counts : amount ≡ own
+  pub of : view.board ≡ board
+  pub seen : own ≤ length view.pairs
+
+-- A seat's call was entered: it is the last of its own, it was told on the board, and the seat has seen all that was.
+pub record IsNoted (P : Program) (old : Standing) (seat : SeatState) (call : Call) (said : Said) (new : Standing)
+    (after : SeatState) : Type 0 where
+  pub number : after.number ≡ seat.number
+  pub own : after.own ≡ seat.own ++ record { call = call; said = said } ∷ []
+  pub pair : Glance
+  pub shows : Shows P new.journal pair
+  pub shown : new.pairs ≡ old.pairs ++ pair ∷ []
+  pub seen : after.seen ≡ new.pairs
+  pub begins : Begins seat.seen after.seen
+
+-- What a seat's call leaves beside the journal: it was entered there, and noted, or nothing was changed.
+abbrev pub Notes : Program → Standing → SeatState → Call → Said → Standing → SeatState → Type 0
+Notes P old seat call said new after =
+    ((length new.journal ≡ suc (length old.journal)) × IsNoted P old seat call said new after)
+    ⊎ ((new ≡ old) × (after ≡ seat))
+
+-- a seat that made no call yet
+abbrev pub new_seat : ℕ → SeatState
+new_seat number = record { number = number; own = []; seen = [] }
+
+-- so many seats, numbered from 1
+abbrev pub new_seats : ℕ → List SeatState
+new_seats zero = []
+new_seats (suc n) = new_seats n ++ new_seat (suc n) ∷ []

@@ -1,0 +1,20 @@
+//! What lies under a session's lock: the session, the journal of all calls that were entered, and the publisher of the board beside it.
+//!
+//! A `Locked` enters each call of a `Seat` in its journal, keeps it in the seat's own record, and shows the journal's length and the
+//! breakpoint that halts the session on the board. Its journal is one that a single caller could have made: each call was told what is
+//! due where those before it leave the session.
+#![tactic(auto)]
+
+mod copies;
+mod entry;
+mod locked;
+mod log;
+mod ready;
+mod rooms;
+mod run;
+mod seat;
+
+pub use entry::{Entry, Own};
+pub use locked::Locked;
+pub use run::Run;
+pub use seat::Seat;

@@ -1,0 +1,269 @@
+//! The value under a session's lock.
+
+ghost use Rattle.std.specs.Prelude.{◌≡◌, ◌≤◌, [], length, replicate, slice_get, Some, IfOk, IfErr, IfSome, MatchOption};
+ghost use Rattle.dbg_base.specs.declared.refusal.Refusal.TheVariants.{Memory};
+ghost use Rattle.dbg_base.specs.declared.limits.TheConstants.{SEATS};
+ghost use Rattle.dbg_base.specs.Calls as model;
+ghost use Rattle.dbg_base.specs.Calls.{query_of};
+ghost use Rattle.dbg_base.specs.ModelStates.{ModelState};
+ghost use Rattle.dbg_base.specs.Journals.{Makes, StandsAt, IsLegal, effective};
+ghost use Rattle.dbg_base.specs.Fits.{FitsCall};
+ghost use Rattle.proc_lang.specs.Programs.{program_of};
+ghost use Rattle.dbg_command.specs.Tables.{said_of, told_of};
+ghost use Rattle.dbg_command.specs.Boxes.{IsScanFor};
+ghost use Rattle.dbg_board.specs.Boards.{listing};
+ghost use Rattle.dbg_desk.specs.Desks.{entry_of, ArePairs, Notes, new_seats};
+
+use crate::copies::{ran_out, said_to_question};
+use crate::entry::{Entry, Own};
+use crate::log::Log;
+use crate::ready::prepare;
+use crate::rooms::Rooms;
+use crate::run::Run;
+use crate::seat::Seat;
+use dbg_base::{Answer, Call, Query, Refusal, Reply};
+use dbg_board::{Publisher, SeatView};
+use dbg_command::Command;
+use dbg_session::Session;
+use least_cut::Scan;
+use proc_lang::Program;
+use std::alloc::Global;
+use std::marker::Model;
+use std::sync::ledger::{Blank, Share};
+
+/// A session, the journal of all calls that were entered, and the publisher of the board beside it. Its type keeps that the journal is one
+/// that a single caller could have made, that the session stands where the journal leads, and that all of it was told on the board.
+/// Contracts see it as the journal, and what was published of it.
+#[derive(Drop)]
+pub struct Locked<L: Run, C: Command> {
+    session: Session<C>,
+    log: Log<L>,
+    rooms: Rooms,
+}
+
+impl<L: Run, C: Command> Model for Locked<L, C> {
+    ghost use Rattle.std.specs.Prelude.{map};
+    ghost use Rattle.std.specs.Coded.{codes};
+    ghost use Rattle.least_cut.specs.TreeCodes.{coded_tree};
+    ghost use Rattle.dbg_board.specs.contracts.glance.Glance as glance_row;
+    ghost use Rattle.dbg_desk.specs.Desks.{Standing, IsLocked, entry_of};
+
+    ghost Value = { Standing };
+
+    ghost coded = { Prim.hlevel (codes, coded_tree, glance_row.the_row.coded) };
+
+    ghost view = { λ locked. record { journal = map entry_of locked.log.journal.items; pairs = locked.log.publisher.pairs } };
+
+    ghost invariant = { λ locked. IsLocked L.program L.seats locked.session (map entry_of locked.log.journal.items)
+        locked.log.publisher.pairs };
+}
+
+// A seat for each view, numbered from 1, each with a part of the ledger.
+fn make_seats<L: Run>(
+    alloc: Global,
+    views: Vec<SeatView>,
+    share: Share<L>,
+) -> Result<Vec<Seat<L>>, Refusal>
+    requires views { views.items ≡ replicate L.seats (listing L.board []) }
+    requires parts { share.parts ≡ L.seats }
+    requires amount { share.amount ≡ 0 }
+    requires few { L.seats ≤ SEATS }
+    ensures seats { IfOk result (λ seats. seats.items ≡ new_seats L.seats) }
+    ensures refuses { IfErr result (λ refusal. refusal ≡ Memory) }
+{
+    let mut share = share;
+    let mut seats = Vec::new(alloc);
+    let mut number = 0;
+    for view in views {
+        number += 1;
+        seats.push(Seat {
+            number,
+            own: Vec::new(alloc),
+            share: share.split_off(1, 0),
+            view,
+        })?;
+    }
+    Ok(seats)
+}
+
+impl<L: Run, C: Command> Locked<L, C> {
+    /// The session of this program with an empty journal, and a seat for each view of the board, numbered from 1. It is refused only as
+    /// `Memory`, where that runs out.
+    pub fn new(
+        alloc: Global,
+        blank: Blank,
+        publisher: Publisher,
+        views: Vec<SeatView>,
+        program: Program,
+    ) -> Result<(Locked<L, C>, Vec<Seat<L>>), Refusal>
+        requires name { blank.name ≡ L.name }
+        requires parts { (blank.parts ≡ L.parts) × (blank.parts ≡ L.seats) }
+        requires board { publisher ≡ listing L.board [] }
+        requires views { views.items ≡ replicate L.seats (listing L.board []) }
+        requires few { L.seats ≤ SEATS }
+        requires program { program_of program ≡ L.program }
+        ensures journal { IfOk result (λ made. made.0.journal ≡ []) }
+        ensures pairs { IfOk result (λ made. made.0.pairs ≡ []) }
+        ensures seats { IfOk result (λ made. made.1.items ≡ new_seats L.seats) }
+        ensures refuses { IfErr result (λ refusal. refusal ≡ Memory) }
+    {
+        let session = Session::new(alloc, program)?;
+        let (book, share) = blank.open::<L>();
+        let seats = make_seats::<L>(alloc, views, share)?;
+        let log = Log::new(Vec::new(alloc), book, publisher);
+        let rooms = Rooms::new(alloc);
+        Ok((
+            Locked {
+                session,
+                log,
+                rooms,
+            },
+            seats,
+        ))
+    }
+
+    /// The program. It takes no memory.
+    pub fn program(&self) -> &Program
+        ensures { program_of result.now ≡ L.program }
+    {
+        self.session.program()
+    }
+
+    /// How many calls were entered. They are a legal journal, and each was told on the board. It takes no memory.
+    pub fn calls(&self) -> usize
+        ensures calls { result ≡ length self.now.journal }
+        ensures legal { IsLegal L.program self.now.journal }
+        ensures shown { ArePairs L.program [] self.now.journal self.now.pairs }
+    {
+        self.log.journal.len()
+    }
+
+    /// The call that was entered at this place, from 0, or None where there are not so many. It takes no memory.
+    pub fn entry(&self, place: usize) -> Option<&Entry>
+        ensures { MatchOption result (length self.now.journal ≤ place)
+            (λ found. slice_get self.now.journal place ≡ Some (entry_of found.now)) }
+    {
+        self.log.journal.get(place)
+    }
+
+    /// Gives a command for a seat, and enters the call with what is said to it. The command may be given the scan of its conjuncts where
+    /// the session stands. As `JournalFull`, where as many calls were entered as may be, and as `Memory`, where that runs out, it is
+    /// refused, not entered, and nothing is changed.
+    pub fn enter(
+        &mut self,
+        alloc: Global,
+        seat: &mut Seat<L>,
+        command: C,
+        scan: Option<Scan>,
+    ) -> Result<Reply, Refusal>
+        requires fresh { C.IsFresh command }
+        requires scan { IfSome scan (λ scan. (M : ModelState) → StandsAt L.program (effective self.old.journal) M
+            → IsScanFor (C.order command) L.program M scan) }
+        ensures makes { Makes L.program self.old.journal seat.old.number (model.Give (C.order command)) (said_of result)
+            self.new.journal }
+        ensures notes { Notes L.program self.old seat.old (model.Give (C.order command)) (said_of result) self.new seat.new }
+        ensures fits { FitsCall L.program (model.Give (C.order command)) (said_of result) }
+    {
+        let Locked {
+            session,
+            log,
+            rooms,
+        } = self;
+        let Seat {
+            number,
+            own,
+            share,
+            view,
+        } = seat;
+        let ready = prepare(log, rooms, own, session.program(), Some(command.plan()))?;
+        let outcome = session.perform(alloc, *number, command, scan);
+        if ran_out(&outcome) {
+            return outcome;
+        }
+        let (said, own_said) = rooms.say(&outcome);
+        let entry = Entry {
+            seat: *number,
+            call: ready.call,
+            said,
+        };
+        let kept = Own {
+            call: ready.own_call,
+            said: own_said,
+        };
+        log.enter(own, share, view, entry, kept, session.halt_at());
+        outcome
+    }
+
+    /// Takes back, for a seat, the last command that counts, and enters the call with what is said to it. As `JournalFull`, where as many
+    /// calls were entered as may be, and as `Memory`, where that runs out, it is refused, not entered, and nothing is changed.
+    pub fn enter_back(&mut self, seat: &mut Seat<L>) -> Result<Reply, Refusal>
+        ensures makes { Makes L.program self.old.journal seat.old.number model.Back (said_of result) self.new.journal }
+        ensures notes { Notes L.program self.old seat.old model.Back (said_of result) self.new seat.new }
+        ensures fits { FitsCall L.program model.Back (said_of result) }
+    {
+        let Locked {
+            session,
+            log,
+            rooms,
+        } = self;
+        let Seat {
+            number,
+            own,
+            share,
+            view,
+        } = seat;
+        let ready = prepare(log, rooms, own, session.program(), None)?;
+        let taken = session.back(*number);
+        if ran_out(&taken) {
+            return taken;
+        }
+        let (said, own_said) = rooms.say(&taken);
+        let entry = Entry {
+            seat: *number,
+            call: ready.call,
+            said,
+        };
+        let kept = Own {
+            call: ready.own_call,
+            said: own_said,
+        };
+        log.enter(own, share, view, entry, kept, session.halt_at());
+        taken
+    }
+
+    /// Answers a question of a seat, and enters the call with what is said to it. As `JournalFull`, where as many calls were entered as
+    /// may be, and as `Memory`, where that runs out, it is refused, not entered, and nothing is changed.
+    pub fn enter_ask(
+        &mut self,
+        alloc: Global,
+        seat: &mut Seat<L>,
+        query: Query,
+    ) -> Result<Answer, Refusal>
+        ensures makes { Makes L.program self.old.journal seat.old.number (model.Ask (query_of query)) (told_of result)
+            self.new.journal }
+        ensures notes { Notes L.program self.old seat.old (model.Ask (query_of query)) (told_of result) self.new seat.new }
+        ensures fits { FitsCall L.program (model.Ask (query_of query)) (told_of result) }
+    {
+        let Locked { session, log, .. } = self;
+        let Seat {
+            number,
+            own,
+            share,
+            view,
+        } = seat;
+        log.make_room(own)?;
+        let answered = session.ask(alloc, &query);
+        let (said, own_said) = said_to_question(&answered)?;
+        let entry = Entry {
+            seat: *number,
+            call: Call::Ask(query),
+            said,
+        };
+        let kept = Own {
+            call: Call::Ask(query),
+            said: own_said,
+        };
+        log.enter(own, share, view, entry, kept, session.halt_at());
+        answered
+    }
+}

@@ -1,0 +1,100 @@
+//! The calls that were entered, and what tells how many they are.
+
+ghost use Rattle.std.specs.Prelude.{◌≡◌, ◌+◌, ◌<◌, ◌≤◌, ◌++◌, ◌∷◌, [], length, OnOk, IfErr};
+ghost use Rattle.std.specs.Vec.{vec_len, vec_capacity};
+ghost use Rattle.dbg_base.specs.declared.limits.TheConstants.{BREAKPOINTS, CALLS};
+ghost use Rattle.dbg_board.specs.Pairs.{Begins};
+ghost use Rattle.dbg_board.specs.Boards.{listing};
+ghost use Rattle.dbg_desk.specs.Rooms.{IsUnready};
+
+use crate::entry::{Entry, Own};
+use crate::run::Run;
+use dbg_base::Refusal;
+use dbg_base::limits::CALLS;
+use dbg_board::{Publisher, SeatView};
+use std::sync::ledger::{Book, Share};
+
+/// The journal, the book that counts its entries, and the publisher that tells of each. All three go on together.
+#[derive(Drop)]
+pub(crate) struct Log<L: Run> {
+    // The oldest first.
+    pub(crate) journal: Vec<Entry>,
+    pub(crate) book: Book<L>,
+    pub(crate) publisher: Publisher,
+    ghost counted: { book.total ≡ vec_len journal },
+    ghost posted: { length publisher.pairs ≡ vec_len journal },
+    ghost same_board: { publisher.board ≡ L.board },
+    ghost few: { vec_len journal ≤ CALLS },
+}
+
+impl<L: Run> Log<L> {
+    /// The log of a run in which no call was entered.
+    pub(crate) fn new(journal: Vec<Entry>, book: Book<L>, publisher: Publisher) -> Log<L>
+        requires empty { journal.items ≡ [] }
+        requires counted { book.total ≡ 0 }
+        requires posted { publisher ≡ listing L.board [] }
+        ensures journal { result.journal ≡ journal }
+        ensures publisher { result.publisher ≡ publisher }
+    {
+        Log {
+            journal,
+            book,
+            publisher,
+        }
+    }
+
+    /// Makes room for one call more, in the journal and in a seat's own. It is refused as `JournalFull`, where as many calls were
+    /// entered as may be, and else only as `Memory`, where that runs out.
+    pub(crate) fn make_room(&mut self, own: &mut Vec<Own>) -> Result<(), Refusal>
+        ensures journal { self.new.journal.items ≡ self.old.journal.items }
+        ensures publisher { self.new.publisher ≡ self.old.publisher }
+        ensures own { own.new.items ≡ own.old.items }
+        ensures few { OnOk result (vec_len self.new.journal < CALLS) }
+        ensures room { OnOk result (vec_len self.new.journal < vec_capacity self.new.journal) }
+        ensures record_room { OnOk result (vec_len own.new < vec_capacity own.new) }
+        ensures refuses { IfErr result (IsUnready (vec_len self.old.journal)) }
+    {
+        if self.journal.len() >= CALLS {
+            return Err(Refusal::JournalFull);
+        }
+        self.journal.reserve(1)?;
+        own.reserve(1)?;
+        Ok(())
+    }
+
+    /// Enters a call, in the journal and in the record of the seat that made it, and tells of it and of the breakpoint that halts the
+    /// session, first the board and then the seat. It takes no memory.
+    pub(crate) fn enter(
+        &mut self,
+        own: &mut Vec<Own>,
+        share: &mut Share<L>,
+        view: &mut SeatView,
+        entry: Entry,
+        kept: Own,
+        halt: u32,
+    )
+        requires room { vec_len self.old.journal < vec_capacity self.old.journal }
+        requires few { vec_len self.old.journal < CALLS }
+        requires record_room { vec_len own.old < vec_capacity own.old }
+        requires part { 0 < share.old.parts }
+        requires board { view.old.board ≡ L.board }
+        requires halt { halt ≤ BREAKPOINTS }
+        ensures journal { self.new.journal.items ≡ self.old.journal.items ++ entry ∷ [] }
+        ensures own { own.new.items ≡ own.old.items ++ kept ∷ [] }
+        ensures parts { share.new.parts ≡ share.old.parts }
+        ensures amount { share.new.amount ≡ share.old.amount + 1 }
+        ensures bound { share.new.amount ≤ vec_len self.new.journal }
+        ensures pairs { self.new.publisher.pairs
+            ≡ self.old.publisher.pairs ++ record { calls = vec_len self.new.journal; halt = halt } ∷ [] }
+        ensures told { view.new ≡ self.new.publisher }
+        ensures begins { Begins view.old.pairs view.new.pairs }
+    {
+        self.journal.push_reserved(entry);
+        own.push_reserved(kept);
+        self.book.add(share, 1);
+        self.book.audit(share);
+        let calls = self.journal.len() as u64;
+        self.publisher.publish(calls, halt as u64);
+        self.publisher.tell(view);
+    }
+}
