@@ -8,6 +8,7 @@ mod deep_back;
 mod examples;
 mod faults;
 mod fits;
+mod full_journal;
 mod jobs;
 mod lines;
 mod many_breakpoints;

@@ -1,0 +1,11 @@
+//! The tests of what lies under a session's lock: what no contract says, over public calls.
+#![tactic(auto)]
+
+pub mod beginning;
+#[cfg(test)]
+mod journals;
+#[cfg(test)]
+mod limits;
+#[cfg(test)]
+mod shown;
+pub mod trial;

@@ -1,0 +1,72 @@
+//! A journal that is full.
+
+ghost use Rattle.desk_tests.specs.Runs.{IsRunOf};
+
+use crate::beginning::{Beginning, TWO, make_beginning};
+use crate::trial::{Trial, begin, next};
+use dbg_base::limits::CALLS;
+use dbg_base::{Pid, Query, Refusal};
+use dbg_board::Glance;
+use dbg_command::NextCmd;
+use dbg_desk::Run;
+use std::alloc::Global;
+use std::marker::Brand;
+use std::process::Abort;
+use std::test::Fail;
+
+const A: Pid = Pid(0);
+
+// The first seat asks for a place until the journal is full.
+fn fill<L: Run>(trial: &mut Trial<L, NextCmd>, alloc: Global) -> Result<(), Refusal> {
+    for _ in 0..CALLS {
+        trial
+            .locked
+            .enter_ask(alloc, &mut trial.one, Query::Place(A))?;
+    }
+    Ok(())
+}
+
+// Expects a call to be refused since the journal is full.
+fn expect_refused<T>(rt: &impl Abort, outcome: &Result<T, Refusal>) {
+    assert!(rt; matches!(outcome, Err(Refusal::JournalFull)));
+}
+
+// Expects each kind of call to be refused so.
+fn expect_none_more<L: Run>(rt: &impl Abort, alloc: Global, trial: &mut Trial<L, NextCmd>) {
+    let given = next(trial, alloc, A);
+    expect_refused(rt, &given);
+    let back = trial.locked.enter_back(&mut trial.one);
+    expect_refused(rt, &back);
+    let asked = trial
+        .locked
+        .enter_ask(alloc, &mut trial.one, Query::Place(A));
+    expect_refused(rt, &asked);
+}
+
+// Expects all calls to be the first seat's, and the board to tell of them.
+fn expect_all<L: Run>(rt: &impl Abort, trial: &mut Trial<L, NextCmd>) {
+    let lengths = (
+        trial.locked.calls(),
+        trial.one.own_calls().len(),
+        trial.two.own_calls().len(),
+    );
+    assert_eq!(rt; lengths, (CALLS, CALLS, 0));
+    let Glance { calls, halt } = trial.board.look(&mut trial.display);
+    assert_eq!(rt; (calls, halt), (CALLS as u64, 0));
+}
+
+fn no_call_more<L: Run>(rt: &impl Abort, alloc: Global, beginning: Beginning) -> Result<(), Fail>
+    requires { IsRunOf L.program L.board L.name L.parts L.seats beginning }
+{
+    let mut trial = begin::<L, NextCmd>(alloc, beginning)?;
+    fill(&mut trial, alloc)?;
+    expect_none_more(rt, alloc, &mut trial);
+    expect_all(rt, &mut trial);
+    Ok(())
+}
+
+#[test]
+fn a_full_journal_takes_no_call_more(rt: HostRuntime) -> Result<(), Fail> {
+    let alloc = rt.alloc();
+    no_call_more::<Brand>(&rt, alloc, make_beginning(alloc, TWO)?)
+}
