@@ -1,24 +1,20 @@
 -- What a call is told, and what it leaves under the lock.
-use Rattle.std.proofs.Common.{◌≡◌, inl, inr, ℕ, suc, ◌<◌, ◌≤◌, List, [], ◌∷◌, ◌++◌, length, map, Result, Ok, Err, refl, sym, ap}
+use Rattle.std.proofs.Common.{◌≡◌, inl, inr, ℕ, suc, ◌<◌, List, [], ◌∷◌, ◌++◌, length, map, Result, Ok, Err, sym, ap}
 use Rattle.std.proofs.Common.{◌∙◌, subst, arith}
-use Rattle.std.specs.Prelude.{◌⊎◌, IfOk}
+use Rattle.std.specs.Prelude.{◌⊎◌}
 use Rattle.std.specs.List.{AllByRecursion}
 use Rattle.std.proofs.lemmas.List.{length-map, map_push, length_push}
 use Rattle.dbg_base.specs.declared.limits.TheConstants.{CALLS}
 use Rattle.dbg_base.specs.declared.refusal.Refusal.{Refusal}
 use Rattle.dbg_base.specs.declared.refusal.Refusal.TheVariants.{Memory}
 use Rattle.dbg_base.specs.declared.said.Answer.{Answer}
-use Rattle.dbg_base.specs.declared.said.Done.{Done}
-use Rattle.dbg_base.specs.declared.said.Done.TheVariants.{Played, Undone, Places, Plain}
 use Rattle.dbg_base.specs.declared.said.Reply.{Reply}
 use Rattle.dbg_base.specs.declared.said.Said.{Said}
 use Rattle.dbg_base.specs.declared.said.Said.TheVariants.{Refused}
 use Rattle.dbg_base.specs.Trees.{Program}
-use Rattle.dbg_base.specs.Copies.{counts_in}
 use Rattle.dbg_base.specs.Calls.{Order, Query, Call, Give, Back, Ask, call_of}
-use Rattle.dbg_base.specs.Fits.{FitsCall, FitsDone}
 use Rattle.dbg_base.specs.ModelStates.{ModelState, IsHaltPlace}
-use Rattle.dbg_base.specs.Journals.{Entry, Given, Journal, StandsAt, IsDue, AnswersBack, Makes, IsLegal, counting, effective, last_given}
+use Rattle.dbg_base.specs.Journals.{Entry, Given, Journal, StandsAt, IsDue, AnswersBack, IsLegal, counting, effective, last_given}
 use Rattle.histories.proofs.Legal.{effective_more, legal_more}
 use Rattle.dbg_board.specs.declared.glance.Glance.{Glance}
 use Rattle.dbg_board.specs.Pairs.{Begins}
@@ -27,7 +23,6 @@ use Rattle.dbg_session.specs.Sessions.{SessionState}
 use Rattle.dbg_desk.specs.declared.entry.Entry as entry
 use Rattle.dbg_desk.specs.declared.entry.Own as own
 use Rattle.dbg_desk.specs.Desks.{Own, Standing, SeatState, IsAmong, Shows, ArePairs, IsLocked, Notes, entry_of, own_of}
-use Rattle.dbg_desk.specs.Rooms.{IsUnready}
 use Rattle.dbg_desk.proofs.Pairs.{pairs_more, all_more}
 
 -- what was said to the call is due to it, where memory did not run out
@@ -53,38 +48,6 @@ pub due_asked : (P : Program) (given : List Given) (seat : ℕ) (query : Query) 
     → IsDue P given seat (Ask query) (told_of result)
 due_asked P given seat query M result stands (inl answers) there = (M, stands, answers)
 due_asked P given seat query M result stands (inr memory) there = absurd (there memory)
-
--- the places that are told have room
-
-done_fits : (P : Program) (n : ℕ) (done : Done) → FitsDone P done → length P ≤ n → counts_in done ≤ n
-done_fits P n (Played pid choice) fits room = omega arith
-done_fits P n (Undone pid choice) fits room = omega arith
-done_fits P n (Places cut) fits room = omega (arith, fits)
-done_fits P n Plain fits room = omega arith
-
-pub order_has_room : (P : Program) (n : ℕ) (order : Order) (result : Result Reply Refusal) → FitsCall P (Give order) (said_of result)
-    → length P ≤ n → IfOk result (λ reply. counts_in reply.done ≤ n)
-order_has_room P n order (Ok reply) fits room = done_fits P n reply.done fits room
-order_has_room P n order (Err refusal) fits room = tt
-
-pub back_has_room : (P : Program) (n : ℕ) (result : Result Reply Refusal) → FitsCall P Back (said_of result) → length P ≤ n
-    → IfOk result (λ reply. counts_in reply.done ≤ n)
-back_has_room P n (Ok reply) fits room = done_fits P n reply.done fits room
-back_has_room P n (Err refusal) fits room = tt
-
--- a call that was not made leaves all as it was
-
-pub not_made : (P : Program) (J : Journal) (seat : ℕ) (call : Call) (calls : ℕ) (refusal : Refusal) → calls ≡ length J
-    → IsUnready calls refusal → Makes P J seat call (Refused refusal) J
-not_made P J seat call calls refusal long (inl full) =
-    inr (record { full = sym long ∙ full.0; told = ap (λ (r : Refusal). Refused r) full.1; left = refl })
-not_made P J seat call calls refusal long (inr missed) =
-    let few = missed.0 in
-    inl (omega (arith, few, long), inr (record { told = ap (λ (r : Refusal). Refused r) missed.1; left = refl }))
-
-pub out_of_memory : (P : Program) (J : Journal) (seat : ℕ) (call : Call) (said : Said) → length J < CALLS → said ≡ Refused Memory
-    → Makes P J seat call said J
-out_of_memory P J seat call said few told = inl (few, inr (record { told = told; left = refl }))
 
 -- a call that was made
 
@@ -119,9 +82,6 @@ module _ (P : Program) (seats : ℕ) (session : SessionState) (items : List entr
     longer =
         ap (λ (l : List entry.Entry). map entry_of l) pushed ∙ map_push entry_of items kept
         ∙ ap (λ (e : Entry). J ++ e ∷ []) (λ i. record { seat = of_seat i; call = of_call i; said = of_said i })
-
-    pub made : Makes P J seat call said (map entry_of others)
-    made = inl ((let long = size in omega (arith, few, long)), inl (record { due = due; entered = longer }))
 
     module _ (after : SessionState) (same : after.program ≡ session.program)
         (counts : after.effective ≡ counting session.effective seat call said)

@@ -82,7 +82,7 @@ fn give_calls<L: Run>(
     let values = trial
         .locked
         .enter_ask(alloc, &mut trial.two, Query::Vars(A));
-    expect(rt, alloc, &values, "Ok(Values([1]))")?;
+    expect(rt, alloc, &values, "Ok(Values(Sequence { items: [1] }))")?;
     let other = trial.locked.enter_back(&mut trial.two);
     expect(rt, alloc, &other, "Err(OtherSeat(1))")?;
     let refused = next(trial, alloc, Pid(2));
@@ -99,7 +99,7 @@ const ONE: &str = "[\
 
 // And the second one.
 const OTHER: &str = "[\
-    Own { call: Ask(Vars(Pid(0))), said: Answered(Values([1])) }, \
+    Own { call: Ask(Vars(Pid(0))), said: Answered(Values(Sequence { items: [1] })) }, \
     Own { call: Back, said: Refused(OtherSeat(1)) }]";
 
 // The journal has them in order, and each seat its own.
@@ -113,7 +113,7 @@ fn calls_in_order<L: Run>(rt: &impl Abort, alloc: Global, beginning: Beginning) 
         rt,
         alloc,
         &trial.locked.entry(1),
-        "Some(Entry { seat: 2, call: Ask(Vars(Pid(0))), said: Answered(Values([1])) })",
+        "Some(Entry { seat: 2, call: Ask(Vars(Pid(0))), said: Answered(Values(Sequence { items: [1] })) })",
     )?;
     expect(rt, alloc, &trial.locked.entry(5), "None")?;
     expect_own(rt, alloc, &trial, ONE, OTHER)?;
