@@ -51,7 +51,7 @@ impl Tally {
     pub fn all_events(&self, alloc: Global) -> Result<Cut, AllocError>
         ensures { IfOk result (λ cut. cut ≡ places self.now.kinds) }
     {
-        let mut counts = Vec::new(alloc);
+        let mut counts = Vec::with_capacity(alloc, self.processes() as usize)?;
         for p in 0..self.processes() {
             counts.push(self.len(Pid(p)))?;
         }

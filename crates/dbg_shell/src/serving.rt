@@ -36,6 +36,7 @@ use reply_lines::{
 use std::alloc::Global;
 use std::io::{Read, Write};
 use std::marker::Brand;
+use std::mem;
 use std::sync::ledger::Blank;
 
 // Answers one command line, as a call of its seat: what is written is handed on before the next line is asked for.
@@ -68,6 +69,12 @@ fn serve_line<L: Run, C: Command, M: Fn(Givable) -> Result<C, Refusal>, W: Write
             hand_on(written, writer)
         }
     }
+}
+
+// Leaves a run that is over, whose memory goes with the process: to give back what each call took would cost a tenth of a long run.
+fn leave<L: Run, C: Command>(locked: Locked<L, C>, seats: Vec<Seat<L>>) {
+    mem::forget(locked);
+    mem::forget(seats);
 }
 
 // Answers the command lines of a run in which no call was made yet.
@@ -110,8 +117,14 @@ fn serve_run<L: Run, C: Command, M: Fn(Givable) -> Result<C, Refusal>, R: Read, 
                     writer,
                 )?
             },
-            Next::End => return Ok(Served::Done),
-            Next::TooLong => return tell_too_long(writer),
+            Next::End => {
+                leave(locked, seats);
+                return Ok(Served::Done);
+            },
+            Next::TooLong => {
+                leave(locked, seats);
+                return tell_too_long(writer);
+            },
         }
     }
 }

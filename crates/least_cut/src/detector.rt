@@ -345,7 +345,7 @@ impl Detector {
             → TellsFrontier P (history_of w.state) (conjuncts_of self.now) heads) }
         ensures refuses { IfErr result (λ refusal. refusal ≡ Memory) }
     {
-        let mut heads = Vec::new(alloc);
+        let mut heads = Vec::with_capacity(alloc, self.candidates.counts().len())?;
         for (p, count) in self.candidates.counts().iter().enumerate() {
             heads.push(self.head(p, *count))?;
         }

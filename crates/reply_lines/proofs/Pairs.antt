@@ -1,25 +1,31 @@
 -- Names with what belongs to them.
-use Rattle.std.proofs.Common.{◌≡◌, ℕ, zero, suc, ◌≤◌, length, List, [], ◌∷◌, map, Option, Some, None, refl, arith}
+use Rattle.std.proofs.Common.{◌≡◌, ℕ, zero, suc, ◌≤◌, length, List, [], ◌∷◌, Some, None, refl, arith}
 use Rattle.std.specs.Prelude.{slice_get}
-use Rattle.std.specs.List.{zip}
-use Rattle.dbg_base.specs.Replies.{pair_word}
-use Rattle.reply_lines.specs.Pieces.{pair_of}
+use Rattle.dbg_base.specs.Replies.{pair_word, pair_words}
 
-no_text : (name : Option (List ℕ)) → None ≡ pair_of name None
-no_text None = refl
-no_text (Some name) = refl
+-- the pair at a place is of the name and the text there
+pub pair_at : (names texts : List (List ℕ)) (i : ℕ) (name text written : List ℕ) → Some name ≡ slice_get names i
+    → Some text ≡ slice_get texts i → written ≡ text → slice_get (pair_words names texts) i ≡ Some (pair_word (name, written))
+pair_at [] texts i name text written n t same = cc
+pair_at (x ∷ names) [] i name text written n t same = cc
+pair_at (x ∷ names) (y ∷ texts) zero name text written n t same = let one : x ≡ name = cc in let other : y ≡ text = cc in cc
+pair_at (x ∷ names) (y ∷ texts) (suc i) name text written n t same = pair_at names texts i name text written n t same
 
--- the pair at a place is the name and the text there
-pub pair_at : (names texts : List (List ℕ)) (i : ℕ)
-    → slice_get (map pair_word (zip names texts)) i ≡ pair_of (slice_get names i) (slice_get texts i)
-pair_at [] texts i = refl
-pair_at (name ∷ names) [] i = no_text (slice_get (name ∷ names) i)
-pair_at (name ∷ names) (text ∷ texts) zero = refl
-pair_at (name ∷ names) (text ∷ texts) (suc i) = pair_at names texts i
+-- where one of the two is missing there is no pair
+pub no_name : (names texts : List (List ℕ)) (i : ℕ) → slice_get names i ≡ None → slice_get (pair_words names texts) i ≡ None
+no_name [] texts i n = refl
+no_name (x ∷ names) [] i n = refl
+no_name (x ∷ names) (y ∷ texts) zero n = cc
+no_name (x ∷ names) (y ∷ texts) (suc i) n = no_name names texts i n
+
+pub no_text : (names texts : List (List ℕ)) (i : ℕ) → slice_get texts i ≡ None → slice_get (pair_words names texts) i ≡ None
+no_text [] texts i t = refl
+no_text (x ∷ names) [] i t = refl
+no_text (x ∷ names) (y ∷ texts) zero t = cc
+no_text (x ∷ names) (y ∷ texts) (suc i) t = no_text names texts i t
 
 -- there are no more pairs than texts
-pub few_pairs : {B : Type 0} (names : List (List ℕ)) (g : B → List ℕ) (ys : List B)
-    → length (map pair_word (zip names (map g ys))) ≤ length ys
-few_pairs [] g ys = omega arith
-few_pairs (name ∷ names) g [] = omega arith
-few_pairs (name ∷ names) g (y ∷ ys) = let less = few_pairs names g ys in omega arith
+pub few_pairs : (names texts : List (List ℕ)) → length (pair_words names texts) ≤ length texts
+few_pairs [] texts = omega arith
+few_pairs (name ∷ names) [] = omega arith
+few_pairs (name ∷ names) (y ∷ texts) = let less = few_pairs names texts in omega arith

@@ -1,7 +1,8 @@
 -- The words that pieces of a line stand for.
-use Rattle.std.specs.Prelude.{ℕ, List, [], ◌∷◌, map, Option, Some, None, codes}
+use Rattle.std.specs.Prelude.{ℕ, List, [], ◌∷◌, map, codes}
 use Rattle.std.specs.Fmt.{decimal, signed_decimal}
-use Rattle.dbg_base.specs.Replies.{pair_word, mark_word, value_words, count_words, head_words, halted_words}
+use Rattle.dbg_base.specs.Trees.{process_of, names_of}
+use Rattle.dbg_base.specs.Replies.{pair_words, mark_word, head_text, halted_words}
 use Rattle.proc_lang.specs.Programs.{program_of}
 use Rattle.reply_lines.specs.declared.parts.Term.{Term}
 use Rattle.reply_lines.specs.declared.parts.Term.TheVariants as term
@@ -9,6 +10,12 @@ use Rattle.reply_lines.specs.declared.parts.Item.{Item}
 use Rattle.reply_lines.specs.declared.parts.Item.TheVariants as item
 use Rattle.reply_lines.specs.declared.parts.Word.{Word}
 use Rattle.reply_lines.specs.declared.parts.Word.TheVariants as word
+use Rattle.reply_lines.specs.declared.parts.Words.{Words}
+use Rattle.reply_lines.specs.declared.parts.Words.TheVariants as words
+use Rattle.reply_lines.specs.declared.parts.Names.{Names}
+use Rattle.reply_lines.specs.declared.parts.Names.TheVariants as names
+use Rattle.reply_lines.specs.declared.parts.Amounts.{Amounts}
+use Rattle.reply_lines.specs.declared.parts.Amounts.TheVariants as amounts
 use Rattle.reply_lines.specs.declared.parts.Piece.{Piece}
 use Rattle.reply_lines.specs.declared.parts.Piece.TheVariants as piece
 
@@ -35,22 +42,29 @@ item_text (item.Number number) = signed_decimal number
 -- a word
 abbrev pub word_text : Word → List ℕ
 word_text (word.Plain item) = item_text item
-word_text (word.Pair name item) = pair_word (name, item_text item)
 word_text (word.Mark name armed) = mark_word (name, armed)
 
--- a name with what belongs to it, where both are there
-abbrev pub pair_of : Option (List ℕ) → Option (List ℕ) → Option (List ℕ)
-pair_of (Some name) (Some text) = Some (pair_word (name, text))
-pair_of name text = None
+-- words of one kind
+abbrev pub word_texts : Words → List (List ℕ)
+word_texts (words.Numbers numbers) = map signed_decimal numbers.now
+word_texts (words.Marks marks) = map mark_word marks.now
+
+-- names of a program
+abbrev pub names_in : Names → List (List ℕ)
+names_in (names.Processes program) = names_of (program_of program.now)
+names_in (names.Variables program pid) = map (λ variable. variable.0) (process_of (program_of program.now) pid.0).variables
+
+-- what belongs to names
+abbrev pub amount_texts : Amounts → List (List ℕ)
+amount_texts (amounts.Counts counts) = map decimal counts.now
+amount_texts (amounts.Numbers numbers) = map signed_decimal numbers.now
+amount_texts (amounts.Heads heads) = map head_text heads.now
 
 -- the words that a piece stands for
 abbrev pub piece_words : Piece → List (List ℕ)
 piece_words (piece.Item item) = item_text item ∷ []
 piece_words (piece.Both first second) = item_text first ∷ item_text second ∷ []
 piece_words piece.Nothing = []
-piece_words (piece.Numbers numbers) = map signed_decimal numbers.now
-piece_words (piece.Marks marks) = map mark_word marks.now
-piece_words (piece.Values program pid values) = value_words (program_of program.now) pid.0 values.now
-piece_words (piece.Counts program counts) = count_words (program_of program.now) counts.now
-piece_words (piece.Heads program heads) = head_words (program_of program.now) heads.now
+piece_words (piece.Words words) = word_texts words
+piece_words (piece.Pairs names amounts) = pair_words (names_in names) (amount_texts amounts)
 piece_words (piece.Halted halted) = halted_words halted

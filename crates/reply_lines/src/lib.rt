@@ -5,6 +5,7 @@ mod notices;
 mod outcome;
 mod parts;
 mod reply;
+mod text;
 
 pub use notices::{hand_on, tell_fault, tell_no_end_line, tell_size, tell_too_long};
 pub use outcome::{ServeFault, Served, status};

@@ -1,16 +1,17 @@
 //! Lines, written word by word.
 
-ghost use Rattle.std.specs.Prelude.{◌≡◌, ◌≤◌, ◌++◌, ◌∷◌, map, length, slice_get, codes};
+ghost use Rattle.std.specs.Prelude.{◌≡◌, ◌≤◌, ◌++◌, [], ◌∷◌, map, length, slice_get, codes};
 ghost use Rattle.std.specs.Option.{option_map};
 ghost use Rattle.std.specs.Fmt.{decimal, signed_decimal};
 ghost use Rattle.dbg_base.specs.Trees.{process_of, names_of};
-ghost use Rattle.dbg_base.specs.Replies.{joined, spaced, head_text};
+ghost use Rattle.dbg_base.specs.Replies.{joined, spaced, head_text, pair_words};
 ghost use Rattle.dbg_base.specs.Shell.{as_line};
 ghost use Rattle.proc_lang.specs.Programs.{program_of};
 ghost use Rattle.reply_lines.specs.Writing.{Writes, in_a_row};
-ghost use Rattle.reply_lines.specs.Pieces.{term_text, item_text, word_text, pair_of, piece_words};
+ghost use Rattle.reply_lines.specs.Pieces.{term_text, item_text, word_text, word_texts, names_in, amount_texts, piece_words};
 
 use crate::outcome::ServeFault;
+use crate::text::Text;
 use dbg_base::{Head, Name, Pid};
 use itoa::Buffer;
 use proc_lang::Program;
@@ -32,7 +33,8 @@ pub(crate) enum Term {
 
 impl Term {
     fn text(self) -> &'static [u8]
-        ensures { result.now ≡ term_text self }
+        ensures text { result.now ≡ term_text self }
+        ensures short { length result.now ≤ 40 }
     {
         match self {
             Term::At => b"at",
@@ -62,13 +64,36 @@ pub(crate) enum Item {
 #[derive(Clone, Copy)]
 pub(crate) enum Word {
     Plain(Item),
-    /// A name with what belongs to it.
-    Pair(Name, Item),
     /// A breakpoint, and is it armed.
     Mark(Name, bool),
 }
 
-/// Words of a line.
+/// Words of one kind.
+#[derive(Clone, Copy)]
+pub(crate) enum Words<'a> {
+    Numbers(&'a [i64]),
+    /// Breakpoints, each with its mark.
+    Marks(&'a [(Name, bool)]),
+}
+
+/// Names of a program, in order.
+#[derive(Clone, Copy)]
+pub(crate) enum Names<'a> {
+    Processes(&'a Program),
+    /// Those of the variables of a process.
+    Variables(&'a Program, Pid),
+}
+
+/// What belongs to names, in order.
+#[derive(Clone, Copy)]
+pub(crate) enum Amounts<'a> {
+    Counts(&'a [u32]),
+    Numbers(&'a [i64]),
+    /// Components of a frontier.
+    Heads(&'a [Head]),
+}
+
+/// A part of a line.
 #[derive(Clone, Copy)]
 pub(crate) enum Piece<'a> {
     /// One word.
@@ -77,16 +102,10 @@ pub(crate) enum Piece<'a> {
     Both(Item, Item),
     /// No word.
     Nothing,
-    /// Numbers.
-    Numbers(&'a [i64]),
-    /// Breakpoints, each with its mark.
-    Marks(&'a [(Name, bool)]),
-    /// A value for each variable of the process.
-    Values(&'a Program, Pid, &'a [i64]),
-    /// A count for each process.
-    Counts(&'a Program, &'a [u32]),
-    /// A component of a frontier for each process.
-    Heads(&'a Program, &'a [Head]),
+    /// Each of these.
+    Words(Words<'a>),
+    /// Names, each with what belongs to it.
+    Pairs(Names<'a>, Amounts<'a>),
     /// The breakpoint that halts the session, if any.
     Halted(Option<Name>),
 }
@@ -106,31 +125,41 @@ fn write_whole<W: Write>(writer: &mut W, bytes: &[u8]) -> Result<(), ServeFault>
     Ok(())
 }
 
-// Writes a text behind a sign.
-fn write_behind<W: Write>(sign: &[u8], text: &[u8], writer: &mut W) -> Result<(), ServeFault>
-    ensures { Writes (W.contents writer.old) (W.contents writer.new) result (sign.now ++ text.now) }
+// Writes a short text, with a space before it.
+fn write_short<W: Write>(short: &[u8], writer: &mut W) -> Result<(), ServeFault>
+    requires { length short.now ≤ 40 }
+    ensures { Writes (W.contents writer.old) (W.contents writer.new) result (codes " " ++ short.now) }
 {
-    write_whole(writer, sign)?;
-    write_whole(writer, text)
+    let mut text = Text::new();
+    text.append(b" ");
+    text.append(short);
+    write_whole(writer, text.bytes())
 }
 
-// Writes a name, and a text behind a sign.
+// Writes a name, and a short text behind a sign.
 fn write_pair<W: Write>(
-    name: &[u8],
+    name: &Name,
     sign: &[u8],
-    text: &[u8],
+    short: &[u8],
     writer: &mut W,
 ) -> Result<(), ServeFault>
-    ensures { Writes (W.contents writer.old) (W.contents writer.new) result (codes " " ++ name.now ++ sign.now ++ text.now) }
+    requires sign { length sign.now ≤ 1 }
+    requires short { length short.now ≤ 40 }
+    ensures { Writes (W.contents writer.old) (W.contents writer.new) result (codes " " ++ name.now ++ sign.now ++ short.now) }
 {
-    write_behind(b" ", name, writer)?;
-    write_behind(sign, text, writer)
+    let mut text = Text::new();
+    text.append(b" ");
+    text.append(name.bytes());
+    text.append(sign);
+    text.append(short);
+    write_whole(writer, text.bytes())
 }
 
 impl Item {
     // The bytes, those of a number in the buffer.
     fn bytes<'b>(&'b self, buffer: &'b mut Buffer) -> &'b [u8]
-        ensures { result.now ≡ item_text self.now }
+        ensures text { result.now ≡ item_text self.now }
+        ensures short { length result.now ≤ 40 }
     {
         match self {
             Item::Term(term) => term.text(),
@@ -147,34 +176,18 @@ fn write_item<W: Write>(item: &Item, writer: &mut W) -> Result<(), ServeFault>
     ensures { Writes (W.contents writer.old) (W.contents writer.new) result (codes " " ++ item_text item.now) }
 {
     let mut buffer = Buffer::new();
-    write_behind(b" ", item.bytes(&mut buffer), writer)
+    write_short(item.bytes(&mut buffer), writer)
 }
 
 // Writes a word, with a space before it.
 fn write_word<W: Write>(word: &Word, writer: &mut W) -> Result<(), ServeFault>
     ensures { Writes (W.contents writer.old) (W.contents writer.new) result (codes " " ++ word_text word.now) }
 {
-    let mut buffer = Buffer::new();
     match word {
         Word::Plain(item) => write_item(item, writer),
-        Word::Pair(name, item) => write_pair(name.bytes(), b"=", item.bytes(&mut buffer), writer),
-        Word::Mark(name, true) => write_pair(name.bytes(), b" ", b"on", writer),
-        Word::Mark(name, false) => write_pair(name.bytes(), b" ", b"off", writer),
+        Word::Mark(name, true) => write_pair(name, b" ", b"on", writer),
+        Word::Mark(name, false) => write_pair(name, b" ", b"off", writer),
     }
-}
-
-// The item at this place, as a word.
-fn item_at(items: &[Item], place: usize) -> Option<Word>
-    ensures { option_map word_text result ≡ slice_get (map item_text items.now) place }
-{
-    items.get(place).map(|item| Word::Plain(*item))
-}
-
-// A name with what belongs to it, where both are there.
-fn pair(name: Option<Name>, item: Option<Item>) -> Option<Word>
-    ensures { option_map word_text result ≡ pair_of name (option_map item_text item) }
-{
-    Some(Word::Pair(name?, item?))
 }
 
 fn process_at(program: &Program, place: usize) -> Option<Name>
@@ -216,55 +229,89 @@ fn head_at(heads: &[Head], place: usize) -> Option<Item>
     })
 }
 
-impl Piece<'_> {
-    // The word at this place.
-    #[tactic(auto, using(crate::proofs::Pairs::pair_at))]
-    fn word(&self, place: usize) -> Option<Word>
-        ensures { option_map word_text result ≡ slice_get (piece_words self.now) place }
+impl Names<'_> {
+    fn at(&self, place: usize) -> Option<Name>
+        ensures { result ≡ slice_get (names_in self.now) place }
     {
         match self {
-            Piece::Item(item) => item_at(&[*item], place),
-            Piece::Both(first, second) => item_at(&[*first, *second], place),
-            Piece::Nothing | Piece::Halted(None) => None,
-            Piece::Numbers(numbers) => number_at(numbers, place).map(Word::Plain),
-            Piece::Marks(marks) => marks
-                .get(place)
-                .map(|(name, armed)| Word::Mark(*name, *armed)),
-            Piece::Values(program, pid, values) => {
-                pair(variable_at(program, *pid, place), number_at(values, place))
-            }
-            Piece::Counts(program, counts) => {
-                pair(process_at(program, place), count_at(counts, place))
-            }
-            Piece::Heads(program, heads) => pair(process_at(program, place), head_at(heads, place)),
-            Piece::Halted(Some(name)) => {
-                item_at(&[Item::Term(Term::Halted), Item::Name(*name)], place)
-            }
-        }
-    }
-
-    // At least as many as the words.
-    #[tactic(auto, using(crate::proofs::Pairs::few_pairs))]
-    fn limit(&self) -> usize
-        ensures { length (piece_words self.now) ≤ result }
-    {
-        match self {
-            Piece::Numbers(numbers) => numbers.len(),
-            Piece::Marks(marks) => marks.len(),
-            Piece::Values(_, _, values) => values.len(),
-            Piece::Counts(_, counts) => counts.len(),
-            Piece::Heads(_, heads) => heads.len(),
-            Piece::Item(_) | Piece::Both(_, _) | Piece::Nothing | Piece::Halted(_) => 2,
+            Names::Processes(program) => process_at(program, place),
+            Names::Variables(program, pid) => variable_at(program, *pid, place),
         }
     }
 }
 
-// Writes the words of a piece, one after the other.
-fn write_words<W: Write>(piece: &Piece<'_>, writer: &mut W) -> Result<(), ServeFault>
-    ensures { Writes (W.contents writer.old) (W.contents writer.new) result (spaced (piece_words piece.now)) }
+impl Amounts<'_> {
+    fn at(&self, place: usize) -> Option<Item>
+        ensures { option_map item_text result ≡ slice_get (amount_texts self.now) place }
+    {
+        match self {
+            Amounts::Counts(counts) => count_at(counts, place),
+            Amounts::Numbers(numbers) => number_at(numbers, place),
+            Amounts::Heads(heads) => head_at(heads, place),
+        }
+    }
+
+    fn len(&self) -> usize
+        ensures { result ≡ length (amount_texts self.now) }
+    {
+        match self {
+            Amounts::Counts(counts) => counts.len(),
+            Amounts::Numbers(numbers) => numbers.len(),
+            Amounts::Heads(heads) => heads.len(),
+        }
+    }
+}
+
+// Writes each name with what belongs to it, as long as there are both.
+fn write_pairs<W: Write>(
+    names: &Names<'_>,
+    amounts: &Amounts<'_>,
+    writer: &mut W,
+) -> Result<(), ServeFault>
+    ensures { Writes (W.contents writer.old) (W.contents writer.new) result
+        (spaced (pair_words (names_in names.now) (amount_texts amounts.now))) }
 {
-    for place in 0..piece.limit() {
-        match piece.word(place) {
+    let mut buffer = Buffer::new();
+    for place in 0..amounts.len() {
+        let Some(name) = names.at(place) else {
+            return Ok(());
+        };
+        let Some(item) = amounts.at(place) else {
+            return Ok(());
+        };
+        write_pair(&name, b"=", item.bytes(&mut buffer), writer)?;
+    }
+    Ok(())
+}
+
+impl Words<'_> {
+    fn at(&self, place: usize) -> Option<Word>
+        ensures { option_map word_text result ≡ slice_get (word_texts self.now) place }
+    {
+        match self {
+            Words::Numbers(numbers) => number_at(numbers, place).map(Word::Plain),
+            Words::Marks(marks) => marks
+                .get(place)
+                .map(|(name, armed)| Word::Mark(*name, *armed)),
+        }
+    }
+
+    fn len(&self) -> usize
+        ensures { result ≡ length (word_texts self.now) }
+    {
+        match self {
+            Words::Numbers(numbers) => numbers.len(),
+            Words::Marks(marks) => marks.len(),
+        }
+    }
+}
+
+// Writes the words, one after the other.
+fn write_words<W: Write>(words: &Words<'_>, writer: &mut W) -> Result<(), ServeFault>
+    ensures { Writes (W.contents writer.old) (W.contents writer.new) result (spaced (word_texts words.now)) }
+{
+    for place in 0..words.len() {
+        match words.at(place) {
             Some(word) => write_word(&word, writer)?,
             None => return Ok(()),
         }
@@ -272,18 +319,29 @@ fn write_words<W: Write>(piece: &Piece<'_>, writer: &mut W) -> Result<(), ServeF
     Ok(())
 }
 
-// Most lines have short pieces alone, whose words are written as they are.
+// Writes two words.
+fn write_both<W: Write>(first: &Item, second: &Item, writer: &mut W) -> Result<(), ServeFault>
+    ensures { Writes (W.contents writer.old) (W.contents writer.new) result
+        (spaced (item_text first.now ∷ item_text second.now ∷ [])) }
+{
+    write_item(first, writer)?;
+    write_item(second, writer)
+}
+
 fn write_piece<W: Write>(piece: &Piece<'_>, writer: &mut W) -> Result<(), ServeFault>
     ensures { Writes (W.contents writer.old) (W.contents writer.new) result (spaced (piece_words piece.now)) }
 {
     match piece {
         Piece::Nothing | Piece::Halted(None) => Ok(()),
         Piece::Item(item) => write_item(item, writer),
-        Piece::Both(first, second) => {
-            write_item(first, writer)?;
-            write_item(second, writer)
-        }
-        _ => write_words(piece, writer),
+        Piece::Both(first, second) => write_both(first, second, writer),
+        Piece::Halted(Some(name)) => write_both(
+            &Item::Term(Term::Halted),
+            &Item::Name(*name),
+            writer,
+        ),
+        Piece::Words(words) => write_words(words, writer),
+        Piece::Pairs(names, amounts) => write_pairs(names, amounts, writer),
     }
 }
 

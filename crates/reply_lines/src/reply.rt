@@ -13,7 +13,7 @@ ghost use Rattle.reply_lines.specs.Writing.{Writes};
 ghost use Rattle.reply_lines.specs.Pieces.{piece_words};
 
 use crate::outcome::ServeFault;
-use crate::parts::{Item, Piece, Term, write_line};
+use crate::parts::{Amounts, Item, Names, Piece, Term, Words, write_line};
 use dbg_base::{Answer, Call, Cut, Done, Name, Pid, Query, Refusal, Reply, Said};
 use proc_lang::Program;
 use std::io::Write;
@@ -65,7 +65,7 @@ fn print_accepted<'a, W: Write>(
             )
         }
         Done::Places(cut) => {
-            let places = Piece::Counts(program, cut.counts());
+            let places = Piece::Pairs(Names::Processes(program), Amounts::Counts(cut.counts()));
             write_line(b"ok", &[places, Piece::Halted(reply.halted)], writer)
         }
         Done::Plain => write_line(b"ok", &[Piece::Halted(reply.halted)], writer),
@@ -145,7 +145,7 @@ fn print_cut<'a, W: Write>(
     let name = Item::Name(name);
     match cut {
         Some(cut) => {
-            let counts = Piece::Counts(program, cut.counts());
+            let counts = Piece::Pairs(Names::Processes(program), Amounts::Counts(cut.counts()));
             write_line(b"cut", &[Piece::Item(name), counts], writer)
         }
         None => {
@@ -169,13 +169,16 @@ fn print_answer<'a, W: Write>(
     match (query, answer) {
         (Query::Vars(pid), Answer::Values(values)) => {
             let name = Item::Name(name_of(program, *pid));
-            let values = Piece::Values(program, *pid, values.items());
+            let values = Piece::Pairs(
+                Names::Variables(program, *pid),
+                Amounts::Numbers(values.items()),
+            );
             write_line(b"vars", &[Piece::Item(name), values], writer)
         }
         (Query::Chan(source, target), Answer::Messages(messages)) => {
             let source = Item::Name(name_of(program, *source));
             let target = Item::Name(name_of(program, *target));
-            let messages = Piece::Numbers(messages.items());
+            let messages = Piece::Words(Words::Numbers(messages.items()));
             write_line(
                 b"chan",
                 &[Piece::Item(source), Piece::Item(target), messages],
@@ -184,7 +187,7 @@ fn print_answer<'a, W: Write>(
         }
         (Query::Clock(pid), Answer::Counts(cut)) => {
             let name = Item::Name(name_of(program, *pid));
-            let counts = Piece::Counts(program, cut.counts());
+            let counts = Piece::Pairs(Names::Processes(program), Amounts::Counts(cut.counts()));
             write_line(b"clock", &[Piece::Item(name), counts], writer)
         }
         (Query::Place(pid), Answer::PlaceOf { at, line }) => print_place(
@@ -193,11 +196,15 @@ fn print_answer<'a, W: Write>(
         (Query::Can(pid), Answer::CanUndo(outcome)) => print_can(program, *pid, outcome, writer),
         (Query::CutOf(name), Answer::CutIs(cut)) => print_cut(program, *name, cut, writer),
         (Query::Why(name), Answer::Frontier(heads)) => {
-            let heads = Piece::Heads(program, heads.items());
+            let heads = Piece::Pairs(Names::Processes(program), Amounts::Heads(heads.items()));
             write_line(b"why", &[Piece::Item(Item::Name(*name)), heads], writer)
         }
         (Query::Breaks, Answer::Marks(marks)) => {
-            write_line(b"breaks", &[Piece::Marks(marks.items())], writer)
+            write_line(
+                b"breaks",
+                &[Piece::Words(Words::Marks(marks.items()))],
+                writer,
+            )
         }
         _ => unreachable!(),
     }

@@ -48,18 +48,19 @@ impl Detector {
         }
     }
 
-    // The candidate of process `of` goes on to its part in the clock of this process, and it is told whether it did.
-    fn pass_part(&mut self, world: &World, pid: Pid, of: Pid) -> bool
+    // The candidate of process `of` goes on to its part in the clock of this process behind its last event that its candidate has, and it
+    // is told whether it did.
+    fn pass_part(&mut self, world: &World, pid: Pid, event: u32, of: Pid) -> bool
         requires world { IsSomeWorld world.now }
         requires search { IsSearchOf world.now self.old }
         requires here { pid.0 < length world.now.state.places }
+        requires event { event ≡ min (slice_index self.old.candidates pid.0) (place_at world.now.state pid.0) }
         requires of { of.0 < length world.now.state.places }
         ensures on { GoesOn world.now self.old self.new }
         ensures part { PassesPart world.now self.old.candidates pid.0 of.0 self.new.candidates }
         ensures more { IsTrue result → sum self.old.candidates < sum self.new.candidates }
         ensures same { result ≡ false → self.new.candidates ≡ self.old.candidates }
     {
-        let event = self.candidate(pid).min(world.place(pid));
         let from = self.candidate(of);
         let to = world.clock_part(pid, event, of);
         if to <= from {
@@ -87,9 +88,10 @@ impl Detector {
         ensures more { IsTrue result → sum self.old.candidates < sum self.new.candidates }
         ensures same { result ≡ false → self.new.candidates ≡ self.old.candidates }
     {
+        let event = self.candidate(pid).min(world.place(pid));
         let mut moved = false;
         for p in 0..world.tally().processes() {
-            if self.pass_part(world, pid, Pid(p)) {
+            if self.pass_part(world, pid, event, Pid(p)) {
                 moved = true;
             }
         }

@@ -10,7 +10,7 @@ use Rattle.least_cut.proofs.detector.Detector.frontier.Goals as goal
 
 pub loop-p-init : goal.loop-p-init
 loop-p-init c = record {
-  len = ap (λ (l : List Head). length l) c.new-heads.ensures.items;
+  len = ap (λ (l : List Head). length l) c.in_ok-heads.ensures.items;
   each = λ p lt. absurd (omega arith);
 }
 

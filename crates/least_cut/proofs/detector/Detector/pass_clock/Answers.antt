@@ -1,4 +1,4 @@
-use Rattle.std.proofs.Common.{◌≡◌, ℕ, ◌<◌, ◌≤◌, min, sum, List, length, get_or, sym, refl, ap, ◌∙◌, subst, arith, ⊎_elim}
+use Rattle.std.proofs.Common.{◌≡◌, ℕ, ◌<◌, ◌≤◌, min, sum, List, length, get_or, sym, refl, ap, ◌∙◌, subst, arith, rules, ⊎_elim}
 use Rattle.std.proofs.lemmas.Bool.{cases_lt}
 use Rattle.std.proofs.lemmas.List.{get_or_past}
 use Rattle.dbg_base.specs.SystemStates.{place_at}
@@ -20,6 +20,11 @@ loop-p-init c = record {
 
 pub pass_part-requires-clause-search : goal.pass_part-requires-clause-search
 pass_part-requires-clause-search c = c.loop-p.invariant.on.search
+
+pub pass_part-requires-clause-event : goal.pass_part-requires-clause-event
+pass_part-requires-clause-event c =
+    let own = c.loop-p.invariant.own in
+    search (rules, own)
 
 pub pass_part-requires-clause-of : goal.pass_part-requires-clause-of
 pass_part-requires-clause-of c =
