@@ -229,6 +229,7 @@ fn serve_lines<C: Command, M: Fn(Givable) -> Result<C, Refusal>, R: Read, W: Wri
 /// then it is told that the input is too long. A fault of the reader comes after the replies to all whole lines before it; of a fault
 /// of the writer a front of the replies is left. Neither is tried again. Want of memory before the first command line writes nothing;
 /// later the line is answered `no 21`, and changes nothing. Behind 100,000 calls that were entered each further one is answered `no 20`.
+/// Where the input ends, the memory of the session is left to the process, which ends with it.
 pub fn serve<R: Read, W: Write>(
     alloc: Global,
     reader: &mut R,

@@ -1,20 +1,21 @@
 //! What a session says becomes text.
 
-ghost use Rattle.std.specs.Prelude.{◌≡◌, ◌<◌, length};
+ghost use Rattle.std.specs.Prelude.{◌≡◌, ◌<◌, ◌∷◌, map, length, codes};
+ghost use Rattle.std.specs.Fmt.{decimal, signed_decimal};
 ghost use Rattle.dbg_base.specs.declared.said.Said.TheVariants.{Accepted};
 ghost use Rattle.dbg_base.specs.declared.said.Answer.TheVariants.{PlaceOf, CanUndo, CutIs};
 ghost use Rattle.dbg_base.specs.Calls as model;
 ghost use Rattle.dbg_base.specs.Calls.{call_of, query_of};
 ghost use Rattle.dbg_base.specs.Fits.{FitsRefusal, FitsDone, FitsAnswer, FitsCall};
-ghost use Rattle.dbg_base.specs.Replies.{joined, name_of, carried_words, answer_words, refusal_text, reply_text};
+ghost use Rattle.dbg_base.specs.Replies.{joined, pair_words, name_of, halted_words, carried_words, answer_words, refusal_text, reply_text};
 ghost use Rattle.dbg_base.specs.Shell.{as_line};
 ghost use Rattle.proc_lang.specs.Programs.{program_of};
 ghost use Rattle.reply_lines.specs.Writing.{Writes};
-ghost use Rattle.reply_lines.specs.Pieces.{piece_words};
+ghost use Rattle.reply_lines.specs.Pieces.{names_in, amount_texts, piece_words};
 
 use crate::outcome::ServeFault;
 use crate::parts::{Amounts, Item, Names, Piece, Term, Words, write_line};
-use dbg_base::{Answer, Call, Cut, Done, Name, Pid, Query, Refusal, Reply, Said};
+use dbg_base::{Answer, Call, Choice, Cut, Done, Name, Pid, Query, Refusal, Reply, Said};
 use proc_lang::Program;
 use std::io::Write;
 
@@ -40,6 +41,28 @@ fn carried(program: &Program, refusal: &Refusal) -> Piece<'static>
     }
 }
 
+// The line that tells the event that a command made or took back.
+fn print_event<W: Write>(
+    program: &Program,
+    pid: Pid,
+    choice: Choice,
+    halted: Option<Name>,
+    writer: &mut W,
+) -> Result<(), ServeFault>
+    requires { pid.0 < length (program_of program.now) }
+    ensures { Writes (W.contents writer.old) (W.contents writer.new) result
+        (as_line (joined (codes "ok" ∷ name_of (program_of program.now) pid.0 ∷ decimal choice.0 ∷ halted_words halted))) }
+{
+    let name = Item::Name(name_of(program, pid));
+    let choice = Item::Count(choice.0);
+    let pieces = [
+        Piece::Item(name),
+        Piece::Item(choice),
+        Piece::Halted(halted),
+    ];
+    write_line(b"ok", &pieces, writer)
+}
+
 // The line that accepts a command.
 fn print_accepted<'a, W: Write>(
     program: &'a Program,
@@ -52,17 +75,7 @@ fn print_accepted<'a, W: Write>(
 {
     match &reply.done {
         Done::Played(pid, choice) | Done::Undone(pid, choice) => {
-            let name = Item::Name(name_of(program, *pid));
-            let choice = Item::Count(choice.0);
-            write_line(
-                b"ok",
-                &[
-                    Piece::Item(name),
-                    Piece::Item(choice),
-                    Piece::Halted(reply.halted),
-                ],
-                writer,
-            )
+            print_event(program, *pid, *choice, reply.halted, writer)
         }
         Done::Places(cut) => {
             let places = Piece::Pairs(Names::Processes(program), Amounts::Counts(cut.counts()));
@@ -132,6 +145,49 @@ fn print_can<W: Write>(
     }
 }
 
+// A line about this name: names, each with what belongs to it.
+fn print_pairs<'a, W: Write>(
+    first: &[u8],
+    name: Name,
+    names: Names<'a>,
+    amounts: Amounts<'a>,
+    writer: &mut W,
+) -> Result<(), ServeFault>
+    ensures { Writes (W.contents writer.old) (W.contents writer.new) result
+        (as_line (joined (first.now ∷ name ∷ pair_words (names_in names.entry) (amount_texts amounts.entry)))) }
+{
+    let name = Item::Name(name);
+    write_line(
+        first,
+        &[Piece::Item(name), Piece::Pairs(names, amounts)],
+        writer,
+    )
+}
+
+// The line that tells the messages from one process to another.
+fn print_chan<W: Write>(
+    program: &Program,
+    source: Pid,
+    target: Pid,
+    messages: &[i64],
+    writer: &mut W,
+) -> Result<(), ServeFault>
+    requires source { source.0 < length (program_of program.now) }
+    requires target { target.0 < length (program_of program.now) }
+    ensures { Writes (W.contents writer.old) (W.contents writer.new) result
+        (as_line (joined (codes "chan" ∷ name_of (program_of program.now) source.0 ∷ name_of (program_of program.now) target.0
+        ∷ map signed_decimal messages.now))) }
+{
+    let source = Item::Name(name_of(program, source));
+    let target = Item::Name(name_of(program, target));
+    let messages = Piece::Words(Words::Numbers(messages));
+    write_line(
+        b"chan",
+        &[Piece::Item(source), Piece::Item(target), messages],
+        writer,
+    )
+}
+
 // The line that tells a breakpoint's cut, if it has one.
 fn print_cut<'a, W: Write>(
     program: &'a Program,
@@ -142,13 +198,13 @@ fn print_cut<'a, W: Write>(
     ensures { Writes (W.contents writer.old) (W.contents writer.new) result
         (as_line (joined (answer_words (program_of program.now) (model.CutOf name) (CutIs cut.now)))) }
 {
-    let name = Item::Name(name);
     match cut {
         Some(cut) => {
-            let counts = Piece::Pairs(Names::Processes(program), Amounts::Counts(cut.counts()));
-            write_line(b"cut", &[Piece::Item(name), counts], writer)
+            let counts = Amounts::Counts(cut.counts());
+            print_pairs(b"cut", name, Names::Processes(program), counts, writer)
         }
         None => {
+            let name = Item::Name(name);
             let none = Item::Term(Term::None);
             write_line(b"cut", &[Piece::Item(name), Piece::Item(none)], writer)
         }
@@ -168,27 +224,23 @@ fn print_answer<'a, W: Write>(
 {
     match (query, answer) {
         (Query::Vars(pid), Answer::Values(values)) => {
-            let name = Item::Name(name_of(program, *pid));
-            let values = Piece::Pairs(
+            let name = name_of(program, *pid);
+            let values = Amounts::Numbers(values.items());
+            print_pairs(
+                b"vars",
+                name,
                 Names::Variables(program, *pid),
-                Amounts::Numbers(values.items()),
-            );
-            write_line(b"vars", &[Piece::Item(name), values], writer)
-        }
-        (Query::Chan(source, target), Answer::Messages(messages)) => {
-            let source = Item::Name(name_of(program, *source));
-            let target = Item::Name(name_of(program, *target));
-            let messages = Piece::Words(Words::Numbers(messages.items()));
-            write_line(
-                b"chan",
-                &[Piece::Item(source), Piece::Item(target), messages],
+                values,
                 writer,
             )
         }
+        (Query::Chan(source, target), Answer::Messages(messages)) => {
+            print_chan(program, *source, *target, messages.items(), writer)
+        }
         (Query::Clock(pid), Answer::Counts(cut)) => {
-            let name = Item::Name(name_of(program, *pid));
-            let counts = Piece::Pairs(Names::Processes(program), Amounts::Counts(cut.counts()));
-            write_line(b"clock", &[Piece::Item(name), counts], writer)
+            let name = name_of(program, *pid);
+            let counts = Amounts::Counts(cut.counts());
+            print_pairs(b"clock", name, Names::Processes(program), counts, writer)
         }
         (Query::Place(pid), Answer::PlaceOf { at, line }) => print_place(
             program, *pid, *at, *line, writer,
@@ -196,8 +248,8 @@ fn print_answer<'a, W: Write>(
         (Query::Can(pid), Answer::CanUndo(outcome)) => print_can(program, *pid, outcome, writer),
         (Query::CutOf(name), Answer::CutIs(cut)) => print_cut(program, *name, cut, writer),
         (Query::Why(name), Answer::Frontier(heads)) => {
-            let heads = Piece::Pairs(Names::Processes(program), Amounts::Heads(heads.items()));
-            write_line(b"why", &[Piece::Item(Item::Name(*name)), heads], writer)
+            let heads = Amounts::Heads(heads.items());
+            print_pairs(b"why", *name, Names::Processes(program), heads, writer)
         }
         (Query::Breaks, Answer::Marks(marks)) => {
             write_line(
