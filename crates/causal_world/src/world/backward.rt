@@ -65,8 +65,7 @@ impl World {
             ((P : tree.Program) → IsWorldOf P self.old → CannotUndo P self.old.state pid.0 refusal) ⊎ (refusal ≡ Memory)) }
         ensures kept { OnErr result (self.new ≡ self.old) }
     {
-        let mut taken = Vec::new(alloc);
-        taken.reserve(1)?;
+        let mut taken = Vec::with_capacity(alloc, 1)?;
         let event = self.pop_event(pid)?;
         taken.push_reserved(Taken { pid, event });
         Ok(Rolled { taken })

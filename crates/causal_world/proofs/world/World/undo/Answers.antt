@@ -15,7 +15,7 @@ back c P of =
     let took = c.in_ok-event.ensures.took in
     let items = c.push_reserved.ensures.items
     ∙ ap (λ (l : List Taken). l ++ record { pid = c.args.pid; event = event } ∷ [])
-    (c.in_ok-reserve.ensures.items ∙ c.new-taken.ensures.items) in
+    c.in_ok-taken.ensures.items in
     subst (λ (w : Scene). IsRolledFrom P c.args.self.now c.push_reserved.new.self.items w) (sym took.left)
     (subst (λ (l : List Taken). IsRolledFrom P c.args.self.now l (unmade c.args.self.now p event)) (sym items)
     (rolled_more P c.args.self.now c.args.self.now [] (record { pid = c.args.pid; event = event }) (rolled_none P c.args.self.now of)
