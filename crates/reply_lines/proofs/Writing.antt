@@ -130,3 +130,18 @@ spaced_one word = append-nil (codes " " ++ word)
 
 pub spaced_two : (word other : List ℕ) → spaced (word ∷ other ∷ []) ≡ (codes " " ++ word) ++ (codes " " ++ other)
 spaced_two word other = ap (λ (t : List ℕ). (codes " " ++ word) ++ t) (spaced_one other)
+
+-- a part that is due is kept to be written with what is kept already
+pub progress_kept : (a b : Option (List ℕ)) (bytes text due part others longer : List ℕ) → Progress a b bytes (text ++ due)
+    → due ≡ part ++ others → longer ≡ text ++ part → Progress a b bytes (longer ++ others)
+progress_kept a b bytes text due part others longer p e more =
+    subst (λ (rest : List ℕ). Progress a b bytes rest)
+    (ap (λ t. text ++ t) e ∙ sym (append_assoc text part others) ∙ ap (λ t. t ++ others) (sym more)) p
+
+-- the last part of a text was written or not
+pub progress_last : {A : Type 0} {r : Result A ServeFault} (a b c : Option (List ℕ)) (bytes rest part : List ℕ) → Progress a b bytes rest
+    → rest ≡ part → Writes b c r part → Writes a c r bytes
+progress_last {r = Ok v} a b c bytes rest part p e h =
+    progress_ends a c bytes [] (progress_more a b c bytes rest part [] p (e ∙ sym (append-nil part)) h) refl
+progress_last {r = Err f} a b c bytes rest part p e h =
+    progress_fails a b c bytes rest part [] p (e ∙ sym (append-nil part)) h refl

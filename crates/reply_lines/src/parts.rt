@@ -1,6 +1,6 @@
 //! Lines, written word by word.
 
-ghost use Rattle.std.specs.Prelude.{◌≡◌, ◌≤◌, ◌++◌, [], ◌∷◌, map, length, slice_get, codes};
+ghost use Rattle.std.specs.Prelude.{◌≡◌, ◌≤◌, ◌+◌, ◌++◌, [], ◌∷◌, map, length, slice_get, codes};
 ghost use Rattle.std.specs.Option.{option_map};
 ghost use Rattle.std.specs.Fmt.{decimal, signed_decimal};
 ghost use Rattle.dbg_base.specs.Trees.{process_of, names_of};
@@ -8,6 +8,7 @@ ghost use Rattle.dbg_base.specs.Replies.{joined, spaced, head_text, pair_words};
 ghost use Rattle.dbg_base.specs.Shell.{as_line};
 ghost use Rattle.proc_lang.specs.Programs.{program_of};
 ghost use Rattle.reply_lines.specs.Writing.{Writes, in_a_row};
+ghost use Rattle.reply_lines.specs.declared.parts.TheConstants.{PAIR};
 ghost use Rattle.reply_lines.specs.Pieces.{term_text, item_text, word_text, word_texts, names_in, amount_texts, piece_words};
 
 use crate::outcome::ServeFault;
@@ -16,6 +17,11 @@ use dbg_base::{Head, Name, Pid};
 use itoa::Buffer;
 use proc_lang::Program;
 use std::io::Write;
+
+// Room for a space, a name, a sign and a number.
+const PAIR: usize = 80;
+// Room for some pairs, which are written at once.
+const PAIRS: usize = 400;
 
 /// A word that stands in lines as it is.
 #[derive(Clone, Copy)]
@@ -130,10 +136,23 @@ fn write_short<W: Write>(short: &[u8], writer: &mut W) -> Result<(), ServeFault>
     requires { length short.now ≤ 40 }
     ensures { Writes (W.contents writer.old) (W.contents writer.new) result (codes " " ++ short.now) }
 {
-    let mut text = Text::new();
+    let mut text: Text<PAIR> = Text::new();
     text.append(b" ");
     text.append(short);
     write_whole(writer, text.bytes())
+}
+
+// Puts a name behind a space, and a short text behind a sign.
+fn append_pair<const ROOM: usize>(text: &mut Text<ROOM>, name: &Name, sign: &[u8], short: &[u8])
+    requires room { length text.old + PAIR ≤ ROOM }
+    requires sign { length sign.now ≤ 1 }
+    requires short { length short.now ≤ 40 }
+    ensures { text.new ≡ text.old ++ (codes " " ++ name.now ++ sign.now ++ short.now) }
+{
+    text.append(b" ");
+    text.append(name.bytes());
+    text.append(sign);
+    text.append(short);
 }
 
 // Writes a name, and a short text behind a sign.
@@ -147,11 +166,8 @@ fn write_pair<W: Write>(
     requires short { length short.now ≤ 40 }
     ensures { Writes (W.contents writer.old) (W.contents writer.new) result (codes " " ++ name.now ++ sign.now ++ short.now) }
 {
-    let mut text = Text::new();
-    text.append(b" ");
-    text.append(name.bytes());
-    text.append(sign);
-    text.append(short);
+    let mut text: Text<PAIR> = Text::new();
+    append_pair(&mut text, name, sign, short);
     write_whole(writer, text.bytes())
 }
 
@@ -272,16 +288,21 @@ fn write_pairs<W: Write>(
         (spaced (pair_words (names_in names.now) (amount_texts amounts.now))) }
 {
     let mut buffer = Buffer::new();
+    let mut text: Text<PAIRS> = Text::new();
     for place in 0..amounts.len() {
         let Some(name) = names.at(place) else {
-            return Ok(());
+            break;
         };
         let Some(item) = amounts.at(place) else {
-            return Ok(());
+            break;
         };
-        write_pair(&name, b"=", item.bytes(&mut buffer), writer)?;
+        if text.room() < PAIR {
+            write_whole(writer, text.bytes())?;
+            text.clear();
+        }
+        append_pair(&mut text, &name, b"=", item.bytes(&mut buffer));
     }
-    Ok(())
+    write_whole(writer, text.bytes())
 }
 
 impl Words<'_> {

@@ -1,22 +1,18 @@
-//! A word that is put together before it is written.
+//! Words that are put together before they are written.
 
 ghost use Rattle.std.specs.Prelude.{◌≡◌, ◌≤◌, ◌+◌, ◌<◌, ◌++◌, ◌∷◌, [], length};
 
 use std::marker::Model;
 
-/// Room for a space, a name, a sign and a number.
-const ROOM: usize = 80;
-
-/// A text that is at most as long as a name with what belongs to it.
+/// A text of at most so many bytes.
 #[derive(Drop)]
-pub(crate) struct Text {
+pub(crate) struct Text<const ROOM: usize> {
     bytes: [u8; ROOM],
     used: usize,
 }
 
-impl Model for Text {
+impl<const ROOM: usize> Model for Text<ROOM> {
     ghost use Rattle.std.specs.Prelude.{ℕ, List, ◌≤◌, take};
-    ghost use Rattle.reply_lines.specs.declared.text.TheConstants.{ROOM};
 
     ghost Value = { List ℕ };
 
@@ -25,8 +21,8 @@ impl Model for Text {
     ghost invariant = { λ text. text.used ≤ ROOM };
 }
 
-impl Text {
-    pub(crate) fn new() -> Text
+impl<const ROOM: usize> Text<ROOM> {
+    pub(crate) fn new() -> Text<ROOM>
         ensures { result ≡ [] }
     {
         Text {
@@ -41,12 +37,26 @@ impl Text {
         &self.bytes[..self.used]
     }
 
+    /// How many more bytes there is room for.
+    pub(crate) fn room(&self) -> usize
+        ensures { result + length self.now ≡ ROOM }
+    {
+        ROOM - self.used
+    }
+
+    pub(crate) fn clear(&mut self)
+        ensures { self.new ≡ [] }
+    {
+        self.used = 0;
+    }
+
     pub(crate) fn append(&mut self, more: &[u8])
         requires { length self.old + length more.now ≤ ROOM }
         ensures { self.new ≡ self.old ++ more.now }
     {
         let end = self.used + more.len();
-        self.bytes[self.used..end].copy_from_slice(more);
+        let bytes = &mut self.bytes[..];
+        bytes[self.used..end].copy_from_slice(more);
         self.used = end;
     }
 }

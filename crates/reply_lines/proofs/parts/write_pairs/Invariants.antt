@@ -1,4 +1,4 @@
-use Rattle.std.proofs.Common.{drop}
+use Rattle.std.proofs.Common.{◌++◌, drop}
 use Rattle.dbg_base.specs.Replies.{spaced, pair_words}
 use Rattle.reply_lines.specs.Pieces.{names_in, amount_texts}
 use Rattle.reply_lines.proofs.Writing.{Progress}
@@ -7,4 +7,4 @@ use Rattle.reply_lines.proofs.parts.write_pairs.Given as goal
 abbrev pub invariant-loop-place : goal.invariant-loop-place
 invariant-loop-place g l =
     Progress (g.W.Write.contents l.fn.writer) (g.W.Write.contents l.writer) (spaced (pair_words (names_in l.names) (amount_texts l.amounts)))
-    (spaced (drop l.place (pair_words (names_in l.names) (amount_texts l.amounts))))
+    (l.text ++ spaced (drop l.place (pair_words (names_in l.names) (amount_texts l.amounts))))
