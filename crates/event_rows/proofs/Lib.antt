@@ -1,2 +1,3 @@
 pub mod Undone
 pub mod Pasts
+pub mod Gathering

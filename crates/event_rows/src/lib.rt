@@ -9,6 +9,7 @@ mod exchange;
 mod line;
 mod rows;
 mod setting;
+mod wide;
 
 pub use event::Event;
 pub use exchange::Exchange;
