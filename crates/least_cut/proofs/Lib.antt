@@ -13,3 +13,4 @@ pub mod Growing
 pub mod Checked
 pub mod Beginnings
 pub mod Callers
+pub mod Scanning

@@ -1,6 +1,9 @@
 -- What is kept of the conjuncts of a breakpoint.
 use Rattle.std.specs.Prelude.{◌≡◌, ℕ, ◌<◌, ◌-◌, ◌++◌, ◌∷◌, ◌⊎◌, Bool, List, [], length, map, slice_get, slice_index_or}
-use Rattle.dbg_base.specs.Trees.{Tree}
+use Rattle.std.specs.Borrow.{Bor}
+use Rattle.dbg_base.specs.declared.expr.Expr.{Expr}
+use Rattle.dbg_base.specs.declared.ids.Pid.{Pid}
+use Rattle.dbg_base.specs.Trees.{Tree, tree_of}
 use Rattle.dbg_base.specs.LocalStates.{LocalState, no_state}
 use Rattle.dbg_base.specs.Predicates.{Conjunct, holds}
 use Rattle.event_rows.specs.Events.{past_of, advanced}
@@ -42,6 +45,17 @@ truth_line w conjunct = record {
 
 abbrev pub scan_of : Scene → List Conjunct → List TruthLine
 scan_of w conjuncts = map (truth_line w) conjuncts
+
+-- the conjunct of a process and an expression
+abbrev pub named_in : Pid × Bor Expr → Conjunct
+named_in named = record { process = named.0.0; expression = tree_of named.1.now }
+
+-- each conjunct's process with the list of the same place
+abbrev pub lines_with : List Conjunct → List (List Bool) → List TruthLine
+lines_with [] lists = []
+lines_with (conjunct ∷ conjuncts) [] = []
+lines_with (conjunct ∷ conjuncts) (truths ∷ lists) =
+    record { process = conjunct.process; truths = truths } ∷ lines_with conjuncts lists
 
 -- what is kept is that of the world
 pub record IsWatchOf (w : Scene) (watch : WatchState) : Type 0 where

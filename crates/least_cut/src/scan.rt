@@ -1,17 +1,19 @@
 //! Where conjuncts are true.
 
 ghost use Rattle.std.specs.Prelude.{◌≡◌, ◌<◌, ◌≤◌, ◌++◌, ◌∷◌, [], true, not, ◌&&◌, ◌==◌, length, map, take, IfOk, IfErr, OnOk};
-ghost use Rattle.std.specs.Prelude.{slice_index_or};
+ghost use Rattle.std.specs.Prelude.{slice_index_or, vec_len};
 ghost use Rattle.dbg_base.specs.declared.refusal.Refusal.TheVariants.{Memory};
 ghost use Rattle.dbg_base.specs.Calls.{conjunct_of};
-ghost use Rattle.least_cut.specs.Watches.{truth_line, scan_of};
+ghost use Rattle.least_cut.specs.Watches.{lines_with, named_in, truth_line, scan_of};
 ghost use Rattle.least_cut.specs.Searches.{is_false_in};
 
 use crate::room::copy_items;
 use causal_world::World;
-use dbg_base::{Conjunct, Pid, Refusal};
+use dbg_base::{Conjunct, Expr, Gate, Pid, Refusal, Sequence};
 use std::alloc::{AllocError, Global};
 use std::marker::Model;
+use std::sync::Wait;
+use std::thread::Threads;
 
 /// In which local states of a process its conjunct is true, from the start on. Contracts see this, and how many truths there may be
 /// without memory.
@@ -110,6 +112,40 @@ impl Truths {
     }
 }
 
+// The process and the expression of each conjunct.
+fn named(alloc: Global, conjuncts: &[Conjunct]) -> Result<Vec<(Pid, &Expr)>, AllocError>
+    ensures { IfOk result (λ named. map named_in named.items ≡ map conjunct_of conjuncts.now) }
+{
+    let mut named = Vec::new(alloc);
+    for conjunct in conjuncts {
+        named.push((conjunct.pid, &conjunct.expr))?;
+    }
+    Ok(named)
+}
+
+// Each conjunct's process with the list of the same place.
+fn lines_of(
+    alloc: Global,
+    conjuncts: &[Conjunct],
+    lists: Vec<Sequence<bool>>,
+) -> Result<Vec<Truths>, AllocError>
+    requires { vec_len lists ≡ length conjuncts.now }
+    ensures { IfOk result (λ lines. map (λ t. t.line) lines.items ≡ lines_with (map conjunct_of conjuncts.now) lists.items) }
+{
+    let mut lines = Vec::new(alloc);
+    let mut left = lists.into_iter();
+    for conjunct in conjuncts {
+        let Some(truths) = left.next() else {
+            unreachable!()
+        };
+        lines.push(Truths {
+            pid: conjunct.pid,
+            truths: truths.into_items(),
+        })?;
+    }
+    Ok(lines)
+}
+
 /// Where each of some conjuncts is true in a world.
 #[derive(Debug, Drop)]
 pub struct Scan {
@@ -136,6 +172,25 @@ impl Scan {
         for conjunct in conjuncts {
             lines.push(Truths::of(alloc, world, conjunct)?)?;
         }
+        Ok(Scan { lines })
+    }
+
+    /// The same scan as `of` makes, by one call of `truths_par`: a worker for each conjunct, in a thread where one can be made, asks the
+    /// gate for its turn 0, and tells when it has ended. The scan is the same whatever the gate says. It is refused only as `Memory`,
+    /// where that runs out.
+    pub fn wide<R: Threads + Wait + Sync, G: Gate>(
+        rt: &R,
+        alloc: Global,
+        world: &World,
+        conjuncts: &[Conjunct],
+        gate: &G,
+    ) -> Result<Scan, Refusal>
+        ensures scan { IfOk result (λ scan. scan ≡ scan_of world.now (map conjunct_of conjuncts.now)) }
+        ensures refuses { IfErr result (λ refusal. refusal ≡ Memory) }
+    {
+        let named = named(alloc, conjuncts)?;
+        let lists = world.rows().truths_par(rt, alloc, &named, gate)?;
+        let lines = lines_of(alloc, conjuncts, lists)?;
         Ok(Scan { lines })
     }
 
