@@ -7,3 +7,4 @@ pub mod Restoring
 pub mod GoingBack
 pub mod Boxed
 pub mod Sending
+pub mod Scans

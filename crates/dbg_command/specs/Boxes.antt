@@ -6,8 +6,8 @@ use Rattle.dbg_base.specs.declared.refusal.Refusal.{Refusal}
 use Rattle.dbg_base.specs.declared.said.Reply.{Reply}
 use Rattle.dbg_base.specs.declared.limits.TheConstants.{BREAKPOINTS}
 use Rattle.dbg_base.specs.Trees.{Program}
-use Rattle.dbg_base.specs.Predicates.{Conjunct}
 use Rattle.dbg_base.specs.SystemStates.{line_of, place_at, redo_line, after_choice, after_redo, after_undo, after_rollback}
+use Rattle.dbg_base.specs.Acts.{conjuncts_refusal}
 use Rattle.dbg_base.specs.Breakpoints.{Breakpoint, named, without, with_mark}
 use Rattle.dbg_base.specs.ModelStates.{ModelState, with_system}
 use Rattle.dbg_base.specs.Calls.{Order, One, Batch, Break}
@@ -122,3 +122,15 @@ uncleared position name kept M = record M { breakpoints = insert M.breakpoints p
 abbrev pub IsScanFor : Order → Program → ModelState → List TruthLine → Type 0
 IsScanFor (One (Break name conjuncts)) P M scan = (w : Scene) → IsWorldOf P w → w.state ≡ M.system → scan ≡ scan_of w conjuncts
 IsScanFor order P M scan = Unit {0}
+
+-- what is found for an order whose conjuncts are refused so, or are not
+abbrev pub ScansUnless : Option Refusal → Order → Program → ModelState → Option (List TruthLine) → Type 0
+ScansUnless (Some refusal) order P M found = found ≡ None
+ScansUnless None order P M found = IfKept found (IsScanFor order P M)
+
+-- What is found for an order: the scan of a breakpoint's conjuncts, where there is at least one and they are not refused, and else nothing.
+abbrev pub ScansFor : Order → Program → ModelState → Option (List TruthLine) → Type 0
+ScansFor (One (Break name [])) P M found = found ≡ None
+ScansFor (One (Break name (c ∷ conjuncts))) P M found =
+    ScansUnless (conjuncts_refusal P [] (c ∷ conjuncts)) (One (Break name (c ∷ conjuncts))) P M found
+ScansFor order P M found = found ≡ None

@@ -11,6 +11,7 @@ mod conjuncts;
 mod kinds;
 mod playing;
 mod returning;
+mod scanning;
 mod table;
 mod undoing;
 

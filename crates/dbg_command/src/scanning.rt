@@ -1,0 +1,64 @@
+//! Where the conjuncts of a breakpoint are true, looked at before it is set.
+
+ghost use Rattle.std.specs.Prelude.{◌≡◌, map, IfOk, IfErr};
+ghost use Rattle.dbg_base.specs.declared.refusal.Refusal.TheVariants.{Memory};
+ghost use Rattle.dbg_base.specs.Calls as model;
+ghost use Rattle.dbg_base.specs.Calls.{conjunct_of, order_of};
+ghost use Rattle.proc_lang.specs.Programs.{program_of};
+ghost use Rattle.dbg_command.specs.Boxes.{ScansFor};
+ghost use Rattle.dbg_command.specs.Tables.{IsTableOf, state_of};
+
+use crate::conjuncts::fitting;
+use crate::table::Table;
+use dbg_base::{Conjunct, Gate, Plan, Refusal};
+use least_cut::Scan;
+use proc_lang::Program;
+use std::alloc::Global;
+use std::sync::Wait;
+use std::thread::Threads;
+
+impl Table {
+    // The scan of these conjuncts, where a breakpoint may have them.
+    fn scan_fitting<R: Threads + Wait + Sync, G: Gate>(
+        &self,
+        rt: &R,
+        alloc: Global,
+        program: &Program,
+        conjuncts: &[Conjunct],
+        gate: &G,
+    ) -> Result<Option<Scan>, Refusal>
+        requires { IsTableOf (program_of program.now) self.now }
+        ensures scans { IfOk result (λ found. (name : _) → ScansFor (model.One (model.Break name (map conjunct_of conjuncts.now)))
+            (program_of program.now) (state_of self.now) found) }
+        ensures refuses { IfErr result (λ refusal. refusal ≡ Memory) }
+    {
+        if conjuncts.is_empty() || fitting(program, conjuncts).is_err() {
+            return Ok(None);
+        }
+        let scan = Scan::wide(rt, alloc, &self.world, conjuncts, gate)?;
+        Ok(Some(scan))
+    }
+
+    /// The scan that a command may be given: that of a breakpoint's conjuncts, where there is at least one and they are not refused, and
+    /// for all other commands None. Each conjunct is looked at by a worker of its own, as in `Scan::wide`. It is refused only as
+    /// `Memory`, where that runs out.
+    pub fn scan<R: Threads + Wait + Sync, G: Gate>(
+        &self,
+        rt: &R,
+        alloc: Global,
+        program: &Program,
+        plan: &Plan,
+        gate: &G,
+    ) -> Result<Option<Scan>, Refusal>
+        requires { IsTableOf (program_of program.now) self.now }
+        ensures scans { IfOk result (λ found. ScansFor (order_of plan.now) (program_of program.now) (state_of self.now) found) }
+        ensures refuses { IfErr result (λ refusal. refusal ≡ Memory) }
+    {
+        match plan {
+            Plan::Break(_, conjuncts) => {
+                self.scan_fitting(rt, alloc, program, conjuncts.items(), gate)
+            }
+            _ => Ok(None),
+        }
+    }
+}
