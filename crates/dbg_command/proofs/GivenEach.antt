@@ -1,5 +1,5 @@
 -- Commands that are given one after the other, and what a batch of them comes to.
-use Rattle.std.proofs.Common.{◌≡◌, ◌⊎◌, inl, inr, ℕ, ◌+◌, ◌<◌, ◌≤◌, List, [], ◌∷◌, ◌++◌, length, get_or, drop, map, Result, Ok, Err}
+use Rattle.std.proofs.Common.{◌≡◌, ◌⊎◌, inl, inr, ℕ, ◌+◌, ◌<◌, ◌≤◌, List, [], ◌∷◌, ◌++◌, length, get_or, drop, Ok, Err}
 use Rattle.std.proofs.Common.{refl, sym, ap, ◌∙◌, subst, ⊎_elim, drop_of_length-le}
 use Rattle.std.proofs.lemmas.List.{drop_more}
 use Rattle.std.proofs.Math.Bridge.{le_prop}
@@ -21,7 +21,7 @@ use Rattle.dbg_base.specs.Refusals.{refusal_number}
 use Rattle.dbg_base.specs.Trees.{Program}
 use Rattle.dbg_base.specs.ModelStates.{ModelState}
 use Rattle.dbg_base.specs.Calls.{Plan, Order, One, Batch, IsOne, AreCommands, order_of, plans_of, plans_in}
-use Rattle.dbg_base.specs.Acts.{Acts, Accepts, Batches, Refuses}
+use Rattle.dbg_base.specs.Acts.{Acts, Batches}
 use Rattle.break_book.proofs.Callers.{seen_breakpoints}
 use Rattle.dbg_command.specs.Tables.{TableState, Replies, shown, state_of, FollowsOrRefuses, GivesEach, TellsWithin, IsGivable}
 use Rattle.dbg_command.proofs.Acting.{accepted}

@@ -1,5 +1,5 @@
 -- What is kept of a command takes it back: from where it led, to where it was given.
-use Rattle.std.proofs.Common.{◌≡◌, ℕ, ◌<◌, ◌≤◌, Bool, true, false, List, [], ◌∷◌, ◌++◌, length, map, insert, Option, Some, None}
+use Rattle.std.proofs.Common.{◌≡◌, ℕ, ◌<◌, ◌≤◌, Bool, true, false, List, [], ◌∷◌, ◌++◌, length, insert, Option, Some, None}
 use Rattle.std.proofs.Common.{refl, sym, ap, ◌∙◌, subst, arith}
 use Rattle.std.specs.Prelude.{slice_get, Result, Ok, Err, IfOk, IfSome}
 use Rattle.dbg_base.specs.declared.refusal.Refusal.{Refusal}
@@ -19,8 +19,8 @@ use Rattle.causal_world.proofs.Sames.{same_world}
 use Rattle.dbg_base.specs.Calls.{One, Break}
 use Rattle.least_cut.specs.Watches.{TruthLine, scan_of}
 use Rattle.least_cut.specs.Detectors.{IsDetectorOf}
-use Rattle.break_book.specs.Books.{Kept, Entry, breakpoint_of, breakpoints_of, new_breakpoint, AreDetectorsOf}
-use Rattle.dbg_command.specs.Tables.{TableState, IsTableOf, Adds, state_of}
+use Rattle.break_book.specs.Books.{Kept, Entry, breakpoint_of, breakpoints_of, AreDetectorsOf}
+use Rattle.dbg_command.specs.Tables.{TableState, IsTableOf, state_of}
 use Rattle.dbg_command.specs.Boxes.{LeadsBack, HasStepped, HasRedone, HasRolled, HasNamed, HasUnarmed, HasCleared, IsScanFor}
 use Rattle.dbg_command.specs.Boxes.{unstepped, unredone, unrolled, unset, marked, uncleared}
 use Rattle.break_book.proofs.Returning.{detector_taken, breakpoints_inserted}

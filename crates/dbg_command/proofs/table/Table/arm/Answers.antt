@@ -1,4 +1,4 @@
-use Rattle.std.proofs.Common.{sym, ap, ◌∙◌, refl, subst, Ok, false, true}
+use Rattle.std.proofs.Common.{sym, ap, refl, subst, Ok}
 use Rattle.proc_lang.specs.Programs.{program_of}
 use Rattle.dbg_base.specs.Calls as model
 use Rattle.dbg_command.specs.Tables.{TableState, IsTableOf, ActsOrRefuses, state_of}

@@ -1,4 +1,4 @@
-use Rattle.std.proofs.Common.{◌≡◌, List, sym, ap, ◌∙◌, refl, subst, Ok, Err, false, true, rules}
+use Rattle.std.proofs.Common.{◌≡◌, List, sym, ap, refl, subst, Ok, Err, rules}
 use Rattle.proc_lang.specs.Programs.{program_of}
 use Rattle.dbg_base.specs.Calls as model
 use Rattle.break_book.specs.Books.{Entry, breakpoints_of}

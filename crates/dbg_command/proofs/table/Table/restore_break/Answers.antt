@@ -1,6 +1,6 @@
 use Rattle.std.proofs.Common.{◌≡◌, ap, ◌∙◌, subst, insert}
 use Rattle.std.proofs.lemmas.Result.{on_ok_weaker}
-use Rattle.break_book.specs.Books.{Entry, breakpoint_of, breakpoints_of}
+use Rattle.break_book.specs.Books.{Entry, breakpoints_of}
 use Rattle.break_book.proofs.Returning.{breakpoints_inserted}
 use Rattle.dbg_command.specs.Tables.{TableState, state_of}
 use Rattle.dbg_command.specs.Boxes.{uncleared}

@@ -1,5 +1,4 @@
 use Rattle.std.proofs.Common.{◌≡◌, sym, ap, ◌∙◌, subst}
-use Rattle.dbg_base.specs.Trees.{Program}
 use Rattle.causal_world.specs.Scenes.{Scene, IsWorldOf, restored}
 use Rattle.break_book.specs.Books.{AreShrunk}
 use Rattle.break_book.proofs.Returning.{book_unstepped}
