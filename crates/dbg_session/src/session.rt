@@ -2,21 +2,23 @@
 
 ghost use Rattle.std.specs.Prelude.{◌≡◌, ◌≤◌, ◌⊎◌, [], Err, IfOk, IfErr, IfSome, OnErr};
 ghost use Rattle.dbg_base.specs.declared.refusal.Refusal.TheVariants.{Memory};
-ghost use Rattle.dbg_base.specs.Calls.{Give, Back, Ask, query_of};
+ghost use Rattle.dbg_base.specs.Calls.{Give, Back, Ask, order_of, query_of};
 ghost use Rattle.dbg_base.specs.declared.limits.TheConstants.{BREAKPOINTS};
 ghost use Rattle.dbg_base.specs.ModelStates.{opening, IsHaltPlace};
 ghost use Rattle.dbg_base.specs.Journals.{StandsAt, AnswersBack, counting, last_given};
 ghost use Rattle.dbg_base.specs.Fits.{FitsCall};
 ghost use Rattle.proc_lang.specs.Programs.{program_of};
 ghost use Rattle.dbg_command.specs.Tables.{AnswersOrRefuses, FollowsOrRefuses, said_of, told_of};
-ghost use Rattle.dbg_command.specs.Boxes.{IsScanFor};
+ghost use Rattle.dbg_command.specs.Boxes.{IsScanFor, ScansFor};
 
-use dbg_base::{Answer, Done, Query, Refusal, Reply};
+use dbg_base::{Answer, Done, Gate, Plan, Query, Refusal, Reply};
 use dbg_command::{Command, Table};
 use least_cut::Scan;
 use proc_lang::Program;
 use std::alloc::Global;
 use std::marker::Model;
+use std::sync::Wait;
+use std::thread::Threads;
 
 // A command that was accepted, and the seat that gave it.
 #[derive(Drop)]
@@ -126,6 +128,22 @@ impl<C: Command> Session<C> {
         last.command.revert(&mut self.table)?;
         let _taken = self.stack.pop();
         Ok(self.table.reply(Done::Plain))
+    }
+
+    /// The scan that `perform` may be given with a command of this plan: that of a breakpoint's conjuncts, where there is at least one
+    /// and they are not refused, and for all other plans None. Each conjunct is looked at by a worker of its own, as in `Scan::wide`. It
+    /// is refused only as `Memory`, where that runs out.
+    pub fn scan<R: Threads + Wait + Sync, G: Gate>(
+        &self,
+        rt: &R,
+        alloc: Global,
+        plan: &Plan,
+        gate: &G,
+    ) -> Result<Option<Scan>, Refusal>
+        ensures scans { IfOk result (λ found. ScansFor (order_of plan.now) self.now.program self.now.state found) }
+        ensures refuses { IfErr result (λ refusal. refusal ≡ Memory) }
+    {
+        self.table.scan(rt, alloc, &self.program, plan, gate)
     }
 
     /// Answers a question, which changes nothing. It is refused as its kind says, or as `Memory`, where that runs out.
