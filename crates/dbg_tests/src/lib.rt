@@ -6,6 +6,9 @@ mod books;
 pub mod detector_calls;
 #[cfg(test)]
 mod eliminations;
+pub mod meeting_gate;
+#[cfg(test)]
+mod scans;
 pub mod world_calls;
 #[cfg(test)]
 mod worlds;

@@ -1,0 +1,65 @@
+//! Tests of `Scan::wide`: it is the scan that `of` makes, and its workers run at the same time.
+
+ghost use Rattle.std.specs.Prelude.{IfOk};
+ghost use Rattle.proc_lang.specs.Programs.{program_of};
+ghost use Rattle.causal_world.specs.Scenes.{IsWorldOf};
+
+use crate::detector_calls::conjunct;
+use crate::meeting_gate::MeetingGate;
+use crate::world_calls::step;
+use causal_world::World;
+use dbg_base::{Choice, Conjunct, Pid, Refusal};
+use least_cut::Scan;
+use proc_lang::{ProgError, Program, parse_program};
+use std::alloc::Global;
+use std::test::Fail;
+
+const A: Pid = Pid(0);
+
+const B: Pid = Pid(1);
+
+const C: Pid = Pid(2);
+
+// The first counts to 3 and sends each count to the second, which counts what it takes; the third counts by itself.
+fn counters(alloc: Global) -> Result<Program, ProgError> {
+    let text = "process a { var x = 0; when (x < 3) : send b (x + 1), x := (x + 1); }
+        process b { var y = 0; var n = 0; when true : recv a y, n := (n + 1); when (n > 0) : n := (n - 1); }
+        process c { var z = 0; when true : z := (z + 1); }";
+    parse_program(alloc, text.as_bytes())
+}
+
+// The world of the program where the first has sent twice, the second has taken one message, and the third has counted once.
+fn played(alloc: Global, program: &Program) -> Result<World, Refusal>
+    ensures { IfOk result (λ world. IsWorldOf (program_of program.now) world) }
+{
+    let mut world = World::new(alloc, program)?;
+    step(&mut world, alloc, program, A, Choice(0))?;
+    step(&mut world, alloc, program, A, Choice(0))?;
+    step(&mut world, alloc, program, C, Choice(0))?;
+    step(&mut world, alloc, program, B, Choice(0))?;
+    Ok(world)
+}
+
+fn conjuncts(alloc: Global, program: &Program) -> Result<Vec<Conjunct>, Refusal> {
+    let mut conjuncts = Vec::new(alloc);
+    conjuncts.push(conjunct(alloc, program, A, "(x = 2)")?)?;
+    conjuncts.push(conjunct(alloc, program, B, "(n = 1)")?)?;
+    Ok(conjuncts)
+}
+
+#[test]
+fn scan_meets(rt: HostRuntime) -> Result<(), Fail> {
+    let alloc = rt.alloc();
+    let program = counters(alloc)?;
+    let world = played(alloc, &program)?;
+    let conjuncts = conjuncts(alloc, &program)?;
+    let gate = MeetingGate::new();
+    let wide = Scan::wide(&rt, alloc, &world, &conjuncts, &gate)?;
+    assert!(rt; gate.have_met());
+    let plain = Scan::of(alloc, &world, &conjuncts)?;
+    assert_eq!(rt;
+        format!(in alloc; "{wide:?}")?,
+        format!(in alloc; "{plain:?}")?
+    );
+    Ok(())
+}
