@@ -17,6 +17,7 @@ pub mod Keeping
 pub mod OneOutcome
 pub mod There
 pub mod SaidFits
+pub mod Entered
 pub mod Legal
 pub mod Standing
 pub mod OneAnswer

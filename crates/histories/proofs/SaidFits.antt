@@ -45,7 +45,7 @@ abbrev Chooses : Program → Result ℕ Refusal → Type 0
 Chooses P (Ok k) = Unit {0}
 Chooses P (Err refusal) = FitsRefusal P refusal
 
-one_of : {A : Type 0} (Fit : A → Type 0) (t : Bool) (x y : A) → Fit x → Fit y → Fit (cond t x y)
+pub one_of : {A : Type 0} (Fit : A → Type 0) (t : Bool) (x y : A) → Fit x → Fit y → Fit (cond t x y)
 one_of Fit true x y a b = a
 one_of Fit false x y a b = b
 
