@@ -1,2 +1,8 @@
 mod Pairs
 mod Making
+mod Matching
+mod Sharing
+mod Recorded
+mod Kept
+mod Settled
+mod Scanned

@@ -1,8 +1,11 @@
 -- What contracts see of a journal under its lock, and of a seat, and what a seat's call makes of both.
-use Rattle.std.specs.Prelude.{◌≡◌, ◌⊎◌, ℕ, zero, suc, ◌<◌, ◌≤◌, List, [], ◌∷◌, ◌++◌, length, Option, Some, None}
+use Rattle.std.specs.Prelude.{◌≡◌, ◌⊎◌, ℕ, zero, suc, ◌<◌, ◌≤◌, Bool, true, false, List, [], ◌∷◌, ◌++◌, length, Option, Some, None}
+use Rattle.std.specs.Bool.{MatchBool}
 use Rattle.std.specs.Borrow.{Bor}
 use Rattle.std.specs.List.{AllByRecursion}
 use Rattle.dbg_base.specs.declared.said.Said.{Said}
+use Rattle.dbg_base.specs.declared.said.Said.TheVariants.{Refused}
+use Rattle.dbg_base.specs.declared.refusal.Refusal.TheVariants.{JournalFull, Memory}
 use Rattle.dbg_base.specs.Trees.{Program}
 use Rattle.dbg_base.specs.declared.call.Plan as plan
 use Rattle.dbg_base.specs.Calls.{Call, Give, Back, order_of, call_of}
@@ -100,6 +103,22 @@ abbrev pub Notes : Program → Standing → SeatState → Call → Said → Stan
 Notes P old seat call said new after =
     ((length new.journal ≡ suc (length old.journal)) × IsNoted P old seat call said new after)
     ⊎ ((new ≡ old) × (after ≡ seat))
+
+-- A seat's call was entered: it is the last of its own.
+pub record IsRecorded (seat : SeatState) (call : Call) (said : Said) (after : SeatState) : Type 0 where
+  pub number : after.number ≡ seat.number
+  pub own : after.own ≡ seat.own ++ record { call = call; said = said } ∷ []
+  pub begins : Begins seat.seen after.seen
+
+-- what is said to a call that is not entered: memory ran out, or as many calls were entered as may be
+abbrev pub is_left_out : Said → Bool
+is_left_out (Refused Memory) = true
+is_left_out (Refused JournalFull) = true
+is_left_out said = false
+
+-- what a seat's call leaves of the seat
+abbrev pub Records : SeatState → Call → Said → SeatState → Type 0
+Records seat call said after = MatchBool (is_left_out said) (after ≡ seat) (IsRecorded seat call said after)
 
 -- a seat that made no call yet
 abbrev pub new_seat : ℕ → SeatState

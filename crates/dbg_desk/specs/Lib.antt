@@ -1,2 +1,3 @@
 pub mod Desks
 pub mod Rooms
+pub mod Settling

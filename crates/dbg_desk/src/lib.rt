@@ -6,6 +6,7 @@
 #![tactic(auto)]
 
 mod copies;
+mod desk;
 mod entry;
 mod locked;
 mod log;
@@ -13,8 +14,11 @@ mod ready;
 mod rooms;
 mod run;
 mod seat;
+mod settling;
 
+pub use desk::Desk;
 pub use entry::{Entry, Own};
 pub use locked::Locked;
 pub use run::Run;
 pub use seat::Seat;
+pub use settling::{Closing, Mismatch};

@@ -1,6 +1,6 @@
 //! The value under a session's lock.
 
-ghost use Rattle.std.specs.Prelude.{◌≡◌, ◌≤◌, [], length, replicate, slice_get, Some, IfOk, IfErr, IfSome, MatchOption};
+ghost use Rattle.std.specs.Prelude.{◌≡◌, ◌≤◌, [], length, replicate, slice_get, Some, IfOk, IfErr, IfSome, OnOk, MatchOption};
 ghost use Rattle.dbg_base.specs.declared.refusal.Refusal.TheVariants.{Memory};
 ghost use Rattle.dbg_base.specs.declared.limits.TheConstants.{SEATS};
 ghost use Rattle.dbg_base.specs.Calls as model;
@@ -12,7 +12,9 @@ ghost use Rattle.proc_lang.specs.Programs.{program_of};
 ghost use Rattle.dbg_command.specs.Tables.{said_of, told_of};
 ghost use Rattle.dbg_command.specs.Boxes.{IsScanFor};
 ghost use Rattle.dbg_board.specs.Boards.{listing};
+ghost use Rattle.std.specs.List.{AllByRecursion};
 ghost use Rattle.dbg_desk.specs.Desks.{entry_of, ArePairs, Notes, new_seats};
+ghost use Rattle.dbg_desk.specs.Settling.{IsKeptIn, IsRunJournal, HasOther};
 
 use crate::copies::{ran_out, said_to_question};
 use crate::entry::{Entry, Own};
@@ -21,7 +23,9 @@ use crate::ready::prepare;
 use crate::rooms::Rooms;
 use crate::run::Run;
 use crate::seat::Seat;
-use dbg_base::{Answer, Call, Query, Refusal, Reply};
+use crate::settling::{Closing, Mismatch, are_kept};
+use dbg_base::limits::CALLS;
+use dbg_base::{Answer, Call, Gate, Query, Refusal, Reply};
 use dbg_board::{Publisher, SeatView};
 use dbg_command::Command;
 use dbg_session::Session;
@@ -29,7 +33,9 @@ use least_cut::Scan;
 use proc_lang::Program;
 use std::alloc::Global;
 use std::marker::Model;
+use std::sync::Wait;
 use std::sync::ledger::{Blank, Share};
+use std::thread::Threads;
 
 /// A session, the journal of all calls that were entered, and the publisher of the board beside it. Its type keeps that the journal is one
 /// that a single caller could have made, that the session stands where the journal leads, and that all of it was told on the board.
@@ -181,17 +187,66 @@ impl<L: Run, C: Command> Locked<L, C> {
             return outcome;
         }
         let (said, own_said) = rooms.say(&outcome);
-        let entry = Entry {
-            seat: *number,
-            call: ready.call,
-            said,
-        };
-        let kept = Own {
-            call: ready.own_call,
-            said: own_said,
-        };
+        let entry = Entry::new(*number, ready.call, said);
+        let kept = Own::new(ready.own_call, own_said);
         log.enter(own, share, view, entry, kept, session.halt_at());
         outcome
+    }
+
+    // The scan that the command may be given where the session stands, made by several threads.
+    fn scan<R: Threads + Wait + Sync, G: Gate>(
+        &self,
+        rt: &R,
+        alloc: Global,
+        command: &C,
+        gate: &G,
+    ) -> Result<Option<Scan>, Refusal>
+        ensures scan { IfOk result (λ found. IfSome found (λ scan. (M : ModelState) → StandsAt L.program (effective self.now.journal) M
+            → IsScanFor (C.order command.now) L.program M scan)) }
+        ensures refuses { IfErr result (λ refusal. refusal ≡ Memory) }
+    {
+        self.session.scan(rt, alloc, command.plan(), gate)
+    }
+
+    /// Gives a command for a seat, as `enter` does, where the scan of the conjuncts of a breakpoint is made by several threads, which ask
+    /// the gate. A full journal is looked for first.
+    pub(crate) fn call<R: Threads + Wait + Sync, G: Gate>(
+        &mut self,
+        rt: &R,
+        alloc: Global,
+        seat: &mut Seat<L>,
+        command: C,
+        gate: &G,
+    ) -> Result<Reply, Refusal>
+        requires fresh { C.IsFresh command }
+        ensures makes { Makes L.program self.old.journal seat.old.number (model.Give (C.order command)) (said_of result)
+            self.new.journal }
+        ensures notes { Notes L.program self.old seat.old (model.Give (C.order command)) (said_of result) self.new seat.new }
+    {
+        if self.calls() >= CALLS {
+            return Err(Refusal::JournalFull);
+        }
+        let scan = self.scan(rt, alloc, &command, gate)?;
+        self.enter(alloc, seat, command, scan)
+    }
+
+    /// Whether the calls of each of these seats are those that the journal has of it, in order. It takes no memory.
+    pub fn settle(&self, seats: &[Seat<L>]) -> Result<Closing, Mismatch>
+        ensures run { IsRunJournal L.program L.seats self.now.journal }
+        ensures calls { IfOk result (λ closing. closing.calls ≡ length self.now.journal) }
+        ensures kept { OnOk result (AllByRecursion (IsKeptIn self.now.journal) seats.now) }
+        ensures other { IfErr result (λ mismatch. HasOther self.now.journal seats.now mismatch.seat) }
+    {
+        for seat in seats {
+            if !are_kept(&self.log.journal, seat.number(), seat.own_calls()) {
+                return Err(Mismatch {
+                    seat: seat.number(),
+                });
+            }
+        }
+        Ok(Closing {
+            calls: self.log.journal.len(),
+        })
     }
 
     /// Takes back, for a seat, the last command that counts, and enters the call with what is said to it. As `JournalFull`, where as many
@@ -218,15 +273,8 @@ impl<L: Run, C: Command> Locked<L, C> {
             return taken;
         }
         let (said, own_said) = rooms.say(&taken);
-        let entry = Entry {
-            seat: *number,
-            call: ready.call,
-            said,
-        };
-        let kept = Own {
-            call: ready.own_call,
-            said: own_said,
-        };
+        let entry = Entry::new(*number, ready.call, said);
+        let kept = Own::new(ready.own_call, own_said);
         log.enter(own, share, view, entry, kept, session.halt_at());
         taken
     }
@@ -254,15 +302,8 @@ impl<L: Run, C: Command> Locked<L, C> {
         log.make_room(own)?;
         let answered = session.ask(alloc, &query);
         let (said, own_said) = said_to_question(&answered)?;
-        let entry = Entry {
-            seat: *number,
-            call: Call::Ask(query),
-            said,
-        };
-        let kept = Own {
-            call: Call::Ask(query),
-            said: own_said,
-        };
+        let entry = Entry::new(*number, Call::Ask(query), said);
+        let kept = Own::new(Call::Ask(query), own_said);
         log.enter(own, share, view, entry, kept, session.halt_at());
         answered
     }

@@ -1,11 +1,12 @@
 //! What a command needs so that nothing is refused once it was given.
 
-ghost use Rattle.std.specs.Prelude.{◌≡◌, ◌<◌, IfOk, IfErr, OnOk};
+ghost use Rattle.std.specs.Prelude.{◌≡◌, ◌<◌, true, IfOk, IfErr, OnOk};
 ghost use Rattle.std.specs.Vec.{vec_len, vec_capacity};
 ghost use Rattle.dbg_base.specs.declared.refusal.Refusal.TheVariants.{Memory};
 ghost use Rattle.dbg_base.specs.declared.limits.TheConstants.{CALLS};
 ghost use Rattle.dbg_base.specs.Calls.{call_of};
 ghost use Rattle.proc_lang.specs.Programs.{program_of};
+ghost use Rattle.kept_calls.specs.Flat.{is_flat_call};
 ghost use Rattle.dbg_desk.specs.Desks.{asked};
 ghost use Rattle.dbg_desk.specs.Rooms.{HaveRoom, IsUnready};
 
@@ -14,6 +15,7 @@ use crate::log::Log;
 use crate::rooms::Rooms;
 use crate::run::Run;
 use dbg_base::{Call, Plan, Refusal};
+use kept_calls::copy_flat;
 use proc_lang::Program;
 
 /// The call that is entered, and the one that its seat keeps.
@@ -21,15 +23,18 @@ use proc_lang::Program;
 pub(crate) struct Ready {
     pub(crate) call: Call,
     pub(crate) own_call: Call,
+    ghost flat: { is_flat_call call ≡ true },
+    ghost own_flat: { is_flat_call own_call ≡ true },
 }
 
 // The call that gives this command, or takes the last one back.
 fn call(plan: Option<&Plan>) -> Result<Call, Refusal>
     ensures call { IfOk result (λ made. call_of made ≡ asked plan.entry) }
+    ensures flat { IfOk result (λ made. is_flat_call made ≡ true) }
     ensures refuses { IfErr result (λ refusal. refusal ≡ Memory) }
 {
     match plan {
-        Some(plan) => Ok(Call::Give(plan.copy()?)),
+        Some(plan) => Ok(Call::Give(copy_flat(plan)?)),
         None => Ok(Call::Back),
     }
 }

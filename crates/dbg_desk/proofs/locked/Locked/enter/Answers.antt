@@ -3,7 +3,7 @@ use Rattle.dbg_base.specs.declared.limits.TheConstants.{CALLS}
 use Rattle.dbg_base.specs.declared.refusal.Refusal.TheVariants.{Memory}
 use Rattle.dbg_base.specs.Trees.{Program}
 use Rattle.std.specs.Prelude.{IsTrue}
-use Rattle.dbg_base.specs.Calls.{Order, Give}
+use Rattle.dbg_base.specs.Calls.{Order, Give, call_of}
 use Rattle.dbg_base.specs.Journals.{effective}
 use Rattle.dbg_board.specs.declared.glance.Glance.{Glance}
 use Rattle.dbg_board.specs.Boards.{Listing}
@@ -25,8 +25,8 @@ here g c =
     let after = c.perform-outcome.new.self in
     let order = g.C.Command.order c.args.command in
     let result = c.perform-outcome.result in
-    let kept : entry.Entry = record { seat = c.seat.inside.number; call = c.in_ok-ready.ready.call; said = c.say-said.result.0 } in
-    let mine : own.Own = record { call = c.in_ok-ready.ready.own_call; said = c.say-said.result.1 } in
+    let kept = c.new-entry.result in
+    let mine = c.new-kept.result in
     let pair : Glance = record { calls = vec_len c.enter.new.self.journal; halt = c.halt_at.result } in
     let few : length items < CALLS = search rules in
     let long : vec_len c.enter.new.self.journal ≡ length c.enter.new.self.journal.items = search rules in
@@ -39,14 +39,17 @@ here g c =
     c.self.invariant.stands follows there in
     entered P g.L.Run.seats session items c.self.inside.log.publisher.pairs c.self.invariant c.seat.inside.number
     (Give order) (said_of result) few due
-    kept refl (c.in_ok-ready.ensures.call ∙ ap (λ (o : Order). Give o) c.plan.ensures) c.say-said.ensures.said c.enter.new.self.journal.items
+    kept c.new-entry.ensures.seat
+    (ap call_of c.new-entry.ensures.call ∙ c.in_ok-ready.ensures.call ∙ ap (λ (o : Order). Give o) c.plan.ensures)
+    (c.new-entry.ensures.said ∙ c.say-said.ensures.said) c.enter.new.self.journal.items
     (c.enter.ensures.journal ∙ ap (λ (l : List entry.Entry). l ++ kept ∷ []) c.prepare.ensures.journal)
     after c.perform-outcome.ensures.program c.perform-outcome.ensures.effective c.perform-outcome.ensures.stands c.halt_at.result
     c.halt_at.ensures.place (vec_len c.enter.new.self.journal) long c.enter.new.self.publisher.pairs
     (c.enter.ensures.pairs ∙ ap (λ (l : Listing). l.pairs ++ pair ∷ []) c.prepare.ensures.publisher)
     c.seat.invariant.among c.args.self.now c.args.seat.now mine c.seat.inside.own.items c.enter.new.own.items c.seat.inside.view.pairs
     c.enter.new.view.pairs c.self.view_is c.seat.view_is
-    (c.in_ok-ready.ensures.own_call ∙ ap (λ (o : Order). Give o) c.plan.ensures) c.say-said.ensures.own
+    (ap call_of c.new-kept.ensures.call ∙ c.in_ok-ready.ensures.own_call ∙ ap (λ (o : Order). Give o) c.plan.ensures)
+    (c.new-kept.ensures.said ∙ c.say-said.ensures.own)
     (c.enter.ensures.own ∙ ap (λ (l : List own.Own). l ++ mine ∷ []) c.prepare.ensures.own)
     (ap (λ (l : Listing). l.pairs) c.enter.ensures.told)
     c.enter.ensures.begins

@@ -1,8 +1,7 @@
 use Rattle.std.proofs.Common.{◌≡◌, ◌<◌, List, [], ◌∷◌, ◌++◌, length, map, vec_len, refl, ap, ◌∙◌, subst, rules}
 use Rattle.dbg_base.specs.declared.limits.TheConstants.{CALLS}
-use Rattle.dbg_base.specs.declared.call.Call.TheVariants as calls
 use Rattle.dbg_base.specs.Trees.{Program}
-use Rattle.dbg_base.specs.Calls.{Ask, query_of}
+use Rattle.dbg_base.specs.Calls.{Ask, query_of, call_of}
 use Rattle.dbg_base.specs.Journals.{effective}
 use Rattle.dbg_board.specs.declared.glance.Glance.{Glance}
 use Rattle.dbg_board.specs.Boards.{Listing}
@@ -20,8 +19,8 @@ here : (g : _) (c : goal.After-enter g)
 here g c =
     let items = c.self.inside.log.journal.items in
     let session = c.self.inside.session in
-    let kept : entry.Entry = record { seat = c.seat.inside.number; call = calls.Ask c.args.query; said = c.in_ok-said.said } in
-    let mine : own.Own = record { call = calls.Ask c.args.query; said = c.in_ok-said.own_said } in
+    let kept = c.new-entry.result in
+    let mine = c.new-kept.result in
     let pair : Glance = record { calls = vec_len c.enter.new.self.journal; halt = c.halt_at.result } in
     let few : length items < CALLS = search rules in
     let long : vec_len c.enter.new.self.journal ≡ length c.enter.new.self.journal.items = search rules in
@@ -32,13 +31,15 @@ here g c =
     c.ask-answered.result c.self.invariant.stands answers c.in_ok-said.ensures.there in
     entered g.L.Run.program g.L.Run.seats session items c.self.inside.log.publisher.pairs c.self.invariant c.seat.inside.number
     (Ask (query_of c.args.query)) (told_of c.ask-answered.result) few due
-    kept refl refl c.in_ok-said.ensures.said c.enter.new.self.journal.items
+    kept c.new-entry.ensures.seat (ap call_of c.new-entry.ensures.call) (c.new-entry.ensures.said ∙ c.in_ok-said.ensures.said)
+    c.enter.new.self.journal.items
     (c.enter.ensures.journal ∙ ap (λ (l : List entry.Entry). l ++ kept ∷ []) c.make_room.ensures.journal)
     session refl refl (stands_still _ _ _ _ _ c.self.invariant) c.halt_at.result c.halt_at.ensures.place (vec_len c.enter.new.self.journal) long
     c.enter.new.self.publisher.pairs
     (c.enter.ensures.pairs ∙ ap (λ (l : Listing). l.pairs ++ pair ∷ []) c.make_room.ensures.publisher)
     c.seat.invariant.among c.args.self.now c.args.seat.now mine c.seat.inside.own.items c.enter.new.own.items c.seat.inside.view.pairs
-    c.enter.new.view.pairs c.self.view_is c.seat.view_is refl c.in_ok-said.ensures.own
+    c.enter.new.view.pairs c.self.view_is c.seat.view_is (ap call_of c.new-kept.ensures.call)
+    (c.new-kept.ensures.said ∙ c.in_ok-said.ensures.own)
     (c.enter.ensures.own ∙ ap (λ (l : List own.Own). l ++ mine ∷ []) c.make_room.ensures.own)
     (ap (λ (l : Listing). l.pairs) c.enter.ensures.told)
     c.enter.ensures.begins
