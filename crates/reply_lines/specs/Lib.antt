@@ -1,3 +1,4 @@
 pub mod Outcomes
 pub mod Writing
 pub mod Pieces
+pub mod Closings

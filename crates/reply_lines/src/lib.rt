@@ -7,6 +7,9 @@ mod parts;
 mod reply;
 mod text;
 
-pub use notices::{hand_on, tell_fault, tell_no_end_line, tell_size, tell_too_long};
+pub use notices::{
+    hand_on, print_differs, print_settled, tell_fault, tell_no_end_line, tell_size, tell_too_long,
+    tell_too_many_turns,
+};
 pub use outcome::{ServeFault, Served, status};
 pub use reply::{print_refusal, print_reply};

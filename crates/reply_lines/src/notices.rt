@@ -5,6 +5,7 @@ ghost use Rattle.std.specs.Io.KnownBytes.{Keeps};
 ghost use Rattle.dbg_base.specs.Shell.{as_line, too_long_text, no_end_line_text, fault_text, size_text};
 ghost use Rattle.reply_lines.specs.Writing.{Writes, in_a_row};
 ghost use Rattle.reply_lines.specs.Pieces.{piece_words};
+ghost use Rattle.reply_lines.specs.Closings.{too_many_turns_text, settled_text, differs_text};
 ghost use Rattle.dbg_base.specs.Replies.{joined};
 ghost use Rattle.reply_lines.specs.declared.outcome.Served.TheVariants.{Done, Refused, TooLong};
 ghost use Rattle.reply_lines.specs.declared.outcome.ServeFault.TheVariants.{Write};
@@ -35,15 +36,15 @@ pub fn hand_on<W: Write>(written: Result<(), ServeFault>, writer: &mut W) -> Res
 }
 
 // Writes a line and hands it on; then the run has ended so.
-fn tell<W: Write>(
+fn tell<E: Copy, W: Write>(
     first: &[u8],
     pieces: &[Piece<'_>],
-    end: Served,
+    end: E,
     writer: &mut W,
-) -> Result<Served, ServeFault>
+) -> Result<E, ServeFault>
     ensures written { Writes (W.contents writer.old) (W.contents writer.new) result
         (as_line (joined (first.now ∷ in_a_row piece_words pieces.now))) }
-    ensures served { IfOk result (λ served. served ≡ end) }
+    ensures served { IfOk result (λ ended. ended ≡ end) }
 {
     let written = write_line(first, pieces, writer);
     hand_on(written, writer)?;
@@ -98,4 +99,26 @@ pub fn tell_size<W: Write>(
         Piece::Item(Item::Term(Term::Commands)),
     ];
     tell(b"ok", &pieces, Served::Done, writer)
+}
+
+/// There would be more calls than a session takes.
+pub fn tell_too_many_turns<W: Write>(writer: &mut W) -> Result<(), ServeFault>
+    ensures { Writes (W.contents writer.old) (W.contents writer.new) result too_many_turns_text }
+{
+    tell(b"too many turns", &[], (), writer)
+}
+
+/// So many calls were entered, and the journal has them as the seats do.
+pub fn print_settled<W: Write>(calls: usize, writer: &mut W) -> Result<(), ServeFault>
+    ensures { Writes (W.contents writer.old) (W.contents writer.new) result (settled_text calls) }
+{
+    write_line(b"calls", &[Piece::Item(Item::Size(calls))], writer)?;
+    write_line(b"journal ok", &[], writer)
+}
+
+/// The journal and the seats differ.
+pub fn print_differs<W: Write>(writer: &mut W) -> Result<(), ServeFault>
+    ensures { Writes (W.contents writer.old) (W.contents writer.new) result differs_text }
+{
+    write_line(b"journal differs", &[], writer)
 }

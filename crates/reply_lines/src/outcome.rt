@@ -1,6 +1,6 @@
 //! How a run of the shell ends.
 
-ghost use Rattle.std.specs.Prelude.{◌≡◌};
+ghost use Rattle.std.specs.Prelude.{◌≡◌, Err};
 ghost use Rattle.reply_lines.specs.Outcomes.{status_of};
 ghost use Rattle.reply_lines.specs.declared.outcome.ServeFault.TheVariants.{Memory};
 
@@ -40,14 +40,26 @@ impl From<AllocError> for ServeFault {
     }
 }
 
+impl ServeFault {
+    /// The status with which the program ends that stopped so.
+    pub fn status(&self) -> u8
+        ensures { result ≡ status_of (Err self.now) }
+    {
+        match self {
+            ServeFault::Read | ServeFault::Write => 1,
+            ServeFault::Memory => 4,
+        }
+    }
+}
+
 /// The status with which the program ends: 0 done, 1 a fault of input or output, 3 a refused program, 4 no memory to start.
 pub fn status(outcome: &Result<Served, ServeFault>) -> u8
     ensures { result ≡ status_of outcome.now }
 {
     match outcome {
         Ok(Served::Done) => 0,
-        Ok(Served::TooLong) | Err(ServeFault::Read) | Err(ServeFault::Write) => 1,
+        Ok(Served::TooLong) => 1,
         Ok(Served::Refused) => 3,
-        Err(ServeFault::Memory) => 4,
+        Err(fault) => fault.status(),
     }
 }
