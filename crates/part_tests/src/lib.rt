@@ -15,3 +15,5 @@ mod cuts;
 mod evaluation;
 #[cfg(test)]
 mod events;
+#[cfg(test)]
+mod wide;

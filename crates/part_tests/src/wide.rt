@@ -1,0 +1,158 @@
+//! Tests of `Rows::truths_par`: it makes the lists of `truths`, whatever the gate says, and asks and tells the gate of each.
+
+use crossbeam_utils::CachePadded;
+use dbg_base::{Choice, Expr, Gate, OpenGate, Operator, Pid};
+use event_rows::{Event, Exchange, Rows, Setting};
+use proc_lang::parse_program;
+use std::alloc::{AllocError, Global};
+use std::process::Abort;
+use std::sync::Wait;
+use std::sync::atomic::{AtomicBool, Ordering};
+use std::test::Fail;
+use std::thread::Threads;
+
+const A: Pid = Pid(0);
+
+const B: Pid = Pid(1);
+
+// What a gate was asked and told of each of three workers.
+#[derive(Drop)]
+struct Notes {
+    flags: [CachePadded<AtomicBool>; 3],
+}
+
+impl Notes {
+    fn new() -> Notes {
+        Notes {
+            flags: [
+                CachePadded::new(AtomicBool::new(false)),
+                CachePadded::new(AtomicBool::new(false)),
+                CachePadded::new(AtomicBool::new(false)),
+            ],
+        }
+    }
+
+    // Notes the first turn of a worker.
+    fn note(&self, worker: u32, turn: u32) {
+        if turn == 0 {
+            if let Some(flag) = self.flags.get(worker as usize) {
+                flag.store(true, Ordering::SeqCst);
+            }
+        }
+    }
+
+    fn seen(&self) -> [bool; 3] {
+        let [first, second, third] = &self.flags;
+        [
+            first.load(Ordering::SeqCst),
+            second.load(Ordering::SeqCst),
+            third.load(Ordering::SeqCst),
+        ]
+    }
+}
+
+// A gate that lets some of three workers through, and notes what it is asked and told.
+#[derive(Drop)]
+struct NotingGate {
+    lets: [bool; 3],
+    asked: Notes,
+    told: Notes,
+}
+
+impl NotingGate {
+    fn new(lets: [bool; 3]) -> NotingGate {
+        NotingGate {
+            lets,
+            asked: Notes::new(),
+            told: Notes::new(),
+        }
+    }
+}
+
+impl Gate for NotingGate {
+    ghost may_bar = { λ gate worker turn. Unit {0} };
+
+    fn may_start(&self, worker: u32, turn: u32) -> bool {
+        self.asked.note(worker, turn);
+        self.lets.get(worker as usize).copied().unwrap_or(false)
+    }
+
+    fn answered(&self, worker: u32, turn: u32) {
+        self.told.note(worker, turn);
+    }
+}
+
+// The variable is greater than this number.
+fn above(alloc: Global, number: i64) -> Result<Expr, AllocError> {
+    let left = Box::new(alloc, Expr::Variable(0))?;
+    let right = Box::new(alloc, Expr::Number(number))?;
+    Ok(Expr::Binary(Operator::Greater, left, right))
+}
+
+// The first process has set its variable to 5 and 7, and the second to 9.
+fn rows(alloc: Global) -> Result<Rows, Fail> {
+    let text = "process a { var x = 3; } process b { var y = 4; }";
+    let mut rows = Rows::new(alloc, &parse_program(alloc, text.as_bytes())?)?;
+    for (pid, old, new) in [(A, 3, 5), (A, 5, 7), (B, 4, 9)] {
+        let setting = Setting {
+            variable: 0,
+            old,
+            new,
+        };
+        let event = Event::new(alloc, Choice(0), &[setting], Exchange::Nothing)?;
+        if rows.has(pid) {
+            rows.reserve(pid, 1)?;
+            rows.push(pid, event);
+        }
+    }
+    Ok(rows)
+}
+
+// Expects the lists of `truths` of two processes and of one that is not there.
+fn expect<R: Threads + Wait + Sync + Abort, G: Gate>(
+    rt: &R,
+    alloc: Global,
+    gate: &G,
+) -> Result<(), Fail> {
+    let rows = rows(alloc)?;
+    let (four, six) = (above(alloc, 4)?, above(alloc, 6)?);
+    let named = [(A, &six), (B, &four), (Pid(2), &four)];
+    let lists = rows.truths_par(rt, alloc, &named, gate)?;
+    assert_eq!(rt; lists.len(), named.len());
+    for (list, (pid, expr)) in lists.iter().zip(named) {
+        assert_eq!(rt; list.items(), rows.truths(alloc, pid, expr)?.items());
+    }
+    Ok(())
+}
+
+#[test]
+fn lists_are_made_in_threads(rt: HostRuntime) -> Result<(), Fail> {
+    expect(&rt, rt.alloc(), &OpenGate)
+}
+
+#[test]
+fn each_worker_asks_and_tells(rt: HostRuntime) -> Result<(), Fail> {
+    let gate = NotingGate::new([true, true, true]);
+    expect(&rt, rt.alloc(), &gate)?;
+    assert_eq!(rt; gate.asked.seen(), [true, true, true]);
+    assert_eq!(rt; gate.told.seen(), [true, true, true]);
+    Ok(())
+}
+
+#[test]
+fn a_barred_list_is_made_all_the_same(rt: HostRuntime) -> Result<(), Fail> {
+    let gate = NotingGate::new([true, false, true]);
+    expect(&rt, rt.alloc(), &gate)?;
+    assert_eq!(rt; gate.asked.seen(), [true, true, true]);
+    assert_eq!(rt; gate.told.seen(), [true, false, true]);
+    Ok(())
+}
+
+#[test]
+fn lists_are_made_where_all_are_barred(rt: HostRuntime) -> Result<(), Fail> {
+    let gate = NotingGate::new([false, false, false]);
+    expect(&rt, rt.alloc(), &gate)?;
+    assert_eq!(rt; gate.asked.seen(), [true, true, true]);
+    assert_eq!(rt; gate.told.seen(), [false, false, false]);
+    Ok(())
+}
