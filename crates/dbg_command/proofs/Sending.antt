@@ -42,7 +42,7 @@ expr_send = search (send-Expr, sendable, crosses) depth 20
 conjunct_send : IsSend conjunct.the_row
 conjunct_send = search (hole_send-Expr, send-Expr, pid_sent.the_field_send, sendable, crosses) depth 20
 
-plan_send : IsSend plan.the_row
+pub plan_send : IsSend plan.the_row
 plan_send =
     search (
       send-Plan,
@@ -106,7 +106,7 @@ book_send = search (book_fields, sendable)
 table_fields : IsSend table_inside.the_row
 table_fields = declared_send table_inside.the_type (world_sent.the_send, (book_send, tt))
 
-table_send : IsSend table.the_row
+pub table_send : IsSend table.the_row
 table_send = search (table_fields, sendable)
 
 pub batch_send : IsSend batch.the_row

@@ -6,3 +6,4 @@ mod Recorded
 mod Kept
 mod Settled
 mod Scanned
+pub mod Sending
