@@ -1,0 +1,3 @@
+mod Turns
+mod Barring
+mod Sending
