@@ -2,10 +2,17 @@
 #![tactic(auto)]
 
 pub mod beginning;
+pub mod crew_gate;
+#[cfg(test)]
+mod crews;
+#[cfg(test)]
+mod desks;
 #[cfg(test)]
 mod journals;
 #[cfg(test)]
 mod limits;
+pub mod meeting_gate;
+pub mod opening;
 #[cfg(test)]
 mod shown;
 pub mod trial;
