@@ -66,7 +66,7 @@ module _ (bytes : List ℕ) (ended : Bool) (begin new : ℕ) (end : TextEnd) (be
       program_here input may = split_here (ends.Before span) is input (narrows input may)
 
       -- the replies to all lines, and the end of the input
-      abbrev Replied : List ℕ → Ending
+      abbrev Replied : List ℕ → Ending Served
       Replied input served out = (served ≡ end_of input) × RepliesTo P (lines_from new input) input out
 
       replied : (input : List ℕ) → MayBe more over input → (served : Served) (out : List ℕ) → Replied input served out

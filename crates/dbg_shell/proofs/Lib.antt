@@ -9,3 +9,4 @@ pub mod Known
 pub mod InputTexts
 pub mod CheckTexts
 pub mod Seats
+pub mod Crews

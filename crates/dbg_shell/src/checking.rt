@@ -9,7 +9,7 @@ ghost use Rattle.dbg_shell.specs.Serving.{WritesSome, WritesFront, ReadsFew, Rea
 ghost use Rattle.dbg_shell.specs.Checking.{command_count, ChecksText, ChecksInput};
 
 use crate::framing::Input;
-use crate::program_text::{TextEnd, read_program_text};
+use crate::program_text::{read_program_text, text_alone};
 use dbg_base::Pid;
 use proc_lang::{ProgError, Program, parse_program};
 use reply_lines::{ServeFault, Served, tell_fault, tell_size, tell_too_long};
@@ -61,9 +61,9 @@ pub fn check<R: Read, W: Write>(
     ensures program { IfSome (R.remaining reader.old) (λ input. ReadsProgram input (R.remaining reader.new)) }
 {
     let mut input = Input::new(alloc)?;
-    match read_program_text(&mut input, reader)? {
-        TextEnd::Before(span) => check_text(alloc, input.before(span), writer),
-        TextEnd::End => check_text(alloc, input.bytes(), writer),
-        TextEnd::TooLong => tell_too_long(writer),
+    let end = read_program_text(&mut input, reader)?;
+    match text_alone(&input, end) {
+        Some(text) => check_text(alloc, text, writer),
+        None => tell_too_long(writer),
     }
 }

@@ -7,4 +7,6 @@ pub enum Job {
     Run,
     /// Look at a program text.
     Check,
+    /// Give `next` for each process of a program text so many times, from threads.
+    Crew(u32),
 }

@@ -1,10 +1,12 @@
 //! The program text, which stands in front of the input.
 
 ghost use Rattle.std.specs.Prelude.{◌≡◌, ◌≤◌, true, drop, length, None, IfOk, IfErr, OnErr};
+ghost use Rattle.std.specs.Option.{option_map};
 ghost use Rattle.dbg_base.specs.declared.limits.TheConstants.{INPUT_BYTES};
 ghost use Rattle.dbg_base.specs.Shell.{is_end_line, lines_of, parts_of};
 ghost use Rattle.dbg_shell.specs.Spans.{EndsWith, ReadsOn};
 ghost use Rattle.dbg_shell.specs.Serving.{SplitsAny, ReadsText};
+ghost use Rattle.dbg_shell.specs.Checking.{IsTextAt};
 ghost use Rattle.dbg_shell.specs.declared.program_text.TextEnd.TheVariants.{End};
 ghost use Rattle.reply_lines.specs.declared.outcome.ServeFault.TheVariants.{Read};
 
@@ -56,5 +58,16 @@ pub(crate) fn read_program_text<R: Read>(
             Next::End => return Ok(TextEnd::End),
             Next::TooLong => return Ok(TextEnd::TooLong),
         }
+    }
+}
+
+/// The text where nothing behind it is looked at: it ends before this line, or where the input does. None where the input is too long.
+pub(crate) fn text_alone(input: &Input, end: TextEnd) -> Option<&[u8]>
+    ensures { IsTextAt input.now.bytes.items end (option_map (λ text. text.now) result) }
+{
+    match end {
+        TextEnd::Before(span) => Some(input.before(span)),
+        TextEnd::End => Some(input.bytes()),
+        TextEnd::TooLong => None,
     }
 }

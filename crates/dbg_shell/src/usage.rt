@@ -1,15 +1,26 @@
 //! The program's own command line.
 
+ghost use Rattle.std.specs.Prelude.{IfOk};
+ghost use Rattle.dbg_shell.specs.Jobs.{MayBeAsked};
+
 use crate::jobs::Job;
-use clap::{Command, Error};
+use clap::error::ErrorKind;
+use clap::{Arg, Command, Error};
+use dbg_base::limits::CALLS;
 use std::alloc::{AllocError, Global};
 use std::convert::AsStr;
 
 static ABOUT: &str =
     "A debugger for processes that send each other messages: steps them, takes events back, halts at bad global states";
 
+// The most turns of a crew.
+const TURNS: u32 = 100_000;
+
+const _: () = prove!(TURNS as usize == CALLS);
+
 static GUIDE: &str =
-    "The text comes from standard input: a program, a line `%%`, and for `run` command lines behind it.
+    "The text comes from standard input: a program, a line `%%`, and for `run` command lines behind it. Where no line
+is `%%`, all of it is the program of `check` and `crew`.
 
 Command lines, each behind a seat from 1 to 16:
   step P K, next P, redo P       make an event of the process P
@@ -64,20 +75,40 @@ fn command<'a>(alloc: Global) -> Result<Command<'a>, AllocError> {
     let check = Command::new(alloc, "check").about(
         "Reads a program and says how many processes and commands it has, or what is wrong",
     );
+    let turns = Arg::new(alloc, "turns")
+        .long("turns")
+        .value_name("N")
+        .required(true)
+        .value_parser(clap::value_parser!(u32).range(1..=i64::from(TURNS)))
+        .help("How often each process is given `next`, from 1 to 100000");
+    let crew = Command::new(alloc, "crew")
+        .about(
+            "Reads a program, gives `next` for each process so many times, from threads, and says how many calls there were",
+        )
+        .arg(turns)?;
     Command::new(alloc, "rdbg")
         .about(ABOUT)
         .after_help(GUIDE)
         .subcommand_required(true)
         .subcommand(run)?
-        .subcommand(check)
+        .subcommand(check)?
+        .subcommand(crew)
 }
 
 /// The job that the words ask for, of which the first is the program's own name. The error is a request for help, or words that
-/// ask for no job; it has the text to print and the status to end with.
-pub fn job<'a, S: AsStr>(alloc: Global, words: &'a [S]) -> Result<Job, Error> {
-    let matches = command(alloc)?.try_get_matches_from(words)?;
-    match matches.subcommand_name() {
-        Some("check") => Ok(Job::Check),
+/// ask for no job; it has the text to print and the status to end with. A crew has 1 to 100,000 turns.
+pub fn job<'a, S: AsStr>(alloc: Global, words: &'a [S]) -> Result<Job, Error>
+    ensures { IfOk result MayBeAsked }
+{
+    let mut command = command(alloc)?;
+    let matches = command.try_get_matches_from_mut(words)?;
+    match matches.subcommand() {
+        Some(("check", _)) => Ok(Job::Check),
+        Some(("crew", crew)) => match crew.get_one::<u32>("turns") {
+            Some(turns) if 1 <= turns && turns <= TURNS => Ok(Job::Crew(turns)),
+            // The command has looked at the number already.
+            _ => Err(command.error(ErrorKind::ValueValidation, "a crew has 1 to 100000 turns")?),
+        },
         _ => Ok(Job::Run),
     }
 }

@@ -1,4 +1,4 @@
-//! The program `rdbg`: its words go to `job`, its streams to `serve` or `check`, and the status comes out.
+//! The program `rdbg`: its words go to `job`, its streams to `serve`, `check` or `run_crew`, and the status comes out.
 #![tactic(auto)]
 
 mod buffer;
@@ -8,23 +8,27 @@ mod tests;
 mod words;
 
 use clap::error::ErrorKind;
-use dbg_shell::{Job, ServeFault, Served, check, job, serve, status};
+use dbg_shell::{Job, check, crew_status, job, run_crew, serve, status};
 use output::Output;
 use std::alloc::Global;
 use std::io::{Read, Write};
 use std::process::ExitCode;
+use std::sync::Wait;
+use std::thread::Threads;
 use words::{WordsFault, words};
 
-// Does the job from this reader to this writer.
-fn run<R: Read, W: Write>(
+// Does the job from this reader to this writer, and says the status with which the program ends.
+fn run<R: Threads + Wait + Sync, I: Read, W: Write>(
+    rt: &R,
     alloc: Global,
     job: Job,
-    reader: &mut R,
+    reader: &mut I,
     writer: &mut W,
-) -> Result<Served, ServeFault> {
+) -> u8 {
     match job {
-        Job::Run => serve(alloc, reader, writer),
-        Job::Check => check(alloc, reader, writer),
+        Job::Run => status(&serve(alloc, reader, writer)),
+        Job::Check => status(&check(alloc, reader, writer)),
+        Job::Crew(turns) => crew_status(&run_crew(rt, alloc, turns, reader, writer)),
     }
 }
 
@@ -44,7 +48,7 @@ fn main(rt: HostRuntime) -> ExitCode {
         Ok(job) => {
             let mut reader = rt.stdin();
             let mut writer = Output::new(rt.stdout());
-            ExitCode::from(status(&run(rt.alloc(), job, &mut reader, &mut writer)))
+            ExitCode::from(run(&rt, rt.alloc(), job, &mut reader, &mut writer))
         }
         Err(error) => {
             if error.kind() == ErrorKind::OutOfMemory {

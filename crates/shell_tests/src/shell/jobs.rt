@@ -1,6 +1,7 @@
 use clap::error::ErrorKind;
 use dbg_shell::{Job, job};
 use std::alloc::Global;
+use std::process::Abort;
 use std::test::Fail;
 
 #[test]
@@ -9,6 +10,10 @@ fn words_ask_for_jobs(rt: HostRuntime) -> Result<(), Fail> {
     assert!(rt; matches!(run, Ok(Job::Run)));
     let check = job(rt.alloc(), ["rdbg", "check"].as_slice());
     assert!(rt; matches!(check, Ok(Job::Check)));
+    let crew = job(rt.alloc(), ["rdbg", "crew", "--turns", "1"].as_slice());
+    assert!(rt; matches!(crew, Ok(Job::Crew(1))));
+    let most = job(rt.alloc(), ["rdbg", "crew", "--turns=100000"].as_slice());
+    assert!(rt; matches!(most, Ok(Job::Crew(100_000))));
     Ok(())
 }
 
@@ -32,6 +37,29 @@ fn other_words_are_refused(rt: HostRuntime) {
     assert_eq!(rt; help, Some((ErrorKind::DisplayHelp, 0)));
 }
 
+#[test]
+fn a_crew_has_turns_within_bounds(rt: HostRuntime) {
+    let alloc = rt.alloc();
+    let bad = Some((ErrorKind::ValueValidation, 2));
+    assert_eq!(rt; refusal(alloc, ["rdbg", "crew", "--turns", "0"].as_slice()), bad);
+    assert_eq!(rt; refusal(alloc, ["rdbg", "crew", "--turns", "100001"].as_slice()), bad);
+    assert_eq!(rt; refusal(alloc, ["rdbg", "crew", "--turns", "4294967297"].as_slice()), bad);
+    assert_eq!(rt; refusal(alloc, ["rdbg", "crew", "--turns=-1"].as_slice()), bad);
+    assert_eq!(rt; refusal(alloc, ["rdbg", "crew", "--turns", "ten"].as_slice()), bad);
+    assert_eq!(rt; refusal(alloc, ["rdbg", "crew", "--turns", "1.5"].as_slice()), bad);
+    let missing = refusal(alloc, ["rdbg", "crew"].as_slice());
+    assert_eq!(rt; missing, Some((ErrorKind::MissingRequiredArgument, 2)));
+    let empty = refusal(alloc, ["rdbg", "crew", "--turns"].as_slice());
+    assert_eq!(rt; empty, Some((ErrorKind::InvalidValue, 2)));
+    let twice = refusal(
+        alloc,
+        ["rdbg", "crew", "--turns", "1", "--turns", "2"].as_slice(),
+    );
+    assert_eq!(rt; twice, Some((ErrorKind::ArgumentConflict, 2)));
+    let other = refusal(alloc, ["rdbg", "run", "--turns", "1"].as_slice());
+    assert_eq!(rt; other, Some((ErrorKind::UnknownArgument, 2)));
+}
+
 const HELP: &str =
     "A debugger for processes that send each other messages: steps them, takes events back, halts at bad global states
 
@@ -40,12 +68,14 @@ Usage: rdbg <COMMAND>
 Commands:
   run    Reads a program, a line `%%` and command lines, and answers each line
   check  Reads a program and says how many processes and commands it has, or what is wrong
+  crew   Reads a program, gives `next` for each process so many times, from threads, and says how many calls there were
   help   Print this message or the help of the given subcommand(s)
 
 Options:
   -h, --help  Print help
 
-The text comes from standard input: a program, a line `%%`, and for `run` command lines behind it.
+The text comes from standard input: a program, a line `%%`, and for `run` command lines behind it. Where no line
+is `%%`, all of it is the program of `check` and `crew`.
 
 Command lines, each behind a seat from 1 to 16:
   step P K, next P, redo P       make an event of the process P
@@ -94,15 +124,42 @@ Example of a text for `run`:
   1 vars a
 ";
 
-#[test]
-fn help_tells_the_jobs(rt: HostRuntime) -> Result<(), Fail> {
-    let alloc = rt.alloc();
-    match job(alloc, ["rdbg", "--help"].as_slice()) {
-        Ok(_) => panic!(rt; "no help"),
+const CREW_HELP: &str =
+    "Reads a program, gives `next` for each process so many times, from threads, and says how many calls there were
+
+Usage: rdbg crew --turns <N>
+
+Options:
+      --turns <N>  How often each process is given `next`, from 1 to 100000
+  -h, --help       Print help
+";
+
+const NO_TURNS: &str = "error: invalid value '0' for '--turns <N>': 0 is not in 1..=100000
+
+For more information, try '--help'.
+";
+
+fn expect_text(
+    rt: &impl Abort,
+    alloc: Global,
+    words: &'static [&'static str],
+    want: &str,
+) -> Result<(), Fail> {
+    match job(alloc, words) {
+        Ok(_) => panic!(rt; "no text"),
         Err(error) => {
             let text = error.to_string(alloc)?;
-            assert_eq!(rt; text.as_str(), HELP);
+            assert_eq!(rt; text.as_str(), want);
         }
     }
     Ok(())
+}
+
+#[test]
+fn help_tells_the_jobs(rt: HostRuntime) -> Result<(), Fail> {
+    let alloc = rt.alloc();
+    expect_text(&rt, alloc, ["rdbg", "--help"].as_slice(), HELP)?;
+    expect_text(&rt, alloc, ["rdbg", "crew", "--help"].as_slice(), CREW_HELP)?;
+    let none = ["rdbg", "crew", "--turns", "0"].as_slice();
+    expect_text(&rt, alloc, none, NO_TURNS)
 }

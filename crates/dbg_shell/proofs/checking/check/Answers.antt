@@ -1,55 +1,42 @@
+use Rattle.std.proofs.Common.{Some, None, ap, refl}
+use Rattle.std.specs.Option.{option_map}
 use Rattle.dbg_base.specs.Shell.{too_long_text}
 use Rattle.reply_lines.specs.declared.outcome.Served.TheVariants as outcomes
-use Rattle.dbg_shell.specs.Checking.{ChecksText, ChecksInput}
+use Rattle.dbg_shell.specs.Checking.{ChecksText, ChecksAlone, ChecksInput}
 use Rattle.dbg_shell.proofs.Known.{known_may, told_done, told_cut, leads_done, leads_cut}
-use Rattle.dbg_shell.proofs.CheckTexts.{text_before, text_whole, too_long_here}
+use Rattle.dbg_shell.proofs.CheckTexts.{nothing_read, told_alone}
 use Rattle.dbg_shell.proofs.checking.check.Goals as goal
 
-pub returns-in-Before-clause-checked : goal.returns-in-Before-clause-checked
-returns-in-Before-clause-checked g c =
-    leads_done c.read_program_text.new.input.bytes.items c.read_program_text.new.input.ended ChecksInput
-    (ChecksText c.before-in-Before.result.now)
-    (text_before c.read_program_text.new.input.bytes.items c.read_program_text.new.input.ended _ c.read_program_text.new.input.at _
-    c.in_ok-input.ensures.at c.in_ok-span.ensures.splits
-    c.before-in-Before.result.now c.in-Before.span c.in-Before.is c.before-in-Before.ensures) _ _ _ _
+pub returns-in_err-input-clause-program : goal.returns-in_err-input-clause-program
+returns-in_err-input-clause-program g c = nothing_read (g.R.Read.remaining c.args.reader.now)
+
+pub returns-in-Some-clause-checked : goal.returns-in-Some-clause-checked
+returns-in-Some-clause-checked g c =
+    leads_done c.read_program_text.new.input.bytes.items c.read_program_text.new.input.ended ChecksInput (ChecksText c.in-Some.text.now)
+    (told_alone _ _ _ c.read_program_text.new.input.at _ c.in_ok-input.ensures.at c.in_ok-end.ensures.splits c.in_ok-end.ensures.stopped _
+    c.text_alone.ensures ChecksAlone (Some c.in-Some.text.now) (ap (option_map (λ text. text.now)) c.in-Some.is)) _ _ _ _
     (known_may c.in_ok-input.ensures.bytes c.read_program_text.ensures.reads) c.check_text.ensures.checked
 
-pub returns-in-Before-clause-stopped : goal.returns-in-Before-clause-stopped
-returns-in-Before-clause-stopped g c =
-    leads_cut c.read_program_text.new.input.bytes.items c.read_program_text.new.input.ended ChecksInput
-    (ChecksText c.before-in-Before.result.now)
-    (text_before c.read_program_text.new.input.bytes.items c.read_program_text.new.input.ended _ c.read_program_text.new.input.at _
-    c.in_ok-input.ensures.at c.in_ok-span.ensures.splits
-    c.before-in-Before.result.now c.in-Before.span c.in-Before.is c.before-in-Before.ensures) _ _ _ _
+pub returns-in-Some-clause-stopped : goal.returns-in-Some-clause-stopped
+returns-in-Some-clause-stopped g c =
+    leads_cut c.read_program_text.new.input.bytes.items c.read_program_text.new.input.ended ChecksInput (ChecksText c.in-Some.text.now)
+    (told_alone _ _ _ c.read_program_text.new.input.at _ c.in_ok-input.ensures.at c.in_ok-end.ensures.splits c.in_ok-end.ensures.stopped _
+    c.text_alone.ensures ChecksAlone (Some c.in-Some.text.now) (ap (option_map (λ text. text.now)) c.in-Some.is)) _ _ _ _
     (known_may c.in_ok-input.ensures.bytes c.read_program_text.ensures.reads) c.check_text.ensures.stopped
-
-pub returns-in-End-clause-checked : goal.returns-in-End-clause-checked
-returns-in-End-clause-checked g c =
-    leads_done c.read_program_text.new.input.bytes.items c.read_program_text.new.input.ended ChecksInput (ChecksText c.bytes.result.now)
-    (text_whole c.read_program_text.new.input.bytes.items c.read_program_text.new.input.ended _ c.read_program_text.new.input.at _
-    c.in_ok-input.ensures.at c.in_ok-span.ensures.splits
-    c.bytes.result.now c.in-End.is (c.in_ok-span.ensures.stopped c.in-End.is) c.bytes.ensures) _ _ _ _
-    (known_may c.in_ok-input.ensures.bytes c.read_program_text.ensures.reads) c.check_text-in-End.ensures.checked
-
-pub returns-in-End-clause-stopped : goal.returns-in-End-clause-stopped
-returns-in-End-clause-stopped g c =
-    leads_cut c.read_program_text.new.input.bytes.items c.read_program_text.new.input.ended ChecksInput (ChecksText c.bytes.result.now)
-    (text_whole c.read_program_text.new.input.bytes.items c.read_program_text.new.input.ended _ c.read_program_text.new.input.at _
-    c.in_ok-input.ensures.at c.in_ok-span.ensures.splits
-    c.bytes.result.now c.in-End.is (c.in_ok-span.ensures.stopped c.in-End.is) c.bytes.ensures) _ _ _ _
-    (known_may c.in_ok-input.ensures.bytes c.read_program_text.ensures.reads) c.check_text-in-End.ensures.stopped
 
 pub returns-clause-checked : goal.returns-clause-checked
 returns-clause-checked g c =
     told_done c.read_program_text.new.input.bytes.items c.read_program_text.new.input.ended ChecksInput too_long_text outcomes.TooLong
-    (too_long_here c.read_program_text.new.input.bytes.items c.read_program_text.new.input.ended _ c.read_program_text.new.input.at _
-    c.in_ok-input.ensures.at c.in_ok-span.ensures.splits c.in-TooLong.is)
-    _ _ _ _ (known_may c.in_ok-input.ensures.bytes c.read_program_text.ensures.reads) c.tell_too_long.ensures.written
+    (λ input may. told_alone _ _ _ c.read_program_text.new.input.at _ c.in_ok-input.ensures.at c.in_ok-end.ensures.splits
+    c.in_ok-end.ensures.stopped _ c.text_alone.ensures ChecksAlone None (ap (option_map (λ text. text.now)) c.in-None.is) input may
+    outcomes.TooLong too_long_text (refl, refl)) _ _ _ _
+    (known_may c.in_ok-input.ensures.bytes c.read_program_text.ensures.reads) c.tell_too_long.ensures.written
     c.tell_too_long.ensures.served
 
 pub returns-clause-stopped : goal.returns-clause-stopped
 returns-clause-stopped g c =
     told_cut c.read_program_text.new.input.bytes.items c.read_program_text.new.input.ended ChecksInput too_long_text outcomes.TooLong
-    (too_long_here c.read_program_text.new.input.bytes.items c.read_program_text.new.input.ended _ c.read_program_text.new.input.at _
-    c.in_ok-input.ensures.at c.in_ok-span.ensures.splits c.in-TooLong.is)
-    _ _ _ _ (known_may c.in_ok-input.ensures.bytes c.read_program_text.ensures.reads) c.tell_too_long.ensures.written
+    (λ input may. told_alone _ _ _ c.read_program_text.new.input.at _ c.in_ok-input.ensures.at c.in_ok-end.ensures.splits
+    c.in_ok-end.ensures.stopped _ c.text_alone.ensures ChecksAlone None (ap (option_map (λ text. text.now)) c.in-None.is) input may
+    outcomes.TooLong too_long_text (refl, refl)) _ _ _ _
+    (known_may c.in_ok-input.ensures.bytes c.read_program_text.ensures.reads) c.tell_too_long.ensures.written
