@@ -1,11 +1,12 @@
 //! Workers on one desk.
 
-ghost use Rattle.std.specs.Prelude.{◌≡◌, ◌≤◌, ◌*◌, length, IfOk};
+ghost use Rattle.std.specs.Prelude.{◌≤◌, length, IfOk};
 ghost use Rattle.std.specs.List.{AllByRecursion};
 ghost use Rattle.desk_tests.specs.Runs.{IsOpeningOf};
 
 use crate::crew_gate::{BarringGate, CrewGate};
-use crate::opening::{Opening, THREE, begin_desk, make_opening};
+use crate::desk_trial::begin_desk;
+use crate::opening::{Opening, THREE, make_opening};
 use dbg_base::{Gate, OpenGate, Pid};
 use dbg_command::{Command, NextCmd};
 use dbg_crew::{CrewFault, Worker, crew};
@@ -45,7 +46,10 @@ fn make_workers<L: Run>(
 }
 
 // The seats of these workers.
-fn seats_of<L: Run>(alloc: Global, workers: Vec<Worker<L, NextCmd>>) -> Result<Vec<Seat<L>>, AllocError> {
+fn seats_of<L: Run>(
+    alloc: Global,
+    workers: Vec<Worker<L, NextCmd>>,
+) -> Result<Vec<Seat<L>>, AllocError> {
     let mut seats = Vec::new(alloc);
     for worker in workers {
         seats.push(worker.into_seat())?;

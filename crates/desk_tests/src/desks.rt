@@ -2,11 +2,12 @@
 
 ghost use Rattle.desk_tests.specs.Runs.{IsOpeningOf};
 
-use crate::opening::{Opening, THREE, begin_desk, make_opening};
+use crate::desk_trial::begin_desk;
+use crate::opening::{Opening, THREE, make_opening};
 use dbg_base::{OpenGate, Pid, Query, Refusal};
 use dbg_board::Glance;
 use dbg_command::NextCmd;
-use dbg_desk::{Closing, Desk, Mismatch, Run, Seat};
+use dbg_desk::{Closing, Desk, Run, Seat};
 use std::alloc::{AllocError, Global};
 use std::fmt::Debug;
 use std::marker::Brand;
@@ -125,8 +126,8 @@ fn none_differs<L: Run, R: Threads + Wait + Abort + Sync>(
 {
     let Pair { desk, mut one, .. } = begin_pair::<L>(alloc, opening)?;
     desk.call(rt, alloc, &mut one, NextCmd::new(A), &OpenGate)?;
-    let closing: Result<Closing, Mismatch> = desk.settle(rt, &[]);
-    assert_eq!(rt; closing, Ok(Closing { calls: 1 }));
+    let none = Vec::new(alloc);
+    assert_eq!(rt; desk.settle(rt, none.as_slice()), Ok(Closing { calls: 1 }));
     Ok(())
 }
 

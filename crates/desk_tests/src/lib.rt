@@ -5,6 +5,7 @@ pub mod beginning;
 pub mod crew_gate;
 #[cfg(test)]
 mod crews;
+pub mod desk_trial;
 #[cfg(test)]
 mod desks;
 #[cfg(test)]

@@ -1,13 +1,10 @@
 //! What a desk is made of.
 
-ghost use Rattle.std.specs.Prelude.{◌≡◌, ◌≤◌, [], length, replicate, IfOk};
+ghost use Rattle.std.specs.Prelude.{◌≡◌, ◌≤◌, [], replicate};
 ghost use Rattle.dbg_base.specs.declared.limits.TheConstants.{SEATS};
 ghost use Rattle.dbg_board.specs.Boards.{listing};
-ghost use Rattle.desk_tests.specs.Runs.{IsOpeningOf};
 
 use dbg_board::{Board, Publisher, SeatView};
-use dbg_command::Command;
-use dbg_desk::{Desk, Run, Seat};
 use proc_lang::{Program, parse_program};
 use std::alloc::Global;
 use std::sync::ledger::Blank;
@@ -59,22 +56,4 @@ pub fn make_opening(alloc: Global, text: &str, seats: u32) -> Result<Opening, Fa
         views,
         seats,
     })
-}
-
-/// A desk, and its seats.
-pub fn begin_desk<L: Run, C: Command>(
-    alloc: Global,
-    opening: Opening,
-) -> Result<(Desk<L, C>, Vec<Seat<L>>), Fail>
-    requires { IsOpeningOf L.program L.board L.name L.parts L.seats opening }
-{
-    let Opening {
-        program,
-        blank,
-        board,
-        publisher,
-        views,
-        ..
-    } = opening;
-    Ok(Desk::begin(alloc, blank, board, publisher, views, program)?)
 }
