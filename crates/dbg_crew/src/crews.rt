@@ -3,10 +3,10 @@
 ghost use Rattle.std.specs.Prelude.{◌≡◌, ℕ, ◌<◌, length, slice_index_or, OnOk, IfErr};
 ghost use Rattle.dbg_crew.specs.Crews.{WorkerState, Works, worker_number, NoneBarred, IsFirstBarred, MayBarAt};
 
-use dbg_desk::{Desk, Run};
 use crate::worker::Worker;
 use dbg_base::Gate;
 use dbg_command::Command;
+use dbg_desk::{Desk, Run};
 use std::alloc::Global;
 use std::sync::Wait;
 use std::thread;

@@ -4,9 +4,9 @@ ghost use Rattle.std.specs.Prelude.{◌≡◌, ◌<◌, ◌≤◌, None, length,
 ghost use Rattle.std.specs.List.{AllByRecursion};
 ghost use Rattle.dbg_crew.specs.Crews.{Gives, Works};
 
-use dbg_desk::{Desk, Run, Seat};
 use dbg_base::{Gate, OpenGate};
 use dbg_command::Command;
+use dbg_desk::{Desk, Run, Seat};
 use std::alloc::Global;
 use std::collections::VecDeque;
 use std::marker::Model;

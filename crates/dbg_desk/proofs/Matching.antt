@@ -43,13 +43,13 @@ module _ {A B : Type 0} (f : A → List B) (all : List A) (own : List B) where
   pub matched_more : (i found : ℕ) (x : A) (y : B) → i < length all → x ≡ get_or all i x → f x ≡ y ∷ []
       → slice_get own found ≡ Some y → IsMatched i found → IsMatched (i + 1) (found + 1)
   matched_more i found x y within is one at m =
-    let here = slice_get_within own found y at in
-    let same = get_or_from_slice_get own found y y at in
-    record {
-    few = omega (arith, here);
-    same = take_more own found y here ∙ ap (λ (z : B). take found own ++ z ∷ []) same
-        ∙ ap (λ (l : List B). l ++ y ∷ []) m.same ∙ sym (next i x y within is one);
-  }
+      let here = slice_get_within own found y at in
+      let same = get_or_from_slice_get own found y y at in
+      record {
+        few = omega (arith, here);
+        same = take_more own found y here ∙ ap (λ (z : B). take found own ++ z ∷ []) same
+            ∙ ap (λ (l : List B). l ++ y ∷ []) m.same ∙ sym (next i x y within is one);
+      }
 
   -- all is picked: what is picked begins with what is picked of the first so many
   front : (i : ℕ) → flat_map f all ≡ flat_map f (take i all) ++ flat_map f (drop i all)

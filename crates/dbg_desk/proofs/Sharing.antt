@@ -37,7 +37,7 @@ module _ {A B S : Type 0} (number_in : A → ℕ) (made : A → B) (number_of : 
       let is = size x s in
       let others = first x all parts in
       let whole : together (x ∷ all) (s ∷ parts)
-          ≡ length (pick (number_of s) x ++ flat_map (pick (number_of s)) all) + together (x ∷ all) parts =
+      ≡ length (pick (number_of s) x ++ flat_map (pick (number_of s)) all) + together (x ∷ all) parts =
       sum_by-cons (λ (t : S). length (flat_map (pick (number_of t)) (x ∷ all))) s parts in
       let ones : sum_by (one_if (number_in x)) (s ∷ parts) ≡ one_if (number_in x) s + sum_by (one_if (number_in x)) parts =
       sum_by-cons (one_if (number_in x)) s parts in

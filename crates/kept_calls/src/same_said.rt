@@ -56,8 +56,14 @@ fn is_same_answer(left: &Answer, right: &Answer) -> bool
     ensures { IsTrue result ↔ (left.now ≡ right.now) }
 {
     match (left, right) {
-        (Answer::Values(one), Answer::Values(other)) => are_same_numbers(one.items(), other.items()),
-        (Answer::Messages(one), Answer::Messages(other)) => are_same_numbers(one.items(), other.items()),
+        (Answer::Values(one), Answer::Values(other)) => are_same_numbers(
+            one.items(),
+            other.items(),
+        ),
+        (Answer::Messages(one), Answer::Messages(other)) => are_same_numbers(
+            one.items(),
+            other.items(),
+        ),
         (Answer::Counts(one), Answer::Counts(other)) => is_same_cut(one, other),
         (
             Answer::PlaceOf { at, line },
@@ -69,7 +75,10 @@ fn is_same_answer(left: &Answer, right: &Answer) -> bool
         (Answer::CanUndo(one), Answer::CanUndo(other)) => one == other,
         (Answer::CutIs(Some(one)), Answer::CutIs(Some(other))) => is_same_cut(one, other),
         (Answer::CutIs(None), Answer::CutIs(None)) => true,
-        (Answer::Frontier(one), Answer::Frontier(other)) => are_same_heads(one.items(), other.items()),
+        (Answer::Frontier(one), Answer::Frontier(other)) => are_same_heads(
+            one.items(),
+            other.items(),
+        ),
         (Answer::Marks(one), Answer::Marks(other)) => are_same_marks(one.items(), other.items()),
         _ => false,
     }

@@ -41,12 +41,30 @@ fn other_words_are_refused(rt: HostRuntime) {
 fn a_crew_has_turns_within_bounds(rt: HostRuntime) {
     let alloc = rt.alloc();
     let bad = Some((ErrorKind::ValueValidation, 2));
-    assert_eq!(rt; refusal(alloc, ["rdbg", "crew", "--turns", "0"].as_slice()), bad);
-    assert_eq!(rt; refusal(alloc, ["rdbg", "crew", "--turns", "100001"].as_slice()), bad);
-    assert_eq!(rt; refusal(alloc, ["rdbg", "crew", "--turns", "4294967297"].as_slice()), bad);
-    assert_eq!(rt; refusal(alloc, ["rdbg", "crew", "--turns=-1"].as_slice()), bad);
-    assert_eq!(rt; refusal(alloc, ["rdbg", "crew", "--turns", "ten"].as_slice()), bad);
-    assert_eq!(rt; refusal(alloc, ["rdbg", "crew", "--turns", "1.5"].as_slice()), bad);
+    assert_eq!(rt;
+        refusal(alloc, ["rdbg", "crew", "--turns", "0"].as_slice()),
+        bad
+    );
+    assert_eq!(rt;
+        refusal(alloc, ["rdbg", "crew", "--turns", "100001"].as_slice()),
+        bad
+    );
+    assert_eq!(rt;
+        refusal(alloc, ["rdbg", "crew", "--turns", "4294967297"].as_slice()),
+        bad
+    );
+    assert_eq!(rt;
+        refusal(alloc, ["rdbg", "crew", "--turns=-1"].as_slice()),
+        bad
+    );
+    assert_eq!(rt;
+        refusal(alloc, ["rdbg", "crew", "--turns", "ten"].as_slice()),
+        bad
+    );
+    assert_eq!(rt;
+        refusal(alloc, ["rdbg", "crew", "--turns", "1.5"].as_slice()),
+        bad
+    );
     let missing = refusal(alloc, ["rdbg", "crew"].as_slice());
     assert_eq!(rt; missing, Some((ErrorKind::MissingRequiredArgument, 2)));
     let empty = refusal(alloc, ["rdbg", "crew", "--turns"].as_slice());

@@ -14,12 +14,12 @@ loop-entry-preserved c =
     let i = c.loop-entry.entry-index in
     let x = c.entry-item.result in
     elim c.if-entry-number.branch [
-      then-entry-number+else-not-is_next w ↦
+      | then-entry-number+else-not-is_next w ↦
           let next : IsTrue w.is_next.result = let e = w.if-not-is_next.false in cc in
           subst (λ (n : ℕ). IsKept c.args.number J own (i + 1) n) (sym w.found-is)
           (kept_more c.args.number J own i c.loop-entry.found x c.loop-entry-test.true c.entry-item.is w.if-entry-number.true
           (w.is_next.ensures.0 next) c.loop-entry.invariant)
-    | else-entry-number w ↦
+      | else-entry-number w ↦
           subst (λ (n : ℕ). IsKept c.args.number J own (i + 1) n) (sym w.found-is)
           (kept_on c.args.number J own i c.loop-entry.found x c.loop-entry-test.true c.entry-item.is w.if-entry-number.false
           c.loop-entry.invariant)

@@ -11,10 +11,10 @@ add_copies-loop-plan-preserved t c =
     let is = c.plan-item.is ∙ ap (λ (l : List plan.Plan). get_or l c.loop-plan.plan-index c.plan-item.result) value in
     let within : c.loop-plan.plan-index < length c.args.plans.now.items =
     let size = ap (λ (l : List plan.Plan). length l) value in omega (arith, c.loop-plan-test.true, size) in (
-  plans_more c.args.plans.now.items c.args.ones.items c.loop-plan.made.items c.in_ok-made.made.items c.loop-plan.plan-index
-      c.plan-item.result within is c.loop-plan.invariant.0 c.in_ok-made.ensures.copies,
-  c.in_ok-made.ensures.ones,
-)
+      plans_more c.args.plans.now.items c.args.ones.items c.loop-plan.made.items c.in_ok-made.made.items c.loop-plan.plan-index
+          c.plan-item.result within is c.loop-plan.invariant.0 c.in_ok-made.ensures.copies,
+      c.in_ok-made.ensures.ones,
+    )
 
 pub add_copies-returns-clause-copies : goal.add_copies-returns-clause-copies
 add_copies-returns-clause-copies t c =

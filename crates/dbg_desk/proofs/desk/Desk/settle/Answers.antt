@@ -1,4 +1,3 @@
-
 use Rattle.dbg_desk.proofs.Settled.{all_calls}
 use Rattle.dbg_desk.proofs.desk.Desk.settle.Goals as goal
 
