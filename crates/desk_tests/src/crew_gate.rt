@@ -78,6 +78,12 @@ impl CrewGate {
         }
     }
 
+    /// Whether the first turns of both were asked for, and let through.
+    pub fn two_met(&self) -> bool {
+        let [one, two, _] = &self.passed;
+        one.is_up() && two.is_up()
+    }
+
     /// Whether each of the three turns was asked for, and let through.
     pub fn all_passed(&self) -> bool {
         let [one, two, three] = &self.passed;

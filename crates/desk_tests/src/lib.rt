@@ -12,8 +12,9 @@ mod desks;
 mod journals;
 #[cfg(test)]
 mod limits;
-pub mod meeting_gate;
 pub mod opening;
 #[cfg(test)]
 mod shown;
 pub mod trial;
+#[cfg(test)]
+mod wide;
