@@ -4,7 +4,6 @@ mod back;
 mod batches;
 mod break_lines;
 mod breakpoints;
-mod crews;
 mod deep_back;
 mod examples;
 mod faults;
