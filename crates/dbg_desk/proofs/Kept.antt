@@ -4,7 +4,6 @@ use Rattle.std.specs.Prelude.{◌≢◌, ◌==◌, slice_get, if◌then◌else�
 use Rattle.std.proofs.lemmas.List.{length-map}
 use Rattle.std.proofs.lemmas.Bool.Decides.{nat_tests}
 use Rattle.std.proofs.Math.ListN.{get_or-map}
-use Rattle.dbg_base.specs.Journals.{Entry}
 use Rattle.dbg_desk.specs.declared.entry.Entry as entry
 use Rattle.dbg_desk.specs.Desks.{Own, entry_of}
 use Rattle.dbg_desk.specs.Settling.{own_at, own_in, as_own}

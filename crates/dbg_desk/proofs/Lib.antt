@@ -4,6 +4,7 @@ mod Matching
 mod Sharing
 mod Recorded
 mod Kept
+mod Finding
 mod Settled
 mod Scanned
 pub mod Sending

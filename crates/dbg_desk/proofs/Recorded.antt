@@ -1,6 +1,5 @@
 -- What a seat's call leaves of the seat.
-use Rattle.std.proofs.Common.{◌≡◌, inl, inr, ⊎_elim, ℕ, suc, Bool, true, false, List, [], ◌∷◌, ◌++◌, length, refl, sym, ap, ◌∙◌, subst, arith, MatchBool}
-use Rattle.std.specs.Prelude.{◌⊎◌}
+use Rattle.std.proofs.Common.{◌≡◌, inl, inr, Bool, true, false, length, refl, sym, ap, subst, arith, MatchBool}
 use Rattle.std.proofs.lemmas.List.{length_push}
 use Rattle.dbg_base.specs.declared.said.Said.{Said}
 use Rattle.dbg_base.specs.declared.said.Said.TheVariants.{Accepted, Answered, Refused}
@@ -8,7 +7,7 @@ use Rattle.dbg_base.specs.declared.refusal.Refusal.{Refusal}
 use Rattle.dbg_base.specs.declared.refusal.Refusal.TheVariants as refusals
 use Rattle.dbg_base.specs.Trees.{Program}
 use Rattle.dbg_base.specs.Calls.{Call}
-use Rattle.dbg_base.specs.Journals.{Entry, Journal, Makes, Enters, Misses, Overflows, effective}
+use Rattle.dbg_base.specs.Journals.{Journal, Makes, effective}
 use Rattle.histories.specs.Told.{IsTold}
 use Rattle.histories.proofs.Entered.{due_told}
 use Rattle.dbg_desk.specs.Desks.{Standing, SeatState, IsNoted, Notes, IsRecorded, Records, is_left_out}

@@ -1,14 +1,14 @@
 -- The seats of a run have all calls of its journal between them.
-use Rattle.std.proofs.Common.{◌≡◌, ℕ, ◌+◌, List, [], ◌∷◌, length, Result, Ok, Err, refl, sym, ap, ◌∙◌, arith}
-use Rattle.std.specs.Prelude.{IfOk, OnOk, ◌==◌, if◌then◌else◌}
-use Rattle.std.specs.List.{AllByRecursion, flat_map, sum_by}
+use Rattle.std.proofs.Common.{◌≡◌, ℕ, List, [], ◌∷◌, length, Result, Ok, Err, refl, sym, ap, ◌∙◌, arith}
+use Rattle.std.specs.Prelude.{IfOk, OnOk}
+use Rattle.std.specs.List.{AllByRecursion, sum_by}
 use Rattle.std.proofs.lemmas.List.Sums.{sum_by-cons}
 use Rattle.dbg_base.specs.Trees.{Program}
 use Rattle.dbg_base.specs.Journals.{Entry, Journal}
 use Rattle.dbg_desk.specs.declared.settling.Closing.{Closing}
 use Rattle.dbg_desk.specs.declared.settling.Mismatch.{Mismatch}
 use Rattle.dbg_desk.specs.Desks.{SeatState, IsAmong}
-use Rattle.dbg_desk.specs.Settling.{IsKeptIn, IsRunJournal, AreAll, as_own, own_in, own_calls, times}
+use Rattle.dbg_desk.specs.Settling.{IsKeptIn, IsRunJournal, AreAll, as_own, own_in, own_calls}
 use Rattle.dbg_desk.proofs.Sharing.{shared, together, one_if}
 
 -- each call is of one of them

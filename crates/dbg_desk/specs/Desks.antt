@@ -1,14 +1,12 @@
 -- What contracts see of a journal under its lock, and of a seat, and what a seat's call makes of both.
-use Rattle.std.specs.Prelude.{◌≡◌, ◌⊎◌, ℕ, zero, suc, ◌<◌, ◌≤◌, Bool, true, false, List, [], ◌∷◌, ◌++◌, length, Option, Some, None}
+use Rattle.std.specs.Prelude.{◌≡◌, ◌⊎◌, ℕ, zero, suc, ◌<◌, ◌≤◌, Bool, true, false, List, [], ◌∷◌, ◌++◌, length}
 use Rattle.std.specs.Bool.{MatchBool}
-use Rattle.std.specs.Borrow.{Bor}
 use Rattle.std.specs.List.{AllByRecursion}
 use Rattle.dbg_base.specs.declared.said.Said.{Said}
 use Rattle.dbg_base.specs.declared.said.Said.TheVariants.{Refused}
 use Rattle.dbg_base.specs.declared.refusal.Refusal.TheVariants.{JournalFull, Memory}
 use Rattle.dbg_base.specs.Trees.{Program}
-use Rattle.dbg_base.specs.declared.call.Plan as plan
-use Rattle.dbg_base.specs.Calls.{Call, Give, Back, order_of, call_of}
+use Rattle.dbg_base.specs.Calls.{Call, call_of}
 use Rattle.dbg_base.specs.ModelStates.{ModelState, IsHaltPlace}
 use Rattle.dbg_base.specs.Journals as model
 use Rattle.dbg_base.specs.Journals.{Journal, StandsAt, IsLegal, effective}
@@ -22,11 +20,6 @@ use Rattle.dbg_desk.specs.declared.entry.Own as own
 -- an entry of the journal, as the model has it
 abbrev pub entry_of : entry.Entry → model.Entry
 entry_of kept = record { seat = kept.seat; call = call_of kept.call; said = kept.said }
-
--- the call that gives this command, or takes the last one back
-abbrev pub asked : Option (Bor plan.Plan) → Call
-asked (Some given) = Give (order_of given.now)
-asked None = Back
 
 -- a call of a seat's own, and what was said to it
 pub record Own : Type 0 where

@@ -1,3 +1,4 @@
 pub mod Desks
+pub mod Finding
 pub mod Rooms
 pub mod Settling

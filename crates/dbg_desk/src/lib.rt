@@ -11,7 +11,6 @@ mod desk;
 mod entry;
 mod locked;
 mod log;
-mod ready;
 mod rooms;
 mod run;
 mod seat;

@@ -19,7 +19,6 @@ ghost use Rattle.dbg_desk.specs.Settling.{IsKeptIn, IsRunJournal, HasOther};
 use crate::copies::{ran_out, said_to_question};
 use crate::entry::{Entry, Own};
 use crate::log::Log;
-use crate::ready::prepare;
 use crate::rooms::Rooms;
 use crate::run::Run;
 use crate::seat::Seat;
@@ -29,6 +28,7 @@ use dbg_base::{Answer, Call, Gate, Query, Refusal, Reply};
 use dbg_board::{Publisher, SeatView};
 use dbg_command::Command;
 use dbg_session::Session;
+use kept_calls::call_that_gives;
 use least_cut::Scan;
 use proc_lang::Program;
 use std::alloc::Global;
@@ -181,14 +181,16 @@ impl<L: Run, C: Command> Locked<L, C> {
             share,
             view,
         } = seat;
-        let ready = prepare(log, rooms, own, session.program(), Some(command.plan()))?;
+        log.make_room(own)?;
+        rooms.make(session.program())?;
+        let call = call_that_gives(command.plan())?;
+        let own_call = call_that_gives(command.plan())?;
         let outcome = session.perform(alloc, *number, command, scan);
         if ran_out(&outcome) {
             return outcome;
         }
-        let (said, own_said) = rooms.say(&outcome);
-        let entry = Entry::new(*number, ready.call, said);
-        let kept = Own::new(ready.own_call, own_said);
+        let entry = Entry::new(*number, call, rooms.say(&outcome));
+        let kept = Own::new(own_call, rooms.say_own(&outcome));
         log.enter(own, share, view, entry, kept, session.halt_at());
         outcome
     }
@@ -237,13 +239,7 @@ impl<L: Run, C: Command> Locked<L, C> {
         ensures kept { OnOk result (AllByRecursion (IsKeptIn self.now.journal) seats.now) }
         ensures other { IfErr result (λ mismatch. HasOther self.now.journal seats.now mismatch.seat) }
     {
-        for seat in seats {
-            if !are_kept(&self.log.journal, seat.number(), seat.own_calls()) {
-                return Err(Mismatch {
-                    seat: seat.number(),
-                });
-            }
-        }
+        are_kept(&self.log.journal, seats)?;
         Ok(Closing {
             calls: self.log.journal.len(),
         })
@@ -267,14 +263,14 @@ impl<L: Run, C: Command> Locked<L, C> {
             share,
             view,
         } = seat;
-        let ready = prepare(log, rooms, own, session.program(), None)?;
+        log.make_room(own)?;
+        rooms.make(session.program())?;
         let taken = session.back(*number);
         if ran_out(&taken) {
             return taken;
         }
-        let (said, own_said) = rooms.say(&taken);
-        let entry = Entry::new(*number, ready.call, said);
-        let kept = Own::new(ready.own_call, own_said);
+        let entry = Entry::new(*number, Call::Back, rooms.say(&taken));
+        let kept = Own::new(Call::Back, rooms.say_own(&taken));
         log.enter(own, share, view, entry, kept, session.halt_at());
         taken
     }

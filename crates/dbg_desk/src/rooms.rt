@@ -70,15 +70,20 @@ impl Rooms {
         Ok(())
     }
 
-    /// What is said to a command, for the journal and for the seat's own record. It takes no memory.
-    pub(crate) fn say(&mut self, outcome: &Result<Reply, Refusal>) -> (Said, Said)
-        requires room { IfOk outcome.now (λ reply. counts_in reply.done ≤ vec_capacity self.old.entry) }
-        requires own_room { IfOk outcome.now (λ reply. counts_in reply.done ≤ vec_capacity self.old.own) }
-        ensures said { result.0 ≡ said_of outcome.now }
-        ensures own { result.1 ≡ said_of outcome.now }
+    /// What is said to a command, for the journal. It takes no memory.
+    pub(crate) fn say(&mut self, outcome: &Result<Reply, Refusal>) -> Said
+        requires { IfOk outcome.now (λ reply. counts_in reply.done ≤ vec_capacity self.old.entry) }
+        ensures said { result ≡ said_of outcome.now }
+        ensures own { self.new.own ≡ self.old.own }
     {
-        let said = said_again(outcome, &mut self.entry);
-        let own = said_again(outcome, &mut self.own);
-        (said, own)
+        said_again(outcome, &mut self.entry)
+    }
+
+    /// The same, for the seat's own record. It takes no memory.
+    pub(crate) fn say_own(&mut self, outcome: &Result<Reply, Refusal>) -> Said
+        requires { IfOk outcome.now (λ reply. counts_in reply.done ≤ vec_capacity self.old.own) }
+        ensures { result ≡ said_of outcome.now }
+    {
+        said_again(outcome, &mut self.own)
     }
 }

@@ -1,11 +1,18 @@
 //! Whether the journal has of each seat just the calls of its own.
 
-ghost use Rattle.std.specs.Prelude.{◌≡◌, ◌↔◌, IsTrue, Some, map, slice_get};
+ghost use Rattle.std.specs.Prelude.{◌≡◌, ◌≤◌, ◌↔◌, IsTrue, IfOk, IfErr, OnOk, Some, length, map, slice_get};
+ghost use Rattle.std.specs.List.{AllByRecursion};
 ghost use Rattle.dbg_desk.specs.Desks.{entry_of, own_of};
-ghost use Rattle.dbg_desk.specs.Settling.{as_own, own_in};
+ghost use Rattle.dbg_desk.specs.Settling.{IsKeptIn, HasOther, as_own};
+ghost use Rattle.dbg_desk.specs.Finding.{IsFound, IsOther, AreFound, HasOtherNext, HaveEnded, HasMore};
 
 use crate::entry::{Entry, Own};
+use crate::run::Run;
+use crate::seat::Seat;
 use kept_calls::{is_same_call, is_same_said};
+
+// The calls of so many seats are looked for in the journal at once.
+const TOGETHER: usize = 16;
 
 /// All seats' calls stand in one journal, which has so many.
 #[derive(Clone, Copy, Debug, PartialEq, Eq)]
@@ -36,18 +43,74 @@ fn is_next(own: &[Own], place: usize, entry: &Entry) -> bool
     }
 }
 
-/// Whether these are the calls that the journal has of the seat of this number, in order.
-pub(crate) fn are_kept(journal: &[Entry], number: u32, own: &[Own]) -> bool
-    ensures { IsTrue result ↔ (map own_of own.now ≡ own_in (map entry_of journal.now) number) }
+// How many of a seat's own calls are found behind this entry, where so many were before: one more, where it is of this seat.
+fn find<L: Run>(entry: &Entry, seat: &Seat<L>, found: usize) -> Result<usize, Mismatch>
+    ensures found { IfOk result (λ after. IsFound (entry_of entry.now) seat.now found after) }
+    ensures other { IfErr result (λ mismatch. IsOther (entry_of entry.now) seat.now found mismatch.seat) }
 {
-    let mut found = 0usize;
-    for entry in journal {
-        if entry.seat == number {
-            if !is_next(own, found, entry) {
-                return false;
-            }
-            found += 1;
+    if entry.seat != seat.number() {
+        return Ok(found);
+    }
+    if !is_next(seat.own_calls(), found, entry) {
+        return Err(Mismatch {
+            seat: seat.number(),
+        });
+    }
+    Ok(found + 1)
+}
+
+// The same of each of these seats.
+fn find_all<L: Run>(entry: &Entry, seats: &[Seat<L>], found: &mut [usize]) -> Result<(), Mismatch>
+    requires { length found.old ≡ length seats.now }
+    ensures found { OnOk result (AreFound (entry_of entry.now) seats.now found.old found.new) }
+    ensures other { IfErr result (λ mismatch. HasOtherNext (entry_of entry.now) seats.now found.old mismatch.seat) }
+{
+    for place in 0..seats.len() {
+        found[place] = find(entry, &seats[place], found[place])?;
+    }
+    Ok(())
+}
+
+// Whether each seat has no calls of its own but those that were found.
+fn have_ended<L: Run>(seats: &[Seat<L>], found: &[usize]) -> Result<(), Mismatch>
+    requires { length found.now ≡ length seats.now }
+    ensures ended { OnOk result (HaveEnded seats.now found.now) }
+    ensures other { IfErr result (λ mismatch. HasMore seats.now found.now mismatch.seat) }
+{
+    for (place, seat) in seats.iter().enumerate() {
+        if seat.own_calls().len() != found[place] {
+            return Err(Mismatch {
+                seat: seat.number(),
+            });
         }
     }
-    found == own.len()
+    Ok(())
+}
+
+// Whether the calls that the journal has of each of these seats, which are few, are those of its own, in order. The journal is gone
+// through once.
+fn few_are_kept<L: Run>(journal: &[Entry], seats: &[Seat<L>]) -> Result<(), Mismatch>
+    requires { length seats.now ≤ TOGETHER }
+    ensures kept { OnOk result (AllByRecursion (IsKeptIn (map entry_of journal.now)) seats.now) }
+    ensures other { IfErr result (λ mismatch. HasOther (map entry_of journal.now) seats.now mismatch.seat) }
+{
+    let mut none = [0usize; TOGETHER];
+    let found = &mut none[..seats.len()];
+    for entry in journal {
+        find_all(entry, seats, found)?;
+    }
+    have_ended(seats, found)
+}
+
+/// Whether the calls that the journal has of each of these seats are those of its own, in order. It takes no memory.
+pub(crate) fn are_kept<L: Run>(journal: &[Entry], seats: &[Seat<L>]) -> Result<(), Mismatch>
+    ensures kept { OnOk result (AllByRecursion (IsKeptIn (map entry_of journal.now)) seats.now) }
+    ensures other { IfErr result (λ mismatch. HasOther (map entry_of journal.now) seats.now mismatch.seat) }
+{
+    if seats.len() <= TOGETHER {
+        return few_are_kept(journal, seats);
+    }
+    let (few, others) = seats.split_at(TOGETHER);
+    few_are_kept(journal, few)?;
+    are_kept(journal, others)
 }

@@ -1,11 +1,11 @@
-//! Copies of commands that are flat.
+//! Calls that give copies of commands, and are flat.
 
 ghost use Rattle.std.specs.Prelude.{◌≡◌, ◌++◌, true, IfOk};
-ghost use Rattle.dbg_base.specs.Calls.{order_of, plans_of, plans_in};
+ghost use Rattle.dbg_base.specs.Calls.{Give, order_of, plans_of, plans_in, call_of};
 ghost use Rattle.dbg_base.specs.Copies.{IsCopy};
-ghost use Rattle.kept_calls.specs.Flat.{are_ones, is_flat};
+ghost use Rattle.kept_calls.specs.Flat.{are_ones, is_flat_call};
 
-use dbg_base::{Plan, Refusal};
+use dbg_base::{Call, Plan, Refusal};
 
 // A copy of this command, or of those of this batch, behind the ones that were made.
 #[cycle(ones)]
@@ -38,13 +38,25 @@ fn add_copies(plans: &Vec<Plan>, ones: Vec<Plan>) -> Result<Vec<Plan>, Refusal>
     Ok(made)
 }
 
-/// The same command once more, without a batch within a batch. It is refused only as `Memory`, where that runs out.
-pub fn copy_flat(plan: &Plan) -> Result<Plan, Refusal>
-    ensures copies { IsCopy result (λ made. order_of made ≡ order_of plan.now) }
-    ensures flat { IfOk result (λ made. is_flat made ≡ true) }
+/// The call that gives this command, without a batch within a batch. It is refused only as `Memory`, where that runs out.
+pub fn call_that_gives(plan: &Plan) -> Result<Call, Refusal>
+    ensures copies { IsCopy result (λ made. call_of made ≡ Give (order_of plan.now)) }
+    ensures flat { IfOk result (λ made. is_flat_call made ≡ true) }
 {
     match plan {
-        Plan::Batch(plans) => Ok(Plan::Batch(add_copies(plans, Vec::new(*plans.allocator()))?)),
-        one => one.copy(),
+        Plan::Step(pid, choice) => Ok(Call::Give(Plan::Step(*pid, *choice))),
+        Plan::Next(pid) => Ok(Call::Give(Plan::Next(*pid))),
+        Plan::Undo(pid) => Ok(Call::Give(Plan::Undo(*pid))),
+        Plan::Redo(pid) => Ok(Call::Give(Plan::Redo(*pid))),
+        Plan::Rollback(pid, place) => Ok(Call::Give(Plan::Rollback(*pid, *place))),
+        Plan::Goto(name) => Ok(Call::Give(Plan::Goto(*name))),
+        Plan::Clear(name) => Ok(Call::Give(Plan::Clear(*name))),
+        Plan::Arm(name) => Ok(Call::Give(Plan::Arm(*name))),
+        Plan::Pass(name) => Ok(Call::Give(Plan::Pass(*name))),
+        Plan::Break(_, _) => Ok(Call::Give(plan.copy()?)),
+        Plan::Batch(plans) => {
+            let ones = add_copies(plans, Vec::new(*plans.allocator()))?;
+            Ok(Call::Give(Plan::Batch(ones)))
+        }
     }
 }

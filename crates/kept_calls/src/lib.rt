@@ -6,6 +6,6 @@ mod same_call;
 mod same_expr;
 mod same_said;
 
-pub use copies::copy_flat;
+pub use copies::call_that_gives;
 pub use same_call::is_same_call;
 pub use same_said::is_same_said;

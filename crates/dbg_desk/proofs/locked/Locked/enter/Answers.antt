@@ -1,4 +1,4 @@
-use Rattle.std.proofs.Common.{◌≡◌, ◌<◌, List, [], ◌∷◌, ◌++◌, length, map, vec_len, refl, ap, ◌∙◌, subst, rules, Err}
+use Rattle.std.proofs.Common.{◌≡◌, ◌<◌, List, [], ◌∷◌, ◌++◌, length, map, vec_len, ap, ◌∙◌, subst, rules, Err}
 use Rattle.dbg_base.specs.declared.limits.TheConstants.{CALLS}
 use Rattle.dbg_base.specs.declared.refusal.Refusal.TheVariants.{Memory}
 use Rattle.dbg_base.specs.Trees.{Program}
@@ -40,17 +40,17 @@ here g c =
     entered P g.L.Run.seats session items c.self.inside.log.publisher.pairs c.self.invariant c.seat.inside.number
     (Give order) (said_of result) few due
     kept c.new-entry.ensures.seat
-    (ap call_of c.new-entry.ensures.call ∙ c.in_ok-ready.ensures.call ∙ ap (λ (o : Order). Give o) c.plan.ensures)
-    (c.new-entry.ensures.said ∙ c.say-said.ensures.said) c.enter.new.self.journal.items
-    (c.enter.ensures.journal ∙ ap (λ (l : List entry.Entry). l ++ kept ∷ []) c.prepare.ensures.journal)
+    (ap call_of c.new-entry.ensures.call ∙ c.in_ok-call.ensures.copies ∙ ap (λ (o : Order). Give o) c.plan.ensures)
+    (c.new-entry.ensures.said ∙ c.say.ensures.said) c.enter.new.self.journal.items
+    (c.enter.ensures.journal ∙ ap (λ (l : List entry.Entry). l ++ kept ∷ []) c.make_room.ensures.journal)
     after c.perform-outcome.ensures.program c.perform-outcome.ensures.effective c.perform-outcome.ensures.stands c.halt_at.result
     c.halt_at.ensures.place (vec_len c.enter.new.self.journal) long c.enter.new.self.publisher.pairs
-    (c.enter.ensures.pairs ∙ ap (λ (l : Listing). l.pairs ++ pair ∷ []) c.prepare.ensures.publisher)
+    (c.enter.ensures.pairs ∙ ap (λ (l : Listing). l.pairs ++ pair ∷ []) c.make_room.ensures.publisher)
     c.seat.invariant.among c.args.self.now c.args.seat.now mine c.seat.inside.own.items c.enter.new.own.items c.seat.inside.view.pairs
     c.enter.new.view.pairs c.self.view_is c.seat.view_is
-    (ap call_of c.new-kept.ensures.call ∙ c.in_ok-ready.ensures.own_call ∙ ap (λ (o : Order). Give o) c.plan.ensures)
-    (c.new-kept.ensures.said ∙ c.say-said.ensures.own)
-    (c.enter.ensures.own ∙ ap (λ (l : List own.Own). l ++ mine ∷ []) c.prepare.ensures.own)
+    (ap call_of c.new-kept.ensures.call ∙ c.in_ok-own_call.ensures.copies ∙ ap (λ (o : Order). Give o) c.plan-2.ensures)
+    (c.new-kept.ensures.said ∙ c.say_own.ensures)
+    (c.enter.ensures.own ∙ ap (λ (l : List own.Own). l ++ mine ∷ []) c.make_room.ensures.own)
     (ap (λ (l : Listing). l.pairs) c.enter.ensures.told)
     c.enter.ensures.begins
 
