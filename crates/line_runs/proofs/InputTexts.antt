@@ -1,5 +1,5 @@
 -- What a run over the input writes.
-use Rattle.std.proofs.Common.{◌≡◌, ℕ, ◌-◌, ◌≤◌, Bool, true, false, List, [], ◌++◌, length, take, drop, Option, Some, None, refl, sym}
+use Rattle.std.proofs.Common.{◌≡◌, ℕ, ◌≤◌, Bool, true, false, List, [], length, take, drop, Option, Some, None, refl, sym}
 use Rattle.std.proofs.Common.{ap, ◌∙◌, subst, inl, inr, arith}
 use Rattle.std.specs.Prelude.{slice_range, IfSome, IfOk, IfErr, Result, Ok, Err}
 use Rattle.std.proofs.KnownBytes.{Appends-nil}
@@ -7,7 +7,7 @@ use Rattle.dbg_base.specs.declared.limits.TheConstants.{INPUT_BYTES}
 use Rattle.dbg_base.specs.declared.fault.ProgFault.{ProgFault}
 use Rattle.dbg_base.specs.Trees.{Program}
 use Rattle.dbg_base.specs.Checks.{Reads, IsFault}
-use Rattle.dbg_base.specs.Shell.{Parts, lines_of, parts_of, read_lines, lines_within, is_too_long, AnswersAll, AnswersParts, TextOfParts}
+use Rattle.dbg_base.specs.Shell.{Parts, lines_of, parts_of, is_too_long, AnswersAll, AnswersParts, TextOfParts}
 use Rattle.dbg_base.specs.Shell.{WholeText, fault_text, too_long_text, no_end_line_text}
 use Rattle.shell_input.specs.declared.framing.Span.{Span}
 use Rattle.reply_lines.specs.declared.outcome.Served.{Served}
@@ -18,8 +18,7 @@ use Rattle.shell_input.specs.declared.program_text.TextEnd.{TextEnd}
 use Rattle.shell_input.specs.declared.program_text.TextEnd.TheVariants as ends
 use Rattle.shell_input.specs.Spans.{lines_from, KeepsInput, MayBe, Narrows}
 use Rattle.line_runs.specs.Serving.{EndsParts, ServesInput, BreaksInput, RepliesTo, ServesLines, StopsLines, BreaksLines, end_of}
-use Rattle.shell_input.specs.ProgramTexts.{Splits, SplitsAny, ReadsText, ReadsProgram}
-use Rattle.shell_input.specs.declared.framing.TheConstants.{CHUNK}
+use Rattle.shell_input.specs.ProgramTexts.{Splits, SplitsAny}
 use Rattle.shell_input.proofs.ProgramTexts.{all_from_start, text_from_start, split_here}
 use Rattle.shell_input.proofs.UnderWay.{goes_on}
 use Rattle.shell_input.proofs.Known.{Ending, Done, Cut, DoneKnown, CutKnown, done_known, cut_known, whole_is}
