@@ -1,12 +1,1 @@
-pub mod Reading
-pub mod LineEnds
-pub mod UnderWay
-pub mod Splits
-pub mod Requests
-pub mod SomeAnswers
-pub mod LineReplies
-pub mod Known
-pub mod InputTexts
-pub mod CheckTexts
-pub mod Seats
-pub mod Crews
+mod CheckTexts

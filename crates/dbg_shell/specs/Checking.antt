@@ -1,14 +1,12 @@
 -- What the check of a program text writes.
-use Rattle.std.specs.Prelude.{◌≡◌, ◌≤◌, ℕ, List, Option, Some, None, sum_by, length, take, ◌⊎◌, if◌then◌else◌}
+use Rattle.std.specs.Prelude.{◌≡◌, ℕ, List, Option, Some, None, sum_by, length, ◌⊎◌}
 use Rattle.dbg_base.specs.Trees.{Program}
 use Rattle.dbg_base.specs.declared.fault.ProgFault.{ProgFault}
 use Rattle.dbg_base.specs.Checks.{Reads, IsFault}
-use Rattle.dbg_base.specs.Shell.{Parts, parts_of, read_lines, is_too_long, too_long_text, fault_text, size_text}
+use Rattle.dbg_base.specs.Shell.{too_long_text, fault_text, size_text}
 use Rattle.reply_lines.specs.declared.outcome.Served.{Served}
 use Rattle.reply_lines.specs.declared.outcome.Served.TheVariants.{Done, Refused, TooLong}
-use Rattle.dbg_shell.specs.declared.program_text.TextEnd.{TextEnd}
-use Rattle.dbg_shell.specs.declared.program_text.TextEnd.TheVariants.{Before, End}
-use Rattle.dbg_shell.specs.declared.program_text.TextEnd.TheVariants as ends
+use Rattle.shell_input.specs.ProgramTexts.{alone_text}
 
 -- how many commands all its processes have
 abbrev pub command_count : Program → ℕ
@@ -29,20 +27,6 @@ ChecksText text served out = TellsSize text served out ⊎ TellsFault text serve
 
 abbrev pub TellsTooLong : Served → List ℕ → Type 0
 TellsTooLong served out = (served ≡ TooLong) × (out ≡ too_long_text)
-
--- A program text alone: what stands in front of the first end line, or all of the input. None where there is too much.
-abbrev pub alone_of : List ℕ → Option Parts → Option (List ℕ)
-alone_of input (Some parts) = Some parts.program
-alone_of input None = if is_too_long input then None else Some input
-
-abbrev pub alone_text : List ℕ → Option (List ℕ)
-alone_text input = alone_of input (parts_of (read_lines input))
-
--- the same, in the bytes that were read, where the text ends so
-abbrev pub IsTextAt : List ℕ → TextEnd → Option (List ℕ) → Type 0
-IsTextAt bytes (Before span) text = span.from ≤ length bytes → text ≡ Some (take span.from bytes)
-IsTextAt bytes End text = text ≡ Some bytes
-IsTextAt bytes ends.TooLong text = text ≡ None
 
 -- what the check of a text writes, or of too much input
 abbrev pub ChecksAlone : Option (List ℕ) → Served → List ℕ → Type 0

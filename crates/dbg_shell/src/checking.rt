@@ -5,14 +5,14 @@ ghost use Rattle.std.specs.Io.KnownBytes.{Keeps};
 ghost use Rattle.proc_lang.specs.Programs.{program_of};
 ghost use Rattle.reply_lines.specs.declared.outcome.ServeFault.TheVariants.{Write};
 ghost use Rattle.reply_lines.specs.declared.outcome.Served.{Served};
-ghost use Rattle.dbg_shell.specs.Serving.{WritesSome, WritesFront, ReadsFew, ReadsProgram};
+ghost use Rattle.shell_input.specs.Written.{WritesSome, WritesFront};
+ghost use Rattle.shell_input.specs.ProgramTexts.{ReadsFew, ReadsProgram};
 ghost use Rattle.dbg_shell.specs.Checking.{command_count, ChecksText, ChecksInput};
 
-use crate::framing::Input;
-use crate::program_text::{read_program_text, text_alone};
 use dbg_base::Pid;
 use proc_lang::{ProgError, Program, parse_program};
 use reply_lines::{ServeFault, Served, tell_fault, tell_size, tell_too_long};
+use shell_input::{Input, read_program_text, text_alone};
 use std::alloc::Global;
 use std::io::{Read, Write};
 

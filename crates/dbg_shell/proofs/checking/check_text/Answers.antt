@@ -7,7 +7,7 @@ use Rattle.proc_lang.specs.Answering.{IfBad}
 use Rattle.reply_lines.specs.declared.outcome.Served.TheVariants as outcomes
 use Rattle.dbg_base.specs.Shell.{size_text}
 use Rattle.dbg_shell.specs.Checking.{ChecksText}
-use Rattle.dbg_shell.proofs.Known.{line_done, line_cut}
+use Rattle.shell_input.proofs.Known.{line_done, line_cut}
 use Rattle.dbg_shell.proofs.CheckTexts.{size_here, fault_here}
 use Rattle.dbg_shell.proofs.checking.check_text.Goals as goal
 

@@ -1,0 +1,5 @@
+mod Requests
+mod SomeAnswers
+mod LineReplies
+mod InputTexts
+mod Seats

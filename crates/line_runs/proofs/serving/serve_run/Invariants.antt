@@ -1,0 +1,20 @@
+use Rattle.std.proofs.Common.{◌-◌, ◌≤◌}
+use Rattle.dbg_base.specs.declared.limits.TheConstants.{INPUT_BYTES}
+use Rattle.shell_input.specs.Spans.{ReadsOn}
+use Rattle.line_runs.specs.Answering.{AreAllSeats}
+use Rattle.line_runs.proofs.LineReplies.{AnsweredAny}
+use Rattle.line_runs.proofs.serving.serve_run.Given as goal
+
+abbrev pub invariant-loop-seats : goal.invariant-loop-seats
+invariant-loop-seats g l = record {
+  reads : ReadsOn l.fn.input.bytes.items l.fn.input.ended (g.R.Read.remaining l.fn.reader) l.input.bytes.items l.input.ended
+      (g.R.Read.remaining l.reader);
+  begun : l.fn.input.at ≤ l.input.at;
+  seats : AreAllSeats l.seats.items;
+  answered : AnsweredAny g.L.Run.program l.input.bytes.items l.input.ended l.fn.input.at l.input.at l.locked.journal
+      (g.W.Write.contents l.fn.writer) (g.W.Write.contents l.writer);
+}
+
+-- the bytes that no line was made of yet
+abbrev pub decreases-loop-seats : goal.decreases-loop-seats
+decreases-loop-seats g l = INPUT_BYTES - l.input.at

@@ -1,0 +1,16 @@
+use Rattle.std.proofs.Common.{◌≡◌, ◌+◌, ◌-◌, vec_len, cond}
+use Rattle.shell_input.specs.declared.framing.TheConstants.{ROOM}
+use Rattle.shell_input.specs.Spans.{ReadsOn, ReadsAsNeeded}
+use Rattle.shell_input.proofs.framing.Input.next_line.Given as goal
+
+abbrev pub invariant-loop-next : goal.invariant-loop-next
+invariant-loop-next g l = record {
+  at : l.self.at ≡ l.fn.self.at;
+  reads : ReadsOn l.fn.self.bytes.items l.fn.self.ended (g.R.Read.remaining l.fn.reader) l.self.bytes.items l.self.ended
+      (g.R.Read.remaining l.reader);
+  needed : ReadsAsNeeded l.fn.self.bytes.items l.fn.self.ended l.self.bytes.items l.fn.self.at;
+}
+
+-- the bytes that may still be read, and the end
+abbrev pub decreases-loop-next : goal.decreases-loop-next
+decreases-loop-next g l = (ROOM - vec_len l.self.bytes) + cond l.self.ended 0 1

@@ -1,0 +1,18 @@
+use Rattle.std.proofs.Common.{◌-◌}
+use Rattle.dbg_base.specs.declared.limits.TheConstants.{INPUT_BYTES}
+use Rattle.shell_input.specs.Spans.{ReadsOn}
+use Rattle.shell_input.specs.ProgramTexts.{ReadsText}
+use Rattle.shell_input.proofs.Splits.{SoFarAny}
+use Rattle.shell_input.proofs.program_text.read_program_text.Given as goal
+
+abbrev pub invariant-loop-span : goal.invariant-loop-span
+invariant-loop-span g l = record {
+  reads : ReadsOn l.fn.input.bytes.items l.fn.input.ended (g.R.Read.remaining l.fn.reader) l.input.bytes.items l.input.ended
+      (g.R.Read.remaining l.reader);
+  needed : ReadsText l.fn.input.bytes.items l.fn.input.at l.input.bytes.items;
+  so_far : SoFarAny l.input.bytes.items l.input.ended l.fn.input.at l.input.at;
+}
+
+-- the bytes that no line was made of yet
+abbrev pub decreases-loop-span : goal.decreases-loop-span
+decreases-loop-span g l = INPUT_BYTES - l.input.at

@@ -1,0 +1,4 @@
+pub mod Spans
+pub mod ProgramTexts
+pub mod Written
+pub mod Making

@@ -1,0 +1,69 @@
+//! The program text, which stands in front of the input.
+
+ghost use Rattle.std.specs.Prelude.{◌≡◌, ◌≤◌, true, drop, length, None, IfOk, IfErr, OnErr};
+ghost use Rattle.std.specs.Option.{option_map};
+ghost use Rattle.dbg_base.specs.declared.limits.TheConstants.{INPUT_BYTES};
+ghost use Rattle.dbg_base.specs.Shell.{is_end_line, lines_of, parts_of};
+ghost use Rattle.shell_input.specs.Spans.{EndsWith, ReadsOn};
+ghost use Rattle.shell_input.specs.ProgramTexts.{SplitsAny, ReadsText, IsTextAt};
+ghost use Rattle.shell_input.specs.declared.program_text.TextEnd.TheVariants.{End};
+ghost use Rattle.reply_lines.specs.declared.outcome.ServeFault.TheVariants.{Read};
+
+use crate::framing::{Input, Next, Span};
+use command_line::without_return;
+use reply_lines::ServeFault;
+use std::io::Read;
+
+/// Where the program text ends.
+#[derive(Clone, Copy, Debug, PartialEq, Eq)]
+pub enum TextEnd {
+    /// In front of this line, the first that is `%%`.
+    Before(Span),
+    /// At the input's end.
+    End,
+    /// Not within the input that may be.
+    TooLong,
+}
+
+fn is_end_line(line: &[u8]) -> bool
+    ensures { result ≡ is_end_line line.now }
+{
+    without_return(line) == b"%%".as_slice()
+}
+
+/// Reads the program text.
+#[tactic(auto, using(crate::proofs::Reading::reads_then))]
+pub fn read_program_text<R: Read>(input: &mut Input, reader: &mut R) -> Result<TextEnd, ServeFault>
+    requires { EndsWith input.old.ended (R.remaining reader.old) }
+    ensures reads { ReadsOn input.old.bytes.items input.old.ended (R.remaining reader.old) input.new.bytes.items input.new.ended
+        (R.remaining reader.new) }
+    ensures stopped { IfOk result (λ end. end ≡ End → input.new.ended ≡ true) }
+    ensures splits { IfOk result (SplitsAny input.new.bytes.items input.new.ended input.old.at input.new.at) }
+    ensures none { OnErr result (parts_of (lines_of (drop input.old.at input.new.bytes.items)).whole ≡ None) }
+    ensures few { OnErr result (length input.new.bytes.items ≤ INPUT_BYTES) }
+    ensures needed { ReadsText input.old.bytes.items input.old.at input.new.bytes.items }
+    ensures fault { IfErr result (λ fault. fault ≡ Read) }
+{
+    loop {
+        match input.next_line(reader)? {
+            Next::Line(span) => {
+                if is_end_line(input.line(span)) {
+                    return Ok(TextEnd::Before(span));
+                }
+            }
+            Next::End => return Ok(TextEnd::End),
+            Next::TooLong => return Ok(TextEnd::TooLong),
+        }
+    }
+}
+
+/// The text where nothing behind it is looked at: it ends before this line, or where the input does. None where the input is too long.
+pub fn text_alone(input: &Input, end: TextEnd) -> Option<&[u8]>
+    ensures { IsTextAt input.now.bytes.items end (option_map (λ text. text.now) result) }
+{
+    match end {
+        TextEnd::Before(span) => Some(input.before(span)),
+        TextEnd::End => Some(input.bytes()),
+        TextEnd::TooLong => None,
+    }
+}
