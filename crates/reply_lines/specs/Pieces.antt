@@ -63,7 +63,7 @@ amount_texts (amounts.Heads heads) = map head_text heads.now
 -- the words that a piece stands for
 abbrev pub piece_words : Piece → List (List ℕ)
 piece_words (piece.Item item) = item_text item ∷ []
-piece_words (piece.Both first second) = item_text first ∷ item_text second ∷ []
+piece_words (piece.Counts first second) = decimal first ∷ decimal second ∷ []
 piece_words piece.Nothing = []
 piece_words (piece.Words words) = word_texts words
 piece_words (piece.Pairs names amounts) = pair_words (names_in names) (amount_texts amounts)

@@ -104,8 +104,8 @@ pub(crate) enum Amounts<'a> {
 pub(crate) enum Piece<'a> {
     /// One word.
     Item(Item),
-    /// Two words.
-    Both(Item, Item),
+    /// Two counts.
+    Counts(u32, u32),
     /// No word.
     Nothing,
     /// Each of these.
@@ -355,7 +355,9 @@ fn write_piece<W: Write>(piece: &Piece<'_>, writer: &mut W) -> Result<(), ServeF
     match piece {
         Piece::Nothing | Piece::Halted(None) => Ok(()),
         Piece::Item(item) => write_item(item, writer),
-        Piece::Both(first, second) => write_both(first, second, writer),
+        Piece::Counts(first, second) => {
+            write_both(&Item::Count(*first), &Item::Count(*second), writer)
+        }
         Piece::Halted(Some(name)) => write_both(
             &Item::Term(Term::Halted),
             &Item::Name(*name),

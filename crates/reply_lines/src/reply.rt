@@ -36,7 +36,7 @@ fn carried(program: &Program, refusal: &Refusal) -> Piece<'static>
         Refusal::Consequence(pid) => Piece::Item(Item::Name(name_of(program, *pid))),
         Refusal::Halted(name) => Piece::Item(Item::Name(*name)),
         Refusal::OtherSeat(seat) => Piece::Item(Item::Count(*seat)),
-        Refusal::InBatch { at, number } => Piece::Both(Item::Count(*at), Item::Count(*number)),
+        Refusal::InBatch { at, number } => Piece::Counts(*at, *number),
         _ => Piece::Nothing,
     }
 }
