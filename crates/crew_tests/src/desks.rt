@@ -1,0 +1,109 @@
+//! A desk and its seats, on one thread.
+
+ghost use Rattle.crew_tests.specs.Runs.{IsOpeningOf};
+
+use crate::desk_trial::{Pair, begin_pair};
+use crate::expecting::expect;
+use crate::opening::{Opening, THREE, make_opening};
+use dbg_base::{OpenGate, Pid, Query, Refusal};
+use dbg_board::Glance;
+use dbg_command::NextCmd;
+use dbg_desk::{Closing, Run};
+use std::alloc::Global;
+use std::marker::Brand;
+use std::process::Abort;
+use std::sync::Wait;
+use std::test::Fail;
+use std::thread::Threads;
+
+const A: Pid = Pid(0);
+
+// The second seat sees the first one's event, and that it was taken back.
+fn give_and_take_back<L: Run, R: Threads + Wait + Abort + Sync>(
+    rt: &R,
+    alloc: Global,
+    pair: &mut Pair<L, NextCmd>,
+) -> Result<(), Refusal> {
+    let Pair { desk, one, two } = pair;
+    desk.call(rt, alloc, one, NextCmd::new(A), &OpenGate)?;
+    let values = desk.ask(rt, alloc, two, Query::Vars(A));
+    expect(rt, alloc, &values, "Ok(Values(Sequence { items: [1] }))")?;
+    let back = desk.back(rt, one);
+    expect(rt, alloc, &back, "Ok(Reply { done: Plain, halted: None })")?;
+    let values = desk.ask(rt, alloc, two, Query::Vars(A));
+    expect(rt, alloc, &values, "Ok(Values(Sequence { items: [0] }))")?;
+    Ok(())
+}
+
+fn one_sees_the_other<L: Run, R: Threads + Wait + Abort + Sync>(
+    rt: &R,
+    alloc: Global,
+    opening: Opening,
+) -> Result<(), Fail>
+    requires { IsOpeningOf L.program L.board L.name L.parts L.seats opening }
+{
+    let mut pair = begin_pair::<L, NextCmd>(alloc, opening)?;
+    give_and_take_back(rt, alloc, &mut pair)?;
+    let Pair { desk, one, two } = pair;
+    assert_eq!(rt; desk.settle(rt, &[one, two]), Ok(Closing { calls: 4 }));
+    let locked = desk.into_locked();
+    assert_eq!(rt; locked.calls(), 4);
+    expect(
+        rt,
+        alloc,
+        &locked.entry(2),
+        "Some(Entry { seat: 1, call: Back, said: Accepted(Reply { done: Plain, halted: None }) })",
+    )?;
+    Ok(())
+}
+
+#[test]
+fn a_call_sees_what_was_answered_before(rt: HostRuntime) -> Result<(), Fail> {
+    let alloc = rt.alloc();
+    one_sees_the_other::<Brand, _>(&rt, alloc, make_opening(alloc, THREE, 2)?)
+}
+
+// Each seat that looks sees all calls, its own and the other's.
+fn each_sees_all<L: Run, R: Threads + Wait + Abort + Sync>(
+    rt: &R,
+    alloc: Global,
+    opening: Opening,
+) -> Result<(), Fail>
+    requires { IsOpeningOf L.program L.board L.name L.parts L.seats opening }
+{
+    let Pair { desk, one, two } = begin_pair::<L, NextCmd>(alloc, opening)?;
+    let (mut one, mut two) = (one, two);
+    assert_eq!(rt; desk.look(&mut one), Glance { calls: 0, halt: 0 });
+    desk.call(rt, alloc, &mut two, NextCmd::new(A), &OpenGate)?;
+    assert_eq!(rt; desk.look(&mut one), Glance { calls: 1, halt: 0 });
+    desk.ask(rt, alloc, &mut one, Query::Breaks)?;
+    assert_eq!(rt; desk.look(&mut two), Glance { calls: 2, halt: 0 });
+    Ok(())
+}
+
+#[test]
+fn a_look_sees_the_calls_of_all_seats(rt: HostRuntime) -> Result<(), Fail> {
+    let alloc = rt.alloc();
+    each_sees_all::<Brand, _>(&rt, alloc, make_opening(alloc, THREE, 2)?)
+}
+
+// No seat has calls that the journal has not, where no seat is asked.
+fn none_differs<L: Run, R: Threads + Wait + Abort + Sync>(
+    rt: &R,
+    alloc: Global,
+    opening: Opening,
+) -> Result<(), Fail>
+    requires { IsOpeningOf L.program L.board L.name L.parts L.seats opening }
+{
+    let Pair { desk, mut one, .. } = begin_pair::<L, NextCmd>(alloc, opening)?;
+    desk.call(rt, alloc, &mut one, NextCmd::new(A), &OpenGate)?;
+    let none = Vec::new(alloc);
+    assert_eq!(rt; desk.settle(rt, none.as_slice()), Ok(Closing { calls: 1 }));
+    Ok(())
+}
+
+#[test]
+fn no_seats_settle(rt: HostRuntime) -> Result<(), Fail> {
+    let alloc = rt.alloc();
+    none_differs::<Brand, _>(&rt, alloc, make_opening(alloc, THREE, 2)?)
+}

@@ -1,0 +1,23 @@
+//! The tests of a session that seats share, and of crews: what no contract says, over public calls, in several threads too.
+#![tactic(auto)]
+
+#[cfg(test)]
+mod crew_gate;
+#[cfg(test)]
+mod crews;
+pub mod desk_trial;
+#[cfg(test)]
+mod desks;
+#[cfg(test)]
+mod expecting;
+#[cfg(test)]
+mod many;
+pub mod opening;
+#[cfg(test)]
+mod plain;
+#[cfg(test)]
+mod plans;
+#[cfg(test)]
+mod shown;
+#[cfg(test)]
+mod wide;

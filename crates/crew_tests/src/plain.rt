@@ -1,0 +1,91 @@
+//! What is said at a desk, where the scan of a breakpoint is made by several threads, and what is said under its lock, where it is not.
+
+ghost use Rattle.std.specs.Prelude.{IfOk};
+ghost use Rattle.crew_tests.specs.Runs.{IsOpeningOf, MakesFresh};
+
+use crate::desk_trial::{begin_desk, begin_locked, give};
+use crate::opening::{Opening, THREE, make_opening};
+use crate::plans::set_break;
+use dbg_base::{OpenGate, Pid, Plan, Refusal};
+use dbg_command::{BreakCmd, Command, NextCmd};
+use dbg_desk::{Locked, Run};
+use std::alloc::Global;
+use std::marker::Brand;
+use std::sync::Wait;
+use std::test::Fail;
+use std::thread::Threads;
+
+// The first process twice, the third one, the second one, and a breakpoint that halts at the last of their cuts.
+fn plans(alloc: Global) -> Result<Vec<Plan>, Refusal> {
+    let mut plans = Vec::new(alloc);
+    for process in [0, 0, 2, 1] {
+        plans.push(Plan::Next(Pid(process)))?;
+    }
+    plans.push(set_break(
+        alloc,
+        "w",
+        &[(Pid(0), 0, 2), (Pid(1), 1, 1), (Pid(2), 0, 1)],
+    )?)?;
+    Ok(plans)
+}
+
+// What is said to them at a desk.
+fn said_at_a_desk<L: Run, C: Command, M: Fn(Plan) -> Result<C, Refusal>, R: Threads + Wait + Sync>(
+    rt: &R,
+    alloc: Global,
+    make: &M,
+    opening: Opening,
+) -> Result<String, Fail>
+    requires may { M.IsAlwaysCallable make.now }
+    requires fresh { MakesFresh (M.post make.now) C.IsFresh }
+    requires run { IsOpeningOf L.program L.board L.name L.parts L.seats opening }
+{
+    let (desk, mut seats) = begin_desk::<L, C>(alloc, opening)?;
+    let mut seat = seats.pop().ok_or("no seat")?;
+    let mut said = Vec::new(alloc);
+    for plan in plans(alloc)? {
+        said.push(give(rt, alloc, &desk, &mut seat, make, plan, &OpenGate))?;
+    }
+    Ok(format!(in alloc; "{said:?}")?)
+}
+
+// What is said to them under the lock.
+fn said_under_the_lock<L: Run, C: Command, M: Fn(Plan) -> Result<C, Refusal>>(
+    alloc: Global,
+    make: &M,
+    opening: Opening,
+) -> Result<String, Fail>
+    requires may { M.IsAlwaysCallable make.now }
+    requires fresh { MakesFresh (M.post make.now) C.IsFresh }
+    requires run { IsOpeningOf L.program L.board L.name L.parts L.seats opening }
+{
+    let (mut locked, mut seats) = begin_locked::<L, C>(alloc, opening)?;
+    let mut seat = seats.pop().ok_or("no seat")?;
+    let mut said = Vec::new(alloc);
+    for plan in plans(alloc)? {
+        let command = make(plan)?;
+        said.push(locked.enter(alloc, &mut seat, command, None))?;
+    }
+    Ok(format!(in alloc; "{said:?}")?)
+}
+
+#[test]
+fn the_same_is_said_with_several_threads(rt: HostRuntime) -> Result<(), Fail> {
+    let alloc = rt.alloc();
+    let make = |plan: Plan| -> Result<Box<dyn Command>, Refusal>
+        ensures { IfOk result (λ command. IsFresh command) }
+    {
+        let command: Box<dyn Command> = match plan {
+            Plan::Next(pid) => Box::new(alloc, NextCmd::new(pid))?,
+            Plan::Break(name, conjuncts) => Box::new(alloc, BreakCmd::new(name, conjuncts))?,
+            _ => return Err(Refusal::BadLine),
+        };
+        Ok(command)
+    };
+    let opening = make_opening(alloc, THREE, 1)?;
+    let wide = said_at_a_desk::<Brand, Box<dyn Command>, _, _>(&rt, alloc, &make, opening)?;
+    let opening = make_opening(alloc, THREE, 1)?;
+    let plain = said_under_the_lock::<Brand, Box<dyn Command>, _>(alloc, &make, opening)?;
+    assert_eq!(rt; wide, plain);
+    Ok(())
+}

@@ -1,0 +1,28 @@
+//! Commands that set breakpoints.
+
+use dbg_base::{Conjunct, Expr, Name, Operator, Pid, Plan, Refusal, Sequence};
+use std::alloc::Global;
+
+/// This name.
+pub fn named(text: &str) -> Result<Name, Refusal> {
+    Name::new(text.as_bytes()).ok_or(Refusal::BadLine)
+}
+
+// That this variable of a process is this number.
+fn equals(alloc: Global, pid: Pid, variable: u32, number: i64) -> Result<Conjunct, Refusal> {
+    let expr = Expr::Binary(
+        Operator::Equal,
+        Box::new(alloc, Expr::Variable(variable))?,
+        Box::new(alloc, Expr::Number(number))?,
+    );
+    Ok(Conjunct { pid, expr })
+}
+
+/// Sets a breakpoint of this name where variables of processes, by their places, are these numbers.
+pub fn set_break(alloc: Global, name: &str, wanted: &[(Pid, u32, i64)]) -> Result<Plan, Refusal> {
+    let mut conjuncts = Vec::new(alloc);
+    for (pid, variable, number) in wanted {
+        conjuncts.push(equals(alloc, *pid, *variable, *number)?)?;
+    }
+    Ok(Plan::Break(named(name)?, Sequence::new(conjuncts)))
+}

@@ -1,0 +1,91 @@
+//! A breakpoint that is set at a desk: its scan is made by several threads.
+
+ghost use Rattle.std.specs.Prelude.{IfOk};
+ghost use Rattle.crew_tests.specs.Runs.{IsOpeningOf, MakesFresh};
+
+use crate::crew_gate::CrewGate;
+use crate::desk_trial::{begin_desk, give};
+use crate::expecting::expect;
+use crate::opening::{Opening, THREE, make_opening};
+use crate::plans::{named, set_break};
+use dbg_base::{OpenGate, Pid, Plan, Query, Refusal};
+use dbg_command::{BreakCmd, Command, NextCmd};
+use dbg_desk::{Desk, Run, Seat};
+use std::alloc::Global;
+use std::marker::Brand;
+use std::process::Abort;
+use std::sync::Wait;
+use std::test::Fail;
+use std::thread::Threads;
+
+// What is played before the breakpoint is set: the first process twice, the third one, the second one.
+fn play_four<L: Run, C: Command, M: Fn(Plan) -> Result<C, Refusal>, R: Threads + Wait + Sync>(
+    rt: &R,
+    alloc: Global,
+    desk: &Desk<L, C>,
+    seat: &mut Seat<L>,
+    make: &M,
+) -> Result<(), Refusal>
+    requires may { M.IsAlwaysCallable make.now }
+    requires fresh { MakesFresh (M.post make.now) C.IsFresh }
+{
+    for process in [0, 0, 2, 1] {
+        let plan = Plan::Next(Pid(process));
+        give(rt, alloc, desk, seat, make, plan, &OpenGate)?;
+    }
+    Ok(())
+}
+
+// A breakpoint where the first process has counted to 2, the second has taken one message, and the third has counted to 1.
+fn halting(alloc: Global) -> Result<Plan, Refusal> {
+    set_break(
+        alloc,
+        "w",
+        &[(Pid(0), 0, 2), (Pid(1), 1, 1), (Pid(2), 0, 1)],
+    )
+}
+
+// The workers of the scan meet at the gate, and the breakpoint halts at its least cut.
+fn the_scan_meets<
+    L: Run,
+    C: Command,
+    M: Fn(Plan) -> Result<C, Refusal>,
+    R: Threads + Wait + Abort + Sync,
+>(rt: &R, alloc: Global, make: &M, opening: Opening) -> Result<(), Fail>
+    requires may { M.IsAlwaysCallable make.now }
+    requires fresh { MakesFresh (M.post make.now) C.IsFresh }
+    requires run { IsOpeningOf L.program L.board L.name L.parts L.seats opening }
+{
+    let (desk, mut seats) = begin_desk::<L, C>(alloc, opening)?;
+    let mut seat = seats.pop().ok_or("no seat")?;
+    play_four(rt, alloc, &desk, &mut seat, make)?;
+    let gate = CrewGate::new();
+    let reply = give(rt, alloc, &desk, &mut seat, make, halting(alloc)?, &gate)?;
+    assert!(rt; gate.two_met());
+    assert_eq!(rt; reply.halted, Some(named("w")?));
+    let cut = desk.ask(rt, alloc, &mut seat, Query::CutOf(named("w")?));
+    expect(
+        rt,
+        alloc,
+        &cut,
+        "Ok(CutIs(Some(Cut { counts: [2, 1, 1] })))",
+    )?;
+    Ok(())
+}
+
+#[test]
+fn scan_meets(rt: HostRuntime) -> Result<(), Fail> {
+    let alloc = rt.alloc();
+    let make = |plan: Plan| -> Result<Box<dyn Command>, Refusal>
+        ensures { IfOk result (λ command. IsFresh command) }
+    {
+        let command: Box<dyn Command> = match plan {
+            Plan::Next(pid) => Box::new(alloc, NextCmd::new(pid))?,
+            Plan::Break(name, conjuncts) => Box::new(alloc, BreakCmd::new(name, conjuncts))?,
+            _ => return Err(Refusal::BadLine),
+        };
+        Ok(command)
+    };
+    let opening = make_opening(alloc, THREE, 1)?;
+    the_scan_meets::<Brand, Box<dyn Command>, _, _>(&rt, alloc, &make, opening)
+}
