@@ -11,6 +11,8 @@ mod desks;
 #[cfg(test)]
 mod expecting;
 #[cfg(test)]
+mod looks;
+#[cfg(test)]
 mod many;
 pub mod opening;
 #[cfg(test)]
