@@ -1,11 +1,10 @@
 -- What was written for a command line.
-use Rattle.std.proofs.Common.{◌≡◌, ℕ, List, [], Option, Some, None, Result, Ok, Err, refl, ap}
-use Rattle.dbg_base.specs.declared.refusal.Refusal.{Refusal}
+use Rattle.std.proofs.Common.{◌≡◌, ℕ, List, [], Option, Some, None, Result, Ok, refl, ap}
 use Rattle.dbg_base.specs.declared.said.Said.{Said}
 use Rattle.dbg_base.specs.Calls.{call_of}
 use Rattle.dbg_base.specs.Trees.{Program}
 use Rattle.dbg_base.specs.Journals.{Journal, Makes}
-use Rattle.dbg_base.specs.Replies.{reply_text, refusal_text}
+use Rattle.dbg_base.specs.Replies.{reply_text}
 use Rattle.dbg_base.specs.Shell.{as_line}
 use Rattle.reply_lines.specs.Writing.{Writes}
 use Rattle.line_runs.specs.Serving.{WritesAnswer}
@@ -21,15 +20,6 @@ module _ {A : Type 0} (P : Program) (bytes : List ℕ) (J : Journal) (old : Opti
   answers_call line said after new text parsed makes is wrote = record {
     text = as_line text;
     answers = (Ok (Some (requested line)), parsed, (said, makes, ap as_line is));
-    written = wrote;
-  }
-
-  -- a refusal was written, or a front of it
-  pub answers_refusal : (refusal : Refusal) (new : Option (List ℕ)) → IsParsed P bytes (Err refusal)
-      → Writes old new r (as_line (refusal_text P refusal)) → WritesAnswer P bytes J old r new J
-  answers_refusal refusal new parsed wrote = record {
-    text = as_line (refusal_text P refusal);
-    answers = (Err refusal, parsed, (refl, refl));
     written = wrote;
   }
 
