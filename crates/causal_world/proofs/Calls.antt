@@ -3,6 +3,7 @@ use Rattle.std.proofs.Common.{◌≡◌, ℕ, zero, suc, ◌-◌, ◌<◌, ℤ, 
 use Rattle.std.proofs.Common.{sym, ap, ◌∙◌, subst, arith, ◌≤◌, set, map}
 use Rattle.std.specs.Prelude.{OnErr, slice_get, OnOk}
 use Rattle.std.specs.Option.{option_to_list}
+use Rattle.std.proofs.lemmas.Option.{slice_get_within}
 use Rattle.std.proofs.lemmas.List.{length-map, length-take-le, length-set, get_or-map, ext_get_or}
 use Rattle.dbg_base.specs.declared.limits.TheConstants.{EVENTS}
 use Rattle.dbg_base.specs.Trees.{Program}
@@ -57,15 +58,9 @@ pub can_few : (w : Scene) (p k : ℕ) (event : EventValue) → CanMake w p k eve
     → length (get_or w.kinds p []) < EVENTS
 can_few w p k event can room = omega (arith, events_counted can.0 w p can.1, room)
 
-pub next_few : (w : Scene) (p k : ℕ) (event : EventValue) → CanMake w p k event
+pub next_few : (P : Program) (w : Scene) (p k : ℕ) → IsWorldOf P w
     → slice_get (line_of w.state p) (place_at w.state p) ≡ Some k → place_at w.state p < EVENTS
-next_few w p k event can next =
-    omega (arith, inside (line_of w.state p) (place_at w.state p) k next, can.1.state.few p)
-  where
-    inside : (line : List ℕ) (n k : ℕ) → slice_get line n ≡ Some k → n < length line
-    inside [] n k e = cc
-    inside (x ∷ line) zero k e = omega arith
-    inside (x ∷ line) (suc n) k e = let rest : n < length line = inside line n k e in omega arith
+next_few P w p k of next = omega (arith, slice_get_within (line_of w.state p) (place_at w.state p) k next, of.state.few p)
 
 -- the events with the one that can be made are those of a possible history
 pub can_whole : (w : Scene) (p k : ℕ) (event : EventValue) → CanMake w p k event → IsWhole (with_kind w.kinds p (kind_done event.exchange))

@@ -5,12 +5,15 @@ use Rattle.std.proofs.Common.{Some, None, Result, Ok, Err, refl, sym, ap, ◌∙
 use Rattle.std.specs.Prelude.{slice_get}
 use Rattle.std.proofs.lemmas.Bool.{cases_eq}
 use Rattle.std.proofs.lemmas.List.{length-replicate, length-map, length-take-le, length_push, get_or_past, get_or-set_same}
-use Rattle.std.proofs.lemmas.List.{get_or-set_other}
+use Rattle.std.proofs.lemmas.List.{get_or-set_other, get_or-map, get_or-replicate}
 use Rattle.dbg_base.specs.declared.refusal.Refusal.{Refusal}
 use Rattle.dbg_base.specs.declared.refusal.Refusal.TheVariants.{NothingToUndo, Consequence}
-use Rattle.dbg_base.specs.Trees.{Action, Local, Sends, Receives, Command, Program, command_of}
+use Rattle.dbg_base.specs.declared.expr.Direction.{Direction}
+use Rattle.dbg_base.specs.declared.expr.Direction.TheVariants as counts
+use Rattle.dbg_base.specs.declared.limits.TheConstants.{EVENTS}
+use Rattle.dbg_base.specs.Trees.{Action, Local, Sends, Receives, Command, Program, command_of, no_process}
 use Rattle.dbg_base.specs.Evaluation.{evaluate, number_of}
-use Rattle.dbg_base.specs.LocalStates.{start_among}
+use Rattle.dbg_base.specs.LocalStates.{LocalState, counts_of, no_state, start_among}
 use Rattle.dbg_base.specs.Configurations.{Configuration, start_of, state_in, channel_of}
 use Rattle.dbg_base.specs.Firing.{fire, Effect, effect_of, effect_by, assigned}
 use Rattle.dbg_base.specs.Histories.{History, IsPossible, play}
@@ -25,11 +28,13 @@ use Rattle.histories.proofs.Joining.{first_step, length-choices_of}
 use Rattle.histories.proofs.Lists.{within_or_past, push_same, push_other, none_in_replicate}
 use Rattle.histories.proofs.Sizes.{square_play}
 use Rattle.histories.proofs.Undoing.{message_left}
+use Rattle.histories.proofs.MessageCounts.{counts_grow}
 use Rattle.histories.proofs.LineStates.{events_at, history_undo, length_cut}
 use Rattle.histories.proofs.Moves.{effect_sent}
 use Rattle.histories.proofs.Ends.{some_left}
 use Rattle.causal_world.specs.Scenes.{Scene, message_for, exchange_for, event_if, event_at, with_event, events_from, events_of, IsWorldOf}
 use Rattle.causal_world.specs.Scenes.{unmade}
+use Rattle.causal_world.specs.Deciding.{CanCount}
 use Rattle.causal_world.specs.Worlds.{last_event, NotReceived, Received, LastExchange, Undoable}
 use Rattle.causal_world.proofs.Happenings.{done_by, makes}
 use Rattle.causal_world.proofs.Records.{events_step}
@@ -45,6 +50,39 @@ events_there P w of =
     ap (λ (l : List (List EventValue)). length l) of.events
     ∙ length_events P (start_of P) w.standing (replicate (length P) []) of.fired of.leads
     ∙ length-replicate {A = List EventValue} (length P) []
+
+-- A message more can be counted where an event more may be made.
+
+none_replicated : (n q : ℕ) → ◌≡◌ {A = ℕ} (get_or (replicate n 0) q 0) 0
+none_replicated n q =
+    ⊎_elim
+    (λ (there : q < n). get_or-replicate n q 0 0 there)
+    (λ (past : n ≤ q). get_or_past (replicate n 0) q 0 (omega (arith, length-replicate {A = ℕ} n 0)))
+    (within_or_past n q)
+
+start_counts : (P : Program) (p q : ℕ) → p < length P → (direction : Direction)
+    → get_or (counts_of direction (state_in (start_of P) p)) q 0 ≡ 0
+start_counts P p q here direction =
+    ap (λ (state : LocalState). get_or (counts_of direction state) q 0)
+    (get_or-map (start_among (length P)) P p no_process no_state here) ∙ none direction
+  where
+    none : (direction : Direction) → get_or (counts_of direction (start_among (length P) (get_or P p no_process))) q 0 ≡ 0
+    none counts.Sent = none_replicated (length P) q
+    none counts.Got = none_replicated (length P) q
+
+pub can_count : (P : Program) (w : Scene) (p : ℕ) → IsWorldOf P w → p < length P → place_at w.state p < EVENTS
+    → CanCount (state_in w.standing p)
+can_count P w p of here few = λ direction q.
+    let choices : get_or (choices_of (length P) of.fired) p [] ≡ take (place_at w.state p) (line_of w.state p) =
+    ap (λ (H : History). get_or H p []) of.history ∙ events_at P w.state of.state p here in
+    omega (
+      arith,
+      few,
+      counts_grow P (start_of P) w.standing (length P) p of.fired of.leads here direction q,
+      start_counts P p q here direction,
+      ap (λ (l : List ℕ). length l) choices,
+      length-take-le (place_at w.state p) (line_of w.state p) (of.state.within p),
+    )
 
 -- What a process's events end with.
 

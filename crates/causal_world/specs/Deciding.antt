@@ -1,15 +1,21 @@
 -- What is found out before a process makes a choice.
-use Rattle.std.specs.Prelude.{◌≡◌, ℕ, ◌<◌, ℤ, length, Option, Some, None, Result, Ok, Err, slice_get}
+use Rattle.std.specs.Prelude.{◌≡◌, ℕ, ◌<◌, ℤ, length, Option, Some, None, Result, Ok, Err, slice_get, slice_index_or}
+use Rattle.dbg_base.specs.declared.limits.TheConstants.{EVENTS}
+use Rattle.dbg_base.specs.declared.expr.Direction.{Direction}
 use Rattle.dbg_base.specs.declared.refusal.Refusal.{Refusal}
 use Rattle.dbg_base.specs.declared.refusal.Refusal.TheVariants.{Fault, ChannelEmpty}
 use Rattle.dbg_base.specs.declared.ids.Choice.{Choice}
 use Rattle.dbg_base.specs.Trees.{Action, Receives, Command, Program, process_of}
-use Rattle.dbg_base.specs.LocalStates.{LocalState}
+use Rattle.dbg_base.specs.LocalStates.{LocalState, counts_of}
 use Rattle.dbg_base.specs.Configurations.{Configuration, channel_of}
 use Rattle.dbg_base.specs.Firing.{effect_of, fire}
 use Rattle.dbg_base.specs.Choices.{lowest_enabled}
 use Rattle.event_rows.specs.EventValues.{EventValue}
 use Rattle.causal_world.specs.Scenes.{event_of, event_at, with_done}
+
+-- a process may count one message more in this local state, wherever it goes or comes from
+abbrev pub CanCount : LocalState → Type 0
+CanCount state = (direction : Direction) (q : ℕ) → slice_index_or (counts_of direction state) q 0 < EVENTS
 
 -- the message of an action that takes one, and none of another
 abbrev pub TakesFront : Result (Option ℤ) Refusal → Option ℤ → Type 0

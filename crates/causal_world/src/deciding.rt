@@ -1,12 +1,13 @@
 //! What a command would do, found out before anything changes.
 
 ghost use Rattle.std.specs.Prelude.{◌≡◌, ◌+◌, ◌<◌, length, IfOk, Some, slice_index_or};
-ghost use Rattle.dbg_base.specs.Configurations.{Configuration};
+ghost use Rattle.dbg_base.specs.declared.limits.TheConstants.{EVENTS};
+ghost use Rattle.dbg_base.specs.Configurations.{Configuration, state_in};
 ghost use Rattle.dbg_base.specs.Firing.{fire, fire_command, proceed};
 ghost use Rattle.proc_lang.specs.Programs.{program_of};
 ghost use Rattle.proc_lang.specs.ProcessTrees.{action_tree, command_tree};
 ghost use Rattle.causal_world.specs.Scenes.{exchange_for, event_if, event_at};
-ghost use Rattle.causal_world.specs.Deciding.{Takes, MakesEvent, Decides, Finds};
+ghost use Rattle.causal_world.specs.Deciding.{CanCount, Takes, MakesEvent, Decides, Finds};
 
 use dbg_base::{Choice, Direction, Pid, Refusal, count_of};
 use event_rows::{Event, Exchange};
@@ -28,11 +29,12 @@ fn taken(action: &Action, envs: &[Env], grid: &Grid, pid: Pid) -> Result<Option<
     }
 }
 
-// One more than a count. A count without room for one more, which the limit on events rules out, is told as want of memory.
-fn one_more(counts: &[u32], other: Pid) -> Result<u32, AllocError>
-    ensures { IfOk result (λ count. count ≡ slice_index_or counts.now other.0 0 + 1) }
+// One more than a count.
+fn one_more(counts: &[u32], other: Pid) -> u32
+    requires { slice_index_or counts.now other.0 0 < EVENTS }
+    ensures { result ≡ slice_index_or counts.now other.0 0 + 1 }
 {
-    count_of(counts, other).checked_add(1).ok_or(AllocError)
+    count_of(counts, other) + 1
 }
 
 // What the action sends or takes, with how many messages that makes.
@@ -41,21 +43,22 @@ fn exchange(
     action: &Action,
     sent: Option<i64>,
     taken: Option<i64>,
-) -> Result<Exchange, AllocError>
-    ensures { IfOk result (λ exchange. exchange ≡ exchange_for env.now (action_tree action.now) sent taken) }
+) -> Exchange
+    requires { CanCount env.now }
+    ensures { result ≡ exchange_for env.now (action_tree action.now) sent taken }
 {
     match (action, sent, taken) {
-        (Action::Send { target, .. }, Some(value), _) => Ok(Exchange::Sent {
+        (Action::Send { target, .. }, Some(value), _) => Exchange::Sent {
             target: *target,
             value,
-            count: one_more(env.counts(Direction::Sent), *target)?,
-        }),
-        (Action::Receive { source, .. }, _, Some(message)) => Ok(Exchange::Took {
+            count: one_more(env.counts(Direction::Sent), *target),
+        },
+        (Action::Receive { source, .. }, _, Some(message)) => Exchange::Took {
             source: *source,
             message,
-            count: one_more(env.counts(Direction::Got), *source)?,
-        }),
-        _ => Ok(Exchange::Nothing),
+            count: one_more(env.counts(Direction::Got), *source),
+        },
+        _ => Exchange::Nothing,
     }
 }
 
@@ -67,6 +70,7 @@ fn event(
     env: &Env,
     taken: Option<i64>,
 ) -> Result<Result<Event, Refusal>, AllocError>
+    requires { CanCount env.now }
     ensures { IfOk result (λ found. MakesEvent found choice.0 (command_tree command.now) env.now taken) }
 {
     let change = match effect(alloc, command, env, taken) {
@@ -74,7 +78,7 @@ fn event(
         Err(EvalError::Fault) => return Ok(Err(Refusal::Fault)),
         Err(EvalError::Memory) => return Err(AllocError),
     };
-    let exchange = exchange(env, &command.action, change.message, taken)?;
+    let exchange = exchange(env, &command.action, change.message, taken);
     Ok(Ok(Event::of(alloc, choice, env, change.sets.items(), exchange)?))
 }
 
@@ -87,7 +91,8 @@ fn proceed(
     grid: &Grid,
     pid: Pid,
 ) -> Result<Result<Event, Refusal>, AllocError>
-    requires { pid.0 < length envs.now }
+    requires here { pid.0 < length envs.now }
+    requires few { CanCount (state_in (record { states = envs.now; channels = grid.now.channels }) pid.0) }
     ensures { let c : Configuration = record { states = envs.now; channels = grid.now.channels } in
         Decides result (event_if c pid.0 choice.0 (Some (command_tree command.now)))
         (proceed (command_tree command.now) (action_tree command.now.action) c pid.0) c pid.0 }
@@ -109,7 +114,8 @@ fn decide(
     grid: &Grid,
     pid: Pid,
 ) -> Result<Result<Event, Refusal>, AllocError>
-    requires { pid.0 < length envs.now }
+    requires here { pid.0 < length envs.now }
+    requires few { CanCount (state_in (record { states = envs.now; channels = grid.now.channels }) pid.0) }
     ensures { let c : Configuration = record { states = envs.now; channels = grid.now.channels } in
         Decides result (event_if c pid.0 choice.0 (Some (command_tree command.now))) (fire_command (command_tree command.now) c pid.0)
         c pid.0 }
@@ -131,7 +137,8 @@ pub(crate) fn try_choice(
     grid: &Grid,
     pid: Pid,
 ) -> Result<Result<Event, Refusal>, AllocError>
-    requires { pid.0 < length envs.now }
+    requires here { pid.0 < length envs.now }
+    requires few { CanCount (state_in (record { states = envs.now; channels = grid.now.channels }) pid.0) }
     ensures { let c : Configuration = record { states = envs.now; channels = grid.now.channels } in
         Decides result (event_at (program_of program.now) c pid.0 choice.0) (fire (program_of program.now) c pid.0 choice.0) c pid.0 }
 {
@@ -149,7 +156,8 @@ pub(crate) fn lowest(
     grid: &Grid,
     pid: Pid,
 ) -> Result<Option<(Choice, Event)>, AllocError>
-    requires { pid.0 < length envs.now }
+    requires here { pid.0 < length envs.now }
+    requires few { CanCount (state_in (record { states = envs.now; channels = grid.now.channels }) pid.0) }
     ensures { let c : Configuration = record { states = envs.now; channels = grid.now.channels } in
         IfOk result (λ found. Finds (program_of program.now) found c pid.0) }
 {

@@ -26,16 +26,16 @@ use fifo_grid::Grid;
 use local_eval::Env;
 use std::alloc::AllocError;
 
-/// How many events there are behind the cut. Where that is more than memory could hold, it is refused as such.
-pub(crate) fn behind(tally: &Tally, cut: &[u32]) -> Result<usize, AllocError>
-    ensures { IfOk result (λ more. sum (places tally.now.kinds) ≤ more + sum cut.now) }
+/// How many events there are behind the cut.
+pub(crate) fn behind(tally: &Tally, cut: &[u32]) -> usize
+    ensures { sum (places tally.now.kinds) ≤ result + sum cut.now }
 {
     let mut more = 0usize;
     for p in 0..tally.processes() {
         let own = tally.len(Pid(p)).saturating_sub(count_of(cut, Pid(p)));
-        more = more.checked_add(own as usize).ok_or(AllocError)?;
+        more += own as usize;
     }
-    Ok(more)
+    more
 }
 
 // Makes room for the messages that go back to this process as its events behind so many are taken back.
@@ -91,19 +91,16 @@ pub(crate) fn take_back(
     grid: &mut Grid,
     past: &mut Past,
     pid: Pid,
-) -> Option<Event>
+) -> Event
     requires { CanTakeFrom envs.old.items grid.old past.old pid.0 }
-    ensures was { result ≡ last_of past.old.events pid.0 }
-    ensures left { IfSome result (λ event. (state : SystemState) → scene (after_undo state pid.0) envs.new.items grid.new.channels past.new
-        ≡ unmade (scene state envs.old.items grid.old.channels past.old) pid.0 event) }
-    ensures ways { IfSome result (λ event. (i j : ℕ)
-        → room_at grid.old.room i j ≤ room_at grid.new.room i j + puts_before pid.0 event.exchange i j) }
+    ensures was { last_of past.old.events pid.0 ≡ Some result }
+    ensures left { (state : SystemState) → scene (after_undo state pid.0) envs.new.items grid.new.channels past.new
+        ≡ unmade (scene state envs.old.items grid.old.channels past.old) pid.0 result }
+    ensures ways { (i j : ℕ) → room_at grid.old.room i j ≤ room_at grid.new.room i j + puts_before pid.0 result.exchange i j }
 {
-    let Some(event) = past.pop(pid) else {
-        return None;
-    };
+    let event = past.pop(pid).unwrap();
     revert(envs, grid, pid, &event);
-    Some(event)
+    event
 }
 
 // Whether the process is behind the cut, and its last event may be taken back.
@@ -163,17 +160,13 @@ pub(crate) fn roll_back(
 {
     let mut first = Pid(0);
     while let Some(pid) = next_back(lines, envs.as_slice(), grid, past, cut, first) {
-        match take_back(envs, grid, past, pid) {
-            Some(event) => {
-                // Most likely the sender of a message that went back is next.
-                first = match event.exchange() {
-                    Exchange::Took { source, .. } => source,
-                    _ => pid,
-                };
-                taken.push_reserved(Taken { pid, event });
-            }
-            None => return,
-        }
+        let event = take_back(envs, grid, past, pid);
         lines.retreat(pid);
+        // Most likely the sender of a message that went back is next.
+        first = match event.exchange() {
+            Exchange::Took { source, .. } => source,
+            _ => pid,
+        };
+        taken.push_reserved(Taken { pid, event });
     }
 }

@@ -7,6 +7,7 @@ pub mod Sizes
 pub mod Ends
 pub mod Undoing
 pub mod Counting
+pub mod MessageCounts
 pub mod Cutting
 pub mod Chains
 pub mod LineStates

@@ -46,9 +46,7 @@ impl World {
     {
         let exchange = self.undoable(pid)?;
         make_room_before(&mut self.grid, pid, exchange)?;
-        let Some(event) = take_back(&mut self.envs, &mut self.grid, &mut self.past, pid) else {
-            return Err(Refusal::NothingToUndo);
-        };
+        let event = take_back(&mut self.envs, &mut self.grid, &mut self.past, pid);
         self.lines.retreat(pid);
         Ok(event)
     }
@@ -105,9 +103,7 @@ impl World {
             Ok(()) => {}
             Err(_) => return Err((Refusal::Memory, cutoff)),
         }
-        let Some(_event) = take_back(&mut self.envs, &mut self.grid, &mut self.past, pid) else {
-            return Err((Refusal::Memory, cutoff));
-        };
+        take_back(&mut self.envs, &mut self.grid, &mut self.past, pid);
         Ok(())
     }
 
@@ -123,7 +119,7 @@ impl World {
     {
         let counts = cut.counts();
         let mut taken = Vec::new(alloc);
-        taken.reserve(behind(self.past.tally(), counts)?)?;
+        taken.reserve(behind(self.past.tally(), counts))?;
         make_room_back(&mut self.grid, self.past.tally(), counts)?;
         roll_back(
             &mut self.lines,

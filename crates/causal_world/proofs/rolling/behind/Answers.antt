@@ -1,4 +1,4 @@
-use Rattle.std.proofs.Common.{◌≡◌, ◌+◌, arith, rules}
+use Rattle.std.proofs.Common.{arith}
 use Rattle.cut_core.specs.ConsistentCuts.{places}
 use Rattle.causal_world.proofs.Behind.{sum_next, placed}
 use Rattle.causal_world.proofs.rolling.behind.Goals as goal
@@ -6,16 +6,16 @@ use Rattle.causal_world.proofs.rolling.behind.Goals as goal
 pub loop-p-preserved : goal.loop-p-preserved
 loop-p-preserved c =
     let kinds = c.args.tally.now.kinds in
-    let before = c.loop-p.invariant in
-    let added : c.in_ok-more.more ≡ c.loop-p.more + c.saturating_sub-own.result = search rules in
-    omega (
-      arith,
-      before,
-      sum_next (places kinds) c.loop-p.p,
-      sum_next c.args.cut.now c.loop-p.p,
-      placed kinds c.loop-p.p,
-      c.len.ensures,
-      c.count_of.ensures,
-      c.saturating_sub-own.ensures,
-      added,
+    let before = c.loop-p.invariant in (
+      omega (
+        arith,
+        before.0,
+        sum_next (places kinds) c.loop-p.p,
+        sum_next c.args.cut.now c.loop-p.p,
+        placed kinds c.loop-p.p,
+        c.len.ensures,
+        c.count_of.ensures,
+        c.saturating_sub-own.ensures,
+      ),
+      omega (arith, before.1, c.saturating_sub-own.type_inv),
     )

@@ -21,11 +21,11 @@ next c =
     subst (λ (states : List LocalState). IsNextBack (scene c.loop-pid.lines states c.loop-pid.grid.channels c.loop-pid.past)
     c.args.cut.now c.in-Some.pid.0) c.as_slice.ensures.value c.in-Some.ensures
 
-pub take_back-requires : goal.take_back-requires
-take_back-requires c = (
+pub take_back-event-requires : goal.take_back-event-requires
+take_back-event-requires c = (
   c.loop-pid.lines,
   can_back _ c.loop-pid.grid c.args.cut.now c.in-Some.pid.0 (some_left _ _ _ _ _ c.requires.world c.loop-pid.invariant.reverses) refl
-      c.loop-pid.invariant.reverses.consistent c.loop-pid.invariant.reverses.ways (next (goal.at.take_back-requires c).In-Some),
+      c.loop-pid.invariant.reverses.consistent c.loop-pid.invariant.reverses.ways (next (goal.at.take_back-event-requires c).In-Some),
 )
 
 pub push_reserved-requires : goal.push_reserved-requires
@@ -39,36 +39,37 @@ push_reserved-requires c =
 
 was : (c : After-retreat)
     → last_event (scene c.loop-pid.lines c.loop-pid.envs.items c.loop-pid.grid.channels c.loop-pid.past) c.in-Some.pid.0
-    ≡ Some c.in-Some-take_back.event
-was c = sym c.take_back.ensures.was ∙ c.in-Some-take_back.is
+    ≡ Some c.take_back-event.result
+was c = c.take_back-event.ensures.was
 
-left : (c : After-retreat) → scene c.retreat.new.self c.take_back.new.envs.items c.take_back.new.grid.channels c.take_back.new.past
+left : (c : After-retreat) → scene c.retreat.new.self c.take_back-event.new.envs.items c.take_back-event.new.grid.channels c.take_back-event.new.past
     ≡ unmade (scene c.loop-pid.lines c.loop-pid.envs.items c.loop-pid.grid.channels c.loop-pid.past) c.in-Some.pid.0
-    c.in-Some-take_back.event
+    c.take_back-event.result
 left c =
-    ap (λ (state : SystemState). scene state c.take_back.new.envs.items c.take_back.new.grid.channels c.take_back.new.past) c.retreat.ensures
-    ∙ c.in-Some-take_back.ensures.left c.loop-pid.lines
+    ap (λ (state : SystemState). scene state c.take_back-event.new.envs.items c.take_back-event.new.grid.channels c.take_back-event.new.past) c.retreat.ensures
+    ∙ c.take_back-event.ensures.left c.loop-pid.lines
 
 pub loop-pid-smaller : goal.loop-pid-smaller
 loop-pid-smaller c =
     let some = some_left _ _ _ _ _ c.requires.world c.loop-pid.invariant.reverses in
-    let less = fewer _ c.in-Some.pid.0 c.in-Some-take_back.event some (was c) in
-    let kinds = ap (λ (w : Scene). sum (places w.kinds)) (left c) in
+    let less = fewer _ c.in-Some.pid.0 c.take_back-event.result some (was (goal.at.loop-pid-smaller c).After-retreat) in
+    let kinds = ap (λ (w : Scene). sum (places w.kinds)) (left (goal.at.loop-pid-smaller c).After-retreat) in
     omega (arith, less, kinds)
 
 pub loop-pid-preserved : goal.loop-pid-preserved
 loop-pid-preserved c =
     let some = some_left _ _ _ _ _ c.requires.world c.loop-pid.invariant.reverses in
+    let after = (goal.at.loop-pid-preserved c).After-retreat in
     let p = c.in-Some.pid.0 in
-    let event = c.in-Some-take_back.event in
+    let event = c.take_back-event.result in
     let n = next (goal.at.loop-pid-preserved c).In-Some in
-    let less = fewer _ p event some (was c) in
-    let kinds = ap (λ (w : Scene). sum (places w.kinds)) (left c) in
+    let less = fewer _ p event some (was after) in
+    let kinds = ap (λ (w : Scene). sum (places w.kinds)) (left after) in
     record {
-      reverses = subst (Reverses _ _ c.take_back.new.grid.room c.args.cut.now) (sym c.push_reserved.ensures.items)
-          (reverses_on _ _ _ c.loop-pid.grid.room c.take_back.new.grid.room c.args.cut.now c.loop-pid.taken.items
-          (record { pid = c.in-Some.pid; event = event }) c.requires.world c.loop-pid.invariant.reverses n.0 (was c)
-          (undo_left _ p event n.1.1 (was c)) (left c) c.in-Some-take_back.ensures.ways);
+      reverses = subst (Reverses _ _ c.take_back-event.new.grid.room c.args.cut.now) (sym c.push_reserved.ensures.items)
+          (reverses_on _ _ _ c.loop-pid.grid.room c.take_back-event.new.grid.room c.args.cut.now c.loop-pid.taken.items
+          (record { pid = c.in-Some.pid; event = event }) c.requires.world c.loop-pid.invariant.reverses n.0 (was after)
+          (undo_left _ p event n.1.1 (was after)) (left after) c.take_back-event.ensures.ways);
       room = omega (arith, less, kinds, c.loop-pid.invariant.room, c.push_reserved.ensures.len, c.push_reserved.ensures.capacity);
     }
 

@@ -1,15 +1,31 @@
-use Rattle.std.proofs.Common.{List, length, arith, rules, ap}
+use Rattle.std.proofs.Common.{List, length, arith, rules, ap, sym, subst, ◌≡◌, Some}
+use Rattle.std.specs.Prelude.{slice_get}
+use Rattle.dbg_base.specs.SystemStates.{line_of, place_at}
 use Rattle.dbg_base.specs.LocalStates.{LocalState}
+use Rattle.dbg_base.specs.Configurations.{state_in}
 use Rattle.proc_lang.specs.Programs.{program_of}
 use Rattle.causal_world.specs.Worlds.{Makes}
-use Rattle.causal_world.proofs.Standing.{states_there}
-use Rattle.causal_world.proofs.Calls.{repeats_to}
+use Rattle.causal_world.specs.Scenes.{scene}
+use Rattle.causal_world.specs.Deciding.{CanCount}
+use Rattle.causal_world.proofs.Standing.{states_there, can_count}
+use Rattle.causal_world.proofs.Calls.{next_few, repeats_to}
 use Rattle.causal_world.proofs.world.World.redo.Goals as goal
 
-pub try_choice-requires : goal.try_choice-requires
-try_choice-requires c =
+pub try_choice-requires-clause-here : goal.try_choice-requires-clause-here
+try_choice-requires-clause-here c =
     let size = states_there (program_of c.args.program.now) _ (rw (← c.self.view_is) at c.requires.of) in
     omega (arith, size, c.requires.process, ap (λ (l : List LocalState). length l) c.as_slice.ensures.value)
+
+pub try_choice-requires-clause-few : goal.try_choice-requires-clause-few
+try_choice-requires-clause-few c =
+    let inside = c.self.inside in
+    let p = c.args.pid.0 in
+    let of = rw (← c.self.view_is) at c.requires.of in
+    let next : slice_get (line_of inside.lines p) (place_at inside.lines p) ≡ Some c.in_ok-ok_or.field-0 = search rules in
+    subst (λ (states : List LocalState). CanCount (state_in (record { states = states; channels = inside.grid.channels }) p))
+    (sym c.as_slice.ensures.value)
+    (can_count (program_of c.args.program.now) (scene inside.lines inside.envs.items inside.grid.channels inside.past) p of
+    c.requires.process (next_few (program_of c.args.program.now) _ p c.in_ok-ok_or.field-0 of next))
 
 pub returns-clause-of : goal.returns-clause-of
 returns-clause-of c =

@@ -23,9 +23,10 @@ happen-requires-clause-room c =
 
 pub happen-requires-clause-few : goal.happen-requires-clause-few
 happen-requires-clause-few c =
+    let can = rw (← c.self.view_is) at c.requires.can in
     subst (λ (kinds : List (List Kind)). length (slice_index_or kinds c.args.pid.0 []) < EVENTS) (sym c.in_ok-make_room.ensures.same.kinds)
-    (can_few _ c.args.pid.0 c.args.choice.0 c.args.event (rw (← c.self.view_is) at c.requires.can)
-    (next_few _ _ _ _ (rw (← c.self.view_is) at c.requires.can) (rw (← c.self.view_is) at c.requires.next)))
+    (can_few _ c.args.pid.0 c.args.choice.0 c.args.event can
+    (next_few can.0 _ _ _ can.1 (rw (← c.self.view_is) at c.requires.next)))
 
 pub happen-requires-clause-whole : goal.happen-requires-clause-whole
 happen-requires-clause-whole c =

@@ -32,12 +32,12 @@ back : (c : After-drop-cutoff-inside) → (P : Program) (s : IsStepped P c.args.
 back c P s =
     let inside = c.self.inside in
     let p = c.args.pid.0 in
-    let event = c.in-Some._event in
+    let event = c.take_back.result in
     let now : List (List (List ℤ)) → Scene = λ channels. scene inside.lines inside.envs.items channels inside.past in
     let same : now c.make_room_before.new.grid.channels ≡ c.args.self.now = ap now c.in-Ok-make_room_before.ensures.kept ∙ c.self.view_is in
     let was : last_event c.args.self.now p ≡ Some event =
-    ap (λ (w : Scene). last_event w p) (sym same) ∙ sym c.take_back.ensures.was ∙ c.in-Some.is in
-    let left = c.in-Some.ensures.left inside.lines ∙ ap (λ (w : Scene). unmade w p event) same in
+    ap (λ (w : Scene). last_event w p) (sym same) ∙ c.take_back.ensures.was in
+    let left = c.take_back.ensures.left inside.lines ∙ ap (λ (w : Scene). unmade w p event) same in
     let cutoff : c.as_slice.result.now ≡ c.args.cutoff = c.as_slice.ensures.value ∙ c.cutoff.view_is in
     let state : c.restore.new.self ≡ restored c.args.self.now.state p c.args.cutoff =
     c.in-Ok-restore.ensures.restored ∙ ap (restored inside.lines p) cutoff
