@@ -108,12 +108,13 @@ impl Breakpoint {
         self.detector.reserve(world, pid, steps)
     }
 
-    // Its detector gets room for as many events as the cut has.
-    pub(crate) fn reserve_to(&mut self, cut: &Cut) -> Result<(), AllocError>
+    // Its detector gets room for as many events as the cut has, at which there are at most so many eliminations.
+    pub(crate) fn reserve_to(&mut self, cut: &Cut, steps: usize) -> Result<(), AllocError>
+        requires steps { model.steps_up_to cut.now ≤ steps }
         ensures same { IsRoomier self.old self.new }
         ensures room { OnOk result (HasRoomUpTo self.new.detector cut.now) }
     {
-        self.detector.reserve_to(cut)
+        self.detector.reserve_to(cut, steps)
     }
 
     // Its detector goes on with the world, in which the process has made an event.

@@ -38,12 +38,7 @@ fn one_more(counts: &[u32], other: Pid) -> u32
 }
 
 // What the action sends or takes, with how many messages that makes.
-fn exchange(
-    env: &Env,
-    action: &Action,
-    sent: Option<i64>,
-    taken: Option<i64>,
-) -> Exchange
+fn exchange(env: &Env, action: &Action, sent: Option<i64>, taken: Option<i64>) -> Exchange
     requires { CanCount env.now }
     ensures { result ≡ exchange_for env.now (action_tree action.now) sent taken }
 {

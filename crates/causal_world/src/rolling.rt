@@ -86,12 +86,7 @@ pub(crate) fn last_exchange(grid: &Grid, past: &Past, pid: Pid) -> Result<Exchan
 }
 
 /// The last event of the process, which may be undone, is taken back. The lines and places are left to the caller.
-pub(crate) fn take_back(
-    envs: &mut Vec<Env>,
-    grid: &mut Grid,
-    past: &mut Past,
-    pid: Pid,
-) -> Event
+pub(crate) fn take_back(envs: &mut Vec<Env>, grid: &mut Grid, past: &mut Past, pid: Pid) -> Event
     requires { CanTakeFrom envs.old.items grid.old past.old pid.0 }
     ensures was { last_of past.old.events pid.0 ≡ Some result }
     ensures left { (state : SystemState) → scene (after_undo state pid.0) envs.new.items grid.new.channels past.new

@@ -50,7 +50,7 @@ impl Table {
         ensures kept { OnErr result (shown self.new ≡ shown self.old) }
         ensures left { OnErr result (taken.new ≡ taken.old) }
     {
-        self.book.reserve_to(&taken.places)?;
+        self.book.reserve_to(&self.world, &taken.places)?;
         self.world.forth(&mut taken.rolled)?;
         self.book.follow(&self.world);
         Ok(())

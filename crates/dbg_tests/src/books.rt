@@ -176,9 +176,16 @@ fn a_copied_book_is_apart(rt: HostRuntime) -> Result<(), Fail> {
 }
 
 // The book gets room for so many events of the counter.
-fn make_room(rt: &impl Abort, alloc: Global, book: &mut Book, events: u32) -> Result<(), Fail> {
-    let cut = Cut::new(Vec::from_slice(alloc, &[events])?);
-    assert_eq!(rt; book.reserve_to(&cut), Ok(()));
+fn make_room(
+    rt: &impl Abort,
+    alloc: Global,
+    book: &mut Book,
+    world: &World,
+    events: u32,
+) -> Result<(), Fail> {
+    let mut cut = world.places(alloc)?;
+    cut.set(Pid(0), events);
+    assert_eq!(rt; book.reserve_to(world, &cut), Ok(()));
     Ok(())
 }
 
@@ -188,7 +195,7 @@ fn there_is_room_for_the_events_of_a_cut(rt: HostRuntime) -> Result<(), Fail> {
     let program = counter(alloc)?;
     let world = counted(alloc, &program)?;
     let mut book = three(alloc, &program, &world)?;
-    make_room(&rt, alloc, &mut book, 100)?;
+    make_room(&rt, alloc, &mut book, &world, 100)?;
     expect(
         &rt,
         alloc,

@@ -1,5 +1,5 @@
 -- A detector in a world with more events or fewer than the one of which it was.
-use Rattle.std.proofs.Common.{◌≡◌, ℕ, suc, ◌+◌, ◌<◌, ◌≤◌, ◌&&◌, ◌==◌, true, not, List, [], ◌∷◌, length, map, get_or, drop, replicate}
+use Rattle.std.proofs.Common.{◌≡◌, ℕ, zero, take, suc, ◌+◌, ◌<◌, ◌≤◌, ◌&&◌, ◌==◌, true, not, List, [], ◌∷◌, length, map, get_or, drop, replicate}
 use Rattle.std.proofs.Common.{refl, sym, ap, ◌∙◌, subst, ⊎_elim, arith}
 use Rattle.std.proofs.lemmas.List.{length-replicate}
 use Rattle.std.proofs.lemmas.List.Sums.{sum_by-cons}
@@ -118,6 +118,22 @@ less_truths less places (watch ∷ watches) most all = (
       let own : HasTruthRoom less watch = omega (arith, le, enough) in own,
   less_truths less places watches most all.1,
 )
+
+-- one process more has its events, and one
+pub steps_next : (places : List ℕ) (p : ℕ) → steps_up_to (take (p + 1) places) ≤ steps_up_to (take p places) + get_or places p 0 + 1
+steps_next [] p = omega (arith, ap (λ (l : List ℕ). steps_up_to l) (take_nothing (p + 1)), ap (λ (l : List ℕ). steps_up_to l) (take_nothing p))
+  where
+    take_nothing : (n : ℕ) → take {A = ℕ} n [] ≡ []
+    take_nothing zero = refl
+    take_nothing (suc n) = refl
+steps_next (n ∷ places) zero = omega (arith, sum_by-cons (λ x. x) (n + 1) [])
+steps_next (n ∷ places) (suc p) =
+    omega (
+      arith,
+      steps_next places p,
+      sum_by-cons (λ x. x) (n + 1) (map (λ (place : ℕ). place + 1) (take (p + 1) places)),
+      sum_by-cons (λ x. x) (n + 1) (map (λ (place : ℕ). place + 1) (take p places)),
+    )
 
 less_steps : (less places : List ℕ) → length less ≡ length places → ((p : ℕ) → get_or less p 0 ≤ get_or places p 0)
     → steps_up_to less ≤ steps_up_to places

@@ -88,16 +88,16 @@ fn copy_watches(watches: &Vec<Watch>) -> Result<Vec<Watch>, Refusal>
     Ok(made)
 }
 
-/// The most eliminations that there can be where the processes have so many events, one for each and one for each process; or None
-/// where that is past the largest number. It takes no memory.
-pub fn steps_up_to(counts: &[u32]) -> Option<usize>
-    ensures { IfSome result (λ steps. steps ≡ model.steps_up_to counts.now) }
+/// No fewer than the eliminations that there can be where the processes, at most so many, have as many events as the cut: one for each
+/// event, and one for each process. It takes no memory.
+pub fn steps_up_to(cut: &Cut, processes: u32) -> usize
+    ensures { length cut.now ≤ processes → model.steps_up_to cut.now ≤ result }
 {
     let mut steps: usize = 0;
-    for count in counts {
-        steps = steps.checked_add(*count as usize + 1)?;
+    for p in 0..processes {
+        steps += cut.count(Pid(p)) as usize + 1;
     }
-    Some(steps)
+    steps
 }
 
 // The watches of this process get room for the truths of so many local states.
@@ -163,7 +163,9 @@ impl Detector {
             candidates,
             trail: Vec::new(alloc),
         };
-        detector.reserve_to(&tally.all_events(alloc)?)?;
+        let places = tally.all_events(alloc)?;
+        let steps = steps_up_to(&places, tally.processes());
+        detector.reserve_to(&places, steps)?;
         detector.run(world);
         Ok(detector)
     }
@@ -221,13 +223,12 @@ impl Detector {
         self.trail.reserve(steps.saturating_sub(self.trail.len()))
     }
 
-    /// Makes room for as many events as the cut has. No room is lost, and nothing changes that is seen, also where it is refused, which
-    /// is only where memory runs out.
-    pub fn reserve_to(&mut self, cut: &Cut) -> Result<(), AllocError>
+    /// Makes room for as many events as the cut has, at which there are at most so many eliminations. No room is lost, and nothing
+    /// changes that is seen, also where it is refused, which is only where memory runs out.
+    pub fn reserve_to(&mut self, cut: &Cut, steps: usize) -> Result<(), AllocError>
         ensures same { IsSameButRoom self.old self.new }
-        ensures ok { OnOk result (HasRoomUpTo self.new cut.now) }
+        ensures ok { OnOk result (model.steps_up_to cut.now ≤ steps → HasRoomUpTo self.new cut.now) }
     {
-        let steps = steps_up_to(cut.counts()).ok_or(AllocError)?;
         reserve_each(&mut self.watches, cut)?;
         self.trail.reserve(steps.saturating_sub(self.trail.len()))
     }

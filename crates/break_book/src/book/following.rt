@@ -17,16 +17,16 @@ use indexmap::IndexMap;
 use least_cut::steps_up_to;
 use std::alloc::{AllocError, Global};
 
-// The most eliminations that there can be behind one event more of the process.
-fn steps_after(alloc: Global, world: &World, pid: Pid) -> Result<usize, Refusal>
+// No fewer than the eliminations that there can be behind one event more of the process.
+fn steps_after(alloc: Global, world: &World, pid: Pid) -> Result<usize, AllocError>
     requires world { IsSomeWorld world.now }
     requires process { pid.0 < length world.now.state.places }
-    ensures steps { IfOk result (λ steps. steps ≡ model.steps_up_to (one_more world.now pid.0)) }
-    ensures refuses { IfErr result (λ refusal. refusal ≡ Memory) }
+    ensures { IfOk result (λ steps. model.steps_up_to (one_more world.now pid.0) ≤ steps) }
 {
-    let mut places = world.tally().all_events(alloc)?;
+    let tally = world.tally();
+    let mut places = tally.all_events(alloc)?;
     places.set(pid, world.place(pid) + 1);
-    steps_up_to(places.counts()).ok_or(Refusal::Memory)
+    Ok(steps_up_to(&places, tally.processes()))
 }
 
 // Each detector gets room for one event more of the process.
@@ -48,12 +48,17 @@ fn reserve_each(
 }
 
 // Each detector gets room for as many events as the cut has.
-fn reserve_each_to(breaks: &mut IndexMap<Name, Breakpoint>, cut: &Cut) -> Result<(), AllocError>
+fn reserve_each_to(
+    breaks: &mut IndexMap<Name, Breakpoint>,
+    cut: &Cut,
+    steps: usize,
+) -> Result<(), AllocError>
+    requires steps { model.steps_up_to cut.now ≤ steps }
     ensures same { AreRoomier breaks.old.entries breaks.new.entries }
     ensures room { OnOk result (HaveRoomUpTo breaks.new.entries cut.now) }
 {
     for i in 0..breaks.len() {
-        breaks[i].reserve_to(cut)?;
+        breaks[i].reserve_to(cut, steps)?;
     }
     Ok(())
 }
@@ -110,15 +115,17 @@ impl Book {
         Ok(())
     }
 
-    /// Makes room for as many events as the cut has. Nothing changes that any call shows, also where it is refused, which is only as
-    /// `Memory`, where that runs out.
-    pub fn reserve_to(&mut self, cut: &Cut) -> Result<(), Refusal>
+    /// Makes room for as many events as the cut has, which counts those of this world's processes. Nothing changes that any call shows,
+    /// also where it is refused, which is only as `Memory`, where that runs out.
+    pub fn reserve_to(&mut self, world: &World, cut: &Cut) -> Result<(), Refusal>
+        requires { length cut.now ≤ length world.now.state.places }
         ensures of { (w : Scene) → AreDetectorsOf w self.old → AreDetectorsOf w self.new }
         ensures same { shown_of self.new ≡ shown_of self.old }
         ensures room { OnOk result (HaveRoomUpTo self.new cut.now) }
         ensures refuses { IfErr result (λ refusal. refusal ≡ Memory) }
     {
-        reserve_each_to(&mut self.breaks, cut)?;
+        let steps = steps_up_to(cut, world.tally().processes());
+        reserve_each_to(&mut self.breaks, cut, steps)?;
         Ok(())
     }
 

@@ -1,8 +1,16 @@
-use Rattle.std.proofs.Common.{ℕ, List, ap, ◌∙◌, take_all}
+use Rattle.std.proofs.Common.{◌≤◌, List, ℕ, subst, arith, take_all}
 use Rattle.least_cut.specs.Searches.{steps_up_to}
+use Rattle.least_cut.proofs.Moving.{steps_next}
 use Rattle.least_cut.proofs.detector.steps_up_to.Goals as goal
 
+pub loop-p-preserved : goal.loop-p-preserved
+loop-p-preserved c =
+    let before = c.loop-p.invariant in (
+      omega (arith, before.0, steps_next c.args.cut.now c.loop-p.p, c.count.ensures),
+      omega (arith, before.1, c.count.type_inv),
+    )
+
 pub returns : goal.returns
-returns c =
-    c.loop-count.invariant ∙ ap (λ (l : List ℕ). steps_up_to l)
-    (take_all c.loop-count.count-index c.args.counts.now c.loop-count-test.false)
+returns c = λ few.
+    subst (λ (l : List ℕ). steps_up_to l ≤ c.loop-p.steps) (take_all c.loop-p.p c.args.cut.now (omega (arith, few, c.loop-p-test.false)))
+    c.loop-p.invariant.0

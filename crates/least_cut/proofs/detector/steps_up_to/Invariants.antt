@@ -1,6 +1,6 @@
-use Rattle.std.proofs.Common.{◌≡◌, take}
+use Rattle.std.proofs.Common.{◌*◌, ◌≤◌, take}
 use Rattle.least_cut.specs.Searches.{steps_up_to}
 use Rattle.least_cut.proofs.detector.steps_up_to.Given as goal
 
-abbrev pub invariant-loop-count : goal.invariant-loop-count
-invariant-loop-count l = l.steps ≡ steps_up_to (take l.count-index l.counts)
+abbrev pub invariant-loop-p : goal.invariant-loop-p
+invariant-loop-p l = (steps_up_to (take l.p l.cut) ≤ l.steps) × (l.steps ≤ l.p * 4294967296)

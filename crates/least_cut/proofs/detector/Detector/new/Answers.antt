@@ -17,8 +17,8 @@ run-requires-clause-search c =
     search_begins w _ c.reserve_to.new.self c.tally-tally.ensures.world c.in_ok-watches.ensures.of
     (c.new-candidates.ensures ∙ none ∙ ap (λ (n : ℕ). replicate n 0) counted) c.new.ensures.items
     c.reserve_to.ensures.same
-    (subst (HasRoomUpTo c.reserve_to.new.self)
-    (c.in_ok-all_events.ensures ∙ ap (λ (l : List (List Kind)). places l) c.tally-tally.ensures.kinds) c.in_ok-reserve_to.ensures.ok)
+    (subst (HasRoomUpTo c.reserve_to.new.self) (whole ∙ placed)
+    (c.in_ok-reserve_to.ensures.ok (c.steps_up_to-steps.ensures (omega (arith, counted, ap (λ (l : List ℕ). length l) (whole ∙ placed))))))
 
 pub returns-clause-conjuncts : goal.returns-clause-conjuncts
 returns-clause-conjuncts c =
