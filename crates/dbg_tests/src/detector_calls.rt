@@ -82,9 +82,10 @@ fn reserve(
     ensures of { IsDetectorOf world.now detector.new }
     ensures room { OnOk result (HasRoomUpTo detector.new (one_more world.now pid.0)) }
 {
-    let mut places = world.tally().all_events(alloc)?;
+    let tally = world.tally();
+    let mut places = tally.all_events(alloc)?;
     places.set(pid, world.place(pid) + 1);
-    let steps = steps_up_to(places.counts()).ok_or(Refusal::Memory)?;
+    let steps = steps_up_to(&places, tally.processes());
     detector.reserve(world, pid, steps)?;
     Ok(())
 }

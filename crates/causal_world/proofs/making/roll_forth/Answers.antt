@@ -41,7 +41,7 @@ advance-requires-clause-place c =
 pub advance-requires-clause-room : goal.advance-requires-clause-room
 advance-requires-clause-room c =
     let i = (goal.at.advance-requires-clause-room c).In-Some in
-    next_few (now i) c.in-Some.field-0.pid.0 (known i).choice c.in-Some.field-0.event (can i) (known i).next
+    next_few (can i).0 (now i) c.in-Some.field-0.pid.0 (known i).choice (can i).1 (known i).next
 
 pub happen-requires-clause-here : goal.happen-requires-clause-here
 happen-requires-clause-here c =
@@ -76,7 +76,7 @@ happen-requires-clause-few c =
     let i = (goal.at.happen-requires-clause-few c).In-Some in
     let p = c.in-Some.field-0.pid.0 in
     can_few (now i) p (known i).choice c.in-Some.field-0.event (can i)
-    (next_few (now i) p (known i).choice c.in-Some.field-0.event (can i) (known i).next)
+    (next_few (can i).0 (now i) p (known i).choice (can i).1 (known i).next)
 
 pub happen-requires-clause-whole : goal.happen-requires-clause-whole
 happen-requires-clause-whole c =

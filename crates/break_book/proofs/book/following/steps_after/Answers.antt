@@ -1,4 +1,6 @@
-use Rattle.std.proofs.Common.{rules, ◌≡◌, ℕ, ◌+◌, List, length, map, set, ap, ◌∙◌, arith}
+use Rattle.std.proofs.Common.{◌≡◌, ◌≤◌, ℕ, ◌+◌, List, length, map, set, subst, ap, ◌∙◌, arith}
+use Rattle.std.proofs.lemmas.List.{length-set}
+use Rattle.causal_world.proofs.Calls.{kinds_placed}
 use Rattle.least_cut.specs.Searches.{steps_up_to}
 use Rattle.least_cut.specs.Detectors.{one_more}
 use Rattle.least_cut.proofs.Moving.{all_events}
@@ -8,16 +10,17 @@ pub set-requires : goal.set-requires
 set-requires c =
     let w = c.args.world.now in
     let whole : c.in_ok-places.places ≡ w.state.places =
-    c.in_ok-places.ensures ∙ ap (λ l. map (λ kinds. length kinds) l) c.tally.ensures.kinds ∙ all_events w c.requires.world in
+    c.in_ok-places.ensures ∙ ap (λ l. map (λ kinds. length kinds) l) c.tally-tally.ensures.kinds ∙ all_events w c.requires.world in
     omega (arith, ap (λ (l : List ℕ). length l) whole, c.requires.process)
 
-pub returns-clause-steps : goal.returns-clause-steps
-returns-clause-steps c =
+pub returns : goal.returns
+returns c =
     let w = c.args.world.now in
     let p : ℕ = c.args.pid.0 in
     let whole : c.in_ok-places.places ≡ w.state.places =
-    c.in_ok-places.ensures ∙ ap (λ l. map (λ kinds. length kinds) l) c.tally.ensures.kinds ∙ all_events w c.requires.world in
+    c.in_ok-places.ensures ∙ ap (λ l. map (λ kinds. length kinds) l) c.tally-tally.ensures.kinds ∙ all_events w c.requires.world in
     let more : c.set.new.self ≡ one_more w p = c.set.ensures ∙ (λ i. set (whole i) p (c.place.ensures i + 1)) in
-    let steps : steps_up_to c.counts.result.now ≡ steps_up_to (one_more w p) =
-    ap (λ (l : List ℕ). steps_up_to l) (c.counts.ensures ∙ more) in
-    search (rules, steps)
+    let few : length c.set.new.self ≤ c.processes.result =
+    omega (arith, ap (λ (l : List ℕ). length l) more, length-set w.state.places p (c.place.result + 1), c.processes.ensures,
+      ap (λ l. length l) c.tally-tally.ensures.kinds, kinds_placed w c.requires.world) in
+    subst (λ (l : List ℕ). steps_up_to l ≤ c.steps_up_to.result) more (c.steps_up_to.ensures few)

@@ -1,4 +1,4 @@
-use Rattle.std.proofs.Common.{◌≡◌, List, ℕ, sym, ap, ◌∙◌, subst}
+use Rattle.std.proofs.Common.{◌≡◌, List, ℕ, length, sym, ap, ◌∙◌, subst, arith}
 use Rattle.dbg_base.specs.SystemStates.{SystemState, after_rollback}
 use Rattle.causal_world.specs.Scenes.{Scene, IsWorldOf}
 use Rattle.break_book.specs.Books.{AreMoved, HaveRoomUpTo, breakpoints_of}
@@ -9,6 +9,15 @@ use Rattle.dbg_command.specs.Boxes.{HasRolled, unrolled}
 use Rattle.dbg_command.proofs.Acting.{system_changed}
 use Rattle.dbg_command.proofs.GoingBack.{is_rolled}
 use Rattle.dbg_command.proofs.table.Table.forth.Goals as goal
+
+pub reserve_to-requires : goal.reserve_to-requires
+reserve_to-requires c =
+    let P = c.requires.0 in
+    let taken = c.args.taken.now in
+    let own = subst (IsTableOf P) (sym c.self.view_is) c.requires.1 in
+    let has = subst (λ (t : TableState). HasRolled P taken.rolled taken.places (state_of t)) (sym c.self.view_is) c.requires.2 in
+    let was = ap (λ (M : SystemState). length M.places) has.was in
+    omega (arith, was, has.from.of.state.places, own.world.state.places)
 
 pub forth-requires : goal.forth-requires
 forth-requires c =

@@ -1,0 +1,2 @@
+pub mod Healths
+pub mod Seen

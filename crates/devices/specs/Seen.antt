@@ -1,0 +1,25 @@
+-- What is seen of a sink, and what calls that write do to it.
+use Rattle.std.specs.Prelude.{◌≡◌, ℕ, List, ◌++◌, Option}
+use Rattle.std.specs.Io.KnownBytes.{Keeps, Appends}
+use Rattle.devices.specs.declared.health.Health.{Health}
+use Rattle.devices.specs.declared.health.Health.TheVariants.{Fine, Failed}
+use Rattle.devices.specs.declared.noted.Noted.{Noted}
+
+-- the bytes that it holds, where they are known, and whether it has failed
+pub record Seen : Type 0 where
+  pub contents : Option (List ℕ)
+  pub health : Health
+
+-- these bytes were written, and it has not failed if it had not before
+pub record Writes (old new : Seen) (bytes : List ℕ) : Type 0 where
+  pub appends : Appends old.contents new.contents bytes
+  pub fine : old.health ≡ Fine → new.health ≡ Fine
+
+-- these bytes were written, and then it failed, once, if it had not before
+pub record WritesUntilFailed (old new : Seen) (bytes : List ℕ) : Type 0 where
+  pub appends : Appends old.contents new.contents bytes
+  pub failed : old.health ≡ Fine → new.health ≡ Failed
+
+-- what is seen of a writer that is noted
+abbrev pub seen_noted : {W : Type 0} → (W → Option (List ℕ)) → Noted W → Seen
+seen_noted contents noted = record { contents = contents noted.device; health = noted.health }

@@ -1,0 +1,10 @@
+//! Readers and writers that tell whether they have failed: a call that failed is not tried again.
+#![tactic(auto)]
+
+mod health;
+mod noted;
+mod streams;
+
+pub use health::Health;
+pub use noted::Noted;
+pub use streams::{Sink, Source};
