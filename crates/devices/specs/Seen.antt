@@ -11,12 +11,12 @@ pub record Seen : Type 0 where
   pub health : Health
 
 -- these bytes were written, and it has not failed if it had not before
-pub record Writes (old new : Seen) (bytes : List ℕ) : Type 0 where
+pub record Appended (old new : Seen) (bytes : List ℕ) : Type 0 where
   pub appends : Appends old.contents new.contents bytes
   pub fine : old.health ≡ Fine → new.health ≡ Fine
 
 -- these bytes were written, and then it failed, once, if it had not before
-pub record WritesUntilFailed (old new : Seen) (bytes : List ℕ) : Type 0 where
+pub record CutShort (old new : Seen) (bytes : List ℕ) : Type 0 where
   pub appends : Appends old.contents new.contents bytes
   pub failed : old.health ≡ Fine → new.health ≡ Failed
 

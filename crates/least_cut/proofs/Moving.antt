@@ -120,20 +120,20 @@ less_truths less places (watch ∷ watches) most all = (
 )
 
 -- one process more has its events, and one
-pub steps_next : (places : List ℕ) (p : ℕ) → steps_up_to (take (p + 1) places) ≤ steps_up_to (take p places) + get_or places p 0 + 1
-steps_next [] p = omega (arith, ap (λ (l : List ℕ). steps_up_to l) (take_nothing (p + 1)), ap (λ (l : List ℕ). steps_up_to l) (take_nothing p))
+pub steps_next : (counts : List ℕ) (p : ℕ) → steps_up_to (take (p + 1) counts) ≤ steps_up_to (take p counts) + get_or counts p 0 + 1
+steps_next counts p = let later : p + 1 ≡ suc p = omega arith in omega (arith, next counts p, ap (λ (n : ℕ). steps_up_to (take n counts)) later)
   where
-    take_nothing : (n : ℕ) → take {A = ℕ} n [] ≡ []
-    take_nothing zero = refl
-    take_nothing (suc n) = refl
-steps_next (n ∷ places) zero = omega (arith, sum_by-cons (λ x. x) (n + 1) [])
-steps_next (n ∷ places) (suc p) =
-    omega (
-      arith,
-      steps_next places p,
-      sum_by-cons (λ x. x) (n + 1) (map (λ (place : ℕ). place + 1) (take (p + 1) places)),
-      sum_by-cons (λ x. x) (n + 1) (map (λ (place : ℕ). place + 1) (take p places)),
-    )
+    next : (counts : List ℕ) (p : ℕ) → steps_up_to (take (suc p) counts) ≤ steps_up_to (take p counts) + get_or counts p 0 + 1
+    next [] zero = omega arith
+    next [] (suc p) = omega arith
+    next (n ∷ counts) zero = omega (arith, sum_by-cons (λ x. x) (n + 1) [])
+    next (n ∷ counts) (suc p) =
+        omega (
+          arith,
+          next counts p,
+          sum_by-cons (λ x. x) (n + 1) (map (λ (place : ℕ). place + 1) (take (suc p) counts)),
+          sum_by-cons (λ x. x) (n + 1) (map (λ (place : ℕ). place + 1) (take p counts)),
+        )
 
 less_steps : (less places : List ℕ) → length less ≡ length places → ((p : ℕ) → get_or less p 0 ≤ get_or places p 0)
     → steps_up_to less ≤ steps_up_to places

@@ -1,5 +1,7 @@
--- The statuses with which the program ends.
+-- The statuses with which the program ends, and what an outcome tells of the devices.
 use Rattle.std.specs.Prelude.{ℕ, Result, Ok, Err}
+use Rattle.devices.specs.declared.health.Health.{Health}
+use Rattle.devices.specs.declared.health.Health.TheVariants.{Fine, Failed}
 use Rattle.reply_lines.specs.declared.outcome.Served.{Served}
 use Rattle.reply_lines.specs.declared.outcome.Served.TheVariants.{Done, Refused, TooLong}
 use Rattle.reply_lines.specs.declared.outcome.ServeFault.{ServeFault}
@@ -12,3 +14,17 @@ status_of (Ok TooLong) = 1
 status_of (Err Read) = 1
 status_of (Err Write) = 1
 status_of (Err Memory) = 4
+
+-- the source has failed, once, exactly where that is told
+abbrev pub source_behind : {A : Type 0} → Result A ServeFault → Health
+source_behind (Ok value) = Fine
+source_behind (Err Read) = Failed
+source_behind (Err Write) = Fine
+source_behind (Err Memory) = Fine
+
+-- and so has the sink
+abbrev pub sink_behind : {A : Type 0} → Result A ServeFault → Health
+sink_behind (Ok value) = Fine
+sink_behind (Err Read) = Fine
+sink_behind (Err Write) = Failed
+sink_behind (Err Memory) = Fine

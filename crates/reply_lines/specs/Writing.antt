@@ -1,16 +1,17 @@
--- What a call that writes a text does to the known bytes of a writer.
-use Rattle.std.specs.Prelude.{◌≡◌, ℕ, List, [], ◌∷◌, ◌++◌, Option, Result, OnOk, OnErr, IfErr}
-use Rattle.std.specs.Io.KnownBytes.{Appends}
+-- What a call that writes a text does to the sink.
+use Rattle.std.specs.Prelude.{◌≡◌, ℕ, List, [], ◌∷◌, ◌++◌, Result, OnOk, OnErr, IfErr}
+use Rattle.devices.specs.Seen.{Seen, Appended, CutShort}
 use Rattle.reply_lines.specs.declared.outcome.ServeFault.{ServeFault}
 use Rattle.reply_lines.specs.declared.outcome.ServeFault.TheVariants.{Write}
 
--- known bytes grow by a front of the text
-abbrev pub AppendsFront : Option (List ℕ) → Option (List ℕ) → List ℕ → Type 0
-AppendsFront old new text = (front back : List ℕ) × (text ≡ front ++ back) × Appends old new front
+-- a front of the text was appended, and then the sink failed
+abbrev pub AppendsFront : Seen → Seen → List ℕ → Type 0
+AppendsFront old new text = (front back : List ℕ) × (text ≡ front ++ back) × CutShort old new front
 
--- at `Ok` the whole text was appended, and at `Err`, which is the writer's fault, a front of it
-pub record Writes {A : Type 0} (old new : Option (List ℕ)) (result : Result A ServeFault) (text : List ℕ) : Type 0 where
-  pub whole : OnOk result (Appends old new text)
+-- At `Ok` the whole text was appended, and the sink has not failed. At `Err`, which is `Write`, a front of it was, and then the sink failed,
+-- once: nothing was tried again.
+pub record Writes {A : Type 0} (old new : Seen) (result : Result A ServeFault) (text : List ℕ) : Type 0 where
+  pub whole : OnOk result (Appended old new text)
   pub part : OnErr result (AppendsFront old new text)
   pub fault : IfErr result (λ fault. fault ≡ Write)
 

@@ -1,24 +1,22 @@
 //! What is told beside the replies.
 
-ghost use Rattle.std.specs.Prelude.{◌≡◌, ◌∷◌, ℕ, List, Option, IfOk, IfErr};
-ghost use Rattle.std.specs.Io.KnownBytes.{Keeps};
+ghost use Rattle.std.specs.Prelude.{◌≡◌, ◌∷◌, ℕ, List, [], IfOk};
+ghost use Rattle.devices.specs.Seen.{Seen};
 ghost use Rattle.dbg_base.specs.Shell.{as_line, too_long_text, no_end_line_text, fault_text, size_text};
 ghost use Rattle.reply_lines.specs.Writing.{Writes, in_a_row};
 ghost use Rattle.reply_lines.specs.Pieces.{piece_words};
 ghost use Rattle.reply_lines.specs.Closings.{too_many_turns_text, settled_text, differs_text};
 ghost use Rattle.dbg_base.specs.Replies.{joined};
 ghost use Rattle.reply_lines.specs.declared.outcome.Served.TheVariants.{Done, Refused, TooLong};
-ghost use Rattle.reply_lines.specs.declared.outcome.ServeFault.TheVariants.{Write};
 
 use crate::outcome::{ServeFault, Served};
 use crate::parts::{Item, Piece, Term, write_line};
+use devices::Sink;
 use proc_lang::ProgFault;
-use std::io::Write;
 
 // Hands on all that was written.
-fn flush<W: Write>(writer: &mut W) -> Result<(), ServeFault>
-    ensures kept { Keeps (W.contents writer.old) (W.contents writer.new) }
-    ensures fault { IfErr result (λ fault. fault ≡ Write) }
+fn flush<W: Sink>(writer: &mut W) -> Result<(), ServeFault>
+    ensures { Writes (W.seen writer.old) (W.seen writer.new) result [] }
 {
     match writer.flush() {
         Ok(()) => Ok(()),
@@ -27,22 +25,22 @@ fn flush<W: Write>(writer: &mut W) -> Result<(), ServeFault>
 }
 
 /// Hands on what was written, where it was written whole.
-pub fn hand_on<W: Write>(written: Result<(), ServeFault>, writer: &mut W) -> Result<(), ServeFault>
-    ensures { (old : Option (List ℕ)) (text : List ℕ) → Writes old (W.contents writer.old) written text
-        → Writes old (W.contents writer.new) result text }
+pub fn hand_on<W: Sink>(written: Result<(), ServeFault>, writer: &mut W) -> Result<(), ServeFault>
+    ensures { (old : Seen) (text : List ℕ) → Writes old (W.seen writer.old) written text
+        → Writes old (W.seen writer.new) result text }
 {
     written?;
     flush(writer)
 }
 
 // Writes a line and hands it on; then the run has ended so.
-fn tell<E: Copy, W: Write>(
+fn tell<E: Copy, W: Sink>(
     first: &[u8],
     pieces: &[Piece<'_>],
     end: E,
     writer: &mut W,
 ) -> Result<E, ServeFault>
-    ensures written { Writes (W.contents writer.old) (W.contents writer.new) result
+    ensures written { Writes (W.seen writer.old) (W.seen writer.new) result
         (as_line (joined (first.now ∷ in_a_row piece_words pieces.now))) }
     ensures served { IfOk result (λ ended. ended ≡ end) }
 {
@@ -52,16 +50,16 @@ fn tell<E: Copy, W: Write>(
 }
 
 /// There is more input than may be.
-pub fn tell_too_long<W: Write>(writer: &mut W) -> Result<Served, ServeFault>
-    ensures written { Writes (W.contents writer.old) (W.contents writer.new) result too_long_text }
+pub fn tell_too_long<W: Sink>(writer: &mut W) -> Result<Served, ServeFault>
+    ensures written { Writes (W.seen writer.old) (W.seen writer.new) result too_long_text }
     ensures served { IfOk result (λ served. served ≡ TooLong) }
 {
     tell(b"input too long", &[], Served::TooLong, writer)
 }
 
 /// No line ends the program text.
-pub fn tell_no_end_line<W: Write>(writer: &mut W) -> Result<Served, ServeFault>
-    ensures written { Writes (W.contents writer.old) (W.contents writer.new) result no_end_line_text }
+pub fn tell_no_end_line<W: Sink>(writer: &mut W) -> Result<Served, ServeFault>
+    ensures written { Writes (W.seen writer.old) (W.seen writer.new) result no_end_line_text }
     ensures served { IfOk result (λ served. served ≡ Refused) }
 {
     tell(
@@ -73,8 +71,8 @@ pub fn tell_no_end_line<W: Write>(writer: &mut W) -> Result<Served, ServeFault>
 }
 
 /// What is wrong with the program text.
-pub fn tell_fault<W: Write>(fault: &ProgFault, writer: &mut W) -> Result<Served, ServeFault>
-    ensures written { Writes (W.contents writer.old) (W.contents writer.new) result (fault_text fault.now) }
+pub fn tell_fault<W: Sink>(fault: &ProgFault, writer: &mut W) -> Result<Served, ServeFault>
+    ensures written { Writes (W.seen writer.old) (W.seen writer.new) result (fault_text fault.now) }
     ensures served { IfOk result (λ served. served ≡ Refused) }
 {
     let kind = Piece::Item(Item::Count(fault.kind.number()));
@@ -84,12 +82,12 @@ pub fn tell_fault<W: Write>(fault: &ProgFault, writer: &mut W) -> Result<Served,
 }
 
 /// How large the program is.
-pub fn tell_size<W: Write>(
+pub fn tell_size<W: Sink>(
     processes: u32,
     commands: u32,
     writer: &mut W,
 ) -> Result<Served, ServeFault>
-    ensures written { Writes (W.contents writer.old) (W.contents writer.new) result (size_text processes commands) }
+    ensures written { Writes (W.seen writer.old) (W.seen writer.new) result (size_text processes commands) }
     ensures served { IfOk result (λ served. served ≡ Done) }
 {
     let pieces = [
@@ -102,23 +100,23 @@ pub fn tell_size<W: Write>(
 }
 
 /// There would be more calls than a session takes.
-pub fn tell_too_many_turns<W: Write>(writer: &mut W) -> Result<(), ServeFault>
-    ensures { Writes (W.contents writer.old) (W.contents writer.new) result too_many_turns_text }
+pub fn tell_too_many_turns<W: Sink>(writer: &mut W) -> Result<(), ServeFault>
+    ensures { Writes (W.seen writer.old) (W.seen writer.new) result too_many_turns_text }
 {
     tell(b"too many turns", &[], (), writer)
 }
 
 /// So many calls were entered, and the journal has them as the seats do.
-pub fn print_settled<W: Write>(calls: usize, writer: &mut W) -> Result<(), ServeFault>
-    ensures { Writes (W.contents writer.old) (W.contents writer.new) result (settled_text calls) }
+pub fn print_settled<W: Sink>(calls: usize, writer: &mut W) -> Result<(), ServeFault>
+    ensures { Writes (W.seen writer.old) (W.seen writer.new) result (settled_text calls) }
 {
     write_line(b"calls", &[Piece::Item(Item::Size(calls))], writer)?;
     write_line(b"journal ok", &[], writer)
 }
 
 /// The journal and the seats differ.
-pub fn print_differs<W: Write>(writer: &mut W) -> Result<(), ServeFault>
-    ensures { Writes (W.contents writer.old) (W.contents writer.new) result differs_text }
+pub fn print_differs<W: Sink>(writer: &mut W) -> Result<(), ServeFault>
+    ensures { Writes (W.seen writer.old) (W.seen writer.new) result differs_text }
 {
     write_line(b"journal differs", &[], writer)
 }

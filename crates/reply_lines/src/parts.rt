@@ -14,9 +14,9 @@ ghost use Rattle.reply_lines.specs.Pieces.{term_text, item_text, word_text, word
 use crate::outcome::ServeFault;
 use crate::text::Text;
 use dbg_base::{Head, Name, Pid};
+use devices::Sink;
 use itoa::Buffer;
 use proc_lang::Program;
-use std::io::Write;
 
 // Room for a space, a name, a sign and a number.
 const PAIR: usize = 80;
@@ -116,14 +116,13 @@ pub(crate) enum Piece<'a> {
     Halted(Option<Name>),
 }
 
-// Writes all of the bytes. An error, or a write that takes no byte, ends it, and nothing is tried again.
-fn write_whole<W: Write>(writer: &mut W, bytes: &[u8]) -> Result<(), ServeFault>
-    ensures { Writes (W.contents writer.old) (W.contents writer.new) result bytes.now }
+// Writes all of the bytes. A failure ends it, and nothing is tried again.
+fn write_whole<W: Sink>(writer: &mut W, bytes: &[u8]) -> Result<(), ServeFault>
+    ensures { Writes (W.seen writer.old) (W.seen writer.new) result bytes.now }
 {
     let mut rest = bytes;
     while !rest.is_empty() {
         match writer.write(rest) {
-            Ok(0) => return Err(ServeFault::Write),
             Ok(n) => rest = &rest[n..],
             Err(_) => return Err(ServeFault::Write),
         }
@@ -132,9 +131,9 @@ fn write_whole<W: Write>(writer: &mut W, bytes: &[u8]) -> Result<(), ServeFault>
 }
 
 // Writes a short text, with a space before it.
-fn write_short<W: Write>(short: &[u8], writer: &mut W) -> Result<(), ServeFault>
+fn write_short<W: Sink>(short: &[u8], writer: &mut W) -> Result<(), ServeFault>
     requires { length short.now ≤ 40 }
-    ensures { Writes (W.contents writer.old) (W.contents writer.new) result (codes " " ++ short.now) }
+    ensures { Writes (W.seen writer.old) (W.seen writer.new) result (codes " " ++ short.now) }
 {
     let mut text: Text<PAIR> = Text::new();
     text.append(b" ");
@@ -156,7 +155,7 @@ fn append_pair<const ROOM: usize>(text: &mut Text<ROOM>, name: &Name, sign: &[u8
 }
 
 // Writes a name, and a short text behind a sign.
-fn write_pair<W: Write>(
+fn write_pair<W: Sink>(
     name: &Name,
     sign: &[u8],
     short: &[u8],
@@ -164,7 +163,7 @@ fn write_pair<W: Write>(
 ) -> Result<(), ServeFault>
     requires sign { length sign.now ≤ 1 }
     requires short { length short.now ≤ 40 }
-    ensures { Writes (W.contents writer.old) (W.contents writer.new) result (codes " " ++ name.now ++ sign.now ++ short.now) }
+    ensures { Writes (W.seen writer.old) (W.seen writer.new) result (codes " " ++ name.now ++ sign.now ++ short.now) }
 {
     let mut text: Text<PAIR> = Text::new();
     append_pair(&mut text, name, sign, short);
@@ -188,16 +187,16 @@ impl Item {
 }
 
 // Writes an item, with a space before it.
-fn write_item<W: Write>(item: &Item, writer: &mut W) -> Result<(), ServeFault>
-    ensures { Writes (W.contents writer.old) (W.contents writer.new) result (codes " " ++ item_text item.now) }
+fn write_item<W: Sink>(item: &Item, writer: &mut W) -> Result<(), ServeFault>
+    ensures { Writes (W.seen writer.old) (W.seen writer.new) result (codes " " ++ item_text item.now) }
 {
     let mut buffer = Buffer::new();
     write_short(item.bytes(&mut buffer), writer)
 }
 
 // Writes a word, with a space before it.
-fn write_word<W: Write>(word: &Word, writer: &mut W) -> Result<(), ServeFault>
-    ensures { Writes (W.contents writer.old) (W.contents writer.new) result (codes " " ++ word_text word.now) }
+fn write_word<W: Sink>(word: &Word, writer: &mut W) -> Result<(), ServeFault>
+    ensures { Writes (W.seen writer.old) (W.seen writer.new) result (codes " " ++ word_text word.now) }
 {
     match word {
         Word::Plain(item) => write_item(item, writer),
@@ -279,12 +278,12 @@ impl Amounts<'_> {
 }
 
 // Writes each name with what belongs to it, as long as there are both.
-fn write_pairs<W: Write>(
+fn write_pairs<W: Sink>(
     names: &Names<'_>,
     amounts: &Amounts<'_>,
     writer: &mut W,
 ) -> Result<(), ServeFault>
-    ensures { Writes (W.contents writer.old) (W.contents writer.new) result
+    ensures { Writes (W.seen writer.old) (W.seen writer.new) result
         (spaced (pair_words (names_in names.now) (amount_texts amounts.now))) }
 {
     let mut buffer = Buffer::new();
@@ -328,8 +327,8 @@ impl Words<'_> {
 }
 
 // Writes the words, one after the other.
-fn write_words<W: Write>(words: &Words<'_>, writer: &mut W) -> Result<(), ServeFault>
-    ensures { Writes (W.contents writer.old) (W.contents writer.new) result (spaced (word_texts words.now)) }
+fn write_words<W: Sink>(words: &Words<'_>, writer: &mut W) -> Result<(), ServeFault>
+    ensures { Writes (W.seen writer.old) (W.seen writer.new) result (spaced (word_texts words.now)) }
 {
     for place in 0..words.len() {
         match words.at(place) {
@@ -341,16 +340,16 @@ fn write_words<W: Write>(words: &Words<'_>, writer: &mut W) -> Result<(), ServeF
 }
 
 // Writes two words.
-fn write_both<W: Write>(first: &Item, second: &Item, writer: &mut W) -> Result<(), ServeFault>
-    ensures { Writes (W.contents writer.old) (W.contents writer.new) result
+fn write_both<W: Sink>(first: &Item, second: &Item, writer: &mut W) -> Result<(), ServeFault>
+    ensures { Writes (W.seen writer.old) (W.seen writer.new) result
         (spaced (item_text first.now ∷ item_text second.now ∷ [])) }
 {
     write_item(first, writer)?;
     write_item(second, writer)
 }
 
-fn write_piece<W: Write>(piece: &Piece<'_>, writer: &mut W) -> Result<(), ServeFault>
-    ensures { Writes (W.contents writer.old) (W.contents writer.new) result (spaced (piece_words piece.now)) }
+fn write_piece<W: Sink>(piece: &Piece<'_>, writer: &mut W) -> Result<(), ServeFault>
+    ensures { Writes (W.seen writer.old) (W.seen writer.new) result (spaced (piece_words piece.now)) }
 {
     match piece {
         Piece::Nothing | Piece::Halted(None) => Ok(()),
@@ -368,8 +367,8 @@ fn write_piece<W: Write>(piece: &Piece<'_>, writer: &mut W) -> Result<(), ServeF
     }
 }
 
-fn write_pieces<W: Write>(pieces: &[Piece<'_>], writer: &mut W) -> Result<(), ServeFault>
-    ensures { Writes (W.contents writer.old) (W.contents writer.new) result (spaced (in_a_row piece_words pieces.now)) }
+fn write_pieces<W: Sink>(pieces: &[Piece<'_>], writer: &mut W) -> Result<(), ServeFault>
+    ensures { Writes (W.seen writer.old) (W.seen writer.new) result (spaced (in_a_row piece_words pieces.now)) }
 {
     for piece in pieces {
         write_piece(piece, writer)?;
@@ -378,12 +377,12 @@ fn write_pieces<W: Write>(pieces: &[Piece<'_>], writer: &mut W) -> Result<(), Se
 }
 
 /// Writes a line: its first word, the words of these pieces, each behind a space, and the line end.
-pub(crate) fn write_line<W: Write>(
+pub(crate) fn write_line<W: Sink>(
     first: &[u8],
     pieces: &[Piece<'_>],
     writer: &mut W,
 ) -> Result<(), ServeFault>
-    ensures { Writes (W.contents writer.old) (W.contents writer.new) result
+    ensures { Writes (W.seen writer.old) (W.seen writer.new) result
         (as_line (joined (first.now ∷ in_a_row piece_words pieces.now))) }
 {
     write_whole(writer, first)?;

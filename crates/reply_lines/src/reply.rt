@@ -16,8 +16,8 @@ ghost use Rattle.reply_lines.specs.Pieces.{names_in, amount_texts, piece_words};
 use crate::outcome::ServeFault;
 use crate::parts::{Amounts, Item, Names, Piece, Term, Words, write_line};
 use dbg_base::{Answer, Call, Choice, Cut, Done, Name, Pid, Query, Refusal, Reply, Said};
+use devices::Sink;
 use proc_lang::Program;
-use std::io::Write;
 
 // The name of a process.
 fn name_of(program: &Program, pid: Pid) -> Name
@@ -42,7 +42,7 @@ fn carried(program: &Program, refusal: &Refusal) -> Piece<'static>
 }
 
 // The line that tells the event that a command made or took back.
-fn print_event<W: Write>(
+fn print_event<W: Sink>(
     program: &Program,
     pid: Pid,
     choice: Choice,
@@ -50,7 +50,7 @@ fn print_event<W: Write>(
     writer: &mut W,
 ) -> Result<(), ServeFault>
     requires { pid.0 < length (program_of program.now) }
-    ensures { Writes (W.contents writer.old) (W.contents writer.new) result
+    ensures { Writes (W.seen writer.old) (W.seen writer.new) result
         (as_line (joined (codes "ok" ∷ name_of (program_of program.now) pid.0 ∷ decimal choice.0 ∷ halted_words halted))) }
 {
     let name = Item::Name(name_of(program, pid));
@@ -64,13 +64,13 @@ fn print_event<W: Write>(
 }
 
 // The line that accepts a command.
-fn print_accepted<'a, W: Write>(
+fn print_accepted<'a, W: Sink>(
     program: &'a Program,
     reply: &'a Reply,
     writer: &mut W,
 ) -> Result<(), ServeFault>
     requires { FitsDone (program_of program.now) reply.now.done }
-    ensures { (call : model.Call) → Writes (W.contents writer.old) (W.contents writer.new) result
+    ensures { (call : model.Call) → Writes (W.seen writer.old) (W.seen writer.new) result
         (as_line (reply_text (program_of program.now) call (Accepted reply.now))) }
 {
     match &reply.done {
@@ -86,7 +86,7 @@ fn print_accepted<'a, W: Write>(
 }
 
 // The line that tells a process's place and the length of its line.
-fn print_place<W: Write>(
+fn print_place<W: Sink>(
     program: &Program,
     pid: Pid,
     at: u32,
@@ -94,7 +94,7 @@ fn print_place<W: Write>(
     writer: &mut W,
 ) -> Result<(), ServeFault>
     requires { pid.0 < length (program_of program.now) }
-    ensures { Writes (W.contents writer.old) (W.contents writer.new) result
+    ensures { Writes (W.seen writer.old) (W.seen writer.new) result
         (as_line (joined (answer_words (program_of program.now) (model.Place pid.0) (PlaceOf at line)))) }
 {
     let name = Item::Name(name_of(program, pid));
@@ -111,14 +111,14 @@ fn print_place<W: Write>(
 }
 
 // The line that tells whether a process's last event may be undone.
-fn print_can<W: Write>(
+fn print_can<W: Sink>(
     program: &Program,
     pid: Pid,
     outcome: &Result<(), Refusal>,
     writer: &mut W,
 ) -> Result<(), ServeFault>
     requires { FitsAnswer (program_of program.now) (model.Can pid.0) (CanUndo outcome.now) }
-    ensures { Writes (W.contents writer.old) (W.contents writer.new) result
+    ensures { Writes (W.seen writer.old) (W.seen writer.new) result
         (as_line (joined (answer_words (program_of program.now) (model.Can pid.0) (CanUndo outcome.now)))) }
 {
     let name = Item::Name(name_of(program, pid));
@@ -146,14 +146,14 @@ fn print_can<W: Write>(
 }
 
 // A line about this name: names, each with what belongs to it.
-fn print_pairs<'a, W: Write>(
+fn print_pairs<'a, W: Sink>(
     first: &[u8],
     name: Name,
     names: Names<'a>,
     amounts: Amounts<'a>,
     writer: &mut W,
 ) -> Result<(), ServeFault>
-    ensures { Writes (W.contents writer.old) (W.contents writer.new) result
+    ensures { Writes (W.seen writer.old) (W.seen writer.new) result
         (as_line (joined (first.now ∷ name ∷ pair_words (names_in names.entry) (amount_texts amounts.entry)))) }
 {
     let name = Item::Name(name);
@@ -165,7 +165,7 @@ fn print_pairs<'a, W: Write>(
 }
 
 // The line that tells the messages from one process to another.
-fn print_chan<W: Write>(
+fn print_chan<W: Sink>(
     program: &Program,
     source: Pid,
     target: Pid,
@@ -174,7 +174,7 @@ fn print_chan<W: Write>(
 ) -> Result<(), ServeFault>
     requires source { source.0 < length (program_of program.now) }
     requires target { target.0 < length (program_of program.now) }
-    ensures { Writes (W.contents writer.old) (W.contents writer.new) result
+    ensures { Writes (W.seen writer.old) (W.seen writer.new) result
         (as_line (joined (codes "chan" ∷ name_of (program_of program.now) source.0 ∷ name_of (program_of program.now) target.0
         ∷ map signed_decimal messages.now))) }
 {
@@ -189,13 +189,13 @@ fn print_chan<W: Write>(
 }
 
 // The line that tells a breakpoint's cut, if it has one.
-fn print_cut<'a, W: Write>(
+fn print_cut<'a, W: Sink>(
     program: &'a Program,
     name: Name,
     cut: &'a Option<Cut>,
     writer: &mut W,
 ) -> Result<(), ServeFault>
-    ensures { Writes (W.contents writer.old) (W.contents writer.new) result
+    ensures { Writes (W.seen writer.old) (W.seen writer.new) result
         (as_line (joined (answer_words (program_of program.now) (model.CutOf name) (CutIs cut.now)))) }
 {
     match cut {
@@ -212,14 +212,14 @@ fn print_cut<'a, W: Write>(
 }
 
 // The line that answers a question.
-fn print_answer<'a, W: Write>(
+fn print_answer<'a, W: Sink>(
     program: &'a Program,
     query: &Query,
     answer: &'a Answer,
     writer: &mut W,
 ) -> Result<(), ServeFault>
     requires { FitsAnswer (program_of program.now) (query_of query.now) answer.now }
-    ensures { Writes (W.contents writer.old) (W.contents writer.new) result
+    ensures { Writes (W.seen writer.old) (W.seen writer.new) result
         (as_line (joined (answer_words (program_of program.now) (query_of query.now) answer.now))) }
 {
     match (query, answer) {
@@ -265,14 +265,14 @@ fn print_answer<'a, W: Write>(
 /// Writes the line that answers a call, with its line end. What is said fits the call: a command is accepted and a question answered,
 /// by what the program has. It takes no memory. Where the writer fails, or takes no byte, nothing is tried again, and the line's front
 /// may stand written.
-pub fn print_reply<W: Write>(
+pub fn print_reply<W: Sink>(
     program: &Program,
     call: &Call,
     said: &Said,
     writer: &mut W,
 ) -> Result<(), ServeFault>
     requires { FitsCall (program_of program.now) (call_of call.now) said.now }
-    ensures { Writes (W.contents writer.old) (W.contents writer.new) result
+    ensures { Writes (W.seen writer.old) (W.seen writer.new) result
         (as_line (reply_text (program_of program.now) (call_of call.now) said.now)) }
 {
     match (call, said) {
@@ -286,13 +286,13 @@ pub fn print_reply<W: Write>(
 }
 
 /// Writes the line that refuses a command line. For the rest it is as `print_reply`.
-pub fn print_refusal<W: Write>(
+pub fn print_refusal<W: Sink>(
     program: &Program,
     refusal: &Refusal,
     writer: &mut W,
 ) -> Result<(), ServeFault>
     requires { FitsRefusal (program_of program.now) refusal.now }
-    ensures { Writes (W.contents writer.old) (W.contents writer.new) result (as_line (refusal_text (program_of program.now) refusal.now)) }
+    ensures { Writes (W.seen writer.old) (W.seen writer.new) result (as_line (refusal_text (program_of program.now) refusal.now)) }
 {
     let number = Item::Count(refusal.number());
     let carried = carried(program, refusal);

@@ -7,13 +7,15 @@ ghost use Rattle.shell_input.specs.Spans.{AdvancesAt, is_inside, is_unended, Tel
 ghost use Rattle.shell_input.specs.Spans.{IsUnderWay};
 ghost use Rattle.shell_input.specs.declared.framing.TheConstants.{ROOM};
 ghost use Rattle.shell_input.specs.declared.framing.Next.TheVariants.{End};
+ghost use Rattle.devices.specs.declared.health.Health.TheVariants.{Fine};
+ghost use Rattle.reply_lines.specs.Outcomes.{source_behind};
 ghost use Rattle.reply_lines.specs.declared.outcome.ServeFault.TheVariants.{Read};
 ghost use Rattle.dbg_base.specs.declared.limits.TheConstants.{INPUT_BYTES};
 
 use dbg_base::limits::INPUT_BYTES;
+use devices::Source;
 use reply_lines::ServeFault;
 use std::alloc::{AllocError, Global};
-use std::io::Read;
 
 // At most one byte more than may be is ever read: it shows that there is too much.
 const ROOM: usize = 1_048_577;
@@ -113,7 +115,7 @@ impl Input {
 
     /// The next line, or why there is none. It reads only where no whole line was read yet, so each line can be answered before
     /// the next one is asked for. An error of the reader is not tried again.
-    pub fn next_line<R: Read>(&mut self, reader: &mut R) -> Result<Next, ServeFault>
+    pub fn next_line<R: Source>(&mut self, reader: &mut R) -> Result<Next, ServeFault>
         requires { EndsWith self.old.ended (R.remaining reader.old) }
         ensures advances { IfOk result (AdvancesAt self.old.at self.new.at) }
         ensures reads { ReadsOn self.old.bytes.items self.old.ended (R.remaining reader.old) self.new.bytes.items self.new.ended
@@ -121,6 +123,7 @@ impl Input {
         ensures stopped { IfOk result (λ next. next ≡ End → self.new.ended ≡ true) }
         ensures tells { IfOk result (TellsAny self.new.bytes.items self.new.ended self.old.at self.new.at) }
         ensures fault { IfErr result (λ fault. fault ≡ Read) }
+        ensures reader { R.health reader.old ≡ Fine → R.health reader.new ≡ source_behind result }
         ensures under_way { OnErr result (IsUnderWay self.new.bytes.items self.new.ended self.old.at) }
         ensures needed { ReadsAsNeeded self.old.bytes.items self.old.ended self.new.bytes.items self.old.at }
     {
@@ -195,7 +198,7 @@ impl Input {
     }
 
     // Reads once.
-    fn read_more<R: Read>(&mut self, reader: &mut R) -> Result<(), ServeFault>
+    fn read_more<R: Source>(&mut self, reader: &mut R) -> Result<(), ServeFault>
         requires room { vec_len self.old.bytes < ROOM }
         requires open { self.old.ended ≡ false }
         ensures stays { self.new.at ≡ self.old.at }
@@ -206,6 +209,7 @@ impl Input {
         ensures kept { OnErr result ((self.new.bytes ≡ self.old.bytes) × (self.new.ended ≡ self.old.ended)) }
         ensures once { ReadsOnce self.old.bytes.items self.new.bytes.items }
         ensures fault { IfErr result (λ fault. fault ≡ Read) }
+        ensures reader { R.health reader.old ≡ Fine → R.health reader.new ≡ source_behind result }
     {
         let mut chunk = [0u8; CHUNK];
         let room = (ROOM - self.bytes.len()).min(CHUNK);

@@ -7,12 +7,14 @@ ghost use Rattle.dbg_base.specs.Shell.{is_end_line, lines_of, parts_of};
 ghost use Rattle.shell_input.specs.Spans.{EndsWith, ReadsOn};
 ghost use Rattle.shell_input.specs.ProgramTexts.{SplitsAny, ReadsText, IsTextAt};
 ghost use Rattle.shell_input.specs.declared.program_text.TextEnd.TheVariants.{End};
+ghost use Rattle.devices.specs.declared.health.Health.TheVariants.{Fine};
+ghost use Rattle.reply_lines.specs.Outcomes.{source_behind};
 ghost use Rattle.reply_lines.specs.declared.outcome.ServeFault.TheVariants.{Read};
 
 use crate::framing::{Input, Next, Span};
 use command_line::without_return;
+use devices::Source;
 use reply_lines::ServeFault;
-use std::io::Read;
 
 /// Where the program text ends.
 #[derive(Clone, Copy, Debug, PartialEq, Eq)]
@@ -33,7 +35,10 @@ fn is_end_line(line: &[u8]) -> bool
 
 /// Reads the program text.
 #[tactic(auto, using(crate::proofs::Reading::reads_then))]
-pub fn read_program_text<R: Read>(input: &mut Input, reader: &mut R) -> Result<TextEnd, ServeFault>
+pub fn read_program_text<R: Source>(
+    input: &mut Input,
+    reader: &mut R,
+) -> Result<TextEnd, ServeFault>
     requires { EndsWith input.old.ended (R.remaining reader.old) }
     ensures reads { ReadsOn input.old.bytes.items input.old.ended (R.remaining reader.old) input.new.bytes.items input.new.ended
         (R.remaining reader.new) }
@@ -43,6 +48,7 @@ pub fn read_program_text<R: Read>(input: &mut Input, reader: &mut R) -> Result<T
     ensures few { OnErr result (length input.new.bytes.items ≤ INPUT_BYTES) }
     ensures needed { ReadsText input.old.bytes.items input.old.at input.new.bytes.items }
     ensures fault { IfErr result (λ fault. fault ≡ Read) }
+    ensures reader { R.health reader.old ≡ Fine → R.health reader.new ≡ source_behind result }
 {
     loop {
         match input.next_line(reader)? {

@@ -19,18 +19,18 @@ pub loop-place-preserved : goal.loop-place-preserved
 loop-place-preserved g c =
     let words = pair_words (names_in c.args.names.now) (amount_texts c.args.amounts.now) in
     let due = spaced (drop c.loop-place.place words) in
-    let old = g.W.Write.contents c.args.writer.now in
-    let kept : Progress old (g.W.Write.contents c.if-room-lt-PAIR.writer) (spaced words) (c.if-room-lt-PAIR.text ++ due) =
+    let old = g.W.Sink.seen c.args.writer.now in
+    let kept : Progress old (g.W.Sink.seen c.if-room-lt-PAIR.writer) (spaced words) (c.if-room-lt-PAIR.text ++ due) =
     elim c.if-room-lt-PAIR.branch [
       | then-room-lt-PAIR+in_ok-write_whole w ↦
-          subst (λ x. Progress old (g.W.Write.contents x) (spaced words) (c.if-room-lt-PAIR.text ++ due)) (sym w.writer-is)
-          (subst (λ (t : List ℕ). Progress old (g.W.Write.contents w.write_whole.new.writer) (spaced words) (t ++ due))
+          subst (λ x. Progress old (g.W.Sink.seen x) (spaced words) (c.if-room-lt-PAIR.text ++ due)) (sym w.writer-is)
+          (subst (λ (t : List ℕ). Progress old (g.W.Sink.seen w.write_whole.new.writer) (spaced words) (t ++ due))
           (sym (w.text-is ∙ w.clear.ensures))
           (progress_more _ _ _ _ _ _ due c.loop-place.invariant (ap (λ (t : List ℕ). t ++ due) (sym w.bytes.ensures))
           w.in_ok-write_whole.ensures))
       | else-room-lt-PAIR w ↦
-          subst (λ x. Progress old (g.W.Write.contents x) (spaced words) (c.if-room-lt-PAIR.text ++ due)) (sym w.writer-is)
-          (subst (λ (t : List ℕ). Progress old (g.W.Write.contents c.loop-place.writer) (spaced words) (t ++ due)) (sym w.text-is)
+          subst (λ x. Progress old (g.W.Sink.seen x) (spaced words) (c.if-room-lt-PAIR.text ++ due)) (sym w.writer-is)
+          (subst (λ (t : List ℕ). Progress old (g.W.Sink.seen c.loop-place.writer) (spaced words) (t ++ due)) (sym w.text-is)
           c.loop-place.invariant)
     ] in
     progress_kept _ _ _ _ _ _ _ _ kept

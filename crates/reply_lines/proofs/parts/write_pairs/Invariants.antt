@@ -6,5 +6,5 @@ use Rattle.reply_lines.proofs.parts.write_pairs.Given as goal
 
 abbrev pub invariant-loop-place : goal.invariant-loop-place
 invariant-loop-place g l =
-    Progress (g.W.Write.contents l.fn.writer) (g.W.Write.contents l.writer) (spaced (pair_words (names_in l.names) (amount_texts l.amounts)))
+    Progress (g.W.Sink.seen l.fn.writer) (g.W.Sink.seen l.writer) (spaced (pair_words (names_in l.names) (amount_texts l.amounts)))
     (l.text ++ spaced (drop l.place (pair_words (names_in l.names) (amount_texts l.amounts))))

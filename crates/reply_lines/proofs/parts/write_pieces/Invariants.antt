@@ -8,5 +8,5 @@ use Rattle.reply_lines.proofs.parts.write_pieces.Given as goal
 
 abbrev pub invariant-loop-piece : goal.invariant-loop-piece
 invariant-loop-piece g l =
-    Progress (g.W.Write.contents l.fn.writer) (g.W.Write.contents l.writer) (spaced (in_a_row piece_words l.pieces))
+    Progress (g.W.Sink.seen l.fn.writer) (g.W.Sink.seen l.writer) (spaced (in_a_row piece_words l.pieces))
     (flat_map (λ p. spaced (piece_words p)) (drop l.piece-index l.pieces))

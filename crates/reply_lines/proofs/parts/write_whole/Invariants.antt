@@ -3,7 +3,7 @@ use Rattle.reply_lines.proofs.Writing.{Progress}
 use Rattle.reply_lines.proofs.parts.write_whole.Given as goal
 
 abbrev pub invariant-loop-rest : goal.invariant-loop-rest
-invariant-loop-rest g l = Progress (g.W.Write.contents l.fn.writer) (g.W.Write.contents l.writer) l.fn.bytes l.rest
+invariant-loop-rest g l = Progress (g.W.Sink.seen l.fn.writer) (g.W.Sink.seen l.writer) l.fn.bytes l.rest
 
 abbrev pub decreases-loop-rest : goal.decreases-loop-rest
 decreases-loop-rest g l = length l.rest

@@ -6,5 +6,5 @@ use Rattle.reply_lines.proofs.parts.write_words.Given as goal
 
 abbrev pub invariant-loop-place : goal.invariant-loop-place
 invariant-loop-place g l =
-    Progress (g.W.Write.contents l.fn.writer) (g.W.Write.contents l.writer) (spaced (word_texts l.words))
+    Progress (g.W.Sink.seen l.fn.writer) (g.W.Sink.seen l.writer) (spaced (word_texts l.words))
     (spaced (drop l.place (word_texts l.words)))

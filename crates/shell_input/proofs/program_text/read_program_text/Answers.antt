@@ -11,6 +11,7 @@ loop-span-preserved g c = record {
   so_far = so_far_goes_on _ _ _ _ _ _ _ _ c.loop-span.invariant.so_far c.next_line.ensures.reads.narrows c.in_ok-span.ensures.tells
       c.line.result.now c.in-Line.span c.in-Line.is c.line.ensures c.in_ok-span.ensures.advances
       (sym c.is_end_line.ensures ∙ c.if-is_end_line.false);
+  reader = λ fine. c.in_ok-span.ensures.reader (c.loop-span.invariant.reader fine);
 }
 
 pub returns-in_err-span-clause-none : goal.returns-in_err-span-clause-none

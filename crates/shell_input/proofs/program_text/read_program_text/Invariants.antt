@@ -1,4 +1,5 @@
-use Rattle.std.proofs.Common.{◌-◌}
+use Rattle.std.proofs.Common.{◌≡◌, ◌-◌}
+use Rattle.devices.specs.declared.health.Health.TheVariants.{Fine}
 use Rattle.dbg_base.specs.declared.limits.TheConstants.{INPUT_BYTES}
 use Rattle.shell_input.specs.Spans.{ReadsOn}
 use Rattle.shell_input.specs.ProgramTexts.{ReadsText}
@@ -7,10 +8,11 @@ use Rattle.shell_input.proofs.program_text.read_program_text.Given as goal
 
 abbrev pub invariant-loop-span : goal.invariant-loop-span
 invariant-loop-span g l = record {
-  reads : ReadsOn l.fn.input.bytes.items l.fn.input.ended (g.R.Read.remaining l.fn.reader) l.input.bytes.items l.input.ended
-      (g.R.Read.remaining l.reader);
+  reads : ReadsOn l.fn.input.bytes.items l.fn.input.ended (g.R.Source.remaining l.fn.reader) l.input.bytes.items l.input.ended
+      (g.R.Source.remaining l.reader);
   needed : ReadsText l.fn.input.bytes.items l.fn.input.at l.input.bytes.items;
   so_far : SoFarAny l.input.bytes.items l.input.ended l.fn.input.at l.input.at;
+  reader : g.R.Source.health l.fn.reader ≡ Fine → g.R.Source.health l.reader ≡ Fine;
 }
 
 -- the bytes that no line was made of yet

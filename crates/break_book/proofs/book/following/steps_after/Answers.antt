@@ -21,6 +21,12 @@ returns c =
     c.in_ok-places.ensures ∙ ap (λ l. map (λ kinds. length kinds) l) c.tally-tally.ensures.kinds ∙ all_events w c.requires.world in
     let more : c.set.new.self ≡ one_more w p = c.set.ensures ∙ (λ i. set (whole i) p (c.place.ensures i + 1)) in
     let few : length c.set.new.self ≤ c.processes.result =
-    omega (arith, ap (λ (l : List ℕ). length l) more, length-set w.state.places p (c.place.result + 1), c.processes.ensures,
-      ap (λ l. length l) c.tally-tally.ensures.kinds, kinds_placed w c.requires.world) in
+    omega (
+      arith,
+      ap (λ (l : List ℕ). length l) more,
+      length-set w.state.places p (c.place.result + 1),
+      c.processes.ensures,
+      ap (λ l. length l) c.tally-tally.ensures.kinds,
+      kinds_placed w c.requires.world,
+    ) in
     subst (λ (l : List ℕ). steps_up_to l ≤ c.steps_up_to.result) more (c.steps_up_to.ensures few)

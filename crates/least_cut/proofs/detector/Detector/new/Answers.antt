@@ -17,8 +17,12 @@ run-requires-clause-search c =
     let placed : c.in_ok-places.places ≡ places c.args.world.now.kinds =
     c.in_ok-places.ensures ∙ ap (λ (l : List (List Kind)). places l) c.tally-tally.ensures.kinds in
     let few : length c.in_ok-places.places ≤ c.processes-2.result =
-    omega (arith, ap (λ (l : List ℕ). length l) c.in_ok-places.ensures, length-map (λ (own : List Kind). length own) c.tally-tally.result.now.kinds,
-      c.processes-2.ensures) in
+    omega (
+      arith,
+      ap (λ (l : List ℕ). length l) c.in_ok-places.ensures,
+      length-map c.tally-tally.result.now.kinds (λ (own : List Kind). length own),
+      c.processes-2.ensures,
+    ) in
     let none : c.in_ok-vec.field-0.items ≡ replicate c.processes.result 0 = search rules in
     search_begins w _ c.reserve_to.new.self c.tally-tally.ensures.world c.in_ok-watches.ensures.of
     (c.new-candidates.ensures ∙ none ∙ ap (λ (n : ℕ). replicate n 0) counted) c.new.ensures.items

@@ -26,4 +26,5 @@ loop-next-preserved g c =
       needed = needs_more seen
           (subst (λ (n : ℕ). IsUnderWay c.ready.new.self.bytes.items c.ready.new.self.ended n) here c.in_default.ensures.under_way)
           c.read_more.ensures.once;
+      reader = λ fine. c.in_ok-read_more.ensures.reader (c.loop-next.invariant.reader fine);
     }
