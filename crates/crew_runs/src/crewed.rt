@@ -1,14 +1,15 @@
 //! How a run of workers ends, and what is told of it.
 
-ghost use Rattle.std.specs.Prelude.{◌≡◌, ◌↔◌, ◌*◌, ◌≤◌, ℕ, List, Option, IsTrue, IfOk};
+ghost use Rattle.std.specs.Prelude.{◌≡◌, ◌↔◌, ◌*◌, ◌≤◌, ℕ, List, IsTrue, IfOk};
 ghost use Rattle.dbg_base.specs.declared.limits.TheConstants.{CALLS};
+ghost use Rattle.devices.specs.Seen.{Seen};
 ghost use Rattle.reply_lines.specs.Writing.{Writes};
 ghost use Rattle.crew_runs.specs.Crewing.{crew_status_of, closing_text, closing_end};
 
 use dbg_base::limits::CALLS;
 use dbg_desk::{Closing, Mismatch};
+use devices::Sink;
 use reply_lines::{ServeFault, print_differs, print_settled};
-use std::io::Write;
 
 /// How a run of workers ended where nothing failed.
 #[derive(Clone, Copy, Debug, PartialEq, Eq)]
@@ -47,12 +48,12 @@ pub fn fits_turns(turns: u32, processes: u32) -> bool
 }
 
 /// Writes how many calls a journal has that is what the seats were told, or that it differs. It takes no memory. Where the writer fails,
-/// or takes no byte, nothing is tried again, and a front of the text may stand written.
-pub fn print_closing<W: Write>(
+/// nothing is tried again, and a front of the text may stand written.
+pub fn print_closing<W: Sink>(
     closing: &Result<Closing, Mismatch>,
     writer: &mut W,
 ) -> Result<(), ServeFault>
-    ensures { Writes (W.contents writer.old) (W.contents writer.new) result (closing_text closing.now) }
+    ensures { Writes (W.seen writer.old) (W.seen writer.new) result (closing_text closing.now) }
 {
     match closing {
         Ok(closing) => print_settled(closing.calls, writer),
@@ -72,7 +73,7 @@ pub(crate) fn closing_end(closing: &Result<Closing, Mismatch>) -> Crewed
 
 /// The run ends so, where the last of its text was written.
 pub(crate) fn ends<T: Copy>(told: Result<T, ServeFault>, end: Crewed) -> Result<Crewed, ServeFault>
-    ensures written { (old new : Option (List ℕ)) (text : List ℕ) → Writes old new told text → Writes old new result text }
+    ensures written { (old new : Seen) (text : List ℕ) → Writes old new told text → Writes old new result text }
     ensures end { IfOk result (λ ended. ended ≡ end) }
 {
     told?;

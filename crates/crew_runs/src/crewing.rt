@@ -1,13 +1,15 @@
 //! A program text, whose processes workers give their turns.
 
 ghost use Rattle.std.specs.Prelude.{◌≡◌, ◌≢◌, ◌*◌, ◌<◌, ◌≤◌, [], min, length, replicate, IfOk, IfErr, IfSome};
-ghost use Rattle.std.specs.Io.KnownBytes.{Keeps};
+ghost use Rattle.devices.specs.declared.health.Health.TheVariants.{Fine};
+ghost use Rattle.devices.specs.Seen.{Appended};
 ghost use Rattle.dbg_base.specs.declared.refusal.Refusal.TheVariants as refusals;
 ghost use Rattle.dbg_base.specs.declared.limits.TheConstants.{CALLS, SEATS};
 ghost use Rattle.dbg_base.specs.Calls.{One, Next};
 ghost use Rattle.dbg_board.specs.Boards.{listing};
 ghost use Rattle.proc_lang.specs.Programs.{program_of};
 ghost use Rattle.dbg_desk.specs.Desks.{new_seats};
+ghost use Rattle.reply_lines.specs.Outcomes.{source_behind, sink_behind};
 ghost use Rattle.reply_lines.specs.declared.outcome.ServeFault.TheVariants.{Write};
 ghost use Rattle.crew_runs.specs.declared.crewed.Crewed.{Crewed};
 ghost use Rattle.shell_input.specs.ProgramTexts.{ReadsFew, ReadsProgram};
@@ -22,11 +24,11 @@ use dbg_board::{Board, Publisher, SeatView};
 use dbg_command::{Command, NextCmd};
 use dbg_crew::crew;
 use dbg_desk::{Closing, Desk, Mismatch, Run, Seat};
+use devices::{Sink, Source};
 use proc_lang::{ProgError, Program, parse_program};
 use reply_lines::{ServeFault, hand_on, tell_fault, tell_too_long, tell_too_many_turns};
 use shell_input::{Input, read_program_text, text_alone};
 use std::alloc::Global;
-use std::io::{Read, Write};
 use std::marker::Brand;
 use std::sync::Wait;
 use std::sync::ledger::Blank;
@@ -139,7 +141,7 @@ fn run_program<R: Threads + Wait + Sync, C: Command, M: Fn(Pid) -> Result<C, Ref
 }
 
 // Tells what comes of a program.
-fn crew_program<R: Threads + Wait + Sync, C: Command, M: Fn(Pid) -> Result<C, Refusal>, W: Write>(
+fn crew_program<R: Threads + Wait + Sync, C: Command, M: Fn(Pid) -> Result<C, Refusal>, W: Sink>(
     rt: &R,
     alloc: Global,
     make: &M,
@@ -150,11 +152,12 @@ fn crew_program<R: Threads + Wait + Sync, C: Command, M: Fn(Pid) -> Result<C, Re
     requires may { M.IsAlwaysCallable make.now }
     requires makes { IsNextMaker (M.post make.now) C.IsFresh C.order }
     requires some { 0 < length (program_of program) }
-    ensures crewed { IfOk result (λ end. WritesSome (W.contents writer.old) (W.contents writer.new)
+    ensures crewed { IfOk result (λ end. WritesSome (W.seen writer.old) (W.seen writer.new)
         (CrewsProgram (program_of program) turns end)) }
-    ensures stopped { IfErr result (λ fault. fault ≡ Write → (end : Crewed) × WritesFront (W.contents writer.old) (W.contents writer.new)
+    ensures stopped { IfErr result (λ fault. fault ≡ Write → (end : Crewed) × WritesFront (W.seen writer.old) (W.seen writer.new)
         (CrewsProgram (program_of program) turns end)) }
-    ensures silent { IfErr result (λ fault. fault ≢ Write → Keeps (W.contents writer.old) (W.contents writer.new)) }
+    ensures silent { IfErr result (λ fault. fault ≢ Write → Appended (W.seen writer.old) (W.seen writer.new) []) }
+    ensures writer { (W.seen writer.old).health ≡ Fine → (W.seen writer.new).health ≡ sink_behind result }
 {
     if !fits_turns(turns, program.processes()) {
         return ends(tell_too_many_turns(writer), Crewed::TooManyTurns);
@@ -169,7 +172,7 @@ fn crew_program<R: Threads + Wait + Sync, C: Command, M: Fn(Pid) -> Result<C, Re
 }
 
 // Tells what comes of a program text.
-fn crew_text<R: Threads + Wait + Sync, C: Command, M: Fn(Pid) -> Result<C, Refusal>, W: Write>(
+fn crew_text<R: Threads + Wait + Sync, C: Command, M: Fn(Pid) -> Result<C, Refusal>, W: Sink>(
     rt: &R,
     alloc: Global,
     make: &M,
@@ -179,10 +182,11 @@ fn crew_text<R: Threads + Wait + Sync, C: Command, M: Fn(Pid) -> Result<C, Refus
 ) -> Result<Crewed, ServeFault>
     requires may { M.IsAlwaysCallable make.now }
     requires makes { IsNextMaker (M.post make.now) C.IsFresh C.order }
-    ensures crewed { IfOk result (λ end. WritesSome (W.contents writer.old) (W.contents writer.new) (CrewsText turns text.now end)) }
+    ensures crewed { IfOk result (λ end. WritesSome (W.seen writer.old) (W.seen writer.new) (CrewsText turns text.now end)) }
     ensures stopped { IfErr result (λ fault. fault ≡ Write
-        → (end : Crewed) × WritesFront (W.contents writer.old) (W.contents writer.new) (CrewsText turns text.now end)) }
-    ensures silent { IfErr result (λ fault. fault ≢ Write → Keeps (W.contents writer.old) (W.contents writer.new)) }
+        → (end : Crewed) × WritesFront (W.seen writer.old) (W.seen writer.new) (CrewsText turns text.now end)) }
+    ensures silent { IfErr result (λ fault. fault ≢ Write → Appended (W.seen writer.old) (W.seen writer.new) []) }
+    ensures writer { (W.seen writer.old).health ≡ Fine → (W.seen writer.new).health ≡ sink_behind result }
 {
     match parse_program(alloc, text) {
         Ok(program) => crew_program(rt, alloc, make, program, turns, writer),
@@ -198,7 +202,7 @@ fn crew_text<R: Threads + Wait + Sync, C: Command, M: Fn(Pid) -> Result<C, Refus
 /// does not end within 1,048,576 bytes, is told as by `check`; and where there would be more than 100,000 calls that is told, and no
 /// worker begins. A read fault, and want of memory for the workers, write nothing; a command that is refused for want of memory is not
 /// entered, as ever.
-pub fn run_crew<R: Threads + Wait + Sync, I: Read, W: Write>(
+pub fn run_crew<R: Threads + Wait + Sync, I: Source, W: Sink>(
     rt: &R,
     alloc: Global,
     turns: u32,
@@ -207,12 +211,15 @@ pub fn run_crew<R: Threads + Wait + Sync, I: Read, W: Write>(
 ) -> Result<Crewed, ServeFault>
     // Where the reader tells its bytes, and the run ends well.
     ensures crewed { IfOk result (λ end. IfSome (I.remaining reader.old)
-        (λ input. WritesSome (W.contents writer.old) (W.contents writer.new) (CrewsInput turns input end))) }
+        (λ input. WritesSome (W.seen writer.old) (W.seen writer.new) (CrewsInput turns input end))) }
     // Where the writer fails, what is written is a front of that.
     ensures stopped { IfErr result (λ fault. fault ≡ Write → IfSome (I.remaining reader.old)
-        (λ input. (end : Crewed) × WritesFront (W.contents writer.old) (W.contents writer.new) (CrewsInput turns input end))) }
+        (λ input. (end : Crewed) × WritesFront (W.seen writer.old) (W.seen writer.new) (CrewsInput turns input end))) }
     // A fault of the reader, and want of memory, write nothing.
-    ensures silent { IfErr result (λ fault. fault ≢ Write → Keeps (W.contents writer.old) (W.contents writer.new)) }
+    ensures silent { IfErr result (λ fault. fault ≢ Write → Appended (W.seen writer.old) (W.seen writer.new) []) }
+    // A failure of the reader or of the writer is told exactly where there was one, and then there was one alone: it was not tried again.
+    ensures reader { I.health reader.old ≡ Fine → I.health reader.new ≡ source_behind result }
+    ensures writer { (W.seen writer.old).health ≡ Fine → (W.seen writer.new).health ≡ sink_behind result }
     // However it ends, at most 1,048,577 bytes were read, and no more than the program text asks for.
     ensures few { IfSome (I.remaining reader.old) (λ input. ReadsFew input (I.remaining reader.new)) }
     ensures program { IfSome (I.remaining reader.old) (λ input. ReadsProgram input (I.remaining reader.new)) }

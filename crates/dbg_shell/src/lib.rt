@@ -11,6 +11,7 @@ mod usage;
 pub use checking::check;
 pub use command_line::{Line, parse_line};
 pub use crew_runs::{Closing, Crewed, Mismatch, crew_status, fits_turns, print_closing, run_crew};
+pub use devices::{Health, Noted, Sink, Source};
 pub use jobs::Job;
 pub use line_runs::serve;
 pub use reply_lines::{ServeFault, Served, print_reply, status};

@@ -38,6 +38,13 @@ impl<D> Noted<D> {
         self.health
     }
 
+    /// The device.
+    pub fn into_inner(self) -> D
+        ensures { result ≡ self.device }
+    {
+        self.device
+    }
+
     // Notes a further call of a device that has failed.
     fn has_failed(&mut self) -> bool
         ensures device { self.new.device ≡ self.old.device }

@@ -2,7 +2,8 @@
 use Rattle.std.proofs.Common.{◌≡◌, ℕ, ◌≤◌, Bool, true, false, List, [], length, take, drop, Option, Some, None, refl, sym}
 use Rattle.std.proofs.Common.{ap, ◌∙◌, subst, inl, inr, arith}
 use Rattle.std.specs.Prelude.{slice_range, IfSome, IfOk, IfErr, Result, Ok, Err}
-use Rattle.std.proofs.KnownBytes.{Appends-nil}
+use Rattle.devices.specs.Seen.{Seen}
+use Rattle.devices.proofs.Appending.{appended_none}
 use Rattle.dbg_base.specs.declared.limits.TheConstants.{INPUT_BYTES}
 use Rattle.dbg_base.specs.declared.fault.ProgFault.{ProgFault}
 use Rattle.dbg_base.specs.Trees.{Program}
@@ -24,7 +25,7 @@ use Rattle.shell_input.proofs.UnderWay.{goes_on}
 use Rattle.shell_input.proofs.Known.{Ending, Done, Cut, DoneKnown, CutKnown, done_known, cut_known, whole_is}
 
 -- of this form where the reader failed
-abbrev pub BreaksKnown : Option (List ℕ) → Option (List ℕ) → Result Served ServeFault → Option (List ℕ) → Option (List ℕ) → Type 0
+abbrev pub BreaksKnown : Option (List ℕ) → Option (List ℕ) → Result Served ServeFault → Seen → Seen → Type 0
 BreaksKnown known left r old out = IfErr r (λ fault. fault ≡ Read → IfSome known (λ input. BreaksInput input left old out))
 
 -- what a run ends with and writes, by the parts of its input
@@ -59,7 +60,7 @@ module _ (bytes : List ℕ) (ended : Bool) (begin new : ℕ) (end : TextEnd) (be
           by_parts input _ served out here.0
           (inl (P, program, told.0), inl (P, program, told.1.0, told.1.1, told.1.2))
 
-      pub serves_program : (known : Option (List ℕ)) (r : Result Served ServeFault) (old out : Option (List ℕ))
+      pub serves_program : (known : Option (List ℕ)) (r : Result Served ServeFault) (old out : Seen)
           → IfSome known (MayBe more over)
           → IfOk r (λ served. ServesLines P more over new served old out) → DoneKnown ServesInput known r old out
       serves_program known r old out may wrote = done_known more over ServesInput known r old out may (served_by r wrote)
@@ -71,7 +72,7 @@ module _ (bytes : List ℕ) (ended : Bool) (begin new : ℕ) (end : TextEnd) (be
               let told = wrote input may in
               (told.1.0, replied input may served told.1.0 (told.0, told.1.1), told.1.2)
 
-      pub stops_program : (known : Option (List ℕ)) (r : Result Served ServeFault) (old out : Option (List ℕ))
+      pub stops_program : (known : Option (List ℕ)) (r : Result Served ServeFault) (old out : Seen)
           → IfSome known (MayBe more over)
           → IfErr r (λ fault. fault ≡ Write → StopsLines P more over new old out) → CutKnown ServesInput known r old out
       stops_program known r old out may wrote = cut_known more over ServesInput known r old out may (stopped_by r wrote)
@@ -84,7 +85,7 @@ module _ (bytes : List ℕ) (ended : Bool) (begin new : ℕ) (end : TextEnd) (be
               (end_of input, (told.0, replied input may (end_of input) told.0 (refl, told.1), told.2))
 
       -- the replies to the whole lines
-      text_so_far : (old out : Option (List ℕ)) (broken : BreaksLines P more over new old out) → WholeText more broken.wrote.0
+      text_so_far : (old out : Seen) (broken : BreaksLines P more over new old out) → WholeText more broken.wrote.0
       text_so_far old out broken =
           let on = goes_on more over broken.at broken.under_way in
           let here : Splits on.input bytes 0 new (ends.Before span) = program_here on.input on.may in
@@ -97,7 +98,7 @@ module _ (bytes : List ℕ) (ended : Bool) (begin new : ℕ) (end : TextEnd) (be
             subst (λ (lines : List (List ℕ)). AnswersAll P lines out) (sym (on.whole new (omega arith))) broken.wrote.1,
           )
 
-      pub breaks_program : (first : List ℕ) (known left : Option (List ℕ)) (r : Result Served ServeFault) (old out : Option (List ℕ))
+      pub breaks_program : (first : List ℕ) (known left : Option (List ℕ)) (r : Result Served ServeFault) (old out : Seen)
           → first ≡ []
           → KeepsInput first known more left → IfErr r (λ fault. fault ≡ Read → BreaksLines P more over new old out)
           → BreaksKnown known left r old out
@@ -141,7 +142,7 @@ module _ (bytes : List ℕ) (ended : Bool) (begin new : ℕ) (end : TextEnd) (be
 -- the reader failed before the program text had ended
 pub breaks_before : (first : List ℕ) (known : Option (List ℕ)) (bytes : List ℕ) (left : Option (List ℕ)) (begin : ℕ)
     (r : Result Served ServeFault)
-    (old : Option (List ℕ)) → first ≡ [] → begin ≡ 0 → KeepsInput first known bytes left
+    (old : Seen) → first ≡ [] → begin ≡ 0 → KeepsInput first known bytes left
     → parts_of (lines_of (drop begin bytes)).whole ≡ None → length bytes ≤ INPUT_BYTES
     → BreaksKnown known left r old old
 breaks_before first known bytes left begin (Ok served) old empty begun keeps none few = tt
@@ -156,5 +157,5 @@ breaks_before first (Some xs) bytes (Some ys) begin (Err fault) old empty begun 
       refl,
       whole_is first bytes xs ys empty keeps,
       few,
-      ([], subst (λ (o : Option Parts). AnswersParts o []) (sym nowhere) refl, Appends-nil old),
+      ([], subst (λ (o : Option Parts). AnswersParts o []) (sym nowhere) refl, appended_none old),
     )

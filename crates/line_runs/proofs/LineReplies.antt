@@ -1,10 +1,10 @@
 -- What the command lines are answered with.
-use Rattle.std.proofs.Common.{◌≡◌, ℕ, ◌≤◌, Bool, true, false, List, [], ◌∷◌, ◌++◌, length, drop, Option, refl, sym, ap, ◌∙◌, subst}
+use Rattle.std.proofs.Common.{◌≡◌, ℕ, ◌≤◌, Bool, true, false, List, [], ◌∷◌, ◌++◌, length, drop, refl, sym, ap, ◌∙◌, subst}
 use Rattle.std.proofs.Common.{append_assoc, arith}
 use Rattle.std.specs.Prelude.{slice_range, IfOk, IfErr, Result, Ok, Err}
-use Rattle.std.specs.Io.KnownBytes.{Appends}
+use Rattle.devices.specs.Seen.{Seen, Appended}
 use Rattle.std.proofs.lemmas.List.{append-nil}
-use Rattle.std.proofs.KnownBytes.{Appends-nil, Appends-trans}
+use Rattle.devices.proofs.Appending.{appended_none, appended_then}
 use Rattle.dbg_base.specs.Trees.{Program}
 use Rattle.dbg_base.specs.Journals.{Journal, IsLegal}
 use Rattle.dbg_base.specs.Shell.{lines_of, AnswersLine, AnswersLines, is_too_long, end_text, too_long_text}
@@ -25,29 +25,29 @@ use Rattle.line_runs.proofs.SomeAnswers.{line_legal, opens_legal, all_answered, 
 use Rattle.reply_lines.proofs.Writing.{front_then, front_longer}
 
 -- Some lines were answered, and what answers the lines from here on completes the answers to all of them.
-pub record Answered (P : Program) (whole : List ℕ) (from at : ℕ) (J : Journal) (old new : Option (List ℕ)) : Type 0 where
+pub record Answered (P : Program) (whole : List ℕ) (from at : ℕ) (J : Journal) (old new : Seen) : Type 0 where
   pub legal : IsLegal P J
   pub text : List ℕ
-  pub written : Appends old new text
+  pub written : Appended old new text
   pub goes_on : (others : List ℕ) (last : Journal) → AnswersLines P (lines_from at whole) J others last
       → AnswersLines P (lines_from from whole) [] (text ++ others) last
 
-pub answered_begins : (P : Program) (whole : List ℕ) (from : ℕ) (J : Journal) (a : Option (List ℕ)) → J ≡ []
+pub answered_begins : (P : Program) (whole : List ℕ) (from : ℕ) (J : Journal) (a : Seen) → J ≡ []
     → Answered P whole from from J a a
 answered_begins P whole from J a e = record {
   legal = subst (IsLegal P) (sym e) (opens_legal P);
   text = [];
-  written = Appends-nil a;
+  written = appended_none a;
   goes_on = λ others last answers. subst (λ (J : Journal). AnswersLines P (lines_from from whole) J others last) e answers;
 }
 
-answered_on : (P : Program) (whole line : List ℕ) (from at new : ℕ) (J next : Journal) (a b c : Option (List ℕ)) (text : List ℕ)
-    → Answered P whole from at J a b → lines_from at whole ≡ line ∷ lines_from new whole → AnswersLine P line J text next → Appends b c text
+answered_on : (P : Program) (whole line : List ℕ) (from at new : ℕ) (J next : Journal) (a b c : Seen) (text : List ℕ)
+    → Answered P whole from at J a b → lines_from at whole ≡ line ∷ lines_from new whole → AnswersLine P line J text next → Appended b c text
     → Answered P whole from new next a c
 answered_on P whole line from at new J next a b c text answered here answers written = record {
   legal = line_legal P line J text next answers answered.legal;
   text = answered.text ++ text;
-  written = Appends-trans a b c answered.text text answered.written written;
+  written = appended_then a b c answered.text text answered.written written;
   goes_on = λ others last more.
       subst (λ (t : List ℕ). AnswersLines P (lines_from from whole) [] t last) (sym (append_assoc answered.text text others))
       (answered.goes_on (text ++ others) last (subst (λ (lines : List (List ℕ)). AnswersLines P lines J (text ++ others) last) (sym here)
@@ -55,7 +55,7 @@ answered_on P whole line from at new J next a b c text answered here answers wri
 }
 
 -- no line is left, and this is told at the end
-replies_end : (P : Program) (whole : List ℕ) (from at : ℕ) (J : Journal) (a b : Option (List ℕ)) (text : List ℕ)
+replies_end : (P : Program) (whole : List ℕ) (from at : ℕ) (J : Journal) (a b : Seen) (text : List ℕ)
     (answered : Answered P whole from at J a b)
     → lines_from at whole ≡ [] → text ≡ end_text whole → RepliesTo P (lines_from from whole) whole (answered.text ++ text)
 replies_end P whole from at J a b text answered none same = (
@@ -65,13 +65,13 @@ replies_end P whole from at J a b text answered none same = (
   ap (λ (t : List ℕ). answered.text ++ t) same ∙ ap (λ (t : List ℕ). t ++ end_text whole) (sym (append-nil answered.text)),
 )
 
-answered_ends : (P : Program) (whole : List ℕ) (from at : ℕ) (J : Journal) (a b c : Option (List ℕ)) (text : List ℕ)
+answered_ends : (P : Program) (whole : List ℕ) (from at : ℕ) (J : Journal) (a b c : Seen) (text : List ℕ)
     → Answered P whole from at J a b
-    → lines_from at whole ≡ [] → Appends b c text → text ≡ end_text whole → WritesSome a c (RepliesTo P (lines_from from whole) whole)
+    → lines_from at whole ≡ [] → Appended b c text → text ≡ end_text whole → WritesSome a c (RepliesTo P (lines_from from whole) whole)
 answered_ends P whole from at J a b c text answered none written same = (
   answered.text ++ text,
   replies_end P whole from at J a b text answered none same,
-  Appends-trans a b c answered.text text
+  appended_then a b c answered.text text
       answered.written written,
 )
 
@@ -79,7 +79,7 @@ regrouped : (x y z w : List ℕ) → x ++ y ++ (z ++ w) ≡ x ++ (y ++ z) ++ w
 regrouped x y z w = append_assoc x y (z ++ w) ∙ ap (λ (t : List ℕ). x ++ t) (sym (append_assoc y z w)) ∙ sym (append_assoc x (y ++ z) w)
 
 -- a line's answer was not written whole
-answered_stops : (P : Program) (whole line : List ℕ) (from at new : ℕ) (J next : Journal) (a b c : Option (List ℕ)) (text : List ℕ)
+answered_stops : (P : Program) (whole line : List ℕ) (from at new : ℕ) (J next : Journal) (a b c : Seen) (text : List ℕ)
     → Answered P whole from at J a b → lines_from at whole ≡ line ∷ lines_from new whole → AnswersLine P line J text next
     → AppendsFront b c text
     → WritesFront a c (RepliesTo P (lines_from from whole) whole)
@@ -96,21 +96,21 @@ answered_stops P whole line from at new J next a b c text answered here answers 
     )
 
 -- The lines were answered so far, whatever the input may be.
-abbrev pub AnsweredAny : Program → List ℕ → Bool → ℕ → ℕ → Journal → Option (List ℕ) → Option (List ℕ) → Type 0
+abbrev pub AnsweredAny : Program → List ℕ → Bool → ℕ → ℕ → Journal → Seen → Seen → Type 0
 AnsweredAny P bytes ended from at J old new = (input : List ℕ) → MayBe bytes ended input → Answered P input from at J old new
 
-pub any_answered : (P : Program) (bytes : List ℕ) (ended : Bool) (from : ℕ) (J : Journal) (a : Option (List ℕ)) → J ≡ []
+pub any_answered : (P : Program) (bytes : List ℕ) (ended : Bool) (from : ℕ) (J : Journal) (a : Seen) → J ≡ []
     → AnsweredAny P bytes ended from from J a a
 any_answered P bytes ended from J a none input may = answered_begins P input from J a none
 
 module _ (P : Program) (before : List ℕ) (was : Bool) (bytes : List ℕ) (ended : Bool) (from at new : ℕ) (next : Next) (J : Journal)
-    (old mid : Option (List ℕ))
+    (old mid : Seen)
     (answered : AnsweredAny P before was from at J old mid) (narrows : Narrows before was bytes ended)
     (told : TellsAny bytes ended at new next) where
   abbrev here_of : (input : List ℕ) → MayBe bytes ended input → Answered P input from at J old mid
   here_of input may = answered input (narrows input may)
 
-  module _ (line : List ℕ) (span : Span) (out : Option (List ℕ)) (after : Journal) (is : next ≡ nexts.Line span)
+  module _ (line : List ℕ) (span : Span) (out : Seen) (after : Journal) (is : next ≡ nexts.Line span)
       (seen : span.from ≤ span.to → span.to ≤ length bytes → line ≡ slice_range bytes span.from span.to) where
     line_here : (input : List ℕ) → MayBe bytes ended input → lines_from at input ≡ line ∷ lines_from new input
     line_here input may =
@@ -136,10 +136,10 @@ module _ (P : Program) (before : List ℕ) (was : Bool) (bytes : List ℕ) (ende
       let here : Tells input bytes at new nexts.End = told_of bytes ended at new next nexts.End told is input may in
       let no : is_too_long input ≡ false = here.1 in (
         rw no refl,
-        answered_ends P input from at J old mid mid [] (here_of input may) here.0 (Appends-nil mid) (rw no refl),
+        answered_ends P input from at J old mid mid [] (here_of input may) here.0 (appended_none mid) (rw no refl),
       )
 
-  pub any_is_too_long : (r : Result Served ServeFault) (out : Option (List ℕ)) → next ≡ nexts.TooLong → Writes mid out r too_long_text
+  pub any_is_too_long : (r : Result Served ServeFault) (out : Seen) → next ≡ nexts.TooLong → Writes mid out r too_long_text
       → IfOk r (λ served. served ≡ ends.TooLong) → IfOk r (λ served. ServesLines P bytes ended from served old out)
   any_is_too_long (Err fault) out is wrote same = tt
   any_is_too_long (Ok served) out is wrote same =
@@ -150,7 +150,7 @@ module _ (P : Program) (before : List ℕ) (was : Bool) (bytes : List ℕ) (ende
         answered_ends P input from at J old mid out too_long_text (here_of input may) here.0 wrote.whole (rw long refl),
       )
 
-  pub any_is_cut : (r : Result Served ServeFault) (out : Option (List ℕ)) → next ≡ nexts.TooLong → Writes mid out r too_long_text
+  pub any_is_cut : (r : Result Served ServeFault) (out : Seen) → next ≡ nexts.TooLong → Writes mid out r too_long_text
       → IfErr r (λ fault. fault ≡ Write → StopsLines P bytes ended from old out)
   any_is_cut (Ok served) out is wrote = tt
   any_is_cut (Err fault) out is wrote =
@@ -165,7 +165,7 @@ module _ (P : Program) (before : List ℕ) (was : Bool) (bytes : List ℕ) (ende
 
 -- where no more can be read, the whole lines were answered
 pub any_breaks : (P : Program) (before : List ℕ) (was : Bool) (bytes : List ℕ) (ended : Bool) (from at : ℕ) (J : Journal)
-    (old mid : Option (List ℕ))
+    (old mid : Seen)
     (r : Result Served ServeFault) → AnsweredAny P before was from at J old mid → Narrows before was bytes ended → from ≤ at
     → IsUnderWay bytes ended at
     → IfErr r (λ fault. fault ≡ Read → BreaksLines P bytes ended from old mid)

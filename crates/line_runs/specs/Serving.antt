@@ -7,6 +7,7 @@ use Rattle.dbg_base.specs.Journals.{Journal}
 use Rattle.dbg_base.specs.Shell.{Parts, lines_of, parts_of, read_lines, is_too_long, AnswersLine, AnswersAll, end_text}
 use Rattle.dbg_base.specs.Shell.{WholeText, Text}
 use Rattle.dbg_base.specs.declared.fault.ProgFault.{ProgFault}
+use Rattle.devices.specs.Seen.{Seen}
 use Rattle.reply_lines.specs.declared.outcome.Served.{Served}
 use Rattle.reply_lines.specs.declared.outcome.ServeFault.{ServeFault}
 use Rattle.reply_lines.specs.declared.outcome.Served.TheVariants.{Done, Refused, TooLong}
@@ -38,14 +39,14 @@ ServesInput input served out = EndsInput input served × Text input out
 
 -- The reader failed behind some bytes of the input, no more than may be, and what was written is the replies to the whole lines among
 -- these.
-abbrev pub BreaksInput : List ℕ → Option (List ℕ) → Option (List ℕ) → Option (List ℕ) → Type 0
+abbrev pub BreaksInput : List ℕ → Option (List ℕ) → Seen → Seen → Type 0
 BreaksInput input left old new =
     (bytes rest : List ℕ) × (left ≡ Some rest) × (input ≡ bytes ++ rest) × (length bytes ≤ INPUT_BYTES)
     × WritesSome old new (WholeText bytes)
 
 -- The answer to the line was written, or where the writer failed a front of it, and this is the journal behind it.
-pub record WritesAnswer {A : Type 0} (P : Program) (line : List ℕ) (J : Journal) (old : Option (List ℕ)) (result : Result A ServeFault)
-    (new : Option (List ℕ)) (after : Journal) : Type 0 where
+pub record WritesAnswer {A : Type 0} (P : Program) (line : List ℕ) (J : Journal) (old : Seen) (result : Result A ServeFault)
+    (new : Seen) (after : Journal) : Type 0 where
   pub text : List ℕ
   pub answers : AnswersLine P line J text after
   pub written : Writes old new result text
@@ -55,17 +56,17 @@ abbrev pub RepliesTo : Program → List (List ℕ) → List ℕ → List ℕ →
 RepliesTo P lines input out = (replies : List ℕ) × AnswersAll P lines replies × (out ≡ replies ++ end_text input)
 
 -- The command lines from a place on were answered, whatever the input may be.
-abbrev pub ServesLines : Program → List ℕ → Bool → ℕ → Served → Option (List ℕ) → Option (List ℕ) → Type 0
+abbrev pub ServesLines : Program → List ℕ → Bool → ℕ → Served → Seen → Seen → Type 0
 ServesLines P bytes ended from served old new =
     (input : List ℕ) → MayBe bytes ended input → (served ≡ end_of input) × WritesSome old new (RepliesTo P (lines_from from input) input)
 
 -- The writer failed, whatever the input may be.
-abbrev pub StopsLines : Program → List ℕ → Bool → ℕ → Option (List ℕ) → Option (List ℕ) → Type 0
+abbrev pub StopsLines : Program → List ℕ → Bool → ℕ → Seen → Seen → Type 0
 StopsLines P bytes ended from old new =
     (input : List ℕ) → MayBe bytes ended input → WritesFront old new (RepliesTo P (lines_from from input) input)
 
 -- The reader failed, and the whole lines from a place on were answered.
-pub record BreaksLines (P : Program) (bytes : List ℕ) (ended : Bool) (from : ℕ) (old new : Option (List ℕ)) : Type 0 where
+pub record BreaksLines (P : Program) (bytes : List ℕ) (ended : Bool) (from : ℕ) (old new : Seen) : Type 0 where
   pub at : ℕ
   pub begun : from ≤ at
   pub under_way : IsUnderWay bytes ended at

@@ -1,12 +1,14 @@
 //! A program text and the command lines behind it.
 
 ghost use Rattle.std.specs.Prelude.{◌≡◌, ◌≢◌, [], replicate, IfOk, IfErr, IfSome};
-ghost use Rattle.std.specs.Io.KnownBytes.{Keeps};
+ghost use Rattle.devices.specs.declared.health.Health.TheVariants.{Fine};
+ghost use Rattle.devices.specs.Seen.{Appended};
 ghost use Rattle.dbg_base.specs.declared.refusal.Refusal.TheVariants as refusals;
 ghost use Rattle.dbg_base.specs.Calls.{order_of};
 ghost use Rattle.dbg_base.specs.declared.limits.TheConstants.{SEATS};
 ghost use Rattle.dbg_board.specs.Boards.{listing};
 ghost use Rattle.proc_lang.specs.Programs.{program_of};
+ghost use Rattle.reply_lines.specs.Outcomes.{source_behind, sink_behind};
 ghost use Rattle.reply_lines.specs.declared.outcome.ServeFault.TheVariants.{Memory, Read, Write};
 ghost use Rattle.reply_lines.specs.declared.outcome.Served.{Served};
 ghost use Rattle.reply_lines.specs.declared.outcome.Served.TheVariants.{Refused};
@@ -27,6 +29,7 @@ use dbg_command::{
     StepCmd, UndoCmd,
 };
 use dbg_desk::{Locked, Run, Seat};
+use devices::{Sink, Source};
 use proc_lang::{ProgError, Program, parse_program};
 use reply_lines::{
     ServeFault, Served, hand_on, print_refusal, print_reply, tell_fault, tell_no_end_line,
@@ -34,13 +37,12 @@ use reply_lines::{
 };
 use shell_input::{Input, Next, TextEnd, read_program_text};
 use std::alloc::Global;
-use std::io::{Read, Write};
 use std::marker::Brand;
 use std::mem;
 use std::sync::ledger::Blank;
 
 // Answers one command line, as a call of its seat: what is written is handed on before the next line is asked for.
-fn serve_line<L: Run, C: Command, M: Fn(Givable) -> Result<C, Refusal>, W: Write>(
+fn serve_line<L: Run, C: Command, M: Fn(Givable) -> Result<C, Refusal>, W: Sink>(
     alloc: Global,
     make: &M,
     locked: &mut Locked<L, C>,
@@ -52,7 +54,7 @@ fn serve_line<L: Run, C: Command, M: Fn(Givable) -> Result<C, Refusal>, W: Write
     requires makes { IsMaker (M.post make.now) C.IsFresh C.order }
     requires seats { AreAllSeats seats.old }
     ensures seats { AreAllSeats seats.new }
-    ensures answers { WritesAnswer L.program line.now locked.old.journal (W.contents writer.old) result (W.contents writer.new)
+    ensures answers { WritesAnswer L.program line.now locked.old.journal (W.seen writer.old) result (W.seen writer.new)
         locked.new.journal }
     ensures fault { IfErr result (λ fault. fault ≡ Write) }
 {
@@ -78,7 +80,7 @@ fn leave<L: Run, C: Command>(locked: Locked<L, C>, seats: Vec<Seat<L>>) {
 }
 
 // Answers the command lines of a run in which no call was made yet.
-fn serve_run<L: Run, C: Command, M: Fn(Givable) -> Result<C, Refusal>, R: Read, W: Write>(
+fn serve_run<L: Run, C: Command, M: Fn(Givable) -> Result<C, Refusal>, R: Source, W: Sink>(
     alloc: Global,
     make: &M,
     locked: Locked<L, C>,
@@ -95,12 +97,14 @@ fn serve_run<L: Run, C: Command, M: Fn(Givable) -> Result<C, Refusal>, R: Read, 
     ensures reads { ReadsOn input.old.bytes.items input.old.ended (R.remaining reader.old) input.new.bytes.items input.new.ended
         (R.remaining reader.new) }
     ensures served { IfOk result (λ served. ServesLines L.program input.new.bytes.items input.new.ended input.old.at served
-        (W.contents writer.old) (W.contents writer.new)) }
+        (W.seen writer.old) (W.seen writer.new)) }
     ensures stopped { IfErr result (λ fault. fault ≡ Write → StopsLines L.program input.new.bytes.items input.new.ended input.old.at
-        (W.contents writer.old) (W.contents writer.new)) }
+        (W.seen writer.old) (W.seen writer.new)) }
     ensures broken { IfErr result (λ fault. fault ≡ Read → BreaksLines L.program input.new.bytes.items input.new.ended input.old.at
-        (W.contents writer.old) (W.contents writer.new)) }
+        (W.seen writer.old) (W.seen writer.new)) }
     ensures begun { IfErr result (λ fault. fault ≢ Memory) }
+    ensures reader { R.health reader.old ≡ Fine → R.health reader.new ≡ source_behind result }
+    ensures writer { (W.seen writer.old).health ≡ Fine → (W.seen writer.new).health ≡ sink_behind result }
     ensures ends { IfOk result (λ served. served ≢ Refused) }
 {
     let mut locked = locked;
@@ -139,7 +143,7 @@ struct Beginning {
 }
 
 // Begins a run, and answers the command lines.
-fn begin_run<L: Run, C: Command, M: Fn(Givable) -> Result<C, Refusal>, R: Read, W: Write>(
+fn begin_run<L: Run, C: Command, M: Fn(Givable) -> Result<C, Refusal>, R: Source, W: Sink>(
     alloc: Global,
     make: &M,
     beginning: Beginning,
@@ -159,14 +163,16 @@ fn begin_run<L: Run, C: Command, M: Fn(Givable) -> Result<C, Refusal>, R: Read, 
     ensures reads { ReadsOn input.old.bytes.items input.old.ended (R.remaining reader.old) input.new.bytes.items input.new.ended
         (R.remaining reader.new) }
     ensures served { IfOk result (λ served. ServesLines L.program input.new.bytes.items input.new.ended input.old.at served
-        (W.contents writer.old) (W.contents writer.new)) }
+        (W.seen writer.old) (W.seen writer.new)) }
     ensures stopped { IfErr result (λ fault. fault ≡ Write → StopsLines L.program input.new.bytes.items input.new.ended input.old.at
-        (W.contents writer.old) (W.contents writer.new)) }
+        (W.seen writer.old) (W.seen writer.new)) }
     ensures broken { IfErr result (λ fault. fault ≡ Read → BreaksLines L.program input.new.bytes.items input.new.ended input.old.at
-        (W.contents writer.old) (W.contents writer.new)) }
-    ensures memory { IfErr result (λ fault. fault ≡ Memory → Keeps (W.contents writer.old) (W.contents writer.new)) }
+        (W.seen writer.old) (W.seen writer.new)) }
+    ensures memory { IfErr result (λ fault. fault ≡ Memory → Appended (W.seen writer.old) (W.seen writer.new) []) }
     ensures untouched { IfErr result (λ fault. fault ≡ Memory → (input.new.bytes.items ≡ input.old.bytes.items)
         × (R.remaining reader.new ≡ R.remaining reader.old)) }
+    ensures reader { R.health reader.old ≡ Fine → R.health reader.new ≡ source_behind result }
+    ensures writer { (W.seen writer.old).health ≡ Fine → (W.seen writer.new).health ≡ sink_behind result }
     ensures ends { IfOk result (λ served. served ≢ Refused) }
 {
     let Beginning {
@@ -182,7 +188,7 @@ fn begin_run<L: Run, C: Command, M: Fn(Givable) -> Result<C, Refusal>, R: Read, 
 }
 
 // Answers the command lines, as calls of the seats of a run of this program.
-fn serve_lines<C: Command, M: Fn(Givable) -> Result<C, Refusal>, R: Read, W: Write>(
+fn serve_lines<C: Command, M: Fn(Givable) -> Result<C, Refusal>, R: Source, W: Sink>(
     alloc: Global,
     make: &M,
     program: Program,
@@ -196,14 +202,16 @@ fn serve_lines<C: Command, M: Fn(Givable) -> Result<C, Refusal>, R: Read, W: Wri
     ensures reads { ReadsOn input.old.bytes.items input.old.ended (R.remaining reader.old) input.new.bytes.items input.new.ended
         (R.remaining reader.new) }
     ensures served { IfOk result (λ served. ServesLines (program_of program) input.new.bytes.items input.new.ended input.old.at served
-        (W.contents writer.old) (W.contents writer.new)) }
+        (W.seen writer.old) (W.seen writer.new)) }
     ensures stopped { IfErr result (λ fault. fault ≡ Write → StopsLines (program_of program) input.new.bytes.items input.new.ended
-        input.old.at (W.contents writer.old) (W.contents writer.new)) }
+        input.old.at (W.seen writer.old) (W.seen writer.new)) }
     ensures broken { IfErr result (λ fault. fault ≡ Read → BreaksLines (program_of program) input.new.bytes.items input.new.ended
-        input.old.at (W.contents writer.old) (W.contents writer.new)) }
-    ensures memory { IfErr result (λ fault. fault ≡ Memory → Keeps (W.contents writer.old) (W.contents writer.new)) }
+        input.old.at (W.seen writer.old) (W.seen writer.new)) }
+    ensures memory { IfErr result (λ fault. fault ≡ Memory → Appended (W.seen writer.old) (W.seen writer.new) []) }
     ensures untouched { IfErr result (λ fault. fault ≡ Memory → (input.new.bytes.items ≡ input.old.bytes.items)
         × (R.remaining reader.new ≡ R.remaining reader.old)) }
+    ensures reader { R.health reader.old ≡ Fine → R.health reader.new ≡ source_behind result }
+    ensures writer { (W.seen writer.old).health ≡ Fine → (W.seen writer.new).health ≡ sink_behind result }
     ensures ends { IfOk result (λ served. served ≢ Refused) }
 {
     match Board::new(alloc, SEATS) {
@@ -230,27 +238,30 @@ fn serve_lines<C: Command, M: Fn(Givable) -> Result<C, Refusal>, R: Read, W: Wri
 /// of the writer a front of the replies is left. Neither is tried again. Want of memory before the first command line writes nothing;
 /// later the line is answered `no 21`, and changes nothing. Behind 100,000 calls that were entered each further one is answered `no 20`.
 /// Where the input ends, the memory of the session is left to the process, which ends with it.
-pub fn serve<R: Read, W: Write>(
+pub fn serve<R: Source, W: Sink>(
     alloc: Global,
     reader: &mut R,
     writer: &mut W,
 ) -> Result<Served, ServeFault>
     // Where the reader tells its bytes, and the run ends well: it ends as the input is, and what is written is the text of the input.
     ensures served { IfOk result (λ served. IfSome (R.remaining reader.old)
-        (λ input. WritesSome (W.contents writer.old) (W.contents writer.new) (ServesInput input served))) }
+        (λ input. WritesSome (W.seen writer.old) (W.seen writer.new) (ServesInput input served))) }
     // Where the writer fails, what is written is a front of that.
     ensures stopped { IfErr result (λ fault. fault ≡ Write → IfSome (R.remaining reader.old)
-        (λ input. (served : Served) × WritesFront (W.contents writer.old) (W.contents writer.new) (ServesInput input served))) }
+        (λ input. (served : Served) × WritesFront (W.seen writer.old) (W.seen writer.new) (ServesInput input served))) }
     // Where the reader fails, what is written is the replies to the whole lines before it.
     ensures broken { IfErr result (λ fault. fault ≡ Read → IfSome (R.remaining reader.old)
-        (λ input. BreaksInput input (R.remaining reader.new) (W.contents writer.old) (W.contents writer.new))) }
+        (λ input. BreaksInput input (R.remaining reader.new) (W.seen writer.old) (W.seen writer.new))) }
     // Where memory to begin is wanting, nothing is written, and no command line is read.
-    ensures memory { IfErr result (λ fault. fault ≡ Memory → Keeps (W.contents writer.old) (W.contents writer.new)) }
+    ensures memory { IfErr result (λ fault. fault ≡ Memory → Appended (W.seen writer.old) (W.seen writer.new) []) }
     ensures begun { IfErr result (λ fault. fault ≡ Memory → IfSome (R.remaining reader.old)
         (λ input. ReadsProgram input (R.remaining reader.new))) }
     // Where the program is refused, no command line is read either.
     ensures refused { IfOk result (λ served. served ≡ Refused → IfSome (R.remaining reader.old)
         (λ input. ReadsProgram input (R.remaining reader.new))) }
+    // A failure of the reader or of the writer is told exactly where there was one, and then there was one alone: it was not tried again.
+    ensures reader { R.health reader.old ≡ Fine → R.health reader.new ≡ source_behind result }
+    ensures writer { (W.seen writer.old).health ≡ Fine → (W.seen writer.new).health ≡ sink_behind result }
     // However it ends, at most 1,048,577 bytes were read.
     ensures few { IfSome (R.remaining reader.old) (λ input. ReadsFew input (R.remaining reader.new)) }
 {

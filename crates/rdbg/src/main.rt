@@ -8,17 +8,17 @@ mod tests;
 mod words;
 
 use clap::error::ErrorKind;
+use devices::{Noted, Sink, Source};
 use dbg_shell::{Job, check, crew_status, job, run_crew, serve, status};
 use output::Output;
 use std::alloc::Global;
-use std::io::{Read, Write};
 use std::process::ExitCode;
 use std::sync::Wait;
 use std::thread::Threads;
 use words::{WordsFault, words};
 
 // Does the job from this reader to this writer, and says the status with which the program ends.
-fn run<R: Threads + Wait + Sync, I: Read, W: Write>(
+fn run<R: Threads + Wait + Sync, I: Source, W: Sink>(
     rt: &R,
     alloc: Global,
     job: Job,
@@ -46,7 +46,7 @@ fn main(rt: HostRuntime) -> ExitCode {
     };
     match job(rt.alloc(), words.as_slice()) {
         Ok(job) => {
-            let mut reader = rt.stdin();
+            let mut reader = Noted::new(rt.stdin());
             let mut writer = Output::new(rt.stdout());
             ExitCode::from(run(&rt, rt.alloc(), job, &mut reader, &mut writer))
         }

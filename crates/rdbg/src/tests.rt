@@ -2,6 +2,7 @@
 
 use crate::output::Output;
 use crate::words::{WordsFault, words};
+use devices::Sink;
 use std::alloc::Global;
 use std::env::{Env, FillError};
 use std::io;

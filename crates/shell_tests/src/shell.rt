@@ -22,7 +22,7 @@ mod sessions;
 mod undo;
 mod views;
 
-use dbg_shell::{check, serve, status};
+use dbg_shell::{Noted, check, serve, status};
 use proc_lang::{Program, parse_program};
 use std::alloc::{AllocError, Global};
 use std::process::Abort;
@@ -58,7 +58,11 @@ fn joined(alloc: Global, front: &str, back: &str) -> Result<Vec<u8>, AllocError>
 fn checked(alloc: Global, text: &[u8]) -> (Vec<u8>, u8) {
     let mut reader = text;
     let mut writer = Vec::new(alloc);
-    let outcome = check(alloc, &mut reader, &mut writer);
+    let outcome = check(
+        alloc,
+        &mut Noted::new(&mut reader),
+        &mut Noted::new(&mut writer),
+    );
     let code = status(&outcome);
     (writer, code)
 }
@@ -67,7 +71,11 @@ fn checked(alloc: Global, text: &[u8]) -> (Vec<u8>, u8) {
 fn served(alloc: Global, input: &[u8]) -> (Vec<u8>, u8) {
     let mut reader = input;
     let mut writer = Vec::new(alloc);
-    let outcome = serve(alloc, &mut reader, &mut writer);
+    let outcome = serve(
+        alloc,
+        &mut Noted::new(&mut reader),
+        &mut Noted::new(&mut writer),
+    );
     let code = status(&outcome);
     (writer, code)
 }

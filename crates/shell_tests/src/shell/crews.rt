@@ -1,7 +1,7 @@
 //! Runs of workers. Each `next` is a call, be it accepted or refused, so there are as many calls as turns of all processes.
 
 use super::{TWO, joined};
-use dbg_shell::{Closing, Mismatch, crew_status, fits_turns, print_closing, run_crew};
+use dbg_shell::{Closing, Mismatch, Noted, crew_status, fits_turns, print_closing, run_crew};
 use std::alloc::{AllocError, Global};
 use std::io;
 use std::io::{Read, Write};
@@ -22,7 +22,13 @@ fn crewed<R: Threads + Wait + Sync>(
 ) -> (Vec<u8>, u8) {
     let mut reader = input;
     let mut writer = Vec::new(alloc);
-    let code = crew_status(&run_crew(rt, alloc, turns, &mut reader, &mut writer));
+    let code = crew_status(&run_crew(
+        rt,
+        alloc,
+        turns,
+        &mut Noted::new(&mut reader),
+        &mut Noted::new(&mut writer),
+    ));
     (writer, code)
 }
 
@@ -199,7 +205,13 @@ impl Write for Narrow {
 fn faults_of_the_streams_have_status_1(rt: HostRuntime) -> Result<(), Fail> {
     let alloc = rt.alloc();
     let mut writer = Vec::new(alloc);
-    let outcome = run_crew(&rt, alloc, 1, &mut Unreadable, &mut writer);
+    let outcome = run_crew(
+        &rt,
+        alloc,
+        1,
+        &mut Noted::new(&mut Unreadable),
+        &mut Noted::new(&mut writer),
+    );
     assert_eq!(rt; crew_status(&outcome), 1);
     assert!(rt; writer.is_empty());
     let input = three(alloc)?;
@@ -210,7 +222,13 @@ fn faults_of_the_streams_have_status_1(rt: HostRuntime) -> Result<(), Fail> {
             left,
         };
         let mut reader = input.as_slice();
-        let outcome = run_crew(&rt, alloc, 1, &mut reader, &mut writer);
+        let outcome = run_crew(
+            &rt,
+            alloc,
+            1,
+            &mut Noted::new(&mut reader),
+            &mut Noted::new(&mut writer),
+        );
         assert_eq!(rt; crew_status(&outcome), 1);
         assert_eq!(rt; writer.taken.as_slice(), text.get(..left).unwrap_or(&[]));
     }

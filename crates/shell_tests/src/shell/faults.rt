@@ -1,5 +1,5 @@
 use super::{TWO, joined, served};
-use dbg_shell::{check, serve, status};
+use dbg_shell::{Noted, check, serve, status};
 use std::alloc::Global;
 use std::cell::Cell;
 use std::io::{Read, Write};
@@ -44,12 +44,20 @@ fn pieces_make_no_difference(rt: HostRuntime) -> Result<(), Fail> {
             left: 1_000,
         };
         let mut writer = Vec::new(alloc);
-        let outcome = serve(alloc, &mut reader, &mut writer);
+        let outcome = serve(
+            alloc,
+            &mut Noted::new(&mut reader),
+            &mut Noted::new(&mut writer),
+        );
         assert_eq!(rt; status(&outcome), 0);
         assert_eq!(rt; writer.as_slice(), REPLIES, "{size}");
         reader.text = TWO.as_bytes();
         let mut writer = Vec::new(alloc);
-        let outcome = check(alloc, &mut reader, &mut writer);
+        let outcome = check(
+            alloc,
+            &mut Noted::new(&mut reader),
+            &mut Noted::new(&mut writer),
+        );
         assert_eq!(rt; status(&outcome), 0);
         assert_eq!(rt;
             writer.as_slice(),
@@ -70,7 +78,11 @@ fn a_reader_fails_at_any_read(rt: HostRuntime) -> Result<(), Fail> {
             left: reads,
         };
         let mut writer = Vec::new(alloc);
-        let outcome = serve(alloc, &mut reader, &mut writer);
+        let outcome = serve(
+            alloc,
+            &mut Noted::new(&mut reader),
+            &mut Noted::new(&mut writer),
+        );
         assert_eq!(rt; status(&outcome), 1);
         assert!(rt; REPLIES.starts_with(writer.as_slice()), "{reads}");
         let lines = input.as_slice().get(..reads).unwrap_or(&[]);
@@ -102,7 +114,11 @@ fn a_check_that_cannot_read_writes_nothing(rt: HostRuntime) {
             left: reads,
         };
         let mut writer = Vec::new(alloc);
-        let outcome = check(alloc, &mut reader, &mut writer);
+        let outcome = check(
+            alloc,
+            &mut Noted::new(&mut reader),
+            &mut Noted::new(&mut writer),
+        );
         assert_eq!(rt; status(&outcome), 1);
         assert!(rt; writer.is_empty());
     }
@@ -153,7 +169,11 @@ fn a_writer_fails_at_any_write(rt: HostRuntime) -> Result<(), Fail> {
         for left in 0..REPLIES.len() {
             let mut reader = input.as_slice();
             let mut writer = make_stops(alloc, 1, left, is_quiet);
-            let outcome = serve(alloc, &mut reader, &mut writer);
+            let outcome = serve(
+                alloc,
+                &mut Noted::new(&mut reader),
+                &mut Noted::new(&mut writer),
+            );
             assert_eq!(rt; status(&outcome), 1);
             assert_eq!(rt; writer.taken.as_slice(), REPLIES.get(..left).unwrap_or(&[]));
             assert_eq!(rt; writer.calls, left.saturating_add(1));
@@ -169,7 +189,11 @@ fn a_writer_takes_what_it_likes(rt: HostRuntime) -> Result<(), Fail> {
     for size in 1..20 {
         let mut reader = input.as_slice();
         let mut writer = make_stops(alloc, size, 1_000, false);
-        let outcome = serve(alloc, &mut reader, &mut writer);
+        let outcome = serve(
+            alloc,
+            &mut Noted::new(&mut reader),
+            &mut Noted::new(&mut writer),
+        );
         assert_eq!(rt; status(&outcome), 0);
         assert_eq!(rt; writer.taken.as_slice(), REPLIES);
     }
@@ -208,7 +232,11 @@ fn a_writer_fails_at_any_flush(rt: HostRuntime) -> Result<(), Fail> {
             taken: Vec::new(alloc),
             left,
         };
-        let outcome = serve(alloc, &mut reader, &mut writer);
+        let outcome = serve(
+            alloc,
+            &mut Noted::new(&mut reader),
+            &mut Noted::new(&mut writer),
+        );
         assert_eq!(rt; status(&outcome), 1);
         let lines = writer.taken.iter().filter(|b| **b == b'\n').count();
         assert_eq!(rt; lines, left.saturating_add(1));
@@ -291,7 +319,11 @@ fn a_reply_comes_before_the_next_line_is_read(rt: HostRuntime) -> Result<(), Fai
         is_late: false,
     };
     let mut writer = Watched { log: &log };
-    let outcome = serve(alloc, &mut reader, &mut writer);
+    let outcome = serve(
+        alloc,
+        &mut Noted::new(&mut reader),
+        &mut Noted::new(&mut writer),
+    );
     assert_eq!(rt; status(&outcome), 0);
     assert_eq!(rt; reader.reads, 7);
     assert!(rt; !reader.is_late);

@@ -32,5 +32,5 @@ returns-in-Err-Bad-clause-stopped g c =
     subst (λ (e : ProgError). IfBad {X = Program} (Err e) (IsFault c.args.text.now)) c.in-Err-Bad.field-0-is c.in-Err-Bad.ensures.refused in
     line_cut (CrewsText c.args.turns c.args.text.now) (fault_text c.in-Err-Bad.fault) crewed.Refused
     (inr (c.in-Err-Bad.fault, faulty, refl, refl)) _ _ _ (c.ends.ensures.written _ _ _
-    (subst (λ (f : ProgFault). Writes (g.W.Write.contents c.args.writer.now) (g.W.Write.contents c.tell_fault.new.writer)
+    (subst (λ (f : ProgFault). Writes (g.W.Sink.seen c.args.writer.now) (g.W.Sink.seen c.tell_fault.new.writer)
     c.tell_fault.result (fault_text f)) c.in-Err-Bad.fault-is c.tell_fault.ensures.written))

@@ -8,7 +8,7 @@ use Rattle.shell_input.proofs.ProgramTexts.{nothing_read, told_alone}
 use Rattle.crew_runs.proofs.crewing.run_crew.Goals as goal
 
 pub returns-in_err-input-clause-program : goal.returns-in_err-input-clause-program
-returns-in_err-input-clause-program g c = nothing_read (g.I.Read.remaining c.args.reader.now)
+returns-in_err-input-clause-program g c = nothing_read (g.I.Source.remaining c.args.reader.now)
 
 pub returns-in-Some-clause-crewed : goal.returns-in-Some-clause-crewed
 returns-in-Some-clause-crewed g c =

@@ -8,7 +8,7 @@ use Rattle.shell_input.proofs.ProgramTexts.{nothing_read, told_alone}
 use Rattle.dbg_shell.proofs.checking.check.Goals as goal
 
 pub returns-in_err-input-clause-program : goal.returns-in_err-input-clause-program
-returns-in_err-input-clause-program g c = nothing_read (g.R.Read.remaining c.args.reader.now)
+returns-in_err-input-clause-program g c = nothing_read (g.R.Source.remaining c.args.reader.now)
 
 pub returns-in-Some-clause-checked : goal.returns-in-Some-clause-checked
 returns-in-Some-clause-checked g c =

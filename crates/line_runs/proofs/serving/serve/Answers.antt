@@ -56,7 +56,7 @@ returns-in-Err-Bad-clause-served g c =
     (subst (λ (e : ProgError). IfBad {X = Program} (Err e) (IsFault c.before-in-Before.result.now)) c.in-Err-Bad.field-0-is
     c.in-Err-Bad.ensures.refused))
     _ _ _ _ (known_may c.in_ok-input.ensures.bytes c.read_program_text.ensures.reads)
-    (subst (λ (f : ProgFault). Writes (g.W.Write.contents c.args.writer.now) (g.W.Write.contents c.tell_fault.new.writer)
+    (subst (λ (f : ProgFault). Writes (g.W.Sink.seen c.args.writer.now) (g.W.Sink.seen c.tell_fault.new.writer)
     c.tell_fault.result (fault_text f)) c.in-Err-Bad.fault-is c.tell_fault.ensures.written) c.tell_fault.ensures.served
 
 pub returns-in-Err-Bad-clause-stopped : goal.returns-in-Err-Bad-clause-stopped
@@ -68,7 +68,7 @@ returns-in-Err-Bad-clause-stopped g c =
     (subst (λ (e : ProgError). IfBad {X = Program} (Err e) (IsFault c.before-in-Before.result.now)) c.in-Err-Bad.field-0-is
     c.in-Err-Bad.ensures.refused))
     _ _ _ _ (known_may c.in_ok-input.ensures.bytes c.read_program_text.ensures.reads)
-    (subst (λ (f : ProgFault). Writes (g.W.Write.contents c.args.writer.now) (g.W.Write.contents c.tell_fault.new.writer)
+    (subst (λ (f : ProgFault). Writes (g.W.Sink.seen c.args.writer.now) (g.W.Sink.seen c.tell_fault.new.writer)
     c.tell_fault.result (fault_text f)) c.in-Err-Bad.fault-is c.tell_fault.ensures.written)
 
 pub returns-in-End-clause-served : goal.returns-in-End-clause-served

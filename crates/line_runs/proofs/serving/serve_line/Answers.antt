@@ -26,8 +26,8 @@ returns-in-Ok-Some-clause-answers g c =
     subst (λ (seat : ℕ). Makes P J seat (call_of line.call) said after)
     (is_number c.args.seats.now line.seat c.index-seats-line.result c.requires.seats within.0 within.1)
     c.answer-call.ensures.makes in
-    answers_call P c.args.line.now J (g.W.Write.contents c.args.writer.now) c.hand_on.result line said after
-    (g.W.Write.contents c.hand_on.new.writer)
+    answers_call P c.args.line.now J (g.W.Sink.seen c.args.writer.now) c.hand_on.result line said after
+    (g.W.Sink.seen c.hand_on.new.writer)
     (reply_text (program_of c.program-in-Ok-Some.result.now) (call_of c.answer-call.result.0) said)
     (subst (λ (Q : Program). IsParsed Q c.args.line.now (Ok (Some line))) c.program.ensures
     (subst (λ (o : Option Line). IsParsed (program_of c.program.result.now) c.args.line.now (Ok o)) c.in-Ok-Some.field-0-is
@@ -38,7 +38,7 @@ returns-in-Ok-Some-clause-answers g c =
 
 pub returns-in-Ok-None-clause-answers : goal.returns-in-Ok-None-clause-answers
 returns-in-Ok-None-clause-answers g c =
-    answers_nothing g.L.Run.program c.args.line.now c.args.locked.now.journal (g.W.Write.contents c.args.writer.now) _
+    answers_nothing g.L.Run.program c.args.line.now c.args.locked.now.journal (g.W.Sink.seen c.args.writer.now) _
     (subst (λ (P : Program). IsParsed P c.args.line.now (Ok None)) c.program.ensures
     (subst (λ (o : Option Line). IsParsed (program_of c.program.result.now) c.args.line.now (Ok o)) c.in-Ok-None.field-0-is
     c.in-Ok-None.ensures.asks))

@@ -24,6 +24,8 @@ loop-seats-preserved g c = record {
   answered = any_goes_on _ _ _ _ _ _ _ _ _ _ _ _ c.loop-seats.invariant.answered c.next_line.ensures.reads.narrows
       c.in_ok-span.ensures.tells c.line.result.now c.in-Line.span _ _ c.in-Line.is c.line.ensures
       c.in_ok-serve_line-in-Line.field-0 c.in_ok-serve_line-in-Line.ensures.answers;
+  reader = λ fine. c.in_ok-span.ensures.reader (c.loop-seats.invariant.reader fine);
+  writer = λ fine. c.in_ok-serve_line-in-Line.ensures.answers.written.whole.fine (c.loop-seats.invariant.writer fine);
 }
 
 pub returns-in_err-span-clause-broken : goal.returns-in_err-span-clause-broken

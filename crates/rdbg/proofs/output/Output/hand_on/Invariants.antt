@@ -1,11 +1,12 @@
-use Rattle.std.proofs.Common.{◌≡◌, false, length}
+use Rattle.std.proofs.Common.{◌≡◌, length}
 use Rattle.std.specs.Io.KnownBytes.{Keeps}
+use Rattle.devices.specs.declared.health.Health.TheVariants.{Fine}
 use Rattle.rdbg.specs.Outputs.{output_contents}
 use Rattle.rdbg.proofs.output.Output.hand_on.Given as goal
 
 abbrev pub invariant-loop-self : goal.invariant-loop-self
 invariant-loop-self g l =
-    (l.self.has_failed ≡ false) × Keeps (output_contents g.W.Write.contents l.fn.self) (output_contents g.W.Write.contents l.self)
+    (l.self.health ≡ Fine) × Keeps (output_contents g.W.Write.contents l.fn.self) (output_contents g.W.Write.contents l.self)
 
 abbrev pub decreases-loop-self : goal.decreases-loop-self
 decreases-loop-self g l = length l.self.buffer
