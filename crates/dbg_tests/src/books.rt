@@ -7,10 +7,11 @@ ghost use Rattle.break_book.specs.Books.{AreDetectorsOf};
 
 use crate::detector_calls as follow;
 use crate::detector_calls::{conjunct, detector, known_all};
+use crate::expecting::{expect_same, expect_true};
 use crate::world_calls::step;
 use break_book::Book;
 use causal_world::World;
-use dbg_base::{Choice, Conjunct, Cut, Head, Name, Pid, Refusal, Sequence};
+use dbg_base::{Choice, Conjunct, Head, Name, Pid, Refusal, Sequence};
 use least_cut::{Cause, Detector, Elimination, Scan};
 use proc_lang::{ProgError, Program, parse_program};
 use std::alloc::Global;
@@ -84,23 +85,23 @@ fn expect(
     wanted: &[(&str, bool)],
 ) -> Result<(), Fail> {
     let list = book.list(alloc)?;
-    assert_eq!(rt; list.items().len(), wanted.len());
+    expect_same(rt, list.items().len(), wanted.len());
     for (told, (named, armed)) in list.items().iter().zip(wanted) {
-        assert_eq!(rt; told.0, name(named)?);
-        assert_eq!(rt; told.1, *armed);
+        expect_same(rt, told.0, name(named)?);
+        expect_same(rt, told.1, *armed);
     }
     Ok(())
 }
 
 // Expects that this breakpoint halts the session.
 fn expect_halt(rt: &impl Abort, book: &Book, named: &str) -> Result<(), Fail> {
-    assert_eq!(rt; book.halted(), Some(name(named)?));
+    expect_same(rt, book.halted(), Some(name(named)?));
     Ok(())
 }
 
 // Expects that no breakpoint halts the session.
 fn expect_none(rt: &impl Abort, book: &Book) -> Result<(), Fail> {
-    assert_eq!(rt; book.halted(), None);
+    expect_same(rt, book.halted(), None);
     Ok(())
 }
 
@@ -108,10 +109,10 @@ fn expect_none(rt: &impl Abort, book: &Book) -> Result<(), Fail> {
 fn out_and_back(rt: &impl Abort, alloc: Global, book: &mut Book, named: &str) -> Result<(), Fail> {
     let named = name(named)?;
     let (position, breakpoint) = book.clear(named)?;
-    assert_eq!(rt; position, 1);
+    expect_same(rt, position, 1);
     expect(rt, alloc, book, &[("first", true), ("third", true)])?;
     expect_none(rt, book)?;
-    assert!(rt; book.restore_at(position, named, breakpoint).is_ok());
+    expect_true(rt, book.restore_at(position, named, breakpoint).is_ok());
     Ok(())
 }
 
@@ -185,7 +186,7 @@ fn make_room(
 ) -> Result<(), Fail> {
     let mut cut = world.places(alloc)?;
     cut.set(Pid(0), events);
-    assert_eq!(rt; book.reserve_to(world, &cut), Ok(()));
+    expect_same(rt, book.reserve_to(world, &cut), Ok(()));
     Ok(())
 }
 
@@ -221,8 +222,8 @@ fn expect_told(
     has_cut: bool,
     wanted: &[Elimination],
 ) -> Result<(), Fail> {
-    assert_eq!(rt; told.cut().is_some(), has_cut);
-    assert_eq!(rt; told.why(), wanted);
+    expect_same(rt, told.cut().is_some(), has_cut);
+    expect_same(rt, told.why(), wanted);
     Ok(())
 }
 
@@ -253,7 +254,7 @@ fn a_search_tells_why_its_cut_is_the_first(rt: HostRuntime) -> Result<(), Fail> 
 
 // Expects this component of the counter in the frontier, by the same eliminations.
 fn expect_front(rt: &impl Abort, alloc: Global, told: &Detector, head: Head) -> Result<(), Fail> {
-    assert_eq!(rt; told.frontier(alloc)?.items(), [head].as_slice());
+    expect_same(rt, told.frontier(alloc)?.items(), [head].as_slice());
     expect_told(rt, told, head == Head::At(2), &[passed(0, 1), passed(1, 2)])
 }
 

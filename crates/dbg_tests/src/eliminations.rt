@@ -5,7 +5,8 @@ ghost use Rattle.proc_lang.specs.Programs.{program_of};
 ghost use Rattle.causal_world.specs.Scenes.{IsWorldOf};
 
 use crate::detector_calls::{checked, conjunct};
-use crate::world_calls::step;
+use crate::expecting::expect_same;
+use crate::world_calls::play;
 use causal_world::World;
 use dbg_base::{Choice, Conjunct, Pid, Refusal, Sequence};
 use least_cut::{Cause, Elimination};
@@ -32,8 +33,8 @@ fn played(alloc: Global, program: &Program) -> Result<World, Refusal>
     ensures { IfOk result (λ world. IsWorldOf (program_of program.now) world) }
 {
     let mut world = World::new(alloc, program)?;
-    step(&mut world, alloc, program, A, Choice(0))?;
-    step(&mut world, alloc, program, B, Choice(0))?;
+    let moves = [(A, Choice(0)), (B, Choice(0))];
+    play(&mut world, alloc, program, &moves)?;
     Ok(world)
 }
 
@@ -69,7 +70,7 @@ fn expect(rt: &impl Abort, alloc: Global, list: &[Elimination], sound: bool) -> 
     let world = played(alloc, &program)?;
     let conjuncts = apart(alloc, &program)?;
     let told = checked(alloc, &program, &world, conjuncts.items(), list)?;
-    assert_eq!(rt; told, sound);
+    expect_same(rt, told, sound);
     Ok(())
 }
 

@@ -3,12 +3,17 @@
 
 #[cfg(test)]
 mod books;
-pub mod detector_calls;
+#[cfg(test)]
+mod detector_calls;
 #[cfg(test)]
 mod eliminations;
-pub mod meeting_gate;
+#[cfg(test)]
+mod expecting;
+#[cfg(test)]
+mod meeting_gate;
 #[cfg(test)]
 mod scans;
-pub mod world_calls;
+#[cfg(test)]
+mod world_calls;
 #[cfg(test)]
 mod worlds;

@@ -5,14 +5,18 @@ ghost use Rattle.proc_lang.specs.Programs.{program_of};
 ghost use Rattle.causal_world.specs.Scenes.{IsWorldOf};
 
 use crate::detector_calls::conjunct;
+use crate::expecting::{expect_same, expect_true};
 use crate::meeting_gate::MeetingGate;
-use crate::world_calls::step;
+use crate::world_calls::play;
 use causal_world::World;
 use dbg_base::{Choice, Conjunct, Pid, Refusal};
 use least_cut::Scan;
 use proc_lang::{ProgError, Program, parse_program};
-use std::alloc::Global;
+use std::alloc::{AllocError, Global};
+use std::process::Abort;
+use std::sync::Wait;
 use std::test::Fail;
+use std::thread::Threads;
 
 const A: Pid = Pid(0);
 
@@ -33,10 +37,13 @@ fn played(alloc: Global, program: &Program) -> Result<World, Refusal>
     ensures { IfOk result (λ world. IsWorldOf (program_of program.now) world) }
 {
     let mut world = World::new(alloc, program)?;
-    step(&mut world, alloc, program, A, Choice(0))?;
-    step(&mut world, alloc, program, A, Choice(0))?;
-    step(&mut world, alloc, program, C, Choice(0))?;
-    step(&mut world, alloc, program, B, Choice(0))?;
+    let moves = [
+        (A, Choice(0)),
+        (A, Choice(0)),
+        (C, Choice(0)),
+        (B, Choice(0)),
+    ];
+    play(&mut world, alloc, program, &moves)?;
     Ok(world)
 }
 
@@ -47,19 +54,31 @@ fn conjuncts(alloc: Global, program: &Program) -> Result<Vec<Conjunct>, Refusal>
     Ok(conjuncts)
 }
 
+// The scan of workers that meet at a gate.
+fn scan_at_a_gate<R: Threads + Wait + Abort + Sync>(
+    rt: &R,
+    alloc: Global,
+    world: &World,
+    conjuncts: &[Conjunct],
+) -> Result<Scan, Refusal> {
+    let gate = MeetingGate::new();
+    let scan = Scan::wide(rt, alloc, world, conjuncts, &gate)?;
+    expect_true(rt, gate.have_met());
+    Ok(scan)
+}
+
+fn shown(alloc: Global, scan: &Scan) -> Result<String, AllocError> {
+    format!(in alloc; "{scan:?}")
+}
+
 #[test]
 fn scan_meets(rt: HostRuntime) -> Result<(), Fail> {
     let alloc = rt.alloc();
     let program = counters(alloc)?;
     let world = played(alloc, &program)?;
     let conjuncts = conjuncts(alloc, &program)?;
-    let gate = MeetingGate::new();
-    let wide = Scan::wide(&rt, alloc, &world, &conjuncts, &gate)?;
-    assert!(rt; gate.have_met());
-    let plain = Scan::of(alloc, &world, &conjuncts)?;
-    assert_eq!(rt;
-        format!(in alloc; "{wide:?}")?,
-        format!(in alloc; "{plain:?}")?
-    );
+    let wide = scan_at_a_gate(&rt, alloc, &world, conjuncts.as_slice())?;
+    let plain = Scan::of(alloc, &world, conjuncts.as_slice())?;
+    expect_same(&rt, shown(alloc, &wide)?, shown(alloc, &plain)?);
     Ok(())
 }

@@ -51,6 +51,22 @@ pub fn step(
     Ok(cutoff)
 }
 
+/// Processes make commands, one after the other.
+pub fn play(
+    world: &mut World,
+    alloc: Global,
+    program: &Program,
+    moves: &[(Pid, Choice)],
+) -> Result<(), Refusal>
+    requires { IsWorldOf (program_of program.now) world.old }
+    ensures { IsWorldOf (program_of program.now) world.new }
+{
+    for (pid, choice) in moves {
+        step(world, alloc, program, *pid, *choice)?;
+    }
+    Ok(())
+}
+
 /// A step is taken back.
 pub fn unstep(world: &mut World, program: &Program, pid: Pid, cutoff: Cutoff) -> Result<(), Refusal>
     requires { IsStepped (program_of program.now) pid.0 cutoff world.old }

@@ -4,8 +4,12 @@ ghost use Rattle.std.specs.Prelude.{IfOk};
 ghost use Rattle.proc_lang.specs.Programs.{program_of};
 ghost use Rattle.causal_world.specs.Scenes.{IsWorldOf};
 
-use crate::world_calls::{clock, clock_part, forth, redo, rollback, step, undo, unredo, unstep};
+use crate::expecting::expect_same;
+use crate::world_calls::{
+    clock, clock_part, forth, play, redo, rollback, step, undo, unredo, unstep,
+};
 use causal_world::World;
+use cut_core::Tally;
 use dbg_base::{Choice, Pid, Refusal};
 use proc_lang::{ProgError, Program, parse_program};
 use std::alloc::Global;
@@ -31,11 +35,14 @@ fn played(alloc: Global, program: &Program) -> Result<World, Refusal>
     ensures { IfOk result (λ world. IsWorldOf (program_of program.now) world) }
 {
     let mut world = World::new(alloc, program)?;
-    step(&mut world, alloc, program, A, Choice(0))?;
-    step(&mut world, alloc, program, A, Choice(0))?;
-    step(&mut world, alloc, program, B, Choice(0))?;
-    step(&mut world, alloc, program, B, Choice(1))?;
-    step(&mut world, alloc, program, C, Choice(0))?;
+    let moves = [
+        (A, Choice(0)),
+        (A, Choice(0)),
+        (B, Choice(0)),
+        (B, Choice(1)),
+        (C, Choice(0)),
+    ];
+    play(&mut world, alloc, program, &moves)?;
     Ok(world)
 }
 
@@ -47,14 +54,56 @@ struct Shown<'a> {
     messages: [&'a [i64]; 2],
 }
 
-fn expect(rt: &impl Abort, alloc: Global, world: &World, shown: &Shown) -> Result<(), Fail> {
-    for (pid, (place, line_len, value)) in [A, B, C].into_iter().zip(shown.processes) {
-        assert_eq!(rt; (world.place(pid), world.line_len(pid)), (place, line_len));
-        assert_eq!(rt; world.vars(alloc, pid)?.items(), [value].as_slice());
-    }
-    assert_eq!(rt; world.channel(alloc, A, B)?.items(), shown.messages[0]);
-    assert_eq!(rt; world.channel(alloc, B, C)?.items(), shown.messages[1]);
+// Expects the value of the process, which is all that it has.
+fn expect_value(
+    rt: &impl Abort,
+    alloc: Global,
+    world: &World,
+    pid: Pid,
+    value: i64,
+) -> Result<(), Refusal> {
+    let values = world.vars(alloc, pid)?;
+    expect_same(rt, values.items(), [value].as_slice());
     Ok(())
+}
+
+// Expects the messages between two processes.
+fn expect_messages(
+    rt: &impl Abort,
+    alloc: Global,
+    world: &World,
+    source: Pid,
+    target: Pid,
+    wanted: &[i64],
+) -> Result<(), Refusal> {
+    let messages = world.channel(alloc, source, target)?;
+    expect_same(rt, messages.items(), wanted);
+    Ok(())
+}
+
+// Expects the places of the processes.
+fn expect_places(
+    rt: &impl Abort,
+    alloc: Global,
+    world: &World,
+    wanted: &[u32],
+) -> Result<(), Refusal> {
+    let places = world.places(alloc)?;
+    expect_same(rt, places.counts(), wanted);
+    Ok(())
+}
+
+fn expect(rt: &impl Abort, alloc: Global, world: &World, shown: &Shown) -> Result<(), Refusal> {
+    for (pid, (place, line_len, value)) in [A, B, C].into_iter().zip(shown.processes) {
+        expect_same(
+            rt,
+            (world.place(pid), world.line_len(pid)),
+            (place, line_len),
+        );
+        expect_value(rt, alloc, world, pid, value)?;
+    }
+    expect_messages(rt, alloc, world, A, B, shown.messages[0])?;
+    expect_messages(rt, alloc, world, B, C, shown.messages[1])
 }
 
 // What a world shows that has played.
@@ -80,17 +129,15 @@ fn expect_clock(
     requires { IsWorldOf (program_of program.now) world.now }
 {
     let (pid, n) = event;
-    assert_eq!(rt;
+    expect_same(
+        rt,
         clock(world, alloc, program, pid, n)?.counts(),
-        counts.as_slice()
+        counts.as_slice(),
     );
-    let parts = [
-        clock_part(world, program, pid, n, A)?,
-        clock_part(world, program, pid, n, B)?,
-        clock_part(world, program, pid, n, C)?,
-        clock_part(world, program, pid, n, Pid(3))?,
-    ];
-    assert_eq!(rt; parts, [counts[0], counts[1], counts[2], 0]);
+    let [first, second, third] = counts;
+    for (of, count) in [(A, first), (B, second), (C, third), (Pid(3), 0)] {
+        expect_same(rt, clock_part(world, program, pid, n, of)?, count);
+    }
     Ok(())
 }
 
@@ -112,30 +159,36 @@ fn clocks_of_earlier_events(rt: HostRuntime) -> Result<(), Fail> {
     Ok(())
 }
 
-#[test]
-fn a_tally_of_events(rt: HostRuntime) -> Result<(), Fail> {
-    let alloc = rt.alloc();
-    let world = played(alloc, &relay(alloc)?)?;
-    let tally = world.tally();
-    assert_eq!(rt; (tally.len(A), tally.len(B), tally.len(C)), (2, 2, 1));
-    assert_eq!(rt;
+// Expects the sends and receives of the world that has played.
+fn expect_tally(rt: &impl Abort, tally: &Tally) {
+    expect_same(rt, (tally.len(A), tally.len(B), tally.len(C)), (2, 2, 1));
+    expect_same(
+        rt,
         [
             tally.sent(A, B, 1),
             tally.sent(A, B, 2),
             tally.sent(B, C, 1),
-            tally.sent(B, C, 2)
+            tally.sent(B, C, 2),
         ],
-        [1, 2, 0, 1]
+        [1, 2, 0, 1],
     );
-    assert_eq!(rt;
+    expect_same(
+        rt,
         [
             tally.got(B, A, 0),
             tally.got(B, A, 2),
             tally.got(C, B, 1),
-            tally.got(C, A, 1)
+            tally.got(C, A, 1),
         ],
-        [0, 1, 1, 0]
+        [0, 1, 1, 0],
     );
+}
+
+#[test]
+fn a_tally_of_events(rt: HostRuntime) -> Result<(), Fail> {
+    let alloc = rt.alloc();
+    let world = played(alloc, &relay(alloc)?)?;
+    expect_tally(&rt, world.tally());
     Ok(())
 }
 
@@ -167,7 +220,8 @@ fn a_rollback_of_some_and_forth(rt: HostRuntime) -> Result<(), Fail> {
     };
     expect(&rt, alloc, &world, &sent_back)?;
     forth(&mut world, &program, rolled)?;
-    expect(&rt, alloc, &world, &PLAYED)
+    expect(&rt, alloc, &world, &PLAYED)?;
+    Ok(())
 }
 
 #[test]
@@ -178,7 +232,8 @@ fn an_undo_and_forth(rt: HostRuntime) -> Result<(), Fail> {
     let rolled = undo(&mut world, alloc, &program, C)?;
     expect(&rt, alloc, &world, &RECEIVED_BACK)?;
     forth(&mut world, &program, rolled)?;
-    expect(&rt, alloc, &world, &PLAYED)
+    expect(&rt, alloc, &world, &PLAYED)?;
+    Ok(())
 }
 
 #[test]
@@ -188,10 +243,11 @@ fn a_copied_world_is_apart(rt: HostRuntime) -> Result<(), Fail> {
     let mut world = played(alloc, &program)?;
     let made = world.copy()?;
     undo(&mut world, alloc, &program, C)?;
-    assert_eq!(&rt; world.places(alloc)?.counts(), [2, 2, 0].as_slice());
-    assert_eq!(&rt; made.places(alloc)?.counts(), [2, 2, 1].as_slice());
+    expect_places(&rt, alloc, &world, &[2, 2, 0])?;
+    expect_places(&rt, alloc, &made, &[2, 2, 1])?;
     expect(&rt, alloc, &world, &RECEIVED_BACK)?;
-    expect(&rt, alloc, &made, &PLAYED)
+    expect(&rt, alloc, &made, &PLAYED)?;
+    Ok(())
 }
 
 #[test]
@@ -203,7 +259,8 @@ fn a_redo_is_taken_back(rt: HostRuntime) -> Result<(), Fail> {
     redo(&mut world, alloc, &program, C)?;
     expect(&rt, alloc, &world, &PLAYED)?;
     unredo(&mut world, &program, C)?;
-    expect(&rt, alloc, &world, &RECEIVED_BACK)
+    expect(&rt, alloc, &world, &RECEIVED_BACK)?;
+    Ok(())
 }
 
 #[test]
@@ -221,5 +278,6 @@ fn a_step_gives_back_what_it_cut_off(rt: HostRuntime) -> Result<(), Fail> {
     unstep(&mut world, &program, B, cutoff)?;
     redo(&mut world, alloc, &program, B)?;
     redo(&mut world, alloc, &program, B)?;
-    expect(&rt, alloc, &world, &RECEIVED_BACK)
+    expect(&rt, alloc, &world, &RECEIVED_BACK)?;
+    Ok(())
 }

@@ -35,7 +35,13 @@ returns-clause-room c =
     c.in_ok-places.ensures ∙ ap (λ (l : List (List Kind)). places l) c.tally-tally.ensures.kinds ∙ all_events w (P, c.requires.of) in
     let more : c.set.new.self ≡ one_more w p = c.set.ensures ∙ (λ i. set (whole i) p (c.place.ensures i + 1)) in
     let few : length c.set.new.self ≤ c.processes.result =
-    omega (arith, ap (λ (l : List ℕ). length l) more, length-set w.state.places p (c.place.result + 1), c.processes.ensures,
-      ap (λ (l : List (List Kind)). length l) c.tally-tally.ensures.kinds, kinds_placed w (P, c.requires.of)) in
+    omega (
+      arith,
+      ap (λ (l : List ℕ). length l) more,
+      length-set w.state.places p (c.place.result + 1),
+      c.processes.ensures,
+      ap (λ (l : List (List Kind)). length l) c.tally-tally.ensures.kinds,
+      kinds_placed w (P, c.requires.of),
+    ) in
     c.in_ok-reserve.ensures.ok c.requires.detector.search.room
     (subst (λ (l : List ℕ). steps_up_to l ≤ c.steps_up_to-steps.result) more (c.steps_up_to-steps.ensures few))
