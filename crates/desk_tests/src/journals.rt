@@ -2,8 +2,8 @@
 
 ghost use Rattle.desk_tests.specs.Runs.{IsRunOf};
 
-use crate::beginning::{Beginning, TWO, make_beginning};
-use crate::trial::{Trial, begin, next};
+use crate::beginning::Beginning;
+use crate::trial::{TWO, Trial, begin, make_beginning, next};
 use dbg_base::{Pid, Query};
 use dbg_command::NextCmd;
 use dbg_desk::Run;

@@ -3,9 +3,12 @@
 
 pub mod beginning;
 #[cfg(test)]
+mod expecting;
+#[cfg(test)]
 mod journals;
 #[cfg(test)]
 mod limits;
 #[cfg(test)]
 mod shown;
-pub mod trial;
+#[cfg(test)]
+mod trial;

@@ -2,8 +2,9 @@
 
 ghost use Rattle.desk_tests.specs.Runs.{IsRunOf};
 
-use crate::beginning::{Beginning, TWO, make_beginning};
-use crate::trial::{Trial, begin, next};
+use crate::beginning::Beginning;
+use crate::expecting::{expect_same, expect_true};
+use crate::trial::{TWO, Trial, begin, make_beginning, next};
 use dbg_base::limits::CALLS;
 use dbg_base::{Pid, Query, Refusal};
 use dbg_board::Glance;
@@ -28,7 +29,7 @@ fn fill<L: Run>(trial: &mut Trial<L, NextCmd>, alloc: Global) -> Result<(), Refu
 
 // Expects a call to be refused since the journal is full.
 fn expect_refused<T>(rt: &impl Abort, outcome: &Result<T, Refusal>) {
-    assert!(rt; matches!(outcome, Err(Refusal::JournalFull)));
+    expect_true(rt, matches!(outcome, Err(Refusal::JournalFull)));
 }
 
 // Expects each kind of call to be refused so.
@@ -50,9 +51,9 @@ fn expect_all<L: Run>(rt: &impl Abort, trial: &mut Trial<L, NextCmd>) {
         trial.one.own_calls().len(),
         trial.two.own_calls().len(),
     );
-    assert_eq!(rt; lengths, (CALLS, CALLS, 0));
+    expect_same(rt, lengths, (CALLS, CALLS, 0));
     let Glance { calls, halt } = trial.board.look(&mut trial.display);
-    assert_eq!(rt; (calls, halt), (CALLS as u64, 0));
+    expect_same(rt, (calls, halt), (CALLS as u64, 0));
 }
 
 fn no_call_more<L: Run>(rt: &impl Abort, alloc: Global, beginning: Beginning) -> Result<(), Fail>

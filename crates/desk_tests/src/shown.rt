@@ -3,8 +3,9 @@
 ghost use Rattle.std.specs.Prelude.{IfOk};
 ghost use Rattle.desk_tests.specs.Runs.{IsRunOf, MakesFresh};
 
-use crate::beginning::{Beginning, TWO, make_beginning};
-use crate::trial::{Trial, begin};
+use crate::beginning::Beginning;
+use crate::expecting::{expect_same, expect_true};
+use crate::trial::{TWO, Trial, begin, make_beginning};
 use dbg_base::{Conjunct, Expr, Name, Operator, Pid, Plan, Query, Refusal, Reply, Sequence};
 use dbg_board::Glance;
 use dbg_command::{BreakCmd, Command, PassCmd, UndoCmd};
@@ -22,13 +23,14 @@ fn named(text: &str) -> Result<Name, Refusal> {
     Name::new(text.as_bytes()).ok_or(Refusal::BadLine)
 }
 
+fn boxed(alloc: Global, expr: Expr) -> Result<Box<Expr>, Refusal> {
+    Ok(Box::new(alloc, expr)?)
+}
+
 // That this variable of a process is 0.
 fn is_zero(alloc: Global, pid: Pid, variable: u32) -> Result<Sequence<Conjunct>, Refusal> {
-    let expr = Expr::Binary(
-        Operator::Equal,
-        Box::new(alloc, Expr::Variable(variable))?,
-        Box::new(alloc, Expr::Number(0))?,
-    );
+    let left = boxed(alloc, Expr::Variable(variable))?;
+    let expr = Expr::Binary(Operator::Equal, left, boxed(alloc, Expr::Number(0))?);
     let mut conjuncts = Vec::new(alloc);
     conjuncts.push(Conjunct { pid, expr })?;
     Ok(Sequence::new(conjuncts))
@@ -51,7 +53,7 @@ fn give<L: Run, C: Command, M: Fn(Plan) -> Result<C, Refusal>>(
 // Expects the display to be shown so many calls, and the place of the breakpoint that halts.
 fn expect<L: Run, C: Command>(rt: &impl Abort, trial: &mut Trial<L, C>, wanted: (u64, u64)) {
     let Glance { calls, halt } = trial.board.look(&mut trial.display);
-    assert_eq!(rt; (calls, halt), wanted);
+    expect_same(rt, (calls, halt), wanted);
 }
 
 // A breakpoint that halts is set and passed.
@@ -87,7 +89,7 @@ fn set_another<L: Run, C: Command, M: Fn(Plan) -> Result<C, Refusal>>(
     give(trial, alloc, make, halting)?;
     expect(rt, trial, (3, 2));
     let refused = give(trial, alloc, make, Plan::Undo(A));
-    assert!(rt; matches!(refused, Err(Refusal::NothingToUndo)));
+    expect_true(rt, matches!(refused, Err(Refusal::NothingToUndo)));
     expect(rt, trial, (4, 2));
     trial
         .locked

@@ -1,4 +1,4 @@
-//! A session under its lock, two seats of it, and its board.
+//! How a run is made, and a session under its lock, two seats of it, and its board.
 
 ghost use Rattle.std.specs.Prelude.{◌≡◌};
 ghost use Rattle.desk_tests.specs.Runs.{IsRunOf};
@@ -8,8 +8,38 @@ use dbg_base::{Pid, Refusal, Reply};
 use dbg_board::{Board, SeatView};
 use dbg_command::{Command, NextCmd};
 use dbg_desk::{Locked, Run, Seat};
+use proc_lang::parse_program;
 use std::alloc::Global;
+use std::sync::ledger::Blank;
 use std::test::Fail;
+
+/// A process that sends, and one that receives.
+pub const TWO: &str = "process a {
+  var x = 0;
+  when (x < 3) : send b (x + 1), x := (x + 1);
+}
+process b {
+  var y = 0;
+  var n = 0;
+  when true : recv a y, n := (n + 1);
+  when (n > 0) : n := (n - 1);
+}
+";
+
+/// What a run of this program is made of.
+pub fn make_beginning(alloc: Global, text: &str) -> Result<Beginning, Fail> {
+    let program = parse_program(alloc, text.as_bytes())?;
+    let (board, publisher, mut views) = Board::new(alloc, 3)?;
+    let display = views.pop().ok_or("no view")?;
+    Ok(Beginning {
+        program,
+        blank: Blank::new(2),
+        publisher,
+        views,
+        board,
+        display,
+    })
+}
 
 /// A session under its lock, two seats of it, and its board, at which a display looks.
 #[derive(Drop)]
