@@ -5,8 +5,9 @@ ghost use Rattle.std.specs.List.{AllByRecursion};
 ghost use Rattle.crew_tests.specs.Runs.{IsOpeningOf};
 
 use crate::crew_gate::{BarringGate, CrewGate};
-use crate::desk_trial::begin_desk;
-use crate::opening::{Opening, THREE, make_opening};
+use crate::desk_trial::{THREE, begin_desk, make_opening};
+use crate::expecting::{expect_same, expect_true};
+use crate::opening::Opening;
 use dbg_base::{Gate, OpenGate, Pid};
 use dbg_command::{Command, NextCmd};
 use dbg_crew::{CrewFault, Worker, crew};
@@ -72,14 +73,14 @@ fn expect_crew<L: Run + Send + Sync, G: Gate, R: Threads + Wait + Abort + Sync>(
     let mut workers = make_workers(alloc, seats, count)?;
     let ended = crew(rt, alloc, &desk, workers.as_mut_slice(), gate);
     let (fault, lengths) = wanted;
-    assert_eq!(rt; ended, fault);
+    expect_same(rt, ended, fault);
     let seats = seats_of(alloc, workers)?;
     let mut calls = 0usize;
     for (seat, length) in seats.iter().zip(lengths) {
-        assert_eq!(rt; seat.own_calls().len(), length);
+        expect_same(rt, seat.own_calls().len(), length);
         calls = calls.saturating_add(length);
     }
-    assert_eq!(rt; desk.settle(rt, seats.as_slice()), Ok(Closing { calls }));
+    expect_same(rt, desk.settle(rt, seats.as_slice()), Ok(Closing { calls }));
     Ok(())
 }
 
@@ -105,6 +106,6 @@ fn crew_meets(rt: HostRuntime) -> Result<(), Fail> {
     let opening = make_opening(alloc, THREE, 3)?;
     let gate = CrewGate::new();
     expect_crew::<Brand, _, _>(&rt, alloc, opening, &gate, 2, (Ok(()), [2; 3]))?;
-    assert!(rt; gate.all_passed());
+    expect_true(&rt, gate.all_passed());
     Ok(())
 }

@@ -1,15 +1,53 @@
-//! A desk that begins.
+//! How a desk is made, and how it begins.
 
+ghost use Rattle.std.specs.Prelude.{◌≤◌};
+ghost use Rattle.dbg_base.specs.declared.limits.TheConstants.{SEATS};
 ghost use Rattle.crew_tests.specs.Runs.{IsOpeningOf, MakesFresh};
 
 use crate::opening::Opening;
 use dbg_base::{Gate, Plan, Refusal, Reply};
+use dbg_board::Board;
 use dbg_command::Command;
 use dbg_desk::{Desk, Locked, Run, Seat};
+use proc_lang::parse_program;
 use std::alloc::Global;
 use std::sync::Wait;
+use std::sync::ledger::Blank;
 use std::test::Fail;
 use std::thread::Threads;
+
+/// A process that sends, one that receives, and one that counts by itself.
+pub const THREE: &str = "process a {
+  var x = 0;
+  when (x < 3) : send b (x + 1), x := (x + 1);
+}
+process b {
+  var y = 0;
+  var n = 0;
+  when true : recv a y, n := (n + 1);
+  when (n > 0) : n := (n - 1);
+}
+process c {
+  var z = 0;
+  when true : z := (z + 1);
+}
+";
+
+/// What a desk of this program with so many seats is made of.
+pub fn make_opening(alloc: Global, text: &str, seats: u32) -> Result<Opening, Fail>
+    requires { (1 ≤ seats) × (seats ≤ SEATS) }
+{
+    let program = parse_program(alloc, text.as_bytes())?;
+    let (board, publisher, views) = Board::new(alloc, seats)?;
+    Ok(Opening {
+        program,
+        blank: Blank::new(seats as u64),
+        board,
+        publisher,
+        views,
+        seats,
+    })
+}
 
 /// A desk, and its seats.
 pub fn begin_desk<L: Run, C: Command>(

@@ -2,9 +2,9 @@
 
 ghost use Rattle.crew_tests.specs.Runs.{IsOpeningOf};
 
-use crate::desk_trial::{Pair, begin_pair};
-use crate::expecting::expect;
-use crate::opening::{Opening, THREE, make_opening};
+use crate::desk_trial::{Pair, THREE, begin_pair, make_opening};
+use crate::expecting::{expect, expect_same};
+use crate::opening::Opening;
 use dbg_base::{OpenGate, Pid, Query, Refusal};
 use dbg_board::Glance;
 use dbg_command::NextCmd;
@@ -45,9 +45,9 @@ fn one_sees_the_other<L: Run, R: Threads + Wait + Abort + Sync>(
     let mut pair = begin_pair::<L, NextCmd>(alloc, opening)?;
     give_and_take_back(rt, alloc, &mut pair)?;
     let Pair { desk, one, two } = pair;
-    assert_eq!(rt; desk.settle(rt, &[one, two]), Ok(Closing { calls: 4 }));
+    expect_same(rt, desk.settle(rt, &[one, two]), Ok(Closing { calls: 4 }));
     let locked = desk.into_locked();
-    assert_eq!(rt; locked.calls(), 4);
+    expect_same(rt, locked.calls(), 4);
     expect(
         rt,
         alloc,
@@ -73,11 +73,11 @@ fn each_sees_all<L: Run, R: Threads + Wait + Abort + Sync>(
 {
     let Pair { desk, one, two } = begin_pair::<L, NextCmd>(alloc, opening)?;
     let (mut one, mut two) = (one, two);
-    assert_eq!(rt; desk.look(&mut one), Glance { calls: 0, halt: 0 });
+    expect_same(rt, desk.look(&mut one), Glance { calls: 0, halt: 0 });
     desk.call(rt, alloc, &mut two, NextCmd::new(A), &OpenGate)?;
-    assert_eq!(rt; desk.look(&mut one), Glance { calls: 1, halt: 0 });
+    expect_same(rt, desk.look(&mut one), Glance { calls: 1, halt: 0 });
     desk.ask(rt, alloc, &mut one, Query::Breaks)?;
-    assert_eq!(rt; desk.look(&mut two), Glance { calls: 2, halt: 0 });
+    expect_same(rt, desk.look(&mut two), Glance { calls: 2, halt: 0 });
     Ok(())
 }
 
@@ -98,7 +98,11 @@ fn none_differs<L: Run, R: Threads + Wait + Abort + Sync>(
     let Pair { desk, mut one, .. } = begin_pair::<L, NextCmd>(alloc, opening)?;
     desk.call(rt, alloc, &mut one, NextCmd::new(A), &OpenGate)?;
     let none = Vec::new(alloc);
-    assert_eq!(rt; desk.settle(rt, none.as_slice()), Ok(Closing { calls: 1 }));
+    expect_same(
+        rt,
+        desk.settle(rt, none.as_slice()),
+        Ok(Closing { calls: 1 }),
+    );
     Ok(())
 }
 

@@ -5,7 +5,8 @@
 mod crew_gate;
 #[cfg(test)]
 mod crews;
-pub mod desk_trial;
+#[cfg(test)]
+mod desk_trial;
 #[cfg(test)]
 mod desks;
 #[cfg(test)]

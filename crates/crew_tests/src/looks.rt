@@ -2,8 +2,9 @@
 
 ghost use Rattle.crew_tests.specs.Runs.{IsOpeningOf};
 
-use crate::desk_trial::{Pair, begin_pair};
-use crate::opening::{Opening, THREE, make_opening};
+use crate::desk_trial::{Pair, THREE, begin_pair, make_opening};
+use crate::expecting::{expect_same, expect_true};
+use crate::opening::Opening;
 use dbg_base::{OpenGate, Pid};
 use dbg_command::NextCmd;
 use dbg_desk::{Closing, Desk, Run, Seat};
@@ -69,11 +70,15 @@ fn looks_beside_calls<L: Run + Send + Sync, R: Threads + Wait + Abort + Sync>(
         || looks_go_on(&desk, &mut two),
         || calls_are_shown(rt, alloc, &desk, &mut one),
     );
-    assert!(rt; go_on);
-    assert!(rt; shown);
-    assert_eq!(rt; one.own_calls().len(), CALLS);
-    assert_eq!(rt; desk.look(&mut two).calls, CALLS as u64);
-    assert_eq!(rt; desk.settle(rt, &[one, two]), Ok(Closing { calls: CALLS }));
+    expect_true(rt, go_on);
+    expect_true(rt, shown);
+    expect_same(rt, one.own_calls().len(), CALLS);
+    expect_same(rt, desk.look(&mut two).calls, CALLS as u64);
+    expect_same(
+        rt,
+        desk.settle(rt, &[one, two]),
+        Ok(Closing { calls: CALLS }),
+    );
     Ok(())
 }
 

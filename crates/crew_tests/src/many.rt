@@ -3,8 +3,9 @@
 ghost use Rattle.std.specs.Prelude.{IfOk};
 ghost use Rattle.crew_tests.specs.Runs.{IsOpeningOf, MakesFresh};
 
-use crate::desk_trial::{begin_desk, give};
-use crate::opening::{Opening, THREE, make_opening};
+use crate::desk_trial::{THREE, begin_desk, give, make_opening};
+use crate::expecting::expect_same;
+use crate::opening::Opening;
 use crate::plans::set_break;
 use dbg_base::{OpenGate, Pid, Plan, Query, Refusal};
 use dbg_command::{BreakCmd, Command, NextCmd, RollbackCmd, UndoCmd};
@@ -111,10 +112,11 @@ fn many_calls<
 {
     let (desk, mut seats) = begin_desk::<L, C>(alloc, opening)?;
     all_take_turns(rt, alloc, &desk, seats.as_mut_slice(), make);
-    assert_eq!(rt; count_calls(seats.as_slice()), CALLS);
-    assert_eq!(rt;
+    expect_same(rt, count_calls(seats.as_slice()), CALLS);
+    expect_same(
+        rt,
         desk.settle(rt, seats.as_slice()),
-        Ok(Closing { calls: CALLS })
+        Ok(Closing { calls: CALLS }),
     );
     Ok(())
 }

@@ -3,8 +3,9 @@
 ghost use Rattle.std.specs.Prelude.{IfOk};
 ghost use Rattle.crew_tests.specs.Runs.{IsOpeningOf, MakesFresh};
 
-use crate::desk_trial::{begin_desk, begin_locked, give};
-use crate::opening::{Opening, THREE, make_opening};
+use crate::desk_trial::{THREE, begin_desk, begin_locked, give, make_opening};
+use crate::expecting::expect_same;
+use crate::opening::Opening;
 use crate::plans::set_break;
 use dbg_base::{OpenGate, Pid, Plan, Refusal};
 use dbg_command::{BreakCmd, Command, NextCmd};
@@ -86,6 +87,6 @@ fn the_same_is_said_with_several_threads(rt: HostRuntime) -> Result<(), Fail> {
     let wide = said_at_a_desk::<Brand, Box<dyn Command>, _, _>(&rt, alloc, &make, opening)?;
     let opening = make_opening(alloc, THREE, 1)?;
     let plain = said_under_the_lock::<Brand, Box<dyn Command>, _>(alloc, &make, opening)?;
-    assert_eq!(rt; wide, plain);
+    expect_same(&rt, wide, plain);
     Ok(())
 }

@@ -8,13 +8,14 @@ pub fn named(text: &str) -> Result<Name, Refusal> {
     Name::new(text.as_bytes()).ok_or(Refusal::BadLine)
 }
 
+fn boxed(alloc: Global, expr: Expr) -> Result<Box<Expr>, Refusal> {
+    Ok(Box::new(alloc, expr)?)
+}
+
 // That this variable of a process is this number.
 fn equals(alloc: Global, pid: Pid, variable: u32, number: i64) -> Result<Conjunct, Refusal> {
-    let expr = Expr::Binary(
-        Operator::Equal,
-        Box::new(alloc, Expr::Variable(variable))?,
-        Box::new(alloc, Expr::Number(number))?,
-    );
+    let left = boxed(alloc, Expr::Variable(variable))?;
+    let expr = Expr::Binary(Operator::Equal, left, boxed(alloc, Expr::Number(number))?);
     Ok(Conjunct { pid, expr })
 }
 

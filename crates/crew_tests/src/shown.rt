@@ -3,8 +3,9 @@
 ghost use Rattle.std.specs.Prelude.{IfOk};
 ghost use Rattle.crew_tests.specs.Runs.{IsOpeningOf, MakesFresh};
 
-use crate::desk_trial::{Pair, begin_pair, give};
-use crate::opening::{Opening, THREE, make_opening};
+use crate::desk_trial::{Pair, THREE, begin_pair, give, make_opening};
+use crate::expecting::{expect_same, expect_true};
+use crate::opening::Opening;
 use crate::plans::{named, set_break};
 use dbg_base::{OpenGate, Pid, Plan, Query, Refusal, Reply};
 use dbg_board::Glance;
@@ -38,7 +39,7 @@ fn second_gives<L: Run, C: Command, M: Fn(Plan) -> Result<C, Refusal>, R: Thread
 // Expects the first seat to be shown so many calls, and the place of the breakpoint that halts.
 fn expect_shown<L: Run, C: Command>(rt: &impl Abort, pair: &mut Pair<L, C>, wanted: (u64, u64)) {
     let Glance { calls, halt } = pair.desk.look(&mut pair.one);
-    assert_eq!(rt; (calls, halt), wanted);
+    expect_same(rt, (calls, halt), wanted);
 }
 
 // A breakpoint that halts is set and passed.
@@ -74,7 +75,7 @@ fn set_another<
     second_gives(rt, alloc, pair, make, halting)?;
     expect_shown(rt, pair, (3, 2));
     let refused = second_gives(rt, alloc, pair, make, Plan::Undo(A));
-    assert!(rt; matches!(refused, Err(Refusal::NothingToUndo)));
+    expect_true(rt, matches!(refused, Err(Refusal::NothingToUndo)));
     expect_shown(rt, pair, (4, 2));
     pair.desk.ask(rt, alloc, &mut pair.two, Query::Breaks)?;
     expect_shown(rt, pair, (5, 2));

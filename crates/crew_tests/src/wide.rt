@@ -4,9 +4,9 @@ ghost use Rattle.std.specs.Prelude.{IfOk};
 ghost use Rattle.crew_tests.specs.Runs.{IsOpeningOf, MakesFresh};
 
 use crate::crew_gate::CrewGate;
-use crate::desk_trial::{begin_desk, give};
-use crate::expecting::expect;
-use crate::opening::{Opening, THREE, make_opening};
+use crate::desk_trial::{THREE, begin_desk, give, make_opening};
+use crate::expecting::{expect, expect_same, expect_true};
+use crate::opening::Opening;
 use crate::plans::{named, set_break};
 use dbg_base::{OpenGate, Pid, Plan, Query, Refusal};
 use dbg_command::{BreakCmd, Command, NextCmd};
@@ -61,8 +61,8 @@ fn the_scan_meets<
     play_four(rt, alloc, &desk, &mut seat, make)?;
     let gate = CrewGate::new();
     let reply = give(rt, alloc, &desk, &mut seat, make, halting(alloc)?, &gate)?;
-    assert!(rt; gate.two_met());
-    assert_eq!(rt; reply.halted, Some(named("w")?));
+    expect_true(rt, gate.two_met());
+    expect_same(rt, reply.halted, Some(named("w")?));
     let cut = desk.ask(rt, alloc, &mut seat, Query::CutOf(named("w")?));
     expect(
         rt,
