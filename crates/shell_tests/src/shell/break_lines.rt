@@ -1,4 +1,5 @@
 use super::two;
+use crate::expecting::expect_same_of;
 use dbg_base::{Call, Plan, Query, Refusal};
 use dbg_shell::{Line, parse_line};
 
@@ -78,7 +79,7 @@ fn lines_set_breakpoints(rt: HostRuntime) {
     let program = two(&rt, alloc);
     for (line, want) in &LINES {
         let made = conjuncts_of(parse_line(alloc, &program, line.as_bytes()));
-        assert_eq!(rt; made, *want, "at {line:?}");
+        expect_same_of(&rt, line, made, *want);
     }
 }
 
@@ -143,6 +144,6 @@ fn lines_are_about_breakpoints(rt: HostRuntime) {
     let program = two(&rt, alloc);
     for (line, want) in &WORDS {
         let word = word_of(parse_line(alloc, &program, line.as_bytes()));
-        assert_eq!(rt; word, *want, "at {line:?}");
+        expect_same_of(&rt, line, word, *want);
     }
 }

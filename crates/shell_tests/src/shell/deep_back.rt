@@ -2,6 +2,7 @@
 
 use super::served;
 use super::views::RELAY;
+use crate::expecting::expect_same;
 use std::alloc::{AllocError, Global};
 use std::fmt::Write;
 use std::io::BufRead;
@@ -131,14 +132,14 @@ fn a_thousand_commands_are_taken_back(rt: HostRuntime) -> Result<(), Fail> {
     let alloc = rt.alloc();
     let input = make_input(alloc)?;
     let (replies, code) = served(alloc, input.as_str().as_bytes());
-    assert_eq!(rt; code, 0);
+    expect_same(&rt, code, 0);
     let lines: Vec<String> = replies.as_slice().lines(alloc).try_collect(alloc)?;
-    assert_eq!(rt; lines.len(), 4_004);
+    expect_same(&rt, lines.len(), 4_004);
     let mut forth = lines.iter();
     let mut back = lines.iter().rev();
     for (_, want) in OPENING.iter().rev() {
         let told = back.next().ok_or("no last line")?;
-        assert_eq!(rt; told.as_str(), *want);
+        expect_same(&rt, told.as_str(), *want);
     }
     let mut was_halted = false;
     for command in 0..COMMANDS {

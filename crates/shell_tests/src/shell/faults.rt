@@ -1,4 +1,5 @@
 use super::{TWO, joined, served};
+use crate::expecting::{expect_same, expect_true};
 use dbg_shell::{Noted, check, serve, status};
 use std::alloc::Global;
 use std::cell::Cell;
@@ -49,7 +50,7 @@ fn pieces_make_no_difference(rt: HostRuntime) -> Result<(), Fail> {
             &mut Noted::new(&mut reader),
             &mut Noted::new(&mut writer),
         );
-        assert_eq!(rt; status(&outcome), 0);
+        expect_same(&rt, status(&outcome), 0);
         assert_eq!(rt; writer.as_slice(), REPLIES, "{size}");
         reader.text = TWO.as_bytes();
         let mut writer = Vec::new(alloc);
@@ -58,10 +59,11 @@ fn pieces_make_no_difference(rt: HostRuntime) -> Result<(), Fail> {
             &mut Noted::new(&mut reader),
             &mut Noted::new(&mut writer),
         );
-        assert_eq!(rt; status(&outcome), 0);
-        assert_eq!(rt;
+        expect_same(&rt, status(&outcome), 0);
+        expect_same(
+            &rt,
             writer.as_slice(),
-            b"ok 2 processes 3 commands\n".as_slice()
+            b"ok 2 processes 3 commands\n".as_slice(),
         );
     }
     Ok(())
@@ -83,7 +85,7 @@ fn a_reader_fails_at_any_read(rt: HostRuntime) -> Result<(), Fail> {
             &mut Noted::new(&mut reader),
             &mut Noted::new(&mut writer),
         );
-        assert_eq!(rt; status(&outcome), 1);
+        expect_same(&rt, status(&outcome), 1);
         assert!(rt; REPLIES.starts_with(writer.as_slice()), "{reads}");
         let lines = input.as_slice().get(..reads).unwrap_or(&[]);
         let (whole, _) = served(alloc, whole_lines(lines));
@@ -119,8 +121,8 @@ fn a_check_that_cannot_read_writes_nothing(rt: HostRuntime) {
             &mut Noted::new(&mut reader),
             &mut Noted::new(&mut writer),
         );
-        assert_eq!(rt; status(&outcome), 1);
-        assert!(rt; writer.is_empty());
+        expect_same(&rt, status(&outcome), 1);
+        expect_true(&rt, writer.is_empty());
     }
 }
 
@@ -174,9 +176,13 @@ fn a_writer_fails_at_any_write(rt: HostRuntime) -> Result<(), Fail> {
                 &mut Noted::new(&mut reader),
                 &mut Noted::new(&mut writer),
             );
-            assert_eq!(rt; status(&outcome), 1);
-            assert_eq!(rt; writer.taken.as_slice(), REPLIES.get(..left).unwrap_or(&[]));
-            assert_eq!(rt; writer.calls, left.saturating_add(1));
+            expect_same(&rt, status(&outcome), 1);
+            expect_same(
+                &rt,
+                writer.taken.as_slice(),
+                REPLIES.get(..left).unwrap_or(&[]),
+            );
+            expect_same(&rt, writer.calls, left.saturating_add(1));
         }
     }
     Ok(())
@@ -194,8 +200,8 @@ fn a_writer_takes_what_it_likes(rt: HostRuntime) -> Result<(), Fail> {
             &mut Noted::new(&mut reader),
             &mut Noted::new(&mut writer),
         );
-        assert_eq!(rt; status(&outcome), 0);
-        assert_eq!(rt; writer.taken.as_slice(), REPLIES);
+        expect_same(&rt, status(&outcome), 0);
+        expect_same(&rt, writer.taken.as_slice(), REPLIES);
     }
     Ok(())
 }
@@ -237,9 +243,9 @@ fn a_writer_fails_at_any_flush(rt: HostRuntime) -> Result<(), Fail> {
             &mut Noted::new(&mut reader),
             &mut Noted::new(&mut writer),
         );
-        assert_eq!(rt; status(&outcome), 1);
+        expect_same(&rt, status(&outcome), 1);
         let lines = writer.taken.iter().filter(|b| **b == b'\n').count();
-        assert_eq!(rt; lines, left.saturating_add(1));
+        expect_same(&rt, lines, left.saturating_add(1));
     }
     Ok(())
 }
@@ -324,9 +330,9 @@ fn a_reply_comes_before_the_next_line_is_read(rt: HostRuntime) -> Result<(), Fai
         &mut Noted::new(&mut reader),
         &mut Noted::new(&mut writer),
     );
-    assert_eq!(rt; status(&outcome), 0);
-    assert_eq!(rt; reader.reads, 7);
-    assert!(rt; !reader.is_late);
-    assert_eq!(rt; log.flushes.get(), 5);
+    expect_same(&rt, status(&outcome), 0);
+    expect_same(&rt, reader.reads, 7);
+    expect_true(&rt, !reader.is_late);
+    expect_same(&rt, log.flushes.get(), 5);
     Ok(())
 }

@@ -1,6 +1,7 @@
 //! A journal that is full.
 
 use super::served;
+use crate::expecting::{expect_same, expect_true};
 use std::alloc::{AllocError, Global};
 use std::test::Fail;
 
@@ -33,8 +34,8 @@ fn wanted(alloc: Global) -> Result<Vec<u8>, AllocError> {
 fn a_session_takes_100000_calls(rt: HostRuntime) -> Result<(), Fail> {
     let alloc = rt.alloc();
     let (written, code) = served(alloc, &input(alloc)?);
-    assert!(rt; written == wanted(alloc)?);
-    assert_eq!(rt; code, 0);
+    expect_true(&rt, written == wanted(alloc)?);
+    expect_same(&rt, code, 0);
     Ok(())
 }
 
@@ -51,6 +52,6 @@ fn a_full_journal_leaves_lines_that_make_no_call(rt: HostRuntime) -> Result<(), 
     let mut want = wanted(alloc)?;
     repeat(&mut want, "no 1\nno 22\nno 20\nno 20\nno 20\n", 1)?;
     let (written, _code) = served(alloc, &text);
-    assert!(rt; written == want);
+    expect_true(&rt, written == want);
     Ok(())
 }

@@ -1,3 +1,4 @@
+use crate::expecting::{expect_same, expect_true};
 use clap::error::ErrorKind;
 use dbg_shell::{Job, job};
 use std::alloc::Global;
@@ -7,75 +8,89 @@ use std::test::Fail;
 #[test]
 fn words_ask_for_jobs(rt: HostRuntime) -> Result<(), Fail> {
     let run = job(rt.alloc(), ["rdbg", "run"].as_slice());
-    assert!(rt; matches!(run, Ok(Job::Run)));
+    expect_true(&rt, matches!(run, Ok(Job::Run)));
     let check = job(rt.alloc(), ["rdbg", "check"].as_slice());
-    assert!(rt; matches!(check, Ok(Job::Check)));
+    expect_true(&rt, matches!(check, Ok(Job::Check)));
     let crew = job(rt.alloc(), ["rdbg", "crew", "--turns", "1"].as_slice());
-    assert!(rt; matches!(crew, Ok(Job::Crew(1))));
+    expect_true(&rt, matches!(crew, Ok(Job::Crew(1))));
     let most = job(rt.alloc(), ["rdbg", "crew", "--turns=100000"].as_slice());
-    assert!(rt; matches!(most, Ok(Job::Crew(100_000))));
+    expect_true(&rt, matches!(most, Ok(Job::Crew(100_000))));
     Ok(())
 }
 
-fn refusal(alloc: Global, words: &'static [&'static str]) -> Option<(ErrorKind, i32)> {
-    match job(alloc, words) {
-        Ok(_) => None,
-        Err(error) => Some((error.kind(), error.exit_code())),
+// Words, and the kind and the status of what is said to them.
+type Row = (&'static [&'static str], ErrorKind, i32);
+
+fn expect_refused(rt: &impl Abort, alloc: Global, rows: &[Row]) {
+    for (words, kind, status) in rows {
+        let told = match job(alloc, words) {
+            Ok(_) => None,
+            Err(error) => Some((error.kind(), error.exit_code())),
+        };
+        assert_eq!(rt; told, Some((*kind, *status)), "{words:?}");
     }
 }
 
+const OTHER_WORDS: [Row; 4] = [
+    (&["rdbg"], ErrorKind::MissingSubcommand, 2),
+    (&["rdbg", "jump"], ErrorKind::InvalidSubcommand, 2),
+    (&["rdbg", "run", "now"], ErrorKind::UnknownArgument, 2),
+    (&["rdbg", "--help"], ErrorKind::DisplayHelp, 0),
+];
+
 #[test]
 fn other_words_are_refused(rt: HostRuntime) {
-    let alloc = rt.alloc();
-    let alone = refusal(alloc, ["rdbg"].as_slice());
-    assert_eq!(rt; alone, Some((ErrorKind::MissingSubcommand, 2)));
-    let unknown = refusal(alloc, ["rdbg", "jump"].as_slice());
-    assert_eq!(rt; unknown, Some((ErrorKind::InvalidSubcommand, 2)));
-    let more = refusal(alloc, ["rdbg", "run", "now"].as_slice());
-    assert_eq!(rt; more, Some((ErrorKind::UnknownArgument, 2)));
-    let help = refusal(alloc, ["rdbg", "--help"].as_slice());
-    assert_eq!(rt; help, Some((ErrorKind::DisplayHelp, 0)));
+    expect_refused(&rt, rt.alloc(), &OTHER_WORDS);
 }
+
+const TURNS: [Row; 10] = [
+    (
+        &["rdbg", "crew", "--turns", "0"],
+        ErrorKind::ValueValidation,
+        2,
+    ),
+    (
+        &["rdbg", "crew", "--turns", "100001"],
+        ErrorKind::ValueValidation,
+        2,
+    ),
+    (
+        &["rdbg", "crew", "--turns", "4294967297"],
+        ErrorKind::ValueValidation,
+        2,
+    ),
+    (
+        &["rdbg", "crew", "--turns=-1"],
+        ErrorKind::ValueValidation,
+        2,
+    ),
+    (
+        &["rdbg", "crew", "--turns", "ten"],
+        ErrorKind::ValueValidation,
+        2,
+    ),
+    (
+        &["rdbg", "crew", "--turns", "1.5"],
+        ErrorKind::ValueValidation,
+        2,
+    ),
+    (&["rdbg", "crew"], ErrorKind::MissingRequiredArgument, 2),
+    (&["rdbg", "crew", "--turns"], ErrorKind::InvalidValue, 2),
+    (
+        &["rdbg", "crew", "--turns", "1", "--turns", "2"],
+        ErrorKind::ArgumentConflict,
+        2,
+    ),
+    (
+        &["rdbg", "run", "--turns", "1"],
+        ErrorKind::UnknownArgument,
+        2,
+    ),
+];
 
 #[test]
 fn a_crew_has_turns_within_bounds(rt: HostRuntime) {
-    let alloc = rt.alloc();
-    let bad = Some((ErrorKind::ValueValidation, 2));
-    assert_eq!(rt;
-        refusal(alloc, ["rdbg", "crew", "--turns", "0"].as_slice()),
-        bad
-    );
-    assert_eq!(rt;
-        refusal(alloc, ["rdbg", "crew", "--turns", "100001"].as_slice()),
-        bad
-    );
-    assert_eq!(rt;
-        refusal(alloc, ["rdbg", "crew", "--turns", "4294967297"].as_slice()),
-        bad
-    );
-    assert_eq!(rt;
-        refusal(alloc, ["rdbg", "crew", "--turns=-1"].as_slice()),
-        bad
-    );
-    assert_eq!(rt;
-        refusal(alloc, ["rdbg", "crew", "--turns", "ten"].as_slice()),
-        bad
-    );
-    assert_eq!(rt;
-        refusal(alloc, ["rdbg", "crew", "--turns", "1.5"].as_slice()),
-        bad
-    );
-    let missing = refusal(alloc, ["rdbg", "crew"].as_slice());
-    assert_eq!(rt; missing, Some((ErrorKind::MissingRequiredArgument, 2)));
-    let empty = refusal(alloc, ["rdbg", "crew", "--turns"].as_slice());
-    assert_eq!(rt; empty, Some((ErrorKind::InvalidValue, 2)));
-    let twice = refusal(
-        alloc,
-        ["rdbg", "crew", "--turns", "1", "--turns", "2"].as_slice(),
-    );
-    assert_eq!(rt; twice, Some((ErrorKind::ArgumentConflict, 2)));
-    let other = refusal(alloc, ["rdbg", "run", "--turns", "1"].as_slice());
-    assert_eq!(rt; other, Some((ErrorKind::UnknownArgument, 2)));
+    expect_refused(&rt, rt.alloc(), &TURNS);
 }
 
 const HELP: &str =
@@ -167,7 +182,7 @@ fn expect_text(
         Ok(_) => panic!(rt; "no text"),
         Err(error) => {
             let text = error.to_string(alloc)?;
-            assert_eq!(rt; text.as_str(), want);
+            expect_same(rt, text.as_str(), want);
         }
     }
     Ok(())

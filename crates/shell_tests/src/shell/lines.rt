@@ -1,4 +1,5 @@
 use super::two;
+use crate::expecting::{expect_same, expect_same_of};
 use dbg_base::{Call, Plan, Query, Refusal};
 use dbg_shell::{Line, parse_line};
 use std::alloc::{AllocError, Global};
@@ -129,7 +130,7 @@ fn lines_become_calls(rt: HostRuntime) {
     let program = two(&rt, alloc);
     for (line, want) in &LINES {
         let parsed = told(parse_line(alloc, &program, line.as_bytes()));
-        assert_eq!(rt; parsed, *want, "at {line:?}");
+        expect_same_of(&rt, line, parsed, *want);
     }
 }
 
@@ -140,10 +141,10 @@ fn names_may_be_reserved_words_and_have_32_bytes(rt: HostRuntime) {
     let unknown = ["1 next process", "1 vars abcdefghijklmnopqrstuvwxyz_01234"];
     for line in &unknown {
         let parsed = told(parse_line(alloc, &program, line.as_bytes()));
-        assert_eq!(rt; parsed, Err(Refusal::UnknownProcess), "at {line:?}");
+        expect_same_of(&rt, line, parsed, Err(Refusal::UnknownProcess));
     }
     let long = told(parse_line(alloc, &program, b"1 vars abcdefghijklmnopqrstuvwxyz_012345"));
-    assert_eq!(rt; long, Err(Refusal::BadLine));
+    expect_same(&rt, long, Err(Refusal::BadLine));
 }
 
 // A line of blanks with this text behind them.
@@ -158,29 +159,34 @@ fn a_line_has_at_most_1024_bytes(rt: HostRuntime) -> Result<(), Fail> {
     let alloc = rt.alloc();
     let program = two(&rt, alloc);
     let most = padded(alloc, 1_016, "1 next a")?;
-    assert_eq!(rt;
+    expect_same(
+        &rt,
         told(parse_line(alloc, &program, most.as_slice())),
-        Ok(Some((1, Asked::Next(0))))
+        Ok(Some((1, Asked::Next(0)))),
     );
     let more = padded(alloc, 1_017, "1 next a")?;
-    assert_eq!(rt;
+    expect_same(
+        &rt,
         told(parse_line(alloc, &program, more.as_slice())),
-        Err(Refusal::BadLine)
+        Err(Refusal::BadLine),
     );
     let carriage = padded(alloc, 1_016, "1 next a\r")?;
-    assert_eq!(rt;
+    expect_same(
+        &rt,
         told(parse_line(alloc, &program, carriage.as_slice())),
-        Err(Refusal::BadLine)
+        Err(Refusal::BadLine),
     );
     let blank = padded(alloc, 1_024, "")?;
-    assert_eq!(rt;
+    expect_same(
+        &rt,
         told(parse_line(alloc, &program, blank.as_slice())),
-        Ok(None)
+        Ok(None),
     );
     let long_blank = padded(alloc, 1_025, "")?;
-    assert_eq!(rt;
+    expect_same(
+        &rt,
         told(parse_line(alloc, &program, long_blank.as_slice())),
-        Err(Refusal::BadLine)
+        Err(Refusal::BadLine),
     );
     Ok(())
 }

@@ -1,6 +1,7 @@
 use super::sessions::PAIR;
 use super::undo::THREE;
 use super::{TWO, expect_rows, joined, served};
+use crate::expecting::{expect_same, expect_true};
 use std::test::Fail;
 
 // A process that sends, one that hands on, and one that receives.
@@ -265,7 +266,7 @@ fn a_long_history_is_rolled_back(rt: HostRuntime) -> Result<(), Fail> {
     input.extend_from_slice(ENDS.as_bytes())?;
     want.extend_from_slice(ENDED.as_bytes())?;
     let (replies, code) = served(alloc, input.as_slice());
-    assert!(rt; replies.as_slice() == want.as_slice());
-    assert_eq!(rt; code, 0);
+    expect_true(&rt, replies.as_slice() == want.as_slice());
+    expect_same(&rt, code, 0);
     Ok(())
 }

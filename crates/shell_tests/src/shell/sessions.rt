@@ -1,5 +1,6 @@
 use super::programs::REFUSED;
 use super::{TWO, expect_rows, expect_served, joined, served};
+use crate::expecting::{expect_same, expect_true};
 use std::alloc::{AllocError, Global};
 use std::test::Fail;
 
@@ -231,11 +232,11 @@ fn input_may_be_too_long(rt: HostRuntime) -> Result<(), Fail> {
     let alloc = rt.alloc();
     let mut input = many_lines(alloc, 1_048)?;
     push_line(&mut input, "1 vars a", 391)?;
-    assert_eq!(rt; input.len(), 1_048_577);
+    expect_same(&rt, input.len(), 1_048_577);
     let (replies, code) = served(alloc, input.as_slice());
     let want = many_replies(alloc, 1_048, "input too long\n")?;
-    assert!(rt; replies.as_slice() == want.as_slice());
-    assert_eq!(rt; code, 1);
+    expect_true(&rt, replies.as_slice() == want.as_slice());
+    expect_same(&rt, code, 1);
     Ok(())
 }
 
@@ -244,11 +245,11 @@ fn input_may_be_as_long(rt: HostRuntime) -> Result<(), Fail> {
     let alloc = rt.alloc();
     let mut input = many_lines(alloc, 1_048)?;
     push_line(&mut input, "1 vars a", 390)?;
-    assert_eq!(rt; input.len(), 1_048_576);
+    expect_same(&rt, input.len(), 1_048_576);
     let (replies, code) = served(alloc, input.as_slice());
     let want = many_replies(alloc, 1_049, "")?;
-    assert!(rt; replies.as_slice() == want.as_slice());
-    assert_eq!(rt; code, 0);
+    expect_true(&rt, replies.as_slice() == want.as_slice());
+    expect_same(&rt, code, 0);
     Ok(())
 }
 

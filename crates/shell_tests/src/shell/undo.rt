@@ -1,5 +1,6 @@
 use super::sessions::{COUNTS, LEAST, NUMBER, PAIR, SWAP};
 use super::{TWO, expect_rows, joined, served};
+use crate::expecting::{expect_same, expect_same_of, expect_true};
 use std::test::Fail;
 
 // The two processes of `TWO`, and one that has nothing to do with them.
@@ -237,8 +238,8 @@ fn concurrent_work_is_the_same_in_either_order(rt: HostRuntime) -> Result<(), Fa
         input.extend_from_slice(QUESTIONS.as_bytes())?;
         let want = joined(alloc, told, ANSWERS)?;
         let (replies, code) = served(alloc, input.as_slice());
-        assert_eq!(rt; replies.as_slice(), want.as_slice(), "{lines}");
-        assert_eq!(rt; code, 0, "{lines}");
+        expect_same_of(&rt, lines, replies.as_slice(), want.as_slice());
+        expect_same_of(&rt, lines, code, 0);
     }
     Ok(())
 }
@@ -255,7 +256,7 @@ fn a_process_has_at_most_20000_events(rt: HostRuntime) -> Result<(), Fail> {
     input.extend_from_slice(b"1 next c\n1 step c 0\n1 undo c\n1 redo c\n1 next c\n1 vars c\n")?;
     want.extend_from_slice(b"no 18\nno 18\nok c 0\nok c 0\nno 18\nvars c z=20000\n")?;
     let (replies, code) = served(alloc, input.as_slice());
-    assert!(rt; replies.as_slice() == want.as_slice());
-    assert_eq!(rt; code, 0);
+    expect_true(&rt, replies.as_slice() == want.as_slice());
+    expect_same(&rt, code, 0);
     Ok(())
 }

@@ -1,6 +1,7 @@
 //! All that is shown of a session, before and after some lines.
 
 use super::{joined, served};
+use crate::expecting::{expect_same, expect_same_of, expect_true_of};
 use std::alloc::{AllocError, Global};
 use std::process::Abort;
 use std::str;
@@ -191,10 +192,10 @@ pub(super) fn expect_unchanged(
     let (begun, rest) = text.split_once(MARKED).ok_or("no view")?;
     let (before, rest) = rest.split_once(MARKED).ok_or("no command")?;
     let (told, after) = rest.split_once(MARKED).ok_or("no second view")?;
-    assert!(rt; begun.starts_with(SET_UP), "{lines}");
-    assert_eq!(rt; told, want, "{lines}");
-    assert_eq!(rt; after, before, "{lines}");
-    assert_eq!(rt; code, 0, "{lines}");
+    expect_true_of(rt, lines, begun.starts_with(SET_UP));
+    expect_same_of(rt, lines, told, want);
+    expect_same_of(rt, lines, after, before);
+    expect_same_of(rt, lines, code, 0);
     Ok(())
 }
 
@@ -216,7 +217,7 @@ fn the_setup_is_shown(rt: HostRuntime) -> Result<(), Fail> {
     let input = all_of(alloc, &[RELAY, SETUP, VIEW])?;
     let want = joined(alloc, SET_UP, SHOWN)?;
     let (replies, code) = served(alloc, input.as_slice());
-    assert_eq!(rt; replies.as_slice(), want.as_slice());
-    assert_eq!(rt; code, 0);
+    expect_same(&rt, replies.as_slice(), want.as_slice());
+    expect_same(&rt, code, 0);
     Ok(())
 }
