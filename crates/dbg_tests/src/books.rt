@@ -11,7 +11,7 @@ use crate::expecting::{expect_same, expect_true};
 use crate::world_calls::step;
 use break_book::Book;
 use causal_world::World;
-use dbg_base::{Choice, Conjunct, Head, Name, Pid, Refusal, Sequence};
+use dbg_base::{Choice, Conjunct, Cut, Head, Name, Pid, Refusal, Sequence};
 use least_cut::{Cause, Detector, Elimination, Scan};
 use proc_lang::{ProgError, Program, parse_program};
 use std::alloc::Global;
@@ -184,8 +184,8 @@ fn make_room(
     world: &World,
     events: u32,
 ) -> Result<(), Fail> {
-    let mut cut = world.places(alloc)?;
-    cut.set(Pid(0), events);
+    let places = world.places(alloc)?;
+    let cut = Cut::new(vec![in alloc; events; places.counts().len()]?);
     expect_same(rt, book.reserve_to(world, &cut), Ok(()));
     Ok(())
 }

@@ -3,6 +3,7 @@ use Rattle.std.proofs.lemmas.List.{length-set}
 use Rattle.proc_lang.specs.Programs.{program_of}
 use Rattle.cut_core.specs.declared.kind.Kind.{Kind}
 use Rattle.cut_core.specs.ConsistentCuts.{places}
+use Rattle.dbg_base.specs.SystemStates.{place_at}
 use Rattle.causal_world.proofs.Calls.{kinds_placed}
 use Rattle.least_cut.specs.Searches.{steps_up_to}
 use Rattle.least_cut.specs.Detectors.{one_more}
@@ -38,7 +39,7 @@ returns-clause-room c =
     omega (
       arith,
       ap (λ (l : List ℕ). length l) more,
-      length-set w.state.places p (c.place.result + 1),
+      length-set w.state.places p (place_at w.state p + 1),
       c.processes.ensures,
       ap (λ (l : List (List Kind)). length l) c.tally-tally.ensures.kinds,
       kinds_placed w (P, c.requires.of),
