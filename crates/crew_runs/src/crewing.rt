@@ -157,6 +157,7 @@ fn crew_program<R: Threads + Wait + Sync, C: Command, M: Fn(Pid) -> Result<C, Re
     ensures stopped { IfErr result (λ fault. fault ≡ Write → (end : Crewed) × WritesFront (W.seen writer.old) (W.seen writer.new)
         (CrewsProgram (program_of program) turns end)) }
     ensures silent { IfErr result (λ fault. fault ≢ Write → Appended (W.seen writer.old) (W.seen writer.new) []) }
+    ensures reader { source_behind result ≡ Fine }
     ensures writer { (W.seen writer.old).health ≡ Fine → (W.seen writer.new).health ≡ sink_behind result }
 {
     if !fits_turns(turns, program.processes()) {
@@ -186,6 +187,7 @@ fn crew_text<R: Threads + Wait + Sync, C: Command, M: Fn(Pid) -> Result<C, Refus
     ensures stopped { IfErr result (λ fault. fault ≡ Write
         → (end : Crewed) × WritesFront (W.seen writer.old) (W.seen writer.new) (CrewsText turns text.now end)) }
     ensures silent { IfErr result (λ fault. fault ≢ Write → Appended (W.seen writer.old) (W.seen writer.new) []) }
+    ensures reader { source_behind result ≡ Fine }
     ensures writer { (W.seen writer.old).health ≡ Fine → (W.seen writer.new).health ≡ sink_behind result }
 {
     match parse_program(alloc, text) {

@@ -34,6 +34,7 @@ fn check_text<W: Sink>(alloc: Global, text: &[u8], writer: &mut W) -> Result<Ser
     ensures stopped { IfErr result (λ fault. fault ≡ Write
         → (served : Served) × WritesFront (W.seen writer.old) (W.seen writer.new) (ChecksText text.now served)) }
     ensures silent { IfErr result (λ fault. fault ≢ Write → Appended (W.seen writer.old) (W.seen writer.new) []) }
+    ensures reader { source_behind result ≡ Fine }
     ensures writer { (W.seen writer.old).health ≡ Fine → (W.seen writer.new).health ≡ sink_behind result }
 {
     match parse_program(alloc, text) {
