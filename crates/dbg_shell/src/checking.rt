@@ -1,6 +1,6 @@
 //! A program text alone.
 
-ghost use Rattle.std.specs.Prelude.{◌≡◌, ◌≢◌, IfOk, IfErr, IfSome};
+ghost use Rattle.std.specs.Prelude.{◌≡◌, ◌≢◌, [], IfOk, IfErr, IfSome};
 ghost use Rattle.devices.specs.declared.health.Health.TheVariants.{Fine};
 ghost use Rattle.devices.specs.Seen.{Appended};
 ghost use Rattle.proc_lang.specs.Programs.{program_of};
