@@ -8,8 +8,8 @@ mod tests;
 mod words;
 
 use clap::error::ErrorKind;
-use devices::{Noted, Sink, Source};
 use dbg_shell::{Job, check, crew_status, job, run_crew, serve, status};
+use devices::{Noted, Sink, Source};
 use output::Output;
 use std::alloc::Global;
 use std::process::ExitCode;
