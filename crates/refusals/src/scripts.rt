@@ -1,0 +1,89 @@
+//! The scripts.
+
+use crate::script::Script;
+
+// A process that sends, and one that receives.
+const TWO: &str = "process a {
+  var x = 0;
+  when (x < 3) : send b (x + 1), x := (x + 1);
+}
+process b {
+  var y = 0;
+  var n = 0;
+  when true : recv a y, n := (n + 1);
+  when (n > 0) : n := (n - 1);
+}
+";
+
+const LOOKS: &[&str] = &[
+    "3 vars a",
+    "3 vars b",
+    "3 chan a b",
+    "3 chan b a",
+    "3 clock a",
+    "3 clock b",
+    "3 place a",
+    "3 place b",
+    "3 can a",
+    "3 can b",
+    "3 breaks",
+    "3 cut k",
+    "3 why k",
+    "3 back",
+];
+
+// Each kind of command, each question, and each kind of command taken back.
+const KINDS: &[&str] = &[
+    "1 step a 0",
+    "1 next a",
+    "1 vars a",
+    "1 chan a b",
+    "2 next b",
+    "2 step b 1",
+    "1 undo a",
+    "1 break k a (x = 2) b (y = 1)",
+    "1 next a",
+    "1 cut k",
+    "1 why k",
+    "1 clock b",
+    "1 pass k",
+    "2 undo b",
+    "2 place b",
+    "2 can b",
+    "2 redo b",
+    "1 rollback a 1",
+    "1 goto k",
+    "1 redo a",
+    "1 arm k",
+    "1 goto k",
+    "2 batch pass k ; undo b ; next a",
+    "2 batch arm k ; undo b",
+    "1 breaks",
+    "1 clear k",
+    "1 why k",
+    "1 back",
+    "2 back",
+    "1 back",
+    "1 back",
+    "1 back",
+    "1 back",
+    "2 back",
+    "2 back",
+    "1 back",
+    "1 back",
+    "1 back",
+    "1 back",
+    "2 back",
+    "2 back",
+    "1 back",
+    "1 back",
+    "1 back",
+    "1 vars a",
+];
+
+pub(crate) static SCRIPTS: [Script; 1] = [Script {
+    name: "kinds",
+    program: TWO,
+    lines: KINDS,
+    looks: LOOKS,
+}];
