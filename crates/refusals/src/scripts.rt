@@ -3,7 +3,7 @@
 use crate::script::Script;
 
 // A process that sends, and one that receives.
-const TWO: &str = "process a {
+pub(crate) const TWO: &str = "process a {
   var x = 0;
   when (x < 3) : send b (x + 1), x := (x + 1);
 }

@@ -2,6 +2,7 @@
 
 ghost use Rattle.std.specs.Prelude.{IfOk};
 
+use crate::desks::play_desk;
 use crate::givable::Givable;
 use crate::script::play_script;
 use crate::scripts::SCRIPTS;
@@ -11,9 +12,11 @@ use dbg_command::{
     StepCmd, UndoCmd,
 };
 use std::alloc::Global;
+use std::sync::Wait;
+use std::thread::Threads;
 
-/// Plays all scripts.
-pub(crate) fn play_scripts(alloc: Global, report: &mut Vec<u8>) {
+/// Plays all scripts, and makes calls at a desk.
+pub(crate) fn play_scripts<R: Threads + Wait + Sync>(rt: &R, alloc: Global, report: &mut Vec<u8>) {
     let make = |given: Givable| -> Result<Box<dyn Command>, Refusal>
         ensures { IfOk result (λ command. IsFresh command) }
     {
@@ -40,4 +43,5 @@ pub(crate) fn play_scripts(alloc: Global, report: &mut Vec<u8>) {
     for script in &SCRIPTS {
         play_script::<Box<dyn Command>, _>(alloc, &make, script, &mut text, report);
     }
+    play_desk::<Box<dyn Command>, _, R>(rt, alloc, &make, report);
 }
