@@ -4,6 +4,7 @@
 mod beginning;
 mod crews;
 mod desks;
+mod full;
 mod givable;
 mod makings;
 mod picture;

@@ -3,6 +3,7 @@
 ghost use Rattle.std.specs.Prelude.{IfOk};
 
 use crate::desks::play_desk;
+use crate::full::play_full;
 use crate::givable::Givable;
 use crate::script::play_script;
 use crate::scripts::SCRIPTS;
@@ -44,4 +45,5 @@ pub(crate) fn play_scripts<R: Threads + Wait + Sync>(rt: &R, alloc: Global, repo
         play_script::<Box<dyn Command>, _>(alloc, &make, script, &mut text, report);
     }
     play_desk::<Box<dyn Command>, _, R>(rt, alloc, &make, report);
+    play_full::<Box<dyn Command>, _>(alloc, &make, &mut text, report);
 }
