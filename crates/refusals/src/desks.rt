@@ -166,13 +166,22 @@ fn play<L: Run, C: Command, M: Fn(Givable) -> Result<C, Refusal>, R: Threads + W
 {
     let (desk, seats) = begin_desk::<L, C>(alloc, beginning)?;
     let mut seats = seats;
-    say_all(rt, alloc, make, program, &desk, seats.as_mut_slice(), report);
+    say_all(
+        rt,
+        alloc,
+        make,
+        program,
+        &desk,
+        seats.as_mut_slice(),
+        report,
+    );
     let settled = desk.settle(rt, seats.as_slice());
     let _ = write!(report, "settle: {settled:?}\n");
     let locked = desk.into_locked();
     for place in 0..locked.calls() {
-        let entry = locked.entry(place);
-        let _ = write!(report, "{entry:?}\n");
+        if let Some(entry) = locked.entry(place) {
+            let _ = write!(report, "entry of {}: {:?}\n", entry.seat, entry.said);
+        }
     }
     Ok(())
 }

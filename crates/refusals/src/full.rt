@@ -45,10 +45,7 @@ fn fill<L: Run, C: Command>(alloc: Global, trial: &mut Trial<L, C>) {
         return;
     };
     for _ in LEFT..CALLS {
-        if locked
-            .enter_ask(alloc, seat, Query::Place(Pid(0)))
-            .is_err()
-        {
+        if locked.enter_ask(alloc, seat, Query::Place(Pid(0))).is_err() {
             let _ = locked.enter_ask(alloc, seat, Query::Place(Pid(0)));
         }
     }

@@ -8,7 +8,7 @@ use crate::beginning::program_of_text;
 use crate::scripts::TWO;
 use causal_world::World;
 use command_line::parse_line;
-use dbg_base::{Call, Conjunct, OpenGate, Pid, Plan, Query, Refusal, Sequence};
+use dbg_base::{Call, Choice, Conjunct, OpenGate, Pid, Plan, Query, Refusal, Sequence};
 use dbg_board::Board;
 use dbg_command::NextCmd;
 use dbg_session::Session;
@@ -80,10 +80,7 @@ fn tell_scans<R: Threads + Wait + Sync>(
     tell("World::new", &values, report);
     let world = again!(Refusal::Memory, played(alloc, program))?;
     let conjuncts = again!(Refusal::Memory, conjuncts(alloc, program))?;
-    let scan = again!(
-        Refusal::Memory,
-        Scan::of(alloc, &world, conjuncts.items())
-    );
+    let scan = again!(Refusal::Memory, Scan::of(alloc, &world, conjuncts.items()));
     tell("Scan::of", &scan, report);
     let wide = again!(
         Refusal::Memory,
@@ -91,6 +88,21 @@ fn tell_scans<R: Threads + Wait + Sync>(
     );
     tell("Scan::wide", &wide, report);
     Ok(())
+}
+
+// The values with which the processes begin, and their commands.
+fn tell_program(program: &Program, report: &mut Vec<u8>) {
+    for pid in [A, B] {
+        let variables = (
+            program.variables(pid),
+            program.start_value(pid, 0),
+            program.start_value(pid, 1),
+        );
+        tell("variables", &variables, report);
+        for choice in 0..program.commands(pid) {
+            tell("command", &program.command(pid, Choice(choice)), report);
+        }
+    }
 }
 
 fn tell_lines(alloc: Global, program: &Program, report: &mut Vec<u8>) {
@@ -107,10 +119,7 @@ fn tell_lines(alloc: Global, program: &Program, report: &mut Vec<u8>) {
         tell("parse_predicate", &wrong, report);
     }
     for line in [HALTING, TOGETHER, "1 next a", "1 break k a (x = y)"] {
-        let parsed = again!(
-            Refusal::Memory,
-            parse_line(alloc, program, line.as_bytes())
-        );
+        let parsed = again!(Refusal::Memory, parse_line(alloc, program, line.as_bytes()));
         tell("parse_line", &parsed, report);
     }
 }
@@ -133,14 +142,11 @@ fn tell_session(alloc: Global, report: &mut Vec<u8>) -> Result<(), Refusal> {
 
 /// Makes each of these, and reports it. A call that is refused for want of memory is made again.
 pub(crate) fn tell_makings<R: Threads + Wait + Sync>(rt: &R, alloc: Global, report: &mut Vec<u8>) {
-    let wrong = again!(
-        ProgError::Memory,
-        parse_program(alloc, WRONG.as_bytes())
-    );
+    let wrong = again!(ProgError::Memory, parse_program(alloc, WRONG.as_bytes()));
     tell("parse_program", &wrong, report);
     let made = again!(ProgError::Memory, parse_program(alloc, TWO.as_bytes()));
-    tell("parse_program", &made, report);
     if let Ok(program) = made {
+        tell_program(&program, report);
         tell_lines(alloc, &program, report);
         let told = tell_scans(rt, alloc, &program, report);
         tell("scans", &told, report);
