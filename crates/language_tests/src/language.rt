@@ -49,6 +49,21 @@ fn between(alloc: Global, front: &str, text: &str, back: &str) -> Result<Vec<u8>
     Ok(all)
 }
 
+// Adds a part so many times.
+fn add_times(text: &mut Vec<u8>, part: &str, count: u32) -> Result<(), AllocError> {
+    for _ in 0..count {
+        text.extend_from_slice(part.as_bytes())?;
+    }
+    Ok(())
+}
+
+// Adds a part so many times, a middle, and as many parentheses that close.
+fn add_nested(text: &mut Vec<u8>, part: &str, count: u32, middle: &str) -> Result<(), AllocError> {
+    add_times(text, part, count)?;
+    text.extend_from_slice(middle.as_bytes())?;
+    add_times(text, ")", count)
+}
+
 // How many commands all processes have.
 fn command_count(program: &Program) -> u32 {
     let mut commands = 0u32;

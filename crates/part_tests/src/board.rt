@@ -1,8 +1,11 @@
 //! Tests of `dbg_board`: with ample memory a board is made, and each call does its work, on several threads too.
 
-ghost use Rattle.std.specs.Prelude.{◌≡◌, length};
+ghost use Rattle.std.specs.Prelude.{◌≡◌, ◌+◌, ◌≤◌, length};
+ghost use Rattle.dbg_base.specs.declared.limits.TheConstants.{BREAKPOINTS, CALLS};
 
+use crate::expecting::{expect_same, expect_true};
 use dbg_board::{Board, Glance, Publisher, SeatView};
+use std::process::Abort;
 use std::test::Fail;
 use std::thread;
 
@@ -10,12 +13,32 @@ fn pair(calls: u64, halt: u64) -> Glance {
     Glance { calls, halt }
 }
 
+// Expects the view to be told so many calls, and the place of the breakpoint that halts.
+fn expect_look(rt: &impl Abort, board: &Board, view: &mut SeatView, wanted: (u64, u64))
+    requires { view.old.board ≡ board.now }
+    ensures { view.new.board ≡ view.old.board }
+{
+    let Glance { calls, halt } = board.look(view);
+    expect_same(rt, (calls, halt), wanted);
+}
+
+// The next call is published.
+fn publish(publisher: &mut Publisher, calls: u64, halt: u64)
+    requires next { calls ≡ length publisher.old.pairs + 1 }
+    requires few { calls ≤ CALLS }
+    requires halt { halt ≤ BREAKPOINTS }
+    ensures board { publisher.new.board ≡ publisher.old.board }
+    ensures next { length publisher.new.pairs ≡ calls }
+{
+    publisher.publish(calls, halt);
+}
+
 #[test]
 fn a_new_board_tells_of_no_call(rt: HostRuntime) -> Result<(), Fail> {
     let (board, _publisher, mut views) = Board::new(rt.alloc(), 2)?;
-    assert_eq!(rt; views.len(), 2);
+    expect_same(&rt, views.len(), 2);
     let mut view = views.pop().ok_or("no view")?;
-    assert_eq!(rt; board.look(&mut view), pair(0, 0));
+    expect_look(&rt, &board, &mut view, (0, 0));
     Ok(())
 }
 
@@ -24,13 +47,13 @@ fn each_view_sees_what_was_published(rt: HostRuntime) -> Result<(), Fail> {
     let (board, mut publisher, mut views) = Board::new(rt.alloc(), 2)?;
     let mut one = views.pop().ok_or("no view")?;
     let mut other = views.pop().ok_or("no second view")?;
-    publisher.publish(1, 64);
-    assert_eq!(rt; board.look(&mut one), pair(1, 64));
-    publisher.publish(2, 0);
-    publisher.publish(3, 7);
-    assert_eq!(rt; board.look(&mut other), pair(3, 7));
-    assert_eq!(rt; board.look(&mut one), pair(3, 7));
-    assert_eq!(rt; board.look(&mut one), pair(3, 7));
+    publish(&mut publisher, 1, 64);
+    expect_look(&rt, &board, &mut one, (1, 64));
+    publish(&mut publisher, 2, 0);
+    publish(&mut publisher, 3, 7);
+    expect_look(&rt, &board, &mut other, (3, 7));
+    expect_look(&rt, &board, &mut one, (3, 7));
+    expect_look(&rt, &board, &mut one, (3, 7));
     Ok(())
 }
 
@@ -38,14 +61,14 @@ fn each_view_sees_what_was_published(rt: HostRuntime) -> Result<(), Fail> {
 fn a_view_that_was_told_looks_on(rt: HostRuntime) -> Result<(), Fail> {
     let (board, mut publisher, mut views) = Board::new(rt.alloc(), 1)?;
     let mut view = views.pop().ok_or("no view")?;
-    publisher.publish(1, 0);
-    assert_eq!(rt; board.look(&mut view), pair(1, 0));
-    publisher.publish(2, 1);
+    publish(&mut publisher, 1, 0);
+    expect_look(&rt, &board, &mut view, (1, 0));
+    publish(&mut publisher, 2, 1);
     publisher.tell(&mut view);
     publisher.tell(&mut view);
-    assert_eq!(rt; board.look(&mut view), pair(2, 1));
-    publisher.publish(3, 0);
-    assert_eq!(rt; board.look(&mut view), pair(3, 0));
+    expect_look(&rt, &board, &mut view, (2, 1));
+    publish(&mut publisher, 3, 0);
+    expect_look(&rt, &board, &mut view, (3, 0));
     Ok(())
 }
 
@@ -80,8 +103,8 @@ fn looks_are_made_beside_a_publish(rt: HostRuntime) -> Result<(), Fail> {
         || publish_next(publisher),
     );
     let (before, after) = (pair(1, 0), pair(2, 5));
-    assert!(rt; first == before || first == after);
-    assert!(rt; second == after || first == before && second == before);
+    expect_true(&rt, first == before || first == after);
+    expect_true(&rt, second == after || first == before && second == before);
     Ok(())
 }
 
@@ -95,6 +118,9 @@ fn a_publish_is_made_beside_looks(rt: HostRuntime) -> Result<(), Fail> {
         || publish_next(publisher),
         || two_looks(&board, view),
     );
-    assert!(rt; first.calls >= 1 && first.calls <= second.calls && second.calls <= 2);
+    expect_true(
+        &rt,
+        first.calls >= 1 && first.calls <= second.calls && second.calls <= 2,
+    );
     Ok(())
 }

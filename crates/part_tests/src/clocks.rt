@@ -1,7 +1,8 @@
 //! Tests of `clock_rows`: with ample memory each call does its work.
 
-ghost use Rattle.std.specs.Prelude.{◌<◌, [], length, slice_index_or};
+ghost use Rattle.std.specs.Prelude.{◌<◌, length};
 
+use crate::expecting::expect_same;
 use clock_rows::Clocks;
 use dbg_base::Pid;
 use std::process::Abort;
@@ -9,10 +10,10 @@ use std::test::Fail;
 
 // Expects the row of this event.
 fn expect(rt: &impl Abort, clocks: &Clocks, pid: Pid, n: u32, row: &[u32]) -> Result<(), Fail>
-    requires there { pid.0 < length clocks.now.rows }
-    requires row { n < length (slice_index_or clocks.now.rows pid.0 []) }
+    requires { pid.0 < length clocks.now.rows }
 {
-    assert_eq!(rt; clocks.row(pid, n), row);
+    assert!(rt; (n as usize) < clocks.len(pid));
+    expect_same(rt, clocks.row(pid, n), row);
     Ok(())
 }
 
@@ -20,16 +21,16 @@ fn expect(rt: &impl Abort, clocks: &Clocks, pid: Pid, n: u32, row: &[u32]) -> Re
 fn a_row_joins_and_counts(rt: HostRuntime) -> Result<(), Fail> {
     let mut clocks = Clocks::new(rt.alloc(), 3)?;
     let a = Pid(1);
-    assert_eq!(rt; (clocks.len(a), clocks.len(Pid(3))), (1, 0));
+    expect_same(&rt, (clocks.len(a), clocks.len(Pid(3))), (1, 0));
     expect(&rt, &clocks, a, 0, &[0, 0, 0])?;
     clocks.reserve(a, 2)?;
     clocks.push(a, &[4, 0, 7]);
     clocks.push(a, &[5, 0, 2]);
-    assert_eq!(rt; clocks.len(a), 3);
+    expect_same(&rt, clocks.len(a), 3);
     expect(&rt, &clocks, a, 1, &[4, 1, 7])?;
     expect(&rt, &clocks, a, 2, &[5, 2, 7])?;
     clocks.pop(a);
-    assert_eq!(rt; (clocks.len(a), clocks.len(Pid(0))), (2, 1));
+    expect_same(&rt, (clocks.len(a), clocks.len(Pid(0))), (2, 1));
     expect(&rt, &clocks, a, 1, &[4, 1, 7])
 }
 
@@ -46,7 +47,7 @@ fn a_row_joins_that_of_another(rt: HostRuntime) -> Result<(), Fail> {
     expect(&rt, &clocks, b, 2, &[4, 1, 8])?;
     clocks.push_joined(b, b, 1);
     expect(&rt, &clocks, b, 3, &[4, 1, 9])?;
-    assert_eq!(rt; clocks.len(a), 2);
+    expect_same(&rt, clocks.len(a), 2);
     expect(&rt, &clocks, a, 1, &[4, 1, 7])
 }
 
@@ -58,6 +59,10 @@ fn copied_clocks_are_apart(rt: HostRuntime) -> Result<(), Fail> {
     clocks.push(a, &[4, 0]);
     let made = clocks.copy()?;
     clocks.pop(a);
-    assert_eq!(rt; (made.len(a), made.len(Pid(0)), clocks.len(a)), (2, 1, 1));
+    expect_same(
+        &rt,
+        (made.len(a), made.len(Pid(0)), clocks.len(a)),
+        (2, 1, 1),
+    );
     expect(&rt, &made, a, 1, &[4, 1])
 }

@@ -1,5 +1,7 @@
 //! Tests of `dbg_base`: with ample memory a copy is made, and shows what it was made of.
 
+use crate::expecting::expect_same;
+use crate::trees::{binary, negate, not};
 use dbg_base::{
     Answer, Call, Choice, Conjunct, Cut, Done, Expr, Head, Name, Operator, Pid, Plan, Query,
     Refusal, Reply, Said, Sequence,
@@ -13,6 +15,13 @@ fn shown<T: Debug>(alloc: Global, value: &T) -> Result<String, AllocError> {
     format!(in alloc; "{value:?}")
 }
 
+// Expects that a copy shows what it was made of.
+fn expect_alike<T: Debug>(rt: &impl Abort, alloc: Global, made: &T, of: &T) -> Result<(), Fail> {
+    let (made, of) = (shown(alloc, made)?, shown(alloc, of)?);
+    assert_eq!(rt; made, of);
+    Ok(())
+}
+
 fn name(rt: &impl Abort) -> Name {
     Name::new(b"k").expect(rt, "a name")
 }
@@ -23,27 +32,11 @@ fn cut(alloc: Global) -> Result<Cut, AllocError> {
 
 // An expression with each form.
 fn every_form(alloc: Global) -> Result<Expr, AllocError> {
-    let negated = Expr::Negate(Box::new(alloc, Expr::Got(Pid(2)))?);
-    let equal = Expr::Binary(
-        Operator::Equal,
-        Box::new(alloc, Expr::Sent(Pid(1)))?,
-        Box::new(alloc, negated)?,
-    );
-    let less = Expr::Binary(
-        Operator::Less,
-        Box::new(alloc, Expr::Variable(0))?,
-        Box::new(alloc, Expr::Number(-7))?,
-    );
-    let either = Expr::Binary(
-        Operator::Or,
-        Box::new(alloc, Expr::Not(Box::new(alloc, equal)?))?,
-        Box::new(alloc, less)?,
-    );
-    Ok(Expr::Binary(
-        Operator::And,
-        Box::new(alloc, either)?,
-        Box::new(alloc, Expr::Truth(true))?,
-    ))
+    let counted = negate(alloc, Expr::Got(Pid(2)))?;
+    let equal = binary(alloc, Operator::Equal, Expr::Sent(Pid(1)), counted)?;
+    let less = binary(alloc, Operator::Less, Expr::Variable(0), Expr::Number(-7))?;
+    let either = binary(alloc, Operator::Or, not(alloc, equal)?, less)?;
+    binary(alloc, Operator::And, either, Expr::Truth(true))
 }
 
 fn two_conjuncts(alloc: Global) -> Result<Sequence<Conjunct>, AllocError> {
@@ -60,51 +53,52 @@ fn two_conjuncts(alloc: Global) -> Result<Sequence<Conjunct>, AllocError> {
 #[test]
 fn cuts_and_expressions(rt: HostRuntime) -> Result<(), Fail> {
     let alloc = rt.alloc();
-    assert_eq!(rt; cut(alloc)?.copy()?.counts(), [0, 20_000].as_slice());
+    expect_same(&rt, cut(alloc)?.copy()?.counts(), [0, 20_000].as_slice());
     let expr = every_form(alloc)?;
-    assert_eq!(rt; shown(alloc, &expr.copy()?)?, shown(alloc, &expr)?);
+    expect_alike(&rt, alloc, &expr.copy()?, &expr)?;
     let conjunct = Conjunct { pid: Pid(3), expr };
-    assert_eq!(rt; shown(alloc, &conjunct.copy()?)?, shown(alloc, &conjunct)?);
-    Ok(())
+    expect_alike(&rt, alloc, &conjunct.copy()?, &conjunct)
+}
+
+fn expect_plan(rt: &impl Abort, alloc: Global, plan: Plan) -> Result<(), Fail> {
+    expect_alike(rt, alloc, &plan.copy()?, &plan)
+}
+
+#[test]
+fn plans(rt: HostRuntime) -> Result<(), Fail> {
+    let alloc = rt.alloc();
+    let k = name(&rt);
+    expect_plan(&rt, alloc, Plan::Step(Pid(1), Choice(2)))?;
+    expect_plan(&rt, alloc, Plan::Next(Pid(1)))?;
+    expect_plan(&rt, alloc, Plan::Undo(Pid(1)))?;
+    expect_plan(&rt, alloc, Plan::Redo(Pid(1)))?;
+    expect_plan(&rt, alloc, Plan::Rollback(Pid(1), 3))?;
+    expect_plan(&rt, alloc, Plan::Goto(k))?;
+    expect_plan(&rt, alloc, Plan::Break(k, two_conjuncts(alloc)?))?;
+    expect_plan(&rt, alloc, Plan::Clear(k))?;
+    expect_plan(&rt, alloc, Plan::Arm(k))?;
+    expect_plan(&rt, alloc, Plan::Pass(k))
+}
+
+fn expect_call(rt: &impl Abort, alloc: Global, call: Call) -> Result<(), Fail> {
+    expect_alike(rt, alloc, &call.copy()?, &call)
 }
 
 #[test]
 fn calls(rt: HostRuntime) -> Result<(), Fail> {
     let alloc = rt.alloc();
     let k = name(&rt);
-    let plans = [
-        Plan::Step(Pid(1), Choice(2)),
-        Plan::Next(Pid(1)),
-        Plan::Undo(Pid(1)),
-        Plan::Redo(Pid(1)),
-        Plan::Rollback(Pid(1), 3),
-        Plan::Goto(k),
-        Plan::Break(k, two_conjuncts(alloc)?),
-        Plan::Clear(k),
-        Plan::Arm(k),
-        Plan::Pass(k),
-    ];
-    for plan in &plans {
-        assert_eq!(rt; shown(alloc, &plan.copy()?)?, shown(alloc, plan)?);
-    }
-    assert_eq!(rt;
-        Query::Chan(Pid(0), Pid(1)).copy()?,
-        Query::Chan(Pid(0), Pid(1))
-    );
-    let calls = [
-        Call::Give(Plan::Break(k, two_conjuncts(alloc)?)),
-        Call::Back,
-        Call::Ask(Query::Why(k)),
-    ];
-    for call in &calls {
-        assert_eq!(rt; shown(alloc, &call.copy()?)?, shown(alloc, call)?);
-    }
+    let given = Plan::Break(k, two_conjuncts(alloc)?);
+    expect_call(&rt, alloc, Call::Give(given))?;
+    expect_call(&rt, alloc, Call::Back)?;
+    expect_call(&rt, alloc, Call::Ask(Query::Why(k)))?;
+    let query = Query::Chan(Pid(0), Pid(1));
+    expect_same(&rt, query.copy()?, query);
     Ok(())
 }
 
-fn expect_same(rt: &impl Abort, alloc: Global, said: Said) -> Result<(), Fail> {
-    assert_eq!(rt; shown(alloc, &said.copy()?)?, shown(alloc, &said)?);
-    Ok(())
+fn expect_said(rt: &impl Abort, alloc: Global, said: Said) -> Result<(), Fail> {
+    expect_alike(rt, alloc, &said.copy()?, &said)
 }
 
 #[test]
@@ -112,39 +106,39 @@ fn replies(rt: HostRuntime) -> Result<(), Fail> {
     let alloc = rt.alloc();
     let halted = Some(name(&rt));
     let done = Done::Played(Pid(0), Choice(1));
-    expect_same(&rt, alloc, Said::Accepted(Reply { done, halted }))?;
+    expect_said(&rt, alloc, Said::Accepted(Reply { done, halted }))?;
     let done = Done::Undone(Pid(0), Choice(1));
-    expect_same(&rt, alloc, Said::Accepted(Reply { done, halted: None }))?;
+    expect_said(&rt, alloc, Said::Accepted(Reply { done, halted: None }))?;
     let done = Done::Places(cut(alloc)?);
-    expect_same(&rt, alloc, Said::Accepted(Reply { done, halted }))?;
+    expect_said(&rt, alloc, Said::Accepted(Reply { done, halted }))?;
     let done = Done::Plain;
-    expect_same(&rt, alloc, Said::Accepted(Reply { done, halted }))?;
-    expect_same(&rt, alloc, Said::Refused(Refusal::OtherSeat(2)))
+    expect_said(&rt, alloc, Said::Accepted(Reply { done, halted }))?;
+    expect_said(&rt, alloc, Said::Refused(Refusal::OtherSeat(2)))
 }
 
 #[test]
 fn answers(rt: HostRuntime) -> Result<(), Fail> {
     let alloc = rt.alloc();
     let values = Sequence::new(Vec::from_slice(alloc, &[1i64, -2])?);
-    expect_same(&rt, alloc, Said::Answered(Answer::Values(values)))?;
+    expect_said(&rt, alloc, Said::Answered(Answer::Values(values)))?;
     let messages = Sequence::new(Vec::from_slice(alloc, &[3i64])?);
-    expect_same(&rt, alloc, Said::Answered(Answer::Messages(messages)))?;
+    expect_said(&rt, alloc, Said::Answered(Answer::Messages(messages)))?;
     let counts = cut(alloc)?;
-    expect_same(&rt, alloc, Said::Answered(Answer::Counts(counts)))?;
+    expect_said(&rt, alloc, Said::Answered(Answer::Counts(counts)))?;
     let place = Answer::PlaceOf { at: 1, line: 2 };
-    expect_same(&rt, alloc, Said::Answered(place))?;
+    expect_said(&rt, alloc, Said::Answered(place))?;
     let consequence = Answer::CanUndo(Err(Refusal::Consequence(Pid(1))));
-    expect_same(&rt, alloc, Said::Answered(consequence))
+    expect_said(&rt, alloc, Said::Answered(consequence))
 }
 
 #[test]
 fn answers_on_breakpoints(rt: HostRuntime) -> Result<(), Fail> {
     let alloc = rt.alloc();
     let found = Some(cut(alloc)?);
-    expect_same(&rt, alloc, Said::Answered(Answer::CutIs(found)))?;
-    expect_same(&rt, alloc, Said::Answered(Answer::CutIs(None)))?;
+    expect_said(&rt, alloc, Said::Answered(Answer::CutIs(found)))?;
+    expect_said(&rt, alloc, Said::Answered(Answer::CutIs(None)))?;
     let heads = Sequence::new(Vec::from_slice(alloc, &[Head::At(4), Head::Past])?);
-    expect_same(&rt, alloc, Said::Answered(Answer::Frontier(heads)))?;
+    expect_said(&rt, alloc, Said::Answered(Answer::Frontier(heads)))?;
     let marks = Sequence::new(Vec::from_slice(alloc, &[(name(&rt), true)])?);
-    expect_same(&rt, alloc, Said::Answered(Answer::Marks(marks)))
+    expect_said(&rt, alloc, Said::Answered(Answer::Marks(marks)))
 }

@@ -1,9 +1,12 @@
 //! Tests of `local_eval`.
 
+use crate::expecting::{expect_same, expect_true};
+use crate::trees::{binary, negate, not};
 use dbg_base::{Direction, Expr, Operator, Pid, Sequence};
 use local_eval::{Env, EvalError, EvalFault, Value, effect, eval, guard};
 use proc_lang::{Action, Assignment, Guarded, parse_program};
 use std::alloc::{AllocError, Global};
+use std::process::Abort;
 use std::test::Fail;
 
 // An environment of these values, of which there are at most two.
@@ -37,10 +40,6 @@ fn make_counts(alloc: Global, sent: u32, got: u32) -> Result<Env, Fail> {
     Ok(env)
 }
 
-fn binary(alloc: Global, operator: Operator, left: Expr, right: Expr) -> Result<Expr, AllocError> {
-    Ok(Expr::Binary(operator, Box::new(alloc, left)?, Box::new(alloc, right)?))
-}
-
 // `when true : recv SOURCE x, y := (x + OTHER);` of the variables x and y.
 fn receive_and_add(alloc: Global, source: Pid, other: Expr) -> Result<Guarded, AllocError> {
     let mut assignments = Vec::new(alloc);
@@ -64,6 +63,16 @@ fn beside_a_fault(alloc: Global, connective: Operator, n: i64) -> Result<Expr, A
     let quotient = binary(alloc, Operator::Divide, Expr::Variable(0), Expr::Number(0))?;
     let right = binary(alloc, Operator::Equal, quotient, Expr::Number(1))?;
     binary(alloc, connective, left, right)
+}
+
+// Expects what an expression comes to.
+fn expect_value(rt: &impl Abort, env: &Env, expr: &Expr, want: Result<Value, EvalFault>) {
+    assert_eq!(rt; eval(expr, env), want, "{expr:?}");
+}
+
+// Expects what an expression comes to as a guard.
+fn expect_guard(rt: &impl Abort, env: &Env, expr: &Expr, want: Result<bool, EvalFault>) {
+    assert_eq!(rt; guard(expr, env), want, "{expr:?}");
 }
 
 #[test]
@@ -94,67 +103,48 @@ fn operators_on_numbers(rt: HostRuntime) -> Result<(), Fail> {
     ];
     for (operator, x, y, want) in &table {
         let expr = binary(rt.alloc(), *operator, Expr::Number(*x), Expr::Number(*y))?;
-        assert_eq!(rt; eval(&expr, &env), *want, "{operator:?} of {x} and {y}");
+        expect_value(&rt, &env, &expr, *want);
     }
     Ok(())
 }
 
 #[test]
 fn other_expressions(rt: HostRuntime) -> Result<(), Fail> {
-    let env = make_env(rt.alloc(), &[7, i64::MIN])?;
+    let alloc = rt.alloc();
+    let env = make_env(alloc, &[7, i64::MIN])?;
+    expect_value(&rt, &env, &Expr::Variable(0), Ok(Value::Num(7)));
+    expect_value(&rt, &env, &Expr::Variable(2), Err(EvalFault));
+    let not_false = not(alloc, Expr::Truth(false))?;
+    expect_value(&rt, &env, &not_false, Ok(Value::Truth(true)));
+    expect_value(&rt, &env, &not(alloc, Expr::Number(0))?, Err(EvalFault));
+    let minus_seven = negate(alloc, Expr::Variable(0))?;
+    expect_value(&rt, &env, &minus_seven, Ok(Value::Num(-7)));
+    expect_value(
+        &rt,
+        &env,
+        &negate(alloc, Expr::Variable(1))?,
+        Err(EvalFault),
+    );
+    expect_value(
+        &rt,
+        &env,
+        &negate(alloc, Expr::Truth(true))?,
+        Err(EvalFault),
+    );
+    Ok(())
+}
+
+#[test]
+fn operators_on_truths(rt: HostRuntime) -> Result<(), Fail> {
+    let env = make_env(rt.alloc(), &[])?;
     let table = [
-        (Expr::Variable(0), Ok(Value::Num(7))),
-        (Expr::Variable(2), Err(EvalFault)),
-        (
-            Expr::Not(Box::new(rt.alloc(), Expr::Truth(false))?),
-            Ok(Value::Truth(true)),
-        ),
-        (
-            Expr::Not(Box::new(rt.alloc(), Expr::Number(0))?),
-            Err(EvalFault),
-        ),
-        (
-            Expr::Negate(Box::new(rt.alloc(), Expr::Variable(0))?),
-            Ok(Value::Num(-7)),
-        ),
-        (
-            Expr::Negate(Box::new(rt.alloc(), Expr::Variable(1))?),
-            Err(EvalFault),
-        ),
-        (
-            Expr::Negate(Box::new(rt.alloc(), Expr::Truth(true))?),
-            Err(EvalFault),
-        ),
-        (
-            binary(
-                rt.alloc(),
-                Operator::Equal,
-                Expr::Truth(true),
-                Expr::Truth(true),
-            )?,
-            Err(EvalFault),
-        ),
-        (
-            binary(
-                rt.alloc(),
-                Operator::And,
-                Expr::Truth(true),
-                Expr::Number(5),
-            )?,
-            Ok(Value::Num(5)),
-        ),
-        (
-            binary(
-                rt.alloc(),
-                Operator::Or,
-                Expr::Truth(false),
-                Expr::Number(5),
-            )?,
-            Ok(Value::Num(5)),
-        ),
+        (Operator::Equal, true, Expr::Truth(true), Err(EvalFault)),
+        (Operator::And, true, Expr::Number(5), Ok(Value::Num(5))),
+        (Operator::Or, false, Expr::Number(5), Ok(Value::Num(5))),
     ];
-    for (expr, want) in &table {
-        assert_eq!(rt; eval(expr, &env), *want, "{expr:?}");
+    for (operator, left, right, want) in table {
+        let expr = binary(rt.alloc(), operator, Expr::Truth(left), right)?;
+        expect_value(&rt, &env, &expr, want);
     }
     Ok(())
 }
@@ -170,9 +160,9 @@ fn right_operands_that_do_not_count(rt: HostRuntime) -> Result<(), Fail> {
     ];
     for (connective, n, want) in &table {
         let expr = beside_a_fault(rt.alloc(), *connective, *n)?;
-        assert_eq!(rt; guard(&expr, &env), *want, "{connective:?} at {n}");
+        expect_guard(&rt, &env, &expr, *want);
     }
-    assert_eq!(rt; guard(&Expr::Number(1), &env), Err(EvalFault));
+    expect_guard(&rt, &env, &Expr::Number(1), Err(EvalFault));
     Ok(())
 }
 
@@ -182,9 +172,9 @@ fn values_of_variables(rt: HostRuntime) -> Result<(), Fail> {
     let before = env.copy()?;
     assert!(rt; env.len() == 2);
     env.set(1, -6);
-    assert_eq!(rt; (env.value(0), env.value(1)), (4, -6));
-    assert_eq!(rt; before.values(), [4, 5].as_slice());
-    assert!(rt; !env.is_empty());
+    expect_same(&rt, (env.value(0), env.value(1)), (4, -6));
+    expect_same(&rt, before.values(), [4, 5].as_slice());
+    expect_true(&rt, !env.is_empty());
     Ok(())
 }
 
@@ -216,8 +206,8 @@ fn a_swap_with_a_send(rt: HostRuntime) -> Result<(), Fail> {
     let change = effect(rt.alloc(), &command, &env, None)
         .ok()
         .ok_or("no fault and ample memory")?;
-    assert_eq!(rt; change.sets.items(), [(0, 8), (1, 3)].as_slice());
-    assert_eq!(rt; change.message, Some(11));
+    expect_same(&rt, change.sets.items(), [(0, 8), (1, 3)].as_slice());
+    expect_same(&rt, change.message, Some(11));
     Ok(())
 }
 
@@ -228,13 +218,14 @@ fn a_receive_before_an_assignment(rt: HostRuntime) -> Result<(), Fail> {
     let change = effect(rt.alloc(), &command, &env, Some(5))
         .ok()
         .ok_or("no fault and ample memory")?;
-    assert_eq!(rt; change.sets.items(), [(0, 5), (1, 25)].as_slice());
-    assert_eq!(rt; change.message, None);
-    assert!(rt;
+    expect_same(&rt, change.sets.items(), [(0, 5), (1, 25)].as_slice());
+    expect_same(&rt, change.message, None);
+    expect_true(
+        &rt,
         matches!(
             effect(rt.alloc(), &command, &env, Some(i64::MAX)),
             Err(EvalError::Fault)
-        )
+        ),
     );
     Ok(())
 }
@@ -242,10 +233,10 @@ fn a_receive_before_an_assignment(rt: HostRuntime) -> Result<(), Fail> {
 #[test]
 fn counts_of_messages(rt: HostRuntime) -> Result<(), Fail> {
     let env = make_counts(rt.alloc(), 2, 5)?;
-    assert_eq!(rt; env.counts(Direction::Sent), [0, 2].as_slice());
-    assert_eq!(rt; env.counts(Direction::Got), [0, 5].as_slice());
+    expect_same(&rt, env.counts(Direction::Sent), [0, 2].as_slice());
+    expect_same(&rt, env.counts(Direction::Got), [0, 5].as_slice());
     if env.counts(Direction::Sent).len() > 1 && env.counts(Direction::Got).len() > 1 {
-        assert_eq!(rt; (env.sent(Pid(1)), env.got(Pid(1))), (2, 5));
+        expect_same(&rt, (env.sent(Pid(1)), env.got(Pid(1))), (2, 5));
     }
     let table = [
         (Expr::Sent(Pid(1)), Ok(Value::Num(2))),
@@ -254,7 +245,7 @@ fn counts_of_messages(rt: HostRuntime) -> Result<(), Fail> {
         (Expr::Sent(Pid(2)), Err(EvalFault)),
     ];
     for (expr, want) in &table {
-        assert_eq!(rt; eval(expr, &env), *want, "{expr:?}");
+        expect_value(&rt, &env, expr, *want);
     }
     Ok(())
 }
@@ -266,6 +257,6 @@ fn a_receive_that_reads_the_count_before(rt: HostRuntime) -> Result<(), Fail> {
     let change = effect(rt.alloc(), &command, &env, Some(11))
         .ok()
         .ok_or("no fault and ample memory")?;
-    assert_eq!(rt; change.sets.items(), [(0, 11), (1, 12)].as_slice());
+    expect_same(&rt, change.sets.items(), [(0, 11), (1, 12)].as_slice());
     Ok(())
 }

@@ -1,10 +1,13 @@
 //! Tests of `event_rows`: with ample memory each call does its work.
 
-use dbg_base::{Choice, Direction, Expr, Operator, Pid};
+use crate::expecting::{expect_same, expect_true};
+use crate::trees::above;
+use dbg_base::{Choice, Direction, Pid};
 use event_rows::{Event, Exchange, Rows, Setting};
 use local_eval::Env;
 use proc_lang::{Program, parse_program};
 use std::alloc::{AllocError, Global};
+use std::process::Abort;
 use std::test::Fail;
 
 fn two_processes(alloc: Global) -> Result<Program, Fail> {
@@ -12,11 +15,13 @@ fn two_processes(alloc: Global) -> Result<Program, Fail> {
     Ok(parse_program(alloc, text.as_bytes())?)
 }
 
-// The variable is greater than this number.
-fn above(alloc: Global, variable: u32, number: i64) -> Result<Expr, AllocError> {
-    let left = Box::new(alloc, Expr::Variable(variable))?;
-    let right = Box::new(alloc, Expr::Number(number))?;
-    Ok(Expr::Binary(Operator::Greater, left, right))
+// Expects these values, and these counts of messages that were sent.
+fn expect_sent(rt: &impl Abort, env: &Env, values: &[i64], sent: &[u32]) {
+    expect_same(
+        rt,
+        (env.values(), env.counts(Direction::Sent)),
+        (values, sent),
+    );
 }
 
 #[test]
@@ -34,88 +39,156 @@ fn an_event_goes_forth_and_back(rt: HostRuntime) -> Result<(), Fail> {
         &[(1, 8), (0, 7), (1, 9)],
         exchange,
     )?;
-    assert_eq!(rt; (event.choice(), event.exchange()), (Choice(2), exchange));
-    assert_eq!(rt; event.settings().len(), 3);
+    expect_same(
+        &rt,
+        (event.choice(), event.exchange()),
+        (Choice(2), exchange),
+    );
+    expect_same(&rt, event.settings().len(), 3);
     event.redo(&mut env);
-    assert_eq!(rt; env.values(), [7, 9].as_slice());
-    assert_eq!(rt; env.counts(Direction::Sent), [0, 1].as_slice());
+    expect_sent(&rt, &env, &[7, 9], &[0, 1]);
     event.undo(&mut env);
-    assert_eq!(rt; env.values(), [3, 4].as_slice());
-    assert_eq!(rt; env.counts(Direction::Sent), [0, 0].as_slice());
+    expect_sent(&rt, &env, &[3, 4], &[0, 0]);
     Ok(())
+}
+
+// The process makes this event.
+fn push(rows: &mut Rows, pid: Pid, event: Event) -> Result<(), AllocError> {
+    if rows.has(pid) {
+        rows.reserve(pid, 1)?;
+        rows.push(pid, event);
+    }
+    Ok(())
+}
+
+/// The process makes this choice, which sets its first variable.
+pub fn push_setting(
+    rows: &mut Rows,
+    alloc: Global,
+    pid: Pid,
+    choice: u32,
+    values: (i64, i64),
+    exchange: Exchange,
+) -> Result<(), AllocError> {
+    let setting = Setting {
+        variable: 0,
+        old: values.0,
+        new: values.1,
+    };
+    push(
+        rows,
+        pid,
+        Event::new(alloc, Choice(choice), &[setting], exchange)?,
+    )
+}
+
+const A: Pid = Pid(0);
+
+const B: Pid = Pid(1);
+
+// The first process has set its variable to 5, and to 6 where it took a message of the second.
+fn two_events(alloc: Global) -> Result<Rows, Fail> {
+    let mut rows = Rows::new(alloc, &two_processes(alloc)?)?;
+    push_setting(&mut rows, alloc, A, 0, (3, 5), Exchange::Nothing)?;
+    let taken = Exchange::Took {
+        source: B,
+        message: 6,
+        count: 1,
+    };
+    push_setting(&mut rows, alloc, A, 1, (5, 6), taken)?;
+    Ok(rows)
+}
+
+// The choice that an event made.
+fn choice_of(event: Option<&Event>) -> Option<Choice> {
+    event.map(|event| event.choice())
+}
+
+// The last event of the process is taken out. Expects its choice.
+fn expect_popped(rt: &impl Abort, rows: &mut Rows, pid: Pid, want: Option<Choice>) {
+    let event = rows.pop(pid);
+    expect_same(rt, choice_of(event.as_ref()), want);
+}
+
+#[test]
+fn rows_tell_their_events(rt: HostRuntime) -> Result<(), Fail> {
+    let mut rows = two_events(rt.alloc())?;
+    let far = Pid(2);
+    expect_true(&rt, rows.has(B) && !rows.has(far));
+    expect_same(&rt, (rows.len(A), rows.len(B), rows.len(far)), (2, 0, 0));
+    expect_same(&rt, choice_of(rows.event(A, 0)), Some(Choice(0)));
+    expect_same(&rt, choice_of(rows.last(A)), Some(Choice(1)));
+    expect_true(&rt, rows.event(A, 2).is_none() && rows.last(B).is_none());
+    expect_popped(&rt, &mut rows, A, Some(Choice(1)));
+    expect_popped(&rt, &mut rows, B, None);
+    expect_same(&rt, rows.len(A), 1);
+    Ok(())
+}
+
+// Expects these values, and these counts of messages that were taken.
+fn expect_env(rt: &impl Abort, env: &Env, values: &[i64], got: &[u32]) {
+    expect_same(
+        rt,
+        (env.values(), env.counts(Direction::Got)),
+        (values, got),
+    );
 }
 
 #[test]
 fn rows_tell_the_past(rt: HostRuntime) -> Result<(), Fail> {
-    let mut rows = Rows::new(rt.alloc(), &two_processes(rt.alloc())?)?;
-    let (a, b) = (Pid(0), Pid(1));
-    let taken = Exchange::Took {
-        source: b,
-        message: 6,
-        count: 1,
-    };
-    for (choice, old, new, exchange) in [(0, 3, 5, Exchange::Nothing), (1, 5, 6, taken)] {
-        let setting = Setting {
-            variable: 0,
-            old,
-            new,
-        };
-        let event = Event::new(rt.alloc(), Choice(choice), &[setting], exchange)?;
-        if rows.has(a) {
-            rows.reserve(a, 1)?;
-            rows.push(a, event);
-        }
-    }
-    assert!(rt; rows.has(b) && !rows.has(Pid(2)));
-    assert_eq!(rt; (rows.len(a), rows.len(b), rows.len(Pid(2))), (2, 0, 0));
-    assert_eq!(rt;
-        rows.event(a, 0).map(|event| event.choice()),
-        Some(Choice(0))
-    );
-    assert_eq!(rt; rows.last(a).map(|event| event.choice()), Some(Choice(1)));
-    assert!(rt; rows.event(a, 2).is_none() && rows.last(b).is_none());
-    let mut env = rows.past(a, 1)?;
-    assert_eq!(rt; env.values(), [5, 4].as_slice());
-    rows.advance(a, 1, &mut env);
-    assert_eq!(rt;
-        (env.values(), env.counts(Direction::Got)),
-        ([6, 4].as_slice(), [0, 1].as_slice())
-    );
-    rows.retreat(a, 1, &mut env);
-    rows.retreat(a, 2, &mut env);
-    assert_eq!(rt;
-        (env.values(), env.counts(Direction::Got)),
-        ([5, 4].as_slice(), [0, 0].as_slice())
-    );
-    let truths = rows.truths(rt.alloc(), a, &above(rt.alloc(), 0, 4)?)?;
-    assert_eq!(rt; truths.items(), [false, true, true].as_slice());
-    let faults = rows.truths(rt.alloc(), b, &above(rt.alloc(), 0, 4)?)?;
-    assert_eq!(rt; faults.items(), [false].as_slice());
-    assert_eq!(rt; rows.pop(a).map(|event| event.choice()), Some(Choice(1)));
-    assert!(rt; rows.pop(b).is_none());
-    assert_eq!(rt; rows.len(a), 1);
+    let rows = two_events(rt.alloc())?;
+    let mut env = rows.past(A, 1)?;
+    expect_env(&rt, &env, &[5, 4], &[0, 0]);
+    rows.advance(A, 1, &mut env);
+    expect_env(&rt, &env, &[6, 4], &[0, 1]);
+    rows.retreat(A, 1, &mut env);
+    rows.retreat(A, 2, &mut env);
+    expect_env(&rt, &env, &[5, 4], &[0, 0]);
+    Ok(())
+}
+
+// Expects where in the process's line the first variable is above 4.
+fn expect_truths(
+    rt: &impl Abort,
+    alloc: Global,
+    rows: &Rows,
+    pid: Pid,
+    want: &[bool],
+) -> Result<(), AllocError> {
+    let truths = rows.truths(alloc, pid, &above(alloc, 0, 4)?)?;
+    expect_same(rt, truths.items(), want);
     Ok(())
 }
 
 #[test]
-fn copied_rows_are_apart(rt: HostRuntime) -> Result<(), Fail> {
-    let mut rows = Rows::new(rt.alloc(), &two_processes(rt.alloc())?)?;
-    let a = Pid(0);
+fn rows_tell_truths(rt: HostRuntime) -> Result<(), Fail> {
+    let rows = two_events(rt.alloc())?;
+    expect_truths(&rt, rt.alloc(), &rows, A, &[false, true, true])?;
+    expect_truths(&rt, rt.alloc(), &rows, B, &[false])?;
+    Ok(())
+}
+
+#[test]
+fn a_copied_event_has_the_same_settings(rt: HostRuntime) -> Result<(), Fail> {
     let setting = Setting {
         variable: 0,
         old: 3,
         new: 5,
     };
     let event = Event::new(rt.alloc(), Choice(4), &[setting], Exchange::Nothing)?;
-    assert_eq!(rt; event.copy()?.settings(), [setting].as_slice());
-    if rows.has(a) {
-        rows.reserve(a, 1)?;
-        rows.push(a, event);
-    }
+    expect_same(&rt, event.copy()?.settings(), [setting].as_slice());
+    Ok(())
+}
+
+#[test]
+fn copied_rows_are_apart(rt: HostRuntime) -> Result<(), Fail> {
+    let alloc = rt.alloc();
+    let mut rows = Rows::new(alloc, &two_processes(alloc)?)?;
+    push_setting(&mut rows, alloc, A, 4, (3, 5), Exchange::Nothing)?;
     let made = rows.copy()?;
-    assert_eq!(rt; rows.pop(a).map(|event| event.choice()), Some(Choice(4)));
-    assert_eq!(rt; (made.len(a), rows.len(a)), (1, 0));
-    assert_eq!(rt; made.past(a, 1)?.values(), [5, 4].as_slice());
+    expect_popped(&rt, &mut rows, A, Some(Choice(4)));
+    expect_same(&rt, (made.len(A), rows.len(A)), (1, 0));
+    expect_same(&rt, made.past(A, 1)?.values(), [5, 4].as_slice());
     Ok(())
 }
 
@@ -123,10 +196,11 @@ fn copied_rows_are_apart(rt: HostRuntime) -> Result<(), Fail> {
 fn states_are_copied_all_at_once(rt: HostRuntime) -> Result<(), Fail> {
     let states = Env::starts(rt.alloc(), &two_processes(rt.alloc())?)?;
     let made = Env::copy_all(&states)?;
-    assert_eq!(rt; made.len(), 2);
-    assert_eq!(rt;
+    expect_same(&rt, made.len(), 2);
+    expect_same(
+        &rt,
         made.first().map(|env| env.values()),
-        Some([3, 4].as_slice())
+        Some([3, 4].as_slice()),
     );
     Ok(())
 }

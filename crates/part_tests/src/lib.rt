@@ -16,4 +16,8 @@ mod evaluation;
 #[cfg(test)]
 mod events;
 #[cfg(test)]
+mod expecting;
+#[cfg(test)]
+mod trees;
+#[cfg(test)]
 mod wide;

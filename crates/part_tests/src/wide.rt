@@ -1,10 +1,13 @@
 //! Tests of `Rows::truths_par`: it makes the lists of `truths`, whatever the gate says, and asks and tells the gate of each.
 
+use crate::events::push_setting;
+use crate::expecting::expect_same;
+use crate::trees::above;
 use crossbeam_utils::CachePadded;
-use dbg_base::{Choice, Expr, Gate, OpenGate, Operator, Pid};
-use event_rows::{Event, Exchange, Rows, Setting};
+use dbg_base::{Gate, OpenGate, Pid};
+use event_rows::{Exchange, Rows};
 use proc_lang::parse_program;
-use std::alloc::{AllocError, Global};
+use std::alloc::Global;
 use std::process::Abort;
 use std::sync::Wait;
 use std::sync::atomic::{AtomicBool, Ordering};
@@ -82,28 +85,12 @@ impl Gate for NotingGate {
     }
 }
 
-// The variable is greater than this number.
-fn above(alloc: Global, number: i64) -> Result<Expr, AllocError> {
-    let left = Box::new(alloc, Expr::Variable(0))?;
-    let right = Box::new(alloc, Expr::Number(number))?;
-    Ok(Expr::Binary(Operator::Greater, left, right))
-}
-
 // The first process has set its variable to 5 and 7, and the second to 9.
 fn rows(alloc: Global) -> Result<Rows, Fail> {
     let text = "process a { var x = 3; } process b { var y = 4; }";
     let mut rows = Rows::new(alloc, &parse_program(alloc, text.as_bytes())?)?;
     for (pid, old, new) in [(A, 3, 5), (A, 5, 7), (B, 4, 9)] {
-        let setting = Setting {
-            variable: 0,
-            old,
-            new,
-        };
-        let event = Event::new(alloc, Choice(0), &[setting], Exchange::Nothing)?;
-        if rows.has(pid) {
-            rows.reserve(pid, 1)?;
-            rows.push(pid, event);
-        }
+        push_setting(&mut rows, alloc, pid, 0, (old, new), Exchange::Nothing)?;
     }
     Ok(rows)
 }
@@ -115,12 +102,12 @@ fn expect<R: Threads + Wait + Sync + Abort, G: Gate>(
     gate: &G,
 ) -> Result<(), Fail> {
     let rows = rows(alloc)?;
-    let (four, six) = (above(alloc, 4)?, above(alloc, 6)?);
+    let (four, six) = (above(alloc, 0, 4)?, above(alloc, 0, 6)?);
     let named = [(A, &six), (B, &four), (Pid(2), &four)];
     let lists = rows.truths_par(rt, alloc, &named, gate)?;
-    assert_eq!(rt; lists.len(), named.len());
+    expect_same(rt, lists.len(), named.len());
     for (list, (pid, expr)) in lists.iter().zip(named) {
-        assert_eq!(rt; list.items(), rows.truths(alloc, pid, expr)?.items());
+        expect_same(rt, list.items(), rows.truths(alloc, pid, expr)?.items());
     }
     Ok(())
 }
@@ -134,8 +121,8 @@ fn lists_are_made_in_threads(rt: HostRuntime) -> Result<(), Fail> {
 fn each_worker_asks_and_tells(rt: HostRuntime) -> Result<(), Fail> {
     let gate = NotingGate::new([true, true, true]);
     expect(&rt, rt.alloc(), &gate)?;
-    assert_eq!(rt; gate.asked.seen(), [true, true, true]);
-    assert_eq!(rt; gate.told.seen(), [true, true, true]);
+    expect_same(&rt, gate.asked.seen(), [true, true, true]);
+    expect_same(&rt, gate.told.seen(), [true, true, true]);
     Ok(())
 }
 
@@ -143,8 +130,8 @@ fn each_worker_asks_and_tells(rt: HostRuntime) -> Result<(), Fail> {
 fn a_barred_list_is_made_all_the_same(rt: HostRuntime) -> Result<(), Fail> {
     let gate = NotingGate::new([true, false, true]);
     expect(&rt, rt.alloc(), &gate)?;
-    assert_eq!(rt; gate.asked.seen(), [true, true, true]);
-    assert_eq!(rt; gate.told.seen(), [true, false, true]);
+    expect_same(&rt, gate.asked.seen(), [true, true, true]);
+    expect_same(&rt, gate.told.seen(), [true, false, true]);
     Ok(())
 }
 
@@ -152,7 +139,7 @@ fn a_barred_list_is_made_all_the_same(rt: HostRuntime) -> Result<(), Fail> {
 fn lists_are_made_where_all_are_barred(rt: HostRuntime) -> Result<(), Fail> {
     let gate = NotingGate::new([false, false, false]);
     expect(&rt, rt.alloc(), &gate)?;
-    assert_eq!(rt; gate.asked.seen(), [true, true, true]);
-    assert_eq!(rt; gate.told.seen(), [false, false, false]);
+    expect_same(&rt, gate.asked.seen(), [true, true, true]);
+    expect_same(&rt, gate.told.seen(), [false, false, false]);
     Ok(())
 }

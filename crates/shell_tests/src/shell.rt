@@ -4,6 +4,7 @@ mod back;
 mod batches;
 mod break_lines;
 mod breakpoints;
+mod broken;
 mod crews;
 mod deep_back;
 mod examples;

@@ -1,6 +1,6 @@
 //! As much as may be, and one more. Offsets are counted by hand, each from the parts that stand before.
 
-use super::{expect_told, first_fault};
+use super::{add_nested, expect_told, first_fault};
 use std::alloc::{AllocError, Global};
 use std::test::Fail;
 
@@ -237,13 +237,7 @@ fn thirty_two_parentheses_may_be_open(rt: HostRuntime) -> Result<(), Fail> {
     let alloc = rt.alloc();
     for (part, count, middle, want) in NESTED {
         let mut text = Vec::from_slice(alloc, b"process a { var x = 0; when true : x := ")?;
-        for _ in 0..count {
-            text.extend_from_slice(part.as_bytes())?;
-        }
-        text.extend_from_slice(middle.as_bytes())?;
-        for _ in 0..count {
-            text.push(b')')?;
-        }
+        add_nested(&mut text, part, count, middle)?;
         text.extend_from_slice(b"; } process b { }")?;
         expect_told(&rt, alloc, part, text.as_slice(), want)?;
     }

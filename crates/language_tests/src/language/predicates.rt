@@ -1,6 +1,7 @@
 //! Predicates of one process.
 
-use super::{Case, unmarked};
+use super::{Case, add_nested, unmarked};
+use crate::expecting::{expect_same, expect_same_of, expect_true, expect_true_of};
 use dbg_base::{Expr, Operator, Pid};
 use proc_lang::{ProgError, Program, fits, parse_predicate, parse_program};
 use std::alloc::{AllocError, Global};
@@ -93,8 +94,8 @@ fn predicates_are_read(rt: HostRuntime) -> Result<(), Fail> {
     for (process, text, want) in ACCEPTED {
         let expr = read(&rt, alloc, &program, *process, text.as_bytes())?;
         let told = format!(in alloc; "{expr:?}")?;
-        assert_eq!(rt; told.as_str(), *want, "{text}");
-        assert!(rt; fits(&program, Pid(*process), &expr), "{text}");
+        expect_same_of(&rt, text, told.as_str(), *want);
+        expect_true_of(&rt, text, fits(&program, Pid(*process), &expr));
     }
     Ok(())
 }
@@ -208,7 +209,7 @@ fn predicates_are_refused(rt: HostRuntime) -> Result<(), Fail> {
         for (name, marked) in *cases {
             let (text, at) = unmarked(alloc, marked.as_bytes())?;
             let outcome = read(&rt, alloc, &program, *process, text.as_slice());
-            assert_eq!(rt; fault_of(outcome), Some((*kind, at)), "{name}");
+            expect_same_of(&rt, name, fault_of(outcome), Some((*kind, at)));
         }
     }
     Ok(())
@@ -217,13 +218,7 @@ fn predicates_are_refused(rt: HostRuntime) -> Result<(), Fail> {
 // So many negations of `true`.
 fn negated(alloc: Global, count: u32) -> Result<Vec<u8>, AllocError> {
     let mut text = Vec::new(alloc);
-    for _ in 0..count {
-        text.extend_from_slice(b"(not ")?;
-    }
-    text.extend_from_slice(b"true")?;
-    for _ in 0..count {
-        text.push(b')')?;
-    }
+    add_nested(&mut text, "(not ", count, "true")?;
     Ok(text)
 }
 
@@ -232,75 +227,94 @@ fn a_predicate_has_the_limits_of_a_program(rt: HostRuntime) -> Result<(), Fail> 
     let alloc = rt.alloc();
     let program = parse_program(alloc, PROGRAM)?;
     let deep = negated(alloc, 32)?;
-    assert!(rt; read(&rt, alloc, &program, 0, deep.as_slice()).is_ok());
+    expect_true(&rt, read(&rt, alloc, &program, 0, deep.as_slice()).is_ok());
     // 32 times 5 bytes stand before the 33rd parenthesis
     let deeper = negated(alloc, 33)?;
     let outcome = read(&rt, alloc, &program, 0, deeper.as_slice());
-    assert_eq!(rt; fault_of(outcome), Some((7, 160)));
+    expect_same(&rt, fault_of(outcome), Some((7, 160)));
     let mut long = Vec::from_slice(alloc, b"true")?;
     long.resize(1_048_576, b' ')?;
-    assert!(rt; read(&rt, alloc, &program, 0, long.as_slice()).is_ok());
+    expect_true(&rt, read(&rt, alloc, &program, 0, long.as_slice()).is_ok());
     long.push(b' ')?;
     let outcome = read(&rt, alloc, &program, 0, long.as_slice());
-    assert_eq!(rt; fault_of(outcome), Some((7, 1_048_576)));
+    expect_same(&rt, fault_of(outcome), Some((7, 1_048_576)));
     Ok(())
 }
 
+fn boxed(alloc: Global, expr: Expr) -> Result<Box<Expr>, AllocError> {
+    Ok(Box::new(alloc, expr)?)
+}
+
 fn binary(alloc: Global, operator: Operator, left: Expr, right: Expr) -> Result<Expr, AllocError> {
-    Ok(Expr::Binary(operator, Box::new(alloc, left)?, Box::new(alloc, right)?))
+    let left = boxed(alloc, left)?;
+    Ok(Expr::Binary(operator, left, boxed(alloc, right)?))
 }
 
-// `(E = 0)`.
-fn is_zero(alloc: Global, expr: Expr) -> Result<Expr, AllocError> {
-    binary(alloc, Operator::Equal, expr, Expr::Number(0))
+// Expects whether an expression fits a process.
+fn expect_fit(rt: &impl Abort, program: &Program, process: u32, expr: &Expr, wanted: bool) {
+    assert_eq!(rt;
+        fits(program, Pid(process), expr),
+        wanted,
+        "{expr:?} of {process}"
+    );
 }
 
-// Does `(E = 0)` fit the first process?
-fn number_fits(alloc: Global, program: &Program, expr: Expr) -> Result<bool, AllocError> {
-    Ok(fits(program, Pid(0), &is_zero(alloc, expr)?))
+// Expects whether `(E = 0)` fits a process.
+fn expect_number(
+    rt: &impl Abort,
+    alloc: Global,
+    program: &Program,
+    process: u32,
+    expr: Expr,
+    wanted: bool,
+) -> Result<(), AllocError> {
+    let zero = binary(alloc, Operator::Equal, expr, Expr::Number(0))?;
+    expect_fit(rt, program, process, &zero, wanted);
+    Ok(())
 }
 
-// Does `(not E)` fit the first process?
-fn truth_fits(alloc: Global, program: &Program, expr: Expr) -> Result<bool, AllocError> {
-    let negation = Expr::Not(Box::new(alloc, expr)?);
-    Ok(fits(program, Pid(0), &negation))
+// Expects whether `(not E)` fits the first process.
+fn expect_truth(
+    rt: &impl Abort,
+    alloc: Global,
+    program: &Program,
+    expr: Expr,
+    wanted: bool,
+) -> Result<(), AllocError> {
+    let negation = Expr::Not(boxed(alloc, expr)?);
+    expect_fit(rt, program, 0, &negation, wanted);
+    Ok(())
 }
 
 #[test]
 fn what_an_expression_names_is_there(rt: HostRuntime) -> Result<(), Fail> {
     let alloc = rt.alloc();
     let program = parse_program(alloc, PROGRAM)?;
-    assert!(rt; number_fits(alloc, &program, Expr::Number(-1))?);
-    assert!(rt; number_fits(alloc, &program, Expr::Variable(1))?);
-    assert!(rt;
-        !number_fits(alloc, &program, Expr::Variable(2))?,
-        "a third variable"
-    );
-    assert!(rt; !number_fits(alloc, &program, Expr::Variable(u32::MAX))?);
-    assert!(rt; number_fits(alloc, &program, Expr::Sent(Pid(2)))?);
-    assert!(rt; number_fits(alloc, &program, Expr::Got(Pid(1)))?);
-    assert!(rt;
-        !number_fits(alloc, &program, Expr::Sent(Pid(0)))?,
-        "messages to itself"
-    );
-    assert!(rt;
-        !number_fits(alloc, &program, Expr::Got(Pid(0)))?,
-        "messages from itself"
-    );
-    assert!(rt;
-        !number_fits(alloc, &program, Expr::Sent(Pid(3)))?,
-        "a fourth process"
-    );
-    assert!(rt; !number_fits(alloc, &program, Expr::Got(Pid(u32::MAX)))?);
-    assert!(rt; fits(&program, Pid(1), &is_zero(alloc, Expr::Sent(Pid(0)))?));
-    assert!(rt; !fits(&program, Pid(1), &is_zero(alloc, Expr::Sent(Pid(1)))?));
-    assert!(rt; !fits(&program, Pid(1), &is_zero(alloc, Expr::Variable(1))?));
-    assert!(rt; !fits(&program, Pid(2), &is_zero(alloc, Expr::Variable(0))?));
-    assert!(rt; fits(&program, Pid(2), &Expr::Truth(true)));
-    assert!(rt;
-        !fits(&program, Pid(3), &Expr::Truth(true)),
-        "a fourth process"
-    );
+    let operands = [
+        (0, Expr::Number(-1), true),
+        (0, Expr::Variable(1), true),
+        // a third variable
+        (0, Expr::Variable(2), false),
+        (0, Expr::Variable(u32::MAX), false),
+        (0, Expr::Sent(Pid(2)), true),
+        (0, Expr::Got(Pid(1)), true),
+        // messages to itself, and from itself
+        (0, Expr::Sent(Pid(0)), false),
+        (0, Expr::Got(Pid(0)), false),
+        // a fourth process
+        (0, Expr::Sent(Pid(3)), false),
+        (0, Expr::Got(Pid(u32::MAX)), false),
+        (1, Expr::Sent(Pid(0)), true),
+        (1, Expr::Sent(Pid(1)), false),
+        (1, Expr::Variable(1), false),
+        (2, Expr::Variable(0), false),
+    ];
+    for (process, expr, wanted) in operands {
+        expect_number(&rt, alloc, &program, process, expr, wanted)?;
+    }
+    expect_fit(&rt, &program, 2, &Expr::Truth(true), true);
+    // a fourth process
+    expect_fit(&rt, &program, 3, &Expr::Truth(true), false);
     Ok(())
 }
 
@@ -308,38 +322,43 @@ fn what_an_expression_names_is_there(rt: HostRuntime) -> Result<(), Fail> {
 fn a_predicate_is_a_truth_value(rt: HostRuntime) -> Result<(), Fail> {
     let alloc = rt.alloc();
     let program = parse_program(alloc, PROGRAM)?;
-    assert!(rt; fits(&program, Pid(0), &Expr::Truth(false)));
-    assert!(rt; !fits(&program, Pid(0), &Expr::Number(1)));
-    assert!(rt; !fits(&program, Pid(0), &Expr::Variable(0)));
-    assert!(rt; !fits(&program, Pid(0), &Expr::Sent(Pid(1))));
-    assert!(rt;
-        !number_fits(alloc, &program, Expr::Truth(true))?,
-        "a truth value is compared"
-    );
+    expect_fit(&rt, &program, 0, &Expr::Truth(false), true);
+    expect_fit(&rt, &program, 0, &Expr::Number(1), false);
+    expect_fit(&rt, &program, 0, &Expr::Variable(0), false);
+    expect_fit(&rt, &program, 0, &Expr::Sent(Pid(1)), false);
     let sum = binary(alloc, Operator::Add, Expr::Variable(0), Expr::Got(Pid(1)))?;
-    assert!(rt; !fits(&program, Pid(0), &sum));
-    assert!(rt; number_fits(alloc, &program, sum)?);
-    let negative = Expr::Negate(Box::new(alloc, Expr::Truth(true))?);
-    assert!(rt;
-        !number_fits(alloc, &program, negative)?,
-        "a negative truth value"
-    );
-    assert!(rt;
-        !truth_fits(alloc, &program, Expr::Number(0))?,
-        "a number that is negated"
-    );
-    assert!(rt; truth_fits(alloc, &program, Expr::Truth(true))?);
-    let left = binary(alloc, Operator::And, Expr::Number(1), Expr::Truth(true))?;
-    assert!(rt;
-        !truth_fits(alloc, &program, left)?,
-        "a number on the left of `and`"
-    );
-    let right = binary(alloc, Operator::Or, Expr::Truth(true), Expr::Variable(0))?;
-    assert!(rt;
-        !truth_fits(alloc, &program, right)?,
-        "a number on the right of `or`"
-    );
-    let both = binary(alloc, Operator::Or, Expr::Truth(true), Expr::Truth(false))?;
-    assert!(rt; truth_fits(alloc, &program, both)?);
+    expect_fit(&rt, &program, 0, &sum, false);
+    expect_number(&rt, alloc, &program, 0, sum, true)?;
+    Ok(())
+}
+
+#[test]
+fn operands_have_their_types(rt: HostRuntime) -> Result<(), Fail> {
+    let alloc = rt.alloc();
+    let program = parse_program(alloc, PROGRAM)?;
+    // a truth value is compared
+    expect_number(&rt, alloc, &program, 0, Expr::Truth(true), false)?;
+    // a truth value is negative
+    let negative = Expr::Negate(boxed(alloc, Expr::Truth(true))?);
+    expect_number(&rt, alloc, &program, 0, negative, false)?;
+    // a number is negated
+    expect_truth(&rt, alloc, &program, Expr::Number(0), false)?;
+    expect_truth(&rt, alloc, &program, Expr::Truth(true), true)?;
+    Ok(())
+}
+
+#[test]
+fn connectives_are_of_truths(rt: HostRuntime) -> Result<(), Fail> {
+    let alloc = rt.alloc();
+    let program = parse_program(alloc, PROGRAM)?;
+    let table = [
+        (Operator::And, Expr::Number(1), Expr::Truth(true), false),
+        (Operator::Or, Expr::Truth(true), Expr::Variable(0), false),
+        (Operator::Or, Expr::Truth(true), Expr::Truth(false), true),
+    ];
+    for (operator, left, right, wanted) in table {
+        let both = binary(alloc, operator, left, right)?;
+        expect_truth(&rt, alloc, &program, both, wanted)?;
+    }
     Ok(())
 }

@@ -1,9 +1,29 @@
-//! Texts that break off: each front of a program is answered.
+//! Texts that break off, and texts with one byte replaced: each is answered.
 
 use proc_lang::{ProgError, parse_program};
+use std::alloc::Global;
+use std::process::Abort;
+use std::test::Fail;
 
-// Two programs that need their last brace, which has one line end behind it.
-const PROGRAMS: [&str; 2] = [
+// A process that sends to another one.
+const SENDS: &str = "process a {
+  var x = 0;
+  when (x < 3) : send b (x + 1), x := (x + 1);
+}
+process b {
+  var y = 0;
+  var n = 0;
+  when true : recv a y, n := (n + 1);
+  when (n > 0) : n := (n - 1);
+}
+";
+
+// Programs that need their last brace, which has one line end behind it.
+const PROGRAMS: [&str; 4] = [
+    SENDS,
+    "process s { var u = 0; when true : send r 5, u := 1; when true : send r 7, u := 2; }
+process r { var v = 0; when true : recv s v; }
+",
     "process a {
   var x = 0;
   when (sent(b) < 2) : send b (sent(b) + 10);
@@ -39,4 +59,30 @@ fn each_front_of_a_program_is_answered(rt: HostRuntime) {
             }
         }
     }
+}
+
+// Expects a text to be a program, or to have a fault within it.
+fn expect_answered(rt: &impl Abort, alloc: Global, text: &[u8], at: usize) {
+    match parse_program(alloc, text) {
+        Ok(_) => {}
+        Err(ProgError::Bad(fault)) => {
+            assert!(rt; fault.at <= text.len(), "{fault:?} with byte {at} replaced");
+        }
+        Err(ProgError::Memory) => panic!(rt; "no memory with byte {at} replaced"),
+    }
+}
+
+#[test]
+fn each_byte_may_be_any_other(rt: HostRuntime) -> Result<(), Fail> {
+    let alloc = rt.alloc();
+    let mut text = Vec::from_slice(alloc, SENDS.as_bytes())?;
+    for at in 0..text.len() {
+        let was = text[at];
+        for byte in 0..256u32 {
+            text[at] = byte as u8;
+            expect_answered(&rt, alloc, text.as_slice(), at);
+        }
+        text[at] = was;
+    }
+    Ok(())
 }

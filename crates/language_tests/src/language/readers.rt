@@ -1,5 +1,6 @@
 //! What the readers of a program tell.
 
+use crate::expecting::{expect_same, expect_true};
 use dbg_base::{Choice, Expr, Name, Operator, Pid};
 use proc_lang::{Action, parse_program};
 use std::test::Fail;
@@ -23,22 +24,22 @@ fn name(text: &str) -> Option<Name> {
 #[test]
 fn readers_tell_what_the_text_says(rt: HostRuntime) -> Result<(), Fail> {
     let program = parse_program(rt.alloc(), COUNTER)?;
-    assert_eq!(rt; program.processes(), 2);
-    assert_eq!(rt; program.process_name(Pid(1)), name("b"));
-    assert_eq!(rt; program.process_name(Pid(2)), None);
+    expect_same(&rt, program.processes(), 2);
+    expect_same(&rt, program.process_name(Pid(1)), name("b"));
+    expect_same(&rt, program.process_name(Pid(2)), None);
     let b = name("b").ok_or("a name")?;
-    assert_eq!(rt; program.find_process(b), Some(Pid(1)));
+    expect_same(&rt, program.find_process(b), Some(Pid(1)));
     let z = name("z").ok_or("a name")?;
-    assert_eq!(rt; program.find_process(z), None);
-    assert_eq!(rt; program.variables(Pid(1)), 2);
-    assert_eq!(rt; program.variables(Pid(2)), 0);
-    assert_eq!(rt; program.variable_name(Pid(1), 1), name("n"));
-    assert_eq!(rt; program.variable_name(Pid(1), 2), None);
-    assert_eq!(rt; program.start_value(Pid(1), 1), Some(-12));
-    assert_eq!(rt; program.start_value(Pid(1), 2), None);
-    assert_eq!(rt; program.commands(Pid(1)), 2);
-    assert_eq!(rt; program.commands(Pid(2)), 0);
-    assert!(rt; program.command(Pid(1), Choice(2)).is_none());
+    expect_same(&rt, program.find_process(z), None);
+    expect_same(&rt, program.variables(Pid(1)), 2);
+    expect_same(&rt, program.variables(Pid(2)), 0);
+    expect_same(&rt, program.variable_name(Pid(1), 1), name("n"));
+    expect_same(&rt, program.variable_name(Pid(1), 2), None);
+    expect_same(&rt, program.start_value(Pid(1), 1), Some(-12));
+    expect_same(&rt, program.start_value(Pid(1), 2), None);
+    expect_same(&rt, program.commands(Pid(1)), 2);
+    expect_same(&rt, program.commands(Pid(2)), 0);
+    expect_true(&rt, program.command(Pid(1), Choice(2)).is_none());
     Ok(())
 }
 
@@ -49,17 +50,17 @@ fn a_command_is_read_whole(rt: HostRuntime) -> Result<(), Fail> {
     let Expr::Binary(operator, _, _) = &send.guard else {
         return Err(Fail::from("a comparison"));
     };
-    assert_eq!(rt; *operator, Operator::Less);
+    expect_same(&rt, *operator, Operator::Less);
     let Action::Send { target, .. } = &send.action else {
         return Err(Fail::from("a send"));
     };
-    assert_eq!(rt; *target, Pid(1));
-    assert_eq!(rt; send.assignments.items().len(), 1);
+    expect_same(&rt, *target, Pid(1));
+    expect_same(&rt, send.assignments.items().len(), 1);
     let receive = program.command(Pid(1), Choice(0)).ok_or("the receive")?;
     let Action::Receive { source, variable } = &receive.action else {
         return Err(Fail::from("a receive"));
     };
-    assert_eq!(rt; *source, Pid(0));
-    assert_eq!(rt; *variable, 0);
+    expect_same(&rt, *source, Pid(0));
+    expect_same(&rt, *variable, 0);
     Ok(())
 }

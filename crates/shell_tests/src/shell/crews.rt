@@ -160,10 +160,10 @@ fn transfers_settle(rt: HostRuntime) {
 fn a_journal_that_differs_is_told(rt: HostRuntime) -> Result<(), Fail> {
     let alloc = rt.alloc();
     let mut writer = Vec::new(alloc);
-    assert!(rt; print_closing(&Err(Mismatch { seat: 1 }), &mut writer).is_ok());
+    assert!(rt; print_closing(&Err(Mismatch { seat: 1 }), &mut Noted::new(&mut writer)).is_ok());
     assert_eq!(rt; writer.as_slice(), b"journal differs\n".as_slice());
     let mut writer = Vec::new(alloc);
-    assert!(rt; print_closing(&Ok(Closing { calls: 0 }), &mut writer).is_ok());
+    assert!(rt; print_closing(&Ok(Closing { calls: 0 }), &mut Noted::new(&mut writer)).is_ok());
     assert_eq!(rt; writer.as_slice(), b"calls 0\njournal ok\n".as_slice());
     Ok(())
 }

@@ -3,7 +3,7 @@ use super::two;
 use dbg_base::{
     Answer, Call, Choice, Cut, Done, Head, Name, Pid, Plan, Query, Refusal, Reply, Said, Sequence,
 };
-use dbg_shell::print_reply;
+use dbg_shell::{Noted, print_reply};
 use std::alloc::{AllocError, Global};
 use std::process::Abort;
 use std::test::Fail;
@@ -24,7 +24,7 @@ fn expect(rt: &impl Abort, alloc: Global, call: Call, said: Said, want: &str) {
     let program = two(rt, alloc);
     let mut writer = Vec::new(alloc);
     assert!(rt; fits_call(&program, &call, &said), "at {want:?}");
-    let outcome = print_reply(&program, &call, &said, &mut writer);
+    let outcome = print_reply(&program, &call, &said, &mut Noted::new(&mut writer));
     assert!(rt; outcome.is_ok(), "at {want:?}");
     assert_eq!(rt; writer.as_slice(), want.as_bytes(), "at {want:?}");
 }

@@ -14,6 +14,8 @@ loop-seats-init g c = record {
   begun = omega arith;
   seats = c.requires.seats;
   answered = any_answered g.L.Run.program _ _ _ _ _ c.requires.journal;
+  reader = λ fine. fine;
+  writer = λ fine. fine;
 }
 
 pub loop-seats-preserved : goal.loop-seats-preserved

@@ -1,5 +1,6 @@
 use Rattle.std.proofs.Common.{◌≡◌, ◌≤◌, ℕ, ◌+◌, List, length, map, set, subst, ap, ◌∙◌, arith}
 use Rattle.std.proofs.lemmas.List.{length-set}
+use Rattle.dbg_base.specs.SystemStates.{place_at}
 use Rattle.causal_world.proofs.Calls.{kinds_placed}
 use Rattle.least_cut.specs.Searches.{steps_up_to}
 use Rattle.least_cut.specs.Detectors.{one_more}
@@ -24,7 +25,7 @@ returns c =
     omega (
       arith,
       ap (λ (l : List ℕ). length l) more,
-      length-set w.state.places p (c.place.result + 1),
+      length-set w.state.places p (place_at w.state p + 1),
       c.processes.ensures,
       ap (λ l. length l) c.tally-tally.ensures.kinds,
       kinds_placed w c.requires.world,
