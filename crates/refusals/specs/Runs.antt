@@ -1,6 +1,7 @@
 -- Which run is made of what.
-use Rattle.std.specs.Prelude.{◌≡◌, ℕ, Result, IfOk}
+use Rattle.std.specs.Prelude.{◌≡◌, ℕ, Result, IfOk, IfErr}
 use Rattle.dbg_base.specs.declared.refusal.Refusal.{Refusal}
+use Rattle.dbg_base.specs.declared.refusal.Refusal.TheVariants.{Memory}
 use Rattle.dbg_base.specs.Trees.{Program}
 use Rattle.dbg_board.specs.Boards.{BoardId}
 use Rattle.proc_lang.specs.Programs.{program_of}
@@ -15,6 +16,7 @@ pub record IsRunOf (P : Program) (id : BoardId) (ledger ledger_parts many : ℕ)
   pub parts : ledger_parts ≡ 3
   pub seats : many ≡ 3
 
--- what makes commands makes such as were not applied yet
+-- what makes commands makes such as were not applied yet, or memory ran out
 abbrev pub MakesFresh : {C : Type 0} → (Givable → Result C Refusal → Type 0) → (C → Type 0) → Type 0
-MakesFresh {C} post IsFresh = (given : Givable) (made : Result C Refusal) → post given made → IfOk made IsFresh
+MakesFresh {C} post IsFresh =
+    (given : Givable) (made : Result C Refusal) → post given made → IfOk made IsFresh × IfErr made (λ refusal. refusal ≡ Memory)

@@ -1,6 +1,7 @@
 //! Sessions with each kind of command.
 
-ghost use Rattle.std.specs.Prelude.{IfOk};
+ghost use Rattle.std.specs.Prelude.{◌≡◌, IfOk, IfErr};
+ghost use Rattle.dbg_base.specs.declared.refusal.Refusal.TheVariants.{Memory};
 
 use crate::desks::play_desk;
 use crate::full::play_full;
@@ -19,7 +20,8 @@ use std::thread::Threads;
 /// Plays all scripts, and makes calls at a desk.
 pub(crate) fn play_scripts<R: Threads + Wait + Sync>(rt: &R, alloc: Global, report: &mut Vec<u8>) {
     let make = |given: Givable| -> Result<Box<dyn Command>, Refusal>
-        ensures { IfOk result (λ command. IsFresh command) }
+        ensures fresh { IfOk result (λ command. IsFresh command) }
+        ensures refuses { IfErr result (λ refusal. refusal ≡ Memory) }
     {
         let Givable { plan } = given;
         let command: Box<dyn Command> = match plan {

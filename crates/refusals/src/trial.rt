@@ -1,16 +1,16 @@
 //! A session under its lock, its seats and its board, and what is said to a command line.
 
 ghost use Rattle.std.specs.Prelude.{◌≡◌};
-ghost use Rattle.dbg_base.specs.Calls.{call_of};
+ghost use Rattle.dbg_base.specs.Calls.{Back, call_of};
 ghost use Rattle.dbg_base.specs.Fits.{FitsCall};
-ghost use Rattle.dbg_command.specs.Tables.{said_of};
+ghost use Rattle.dbg_command.specs.Tables.{IsGivable, said_of};
 ghost use Rattle.command_line.specs.Lines as lines;
 ghost use Rattle.refusals.specs.Runs.{IsRunOf, MakesFresh};
 
 use crate::beginning::Beginning;
 use crate::givable::Givable;
 use command_line::parse_line;
-use dbg_base::{Call, Plan, Refusal, Reply, Said};
+use dbg_base::{Call, Plan, Query, Refusal, Reply, Said};
 use dbg_board::{Board, SeatView};
 use dbg_command::Command;
 use dbg_desk::{Locked, Run, Seat};
@@ -79,6 +79,22 @@ fn give<L: Run, C: Command, M: Fn(Givable) -> Result<C, Refusal>>(
     locked.enter(alloc, seat, command, None)
 }
 
+// Asks the question.
+fn ask<L: Run, C: Command>(
+    alloc: Global,
+    locked: &mut Locked<L, C>,
+    seat: &mut Seat<L>,
+    query: &Query,
+) -> (Call, Said)
+    ensures fits { FitsCall L.program (call_of result.0) result.1 }
+{
+    let said = match locked.enter_ask(alloc, seat, *query) {
+        Ok(answer) => Said::Answered(answer),
+        Err(refusal) => Said::Refused(refusal),
+    };
+    (Call::Ask(*query), said)
+}
+
 // Says what a seat's call gives, and by which call that is written: what is said to any command is written as what is said to `back`.
 fn answer<L: Run, C: Command, M: Fn(Givable) -> Result<C, Refusal>>(
     alloc: Global,
@@ -95,10 +111,7 @@ fn answer<L: Run, C: Command, M: Fn(Givable) -> Result<C, Refusal>>(
     match call {
         Call::Give(plan) => (Call::Back, told(give(alloc, make, locked, seat, plan))),
         Call::Back => (Call::Back, told(locked.enter_back(seat))),
-        Call::Ask(query) => match locked.enter_ask(alloc, seat, query) {
-            Ok(answer) => (Call::Ask(query), Said::Answered(answer)),
-            Err(refusal) => (Call::Ask(query), Said::Refused(refusal)),
-        },
+        Call::Ask(query) => ask(alloc, locked, seat, &query),
     }
 }
 
