@@ -1,9 +1,5 @@
 //! What is made of a text: a program, a predicate, a command line, a world, a scan, a board and a session.
 
-ghost use Rattle.std.specs.Prelude.{IfOk};
-ghost use Rattle.proc_lang.specs.Programs.{program_of};
-ghost use Rattle.causal_world.specs.Scenes.{IsWorldOf};
-
 use crate::beginning::program_of_text;
 use crate::scripts::TWO;
 use causal_world::World;

@@ -31,6 +31,7 @@ pub(crate) struct Rooms {
     rest: Vec<u8>,
 }
 
+// Room for a text, asked for once more where it is refused.
 fn room(alloc: Global) -> Result<Vec<u8>, AllocError> {
     let mut room = Vec::new(alloc);
     if room.reserve(2_048).is_err() {
@@ -40,6 +41,7 @@ fn room(alloc: Global) -> Result<Vec<u8>, AllocError> {
 }
 
 impl Rooms {
+    /// Rooms for all texts of the calls, none of which takes more.
     pub(crate) fn new(alloc: Global) -> Result<Rooms, AllocError> {
         Ok(Rooms {
             input: room(alloc)?,
