@@ -1,0 +1,219 @@
+//! Calls of seats at a desk.
+
+ghost use Rattle.command_line.specs.Lines as lines;
+ghost use Rattle.refusals.specs.Runs.{IsRunOf, MakesFresh};
+
+use crate::beginning::{Beginning, begin, program_of_text};
+use crate::givable::Givable;
+use crate::scripts::TWO;
+use command_line::parse_line;
+use dbg_base::{Answer, Call, OpenGate, Refusal, Reply};
+use dbg_command::Command;
+use dbg_desk::{Desk, Run, Seat};
+use proc_lang::Program;
+use std::alloc::Global;
+use std::io::Write;
+use std::marker::Brand;
+use std::sync::Wait;
+use std::thread::Threads;
+
+const LINES: [&str; 14] = [
+    "1 next a",
+    "1 next a",
+    "2 next b",
+    "1 break k a (x = 2) b (y = 1)",
+    "2 cut k",
+    "2 why k",
+    "1 pass k",
+    "2 batch undo b ; next a",
+    "2 chan a b",
+    "2 back",
+    "1 back",
+    "1 back",
+    "2 back",
+    "1 vars a",
+];
+
+// What a call gave.
+#[derive(Debug, Drop)]
+enum Said {
+    Told(Result<Reply, Refusal>),
+    Answered(Result<Answer, Refusal>),
+}
+
+impl Said {
+    fn wants_memory(&self) -> bool {
+        matches!(
+            self,
+            Said::Told(Err(Refusal::Memory)) | Said::Answered(Err(Refusal::Memory))
+        )
+    }
+}
+
+// Begins a desk.
+fn begin_desk<L: Run, C: Command>(
+    alloc: Global,
+    beginning: Beginning,
+) -> Result<(Desk<L, C>, Vec<Seat<L>>), Refusal>
+    requires { IsRunOf L.program L.board L.name L.parts L.seats beginning }
+{
+    let Beginning {
+        program,
+        blank,
+        board,
+        publisher,
+        views,
+        ..
+    } = beginning;
+    Desk::begin(alloc, blank, board, publisher, views, program)
+}
+
+// A seat makes this call.
+fn call<L: Run, C: Command, M: Fn(Givable) -> Result<C, Refusal>, R: Threads + Wait + Sync>(
+    rt: &R,
+    alloc: Global,
+    make: &M,
+    desk: &Desk<L, C>,
+    seat: &mut Seat<L>,
+    call: Call,
+) -> Said
+    requires may { M.IsAlwaysCallable make.now }
+    requires fresh { MakesFresh (M.post make.now) C.IsFresh }
+    requires givable { lines.IsGivable call }
+{
+    match call {
+        Call::Give(plan) => match make(Givable::new(plan)) {
+            Ok(command) => Said::Told(desk.call(rt, alloc, seat, command, &OpenGate)),
+            Err(refusal) => Said::Told(Err(refusal)),
+        },
+        Call::Back => Said::Told(desk.back(rt, seat)),
+        Call::Ask(query) => Said::Answered(desk.ask(rt, alloc, seat, query)),
+    }
+}
+
+// What is said to a line.
+fn say<L: Run, C: Command, M: Fn(Givable) -> Result<C, Refusal>, R: Threads + Wait + Sync>(
+    rt: &R,
+    alloc: Global,
+    make: &M,
+    program: &Program,
+    desk: &Desk<L, C>,
+    seats: &mut [Seat<L>],
+    line: &str,
+) -> Said
+    requires may { M.IsAlwaysCallable make.now }
+    requires fresh { MakesFresh (M.post make.now) C.IsFresh }
+{
+    match parse_line(alloc, program, line.as_bytes()) {
+        Ok(Some(line)) => match seats.get_mut(line.seat as usize - 1) {
+            Some(seat) => call(rt, alloc, make, desk, seat, line.call),
+            None => Said::Told(Err(Refusal::BadLine)),
+        },
+        Ok(None) => Said::Told(Err(Refusal::BadLine)),
+        Err(refusal) => Said::Told(Err(refusal)),
+    }
+}
+
+// How many calls the board tells to each seat, and how many each has of its own.
+fn counts<L: Run, C: Command>(desk: &Desk<L, C>, seats: &mut [Seat<L>]) -> (u64, usize) {
+    let mut calls = 0u64;
+    let mut own = 0usize;
+    for seat in seats {
+        calls = calls.max(desk.look(seat).calls);
+        own = own.saturating_add(seat.own_calls().len());
+    }
+    (calls, own)
+}
+
+// Says the lines, each once more where memory runs out, and reports what is said.
+fn say_all<L: Run, C: Command, M: Fn(Givable) -> Result<C, Refusal>, R: Threads + Wait + Sync>(
+    rt: &R,
+    alloc: Global,
+    make: &M,
+    program: &Program,
+    desk: &Desk<L, C>,
+    seats: &mut [Seat<L>],
+    report: &mut Vec<u8>,
+)
+    requires may { M.IsAlwaysCallable make.now }
+    requires fresh { MakesFresh (M.post make.now) C.IsFresh }
+{
+    for line in LINES {
+        let before = counts(desk, seats);
+        let mut said = say(rt, alloc, make, program, desk, seats, line);
+        if said.wants_memory() {
+            if counts(desk, seats) != before {
+                let _ = write!(report, "differs: ");
+            }
+            said = say(rt, alloc, make, program, desk, seats, line);
+        }
+        let _ = write!(report, "{line}: {said:?}\n");
+    }
+}
+
+// Says the lines at a desk, and reports its journal.
+fn play<L: Run, C: Command, M: Fn(Givable) -> Result<C, Refusal>, R: Threads + Wait + Sync>(
+    rt: &R,
+    alloc: Global,
+    make: &M,
+    program: &Program,
+    beginning: Beginning,
+    report: &mut Vec<u8>,
+) -> Result<(), Refusal>
+    requires may { M.IsAlwaysCallable make.now }
+    requires fresh { MakesFresh (M.post make.now) C.IsFresh }
+    requires run { IsRunOf L.program L.board L.name L.parts L.seats beginning }
+{
+    let (desk, seats) = begin_desk::<L, C>(alloc, beginning)?;
+    let mut seats = seats;
+    say_all(
+        rt,
+        alloc,
+        make,
+        program,
+        &desk,
+        seats.as_mut_slice(),
+        report,
+    );
+    let settled = desk.settle(rt, seats.as_slice());
+    let _ = write!(report, "settle: {settled:?}\n");
+    let locked = desk.into_locked();
+    for place in 0..locked.calls() {
+        if let Some(entry) = locked.entry(place) {
+            let _ = write!(report, "entry of {}: {:?}\n", entry.seat, entry.said);
+        }
+    }
+    Ok(())
+}
+
+// The same from the beginning.
+fn begin_and_play<C: Command, M: Fn(Givable) -> Result<C, Refusal>, R: Threads + Wait + Sync>(
+    rt: &R,
+    alloc: Global,
+    make: &M,
+    report: &mut Vec<u8>,
+) -> Result<(), Refusal>
+    requires may { M.IsAlwaysCallable make.now }
+    requires fresh { MakesFresh (M.post make.now) C.IsFresh }
+{
+    let program = program_of_text(alloc, TWO)?;
+    let beginning = begin(alloc, TWO)?;
+    play::<Brand, C, M, R>(rt, alloc, make, &program, beginning, report)
+}
+
+/// Makes calls at a desk, and reports what is said to each. Where memory runs out before the first it is begun again.
+pub(crate) fn play_desk<C: Command, M: Fn(Givable) -> Result<C, Refusal>, R: Threads + Wait + Sync>(
+    rt: &R,
+    alloc: Global,
+    make: &M,
+    report: &mut Vec<u8>,
+)
+    requires may { M.IsAlwaysCallable make.now }
+    requires fresh { MakesFresh (M.post make.now) C.IsFresh }
+{
+    let mut played = begin_and_play(rt, alloc, make, report);
+    if played == Err(Refusal::Memory) {
+        played = begin_and_play(rt, alloc, make, report);
+    }
+    let _ = write!(report, "desk: {played:?}\n");
+}

@@ -1,0 +1,43 @@
+//! All that is seen of a session.
+
+ghost use Rattle.refusals.specs.Runs.{MakesFresh};
+
+use crate::givable::Givable;
+use crate::trial::{Trial, say};
+use dbg_base::Refusal;
+use dbg_command::Command;
+use dbg_desk::Run;
+use std::alloc::{AllocError, Global};
+use std::fmt::Debug;
+
+// Appends a value, as it is shown.
+fn show<T: Debug>(alloc: Global, value: &T, picture: &mut Vec<u8>) -> Result<(), AllocError> {
+    let shown = format!(in alloc; "{value:?}\n")?;
+    picture.extend_from_slice(shown.as_bytes())
+}
+
+/// What the board tells, the journal, the seats' own records, and what is said to these lines: all that is seen of the session where the
+/// lines ask for all that there is. A line of `back` is one of a seat that gives no command, so that it takes nothing back.
+pub(crate) fn picture<L: Run, C: Command, M: Fn(Givable) -> Result<C, Refusal>>(
+    alloc: Global,
+    make: &M,
+    trial: &mut Trial<L, C>,
+    lines: &[&str],
+) -> Result<Vec<u8>, AllocError>
+    requires may { M.IsAlwaysCallable make.now }
+    requires fresh { MakesFresh (M.post make.now) C.IsFresh }
+{
+    let mut picture = Vec::new(alloc);
+    let glance = trial.board.look(&mut trial.display);
+    show(alloc, &glance, &mut picture)?;
+    for place in 0..trial.locked.calls() {
+        show(alloc, &trial.locked.entry(place), &mut picture)?;
+    }
+    for seat in &trial.seats {
+        show(alloc, &(seat.number(), seat.own_calls()), &mut picture)?;
+    }
+    for line in lines {
+        say(alloc, make, trial, line, &mut picture);
+    }
+    Ok(picture)
+}
