@@ -1,5 +1,5 @@
 -- What is said to a command about a breakpoint.
-use Rattle.std.proofs.Common.{◌≡◌, ◌⊎◌, inl, inr, ℕ, ◌<◌, Bool, true, false, List, [], ◌∷◌, ◌++◌, length, Option, Some, None, Ok, Err}
+use Rattle.std.proofs.Common.{◌≡◌, ◌≢◌, ◌⊎◌, inl, inr, ℕ, ◌<◌, Bool, true, false, List, [], ◌∷◌, ◌++◌, length, Option, Some, None, Ok, Err}
 use Rattle.std.proofs.Common.{refl, sym, ap, ◌∙◌, subst, MatchBool, arith}
 use Rattle.std.specs.Prelude.{if◌then◌else◌}
 use Rattle.dbg_base.specs.declared.said.Done.TheVariants.{Plain}
@@ -8,6 +8,7 @@ use Rattle.dbg_base.specs.declared.said.Said.TheVariants.{Accepted, Refused}
 use Rattle.dbg_base.specs.declared.refusal.Refusal.{Refusal}
 use Rattle.dbg_base.specs.declared.refusal.Refusal.TheVariants as refusals
 use Rattle.dbg_base.specs.Trees.{Program}
+use Rattle.dbg_base.specs.Histories.{History}
 use Rattle.dbg_base.specs.Predicates.{Conjunct, NoCut}
 use Rattle.dbg_base.specs.SystemStates.{history_of}
 use Rattle.dbg_base.specs.Breakpoints.{Breakpoint, named, without, with_mark, name_refusal, HasCut}
@@ -111,3 +112,14 @@ not_passed_found P M name refusal (Some b) cannot = by b.armed cannot
 pub not_passed : (P : Program) (M : ModelState) (name : List ℕ) (refusal : Refusal)
     → CannotPass P (history_of M.system) (named name M.breakpoints) refusal → ActsOrRefuses P (Pass name) M (Err refusal) M
 not_passed P M name refusal cannot = inl (not_passed_found P M name refusal (named name M.breakpoints) cannot)
+
+-- and not for want of memory
+pub not_for_memory : (P : Program) (H : History) (o : Option Breakpoint) (refusal : Refusal) → CannotPass P H o refusal
+    → refusal ≢ refusals.Memory
+not_for_memory P H None refusal is = λ memory. cc
+not_for_memory P H (Some b) refusal cannot = by b.armed cannot
+  where
+    by : (t : Bool) → MatchBool t (NoCut P H b.conjuncts × (refusal ≡ refusals.NoCut)) (refusal ≡ refusals.NotArmed)
+        → refusal ≢ refusals.Memory
+    by true (h, is) = λ memory. cc
+    by false is = λ memory. cc

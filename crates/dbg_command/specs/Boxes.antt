@@ -10,7 +10,7 @@ use Rattle.dbg_base.specs.SystemStates.{line_of, place_at, redo_line, after_choi
 use Rattle.dbg_base.specs.Acts.{conjuncts_refusal}
 use Rattle.dbg_base.specs.Breakpoints.{Breakpoint, named, without, with_mark}
 use Rattle.dbg_base.specs.ModelStates.{ModelState, with_system}
-use Rattle.dbg_base.specs.Calls.{Order, One, Batch, Break}
+use Rattle.dbg_base.specs.Calls.{Order, One, Batch, Break, Clear, Arm, Pass}
 use Rattle.causal_world.specs.declared.rolled.Taken.{Taken}
 use Rattle.causal_world.specs.Scenes.{Scene, IsWorldOf, restored}
 use Rattle.causal_world.specs.Rollings.{IsRolledFrom}
@@ -103,6 +103,21 @@ name_set other = []
 abbrev pub is_batch : Order → Bool
 is_batch (One plan) = false
 is_batch (Batch plans) = true
+
+-- Giving the order may want memory: to remove a breakpoint or to mark one takes none.
+abbrev pub takes_memory : Order → Bool
+takes_memory (One (Clear name)) = false
+takes_memory (One (Arm name)) = false
+takes_memory (One (Pass name)) = false
+takes_memory order = true
+
+-- taking it back may: to remove a breakpoint, to mark one, or to exchange two tables takes none
+abbrev pub takes_memory_back : Order → Bool
+takes_memory_back (One (Break name conjuncts)) = false
+takes_memory_back (One (Arm name)) = false
+takes_memory_back (One (Pass name)) = false
+takes_memory_back (Batch plans) = false
+takes_memory_back order = true
 
 -- with this mark of it
 abbrev pub marked : List ℕ → Bool → ModelState → ModelState

@@ -1,6 +1,6 @@
 //! The commands about breakpoints: break, clear, arm, pass.
 
-ghost use Rattle.std.specs.Prelude.{◌≡◌, ◌⊎◌, ◌<◌, Some, true, false, length, map, IfOk, IfErr, IfSome, MatchResult, OnErr, OnOk};
+ghost use Rattle.std.specs.Prelude.{◌≡◌, ◌≢◌, ◌⊎◌, ◌<◌, Some, true, false, length, map, IfOk, IfErr, IfSome, MatchResult, OnErr, OnOk};
 ghost use Rattle.std.specs.List.{AllByRecursion};
 ghost use Rattle.dbg_base.specs.declared.refusal.Refusal.TheVariants.{Memory};
 ghost use Rattle.dbg_base.specs.Breakpoints.{name_refusal};
@@ -98,6 +98,7 @@ impl Table {
         requires { IsTableOf (program_of program.now) self.old }
         ensures of { IsTableOf (program_of program.now) self.new }
         ensures acts { ActsOrRefuses (program_of program.now) (model.Clear name) (state_of self.old) (reply_of result) (state_of self.new) }
+        ensures memory { IfErr result (λ refusal. refusal ≢ Memory) }
         ensures leads { IfOk result (λ done. LeadsBack (HasCleared (program_of program.now) done.1.0 name done.1.1)
             (uncleared done.1.0 name done.1.1) (state_of self.old) (state_of self.new)) }
         ensures kept { OnErr result (shown self.new ≡ shown self.old) }
@@ -111,6 +112,7 @@ impl Table {
         requires { IsTableOf (program_of program.now) self.old }
         ensures of { IsTableOf (program_of program.now) self.new }
         ensures acts { ActsOrRefuses (program_of program.now) (model.Arm name) (state_of self.old) result (state_of self.new) }
+        ensures memory { IfErr result (λ refusal. refusal ≢ Memory) }
         ensures leads { OnOk result (LeadsBack (HasNamed name) (marked name false) (state_of self.old) (state_of self.new)) }
         ensures kept { OnErr result (shown self.new ≡ shown self.old) }
     {
@@ -123,6 +125,7 @@ impl Table {
         requires { IsTableOf (program_of program.now) self.old }
         ensures of { IsTableOf (program_of program.now) self.new }
         ensures acts { ActsOrRefuses (program_of program.now) (model.Pass name) (state_of self.old) result (state_of self.new) }
+        ensures memory { IfErr result (λ refusal. refusal ≢ Memory) }
         ensures leads { OnOk result (LeadsBack (HasUnarmed name) (marked name true) (state_of self.old) (state_of self.new)) }
         ensures kept { OnErr result (shown self.new ≡ shown self.old) }
     {

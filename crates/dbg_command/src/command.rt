@@ -1,13 +1,13 @@
 //! What all commands have in common that can be taken back.
 
-ghost use Rattle.std.specs.Prelude.{◌≡◌, ◌↔◌, IsTrue, IfErr, IfSome, OnOk, OnErr};
+ghost use Rattle.std.specs.Prelude.{◌≡◌, ◌↔◌, true, IsTrue, IfErr, IfSome, OnOk, OnErr};
 ghost use Rattle.dbg_base.specs.declared.refusal.Refusal.TheVariants.{Memory};
 ghost use Rattle.dbg_base.specs.Trees as tree;
 ghost use Rattle.dbg_base.specs.Calls.{Order, order_of};
 ghost use Rattle.dbg_base.specs.ModelStates.{ModelState};
 ghost use Rattle.proc_lang.specs.Programs.{program_of};
 ghost use Rattle.dbg_command.specs.Tables.{IsTableOf, FollowsOrRefuses, shown, state_of};
-ghost use Rattle.dbg_command.specs.Boxes.{LeadsBack, IsScanFor};
+ghost use Rattle.dbg_command.specs.Boxes.{LeadsBack, IsScanFor, takes_memory, takes_memory_back};
 
 use crate::table::Table;
 use dbg_base::{Plan, Refusal, Reply};
@@ -37,8 +37,8 @@ pub trait Command: Drop + Send {
     fn fresh(&self) -> bool
         ensures { IsTrue result ↔ IsFresh self.now };
 
-    /// Gives the command. It is refused, and changes nothing that any call shows, as its kind says, or as `Memory`, where that runs out.
-    /// A command that sets a breakpoint may be given the scan of its conjuncts over the table's world; no other looks at one.
+    /// Gives the command. It is refused, and changes nothing that any call shows, as its kind says, or as `Memory`, where that runs out;
+    /// clear, arm and pass take none. A command that sets a breakpoint may be given the scan of its conjuncts over the table's world; no other looks at one.
     fn apply(
         &mut self,
         alloc: Global,
@@ -54,16 +54,18 @@ pub trait Command: Drop + Send {
         ensures same { order self.new ≡ order self.old }
         ensures leads { OnOk result (LeadsBack (MayGoBack self.new (program_of program.now)) (before self.new) (state_of table.old)
             (state_of table.new)) }
+        ensures memory { IfErr result (λ refusal. refusal ≡ Memory → takes_memory (order self.old) ≡ true) }
         ensures kept { OnErr result (shown table.new ≡ shown table.old) }
         ensures unchanged { OnErr result (self.new ≡ self.old) };
 
     /// Takes the command back, in the state in which it left the table: the table is as before it. It is refused only as `Memory`,
-    /// where that runs out, and then changes nothing that any call shows.
+    /// where that runs out, and then changes nothing that any call shows; break, arm, pass and a batch are never refused.
     fn revert(&mut self, table: &mut Table) -> Result<(), Refusal>
         requires { (P : tree.Program) × IsTableOf P table.old × MayGoBack self.old P (state_of table.old) }
         ensures of { (P : tree.Program) → IsTableOf P table.old → MayGoBack self.old P (state_of table.old) → IsTableOf P table.new }
         ensures back { OnOk result (state_of table.new ≡ before self.old (state_of table.old)) }
         ensures refuses { IfErr result (λ refusal. refusal ≡ Memory) }
+        ensures memory { OnErr result (takes_memory_back (order self.old) ≡ true) }
         ensures kept { OnErr result (shown table.new ≡ shown table.old) }
         ensures unchanged { OnErr result (self.new ≡ self.old) };
 }

@@ -8,6 +8,7 @@ mod breaking;
 mod calls;
 mod command;
 mod conjuncts;
+mod givable;
 mod kinds;
 mod playing;
 mod returning;
@@ -16,6 +17,7 @@ mod table;
 mod undoing;
 
 pub use command::Command;
+pub use givable::Givable;
 pub use kinds::arm::ArmCmd;
 pub use kinds::batch::BatchCmd;
 pub use kinds::clear::ClearCmd;

@@ -5,7 +5,7 @@ use Rattle.dbg_base.specs.declared.limits.TheConstants.{SEATS}
 use Rattle.dbg_base.specs.Calls.{Order, order_of}
 use Rattle.dbg_desk.specs.Desks.{SeatState}
 use Rattle.shell_input.specs.Making.{IsMade}
-use Rattle.line_runs.specs.declared.givable.Givable.{Givable}
+use Rattle.dbg_command.specs.declared.givable.Givable.{Givable}
 
 -- what makes commands makes them so
 abbrev pub IsMaker : {C : Type 0} → (Givable → Result C Refusal → Type 0) → (C → Type 0) → (C → Order) → Type 0

@@ -3,7 +3,6 @@
 //! Each plan of a line is made a command of its kind in `serve`, which alone knows the kinds.
 #![tactic(auto)]
 
-mod givable;
 mod serving;
 mod session;
 

@@ -18,15 +18,14 @@ ghost use Rattle.shell_input.specs.Written.{WritesSome, WritesFront};
 ghost use Rattle.line_runs.specs.Serving.{ServesInput, BreaksInput, WritesAnswer, ServesLines, StopsLines, BreaksLines};
 ghost use Rattle.line_runs.specs.Answering.{IsMaker, AreAllSeats};
 
-use crate::givable::Givable;
 use crate::session::answer;
 use command_line::parse_line;
 use dbg_base::limits::SEATS;
 use dbg_base::{Plan, Refusal};
 use dbg_board::{Board, Publisher, SeatView};
 use dbg_command::{
-    ArmCmd, BatchCmd, BreakCmd, ClearCmd, Command, GotoCmd, NextCmd, PassCmd, RedoCmd, RollbackCmd,
-    StepCmd, UndoCmd,
+    ArmCmd, BatchCmd, BreakCmd, ClearCmd, Command, Givable, GotoCmd, NextCmd, PassCmd, RedoCmd,
+    RollbackCmd, StepCmd, UndoCmd,
 };
 use dbg_desk::{Locked, Run, Seat};
 use devices::{Sink, Source};

@@ -10,10 +10,9 @@ ghost use Rattle.command_line.specs.Lines as lines;
 ghost use Rattle.dbg_command.specs.Tables.{IsGivable, said_of};
 ghost use Rattle.line_runs.specs.Answering.{IsMaker};
 
-use crate::givable::Givable;
 use dbg_base::limits::CALLS;
 use dbg_base::{Call, Plan, Query, Refusal, Reply, Said};
-use dbg_command::Command;
+use dbg_command::{Command, Givable};
 use dbg_desk::{Locked, Run, Seat};
 use std::alloc::Global;
 

@@ -6,7 +6,7 @@ use Rattle.dbg_base.specs.Trees.{Program}
 use Rattle.dbg_board.specs.Boards.{BoardId}
 use Rattle.proc_lang.specs.Programs.{program_of}
 use Rattle.refusals.specs.declared.beginning.Beginning.{Beginning}
-use Rattle.refusals.specs.declared.givable.Givable.{Givable}
+use Rattle.dbg_command.specs.declared.givable.Givable.{Givable}
 
 -- a run with three seats, which is of this program, ledger and board
 pub record IsRunOf (P : Program) (id : BoardId) (ledger ledger_parts many : ℕ) (beginning : Beginning) : Type 0 where

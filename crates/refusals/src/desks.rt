@@ -4,11 +4,10 @@ ghost use Rattle.command_line.specs.Lines as lines;
 ghost use Rattle.refusals.specs.Runs.{IsRunOf, MakesFresh};
 
 use crate::beginning::{Beginning, begin, program_of_text};
-use crate::givable::Givable;
 use crate::scripts::TWO;
 use command_line::parse_line;
 use dbg_base::{Answer, Call, OpenGate, Refusal, Reply};
-use dbg_command::Command;
+use dbg_command::{Command, Givable};
 use dbg_desk::{Desk, Run, Seat};
 use proc_lang::Program;
 use std::alloc::Global;

@@ -3,13 +3,12 @@
 ghost use Rattle.refusals.specs.Runs.{IsRunOf, MakesFresh};
 
 use crate::beginning::{Beginning, begin};
-use crate::givable::Givable;
 use crate::scripts::TWO;
 use crate::trial::{Trial, begin_trial, say};
 use dbg_base::limits::CALLS;
 use dbg_base::{Pid, Query, Refusal};
 use dbg_board::Glance;
-use dbg_command::Command;
+use dbg_command::{Command, Givable};
 use dbg_desk::Run;
 use std::alloc::Global;
 use std::io::Write;

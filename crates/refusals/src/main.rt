@@ -5,7 +5,6 @@ mod beginning;
 mod crews;
 mod desks;
 mod full;
-mod givable;
 mod makings;
 mod picture;
 mod script;

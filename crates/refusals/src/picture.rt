@@ -2,10 +2,9 @@
 
 ghost use Rattle.refusals.specs.Runs.{MakesFresh};
 
-use crate::givable::Givable;
 use crate::trial::{Trial, say};
 use dbg_base::Refusal;
-use dbg_command::Command;
+use dbg_command::{Command, Givable};
 use dbg_desk::Run;
 use std::alloc::{AllocError, Global};
 use std::fmt::Debug;

@@ -3,11 +3,10 @@
 ghost use Rattle.refusals.specs.Runs.{IsRunOf, MakesFresh};
 
 use crate::beginning::{Beginning, begin};
-use crate::givable::Givable;
 use crate::picture::picture;
 use crate::trial::{Trial, begin_trial, say};
 use dbg_base::Refusal;
-use dbg_command::Command;
+use dbg_command::{Command, Givable};
 use dbg_desk::Run;
 use std::alloc::Global;
 use std::io::Write;

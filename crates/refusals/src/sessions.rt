@@ -5,13 +5,12 @@ ghost use Rattle.dbg_base.specs.declared.refusal.Refusal.TheVariants.{Memory};
 
 use crate::desks::play_desk;
 use crate::full::play_full;
-use crate::givable::Givable;
 use crate::script::play_script;
 use crate::scripts::SCRIPTS;
 use dbg_base::{Plan, Refusal};
 use dbg_command::{
-    ArmCmd, BatchCmd, BreakCmd, ClearCmd, Command, GotoCmd, NextCmd, PassCmd, RedoCmd, RollbackCmd,
-    StepCmd, UndoCmd,
+    ArmCmd, BatchCmd, BreakCmd, ClearCmd, Command, Givable, GotoCmd, NextCmd, PassCmd, RedoCmd,
+    RollbackCmd, StepCmd, UndoCmd,
 };
 use std::alloc::Global;
 use std::sync::Wait;

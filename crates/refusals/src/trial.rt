@@ -8,11 +8,10 @@ ghost use Rattle.command_line.specs.Lines as lines;
 ghost use Rattle.refusals.specs.Runs.{IsRunOf, MakesFresh};
 
 use crate::beginning::Beginning;
-use crate::givable::Givable;
 use command_line::parse_line;
 use dbg_base::{Call, Plan, Query, Refusal, Reply, Said};
 use dbg_board::{Board, SeatView};
-use dbg_command::Command;
+use dbg_command::{Command, Givable};
 use dbg_desk::{Locked, Run, Seat};
 use devices::Noted;
 use reply_lines::{print_refusal, print_reply};

@@ -3,4 +3,4 @@ use Rattle.dbg_command.proofs.command.BoxDynCommandCommand.apply.Goals as goal
 
 pub returns-clause-unchanged : goal.returns-clause-unchanged
 returns-clause-unchanged g c =
-    box_same c.args.self.now c.as_mut.result.now c.apply.new.self c.apply.result c.as_mut.ensures.value.1 c.apply.ensures.1.1.1.1.1
+    box_same c.args.self.now c.as_mut.result.now c.apply.new.self c.apply.result c.as_mut.ensures.value.1 c.apply.ensures.1.1.1.1.1.1

@@ -3,7 +3,7 @@ use Rattle.proc_lang.specs.Programs.{program_of}
 use Rattle.dbg_base.specs.Calls as model
 use Rattle.break_book.specs.Books.{Entry, breakpoints_of}
 use Rattle.dbg_command.specs.Tables.{TableState, IsTableOf, ActsOrRefuses, state_of}
-use Rattle.dbg_command.proofs.Listing.{keeps_table, passes, not_passed}
+use Rattle.dbg_command.proofs.Listing.{keeps_table, passes, not_passed, not_for_memory}
 use Rattle.dbg_command.proofs.Restoring.{found_armed}
 use Rattle.dbg_command.proofs.GoingBack.{leads_from, passed_back}
 use Rattle.dbg_command.proofs.table.Table.pass.Goals as goal
@@ -24,6 +24,15 @@ returns-in_err-pass-clause-acts c =
     (subst (λ (b : List Entry). ActsOrRefuses P (model.Pass c.args.name)
     (state_of (record { world = c.self.inside.world; book = c.self.inside.book })) (Err c.in_err-pass.field-0.0)
     (state_of (record { world = c.self.inside.world; book = b }))) (sym c.in_err-pass.ensures.kept) said))
+
+pub returns-in_err-pass-clause-memory : goal.returns-in_err-pass-clause-memory
+returns-in_err-pass-clause-memory c =
+    let P = program_of c.args.program.now in
+    let own : IsTableOf P (record { world = c.self.inside.world; book = c.self.inside.book }) =
+    subst (IsTableOf P) (sym c.self.view_is) c.requires in
+    let refused = c.in_err-pass.was in
+    let err : c.from_residual.result ≡ Err c.in_err-pass.field-0.0 = search (rules, refused) in
+    rw err (not_for_memory P _ _ _ (c.in_err-pass.ensures.refuses c.self.inside.world P own.detectors own.world))
 
 pub returns-clause-of : goal.returns-clause-of
 returns-clause-of c =
