@@ -1,6 +1,6 @@
 -- What is seen of a sink, and what calls that write do to it.
-use Rattle.std.specs.Prelude.{◌≡◌, ℕ, List, ◌++◌, Option}
-use Rattle.std.specs.Io.KnownBytes.{Keeps, Appends}
+use Rattle.std.specs.Prelude.{◌≡◌, ℕ, List, Option}
+use Rattle.std.specs.Io.KnownBytes.{Appends}
 use Rattle.devices.specs.declared.health.Health.{Health}
 use Rattle.devices.specs.declared.health.Health.TheVariants.{Fine, Failed}
 use Rattle.devices.specs.declared.noted.Noted.{Noted}

@@ -1,9 +1,9 @@
 //! A reader or a writer, with a note of whether it has failed.
 
-ghost use Rattle.std.specs.Prelude.{◌≡◌, ◌≢◌, [], false, IsTrue, IfOk};
+ghost use Rattle.std.specs.Prelude.{◌≡◌, [], IfOk, OnOk};
 ghost use Rattle.std.specs.Io.{ReadsAtMost, WritesAtMost};
 ghost use Rattle.std.specs.Io.KnownBytes.{Keeps, ReadConsumes, WriteAppends};
-ghost use Rattle.devices.specs.declared.health.Health.TheVariants.{Fine, TriedAgain};
+ghost use Rattle.devices.specs.declared.health.Health.TheVariants.{Fine};
 ghost use Rattle.devices.specs.Healths.{behind};
 ghost use Rattle.devices.specs.Seen.{seen_noted};
 
@@ -45,17 +45,17 @@ impl<D> Noted<D> {
         self.device
     }
 
-    // Notes a further call of a device that has failed.
-    fn has_failed(&mut self) -> bool
+    /// Goes on, unless the device has failed: then an error is answered, a further call is noted, and the device is left alone.
+    pub fn go_on(&mut self) -> Result<()>
         ensures device { self.new.device ≡ self.old.device }
-        ensures fine { result ≡ false → (self.old.health ≡ Fine) × (self.new.health ≡ Fine) }
-        ensures failed { IsTrue result → (self.old.health ≢ Fine) × (self.new.health ≡ TriedAgain) }
+        ensures fine { OnOk result ((self.old.health ≡ Fine) × (self.new ≡ self.old)) }
+        ensures health { self.new.health ≡ behind self.old.health result }
     {
         if self.health == Health::Fine {
-            return false;
+            return Ok(());
         }
         self.health = Health::TriedAgain;
-        true
+        Err(Error::from(ErrorKind::Other))
     }
 
     // Notes how a call of the device ended.
@@ -70,11 +70,6 @@ impl<D> Noted<D> {
     }
 }
 
-// The answer to a call of a device that has failed.
-fn left_alone() -> Error {
-    Error::from(ErrorKind::Other)
-}
-
 impl<R: Read> Source for Noted<R> {
     ghost remaining = { λ noted. R.remaining noted.device };
 
@@ -85,9 +80,7 @@ impl<R: Read> Source for Noted<R> {
         ensures bytes { ReadConsumes (R.remaining self.old.device) (R.remaining self.new.device) result bytes.new }
         ensures health { self.new.health ≡ behind self.old.health result }
     {
-        if self.has_failed() {
-            return Err(left_alone());
-        }
+        self.go_on()?;
         let outcome = self.device.read(bytes);
         self.note(&outcome);
         outcome
@@ -103,9 +96,7 @@ impl<W: Write> Sink for Noted<W> {
         ensures takes { IfOk result (λ count. count ≡ 0 → bytes.now ≡ []) }
         ensures health { self.new.health ≡ behind self.old.health result }
     {
-        if self.has_failed() {
-            return Err(left_alone());
-        }
+        self.go_on()?;
         let outcome = match self.device.write(bytes) {
             Ok(0) if !bytes.is_empty() => Err(Error::from(ErrorKind::WriteZero)),
             outcome => outcome,
@@ -118,9 +109,7 @@ impl<W: Write> Sink for Noted<W> {
         ensures bytes { Keeps (W.contents self.old.device) (W.contents self.new.device) }
         ensures health { self.new.health ≡ behind self.old.health result }
     {
-        if self.has_failed() {
-            return Err(left_alone());
-        }
+        self.go_on()?;
         let outcome = self.device.flush();
         self.note(&outcome);
         outcome

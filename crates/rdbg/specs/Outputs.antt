@@ -6,7 +6,7 @@ use Rattle.rdbg.specs.declared.output.Output.{Output}
 
 -- what the writer behind it holds, and then the bytes in the buffer
 abbrev pub output_contents : {W : Type 0} → (W → Option (List ℕ)) → Output W → Option (List ℕ)
-output_contents contents o = append_known (contents o.inner) o.buffer
+output_contents contents o = append_known (contents o.inner.device) o.buffer
 
 abbrev pub output_seen : {W : Type 0} → (W → Option (List ℕ)) → Output W → Seen
-output_seen contents o = record { contents = output_contents contents o; health = o.health }
+output_seen contents o = record { contents = output_contents contents o; health = o.inner.health }

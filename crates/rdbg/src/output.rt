@@ -8,63 +8,37 @@ ghost use Rattle.devices.specs.Healths.{behind};
 ghost use Rattle.rdbg.specs.Outputs.{output_contents, output_seen};
 
 use crate::buffer::Buffer;
-use devices::{Health, Sink};
-use std::io::{Error, ErrorKind, Result, Write};
+use devices::{Noted, Sink};
+use std::io::{Result, Write};
 
 #[derive(Drop)]
 pub(crate) struct Output<W> {
-    inner: W,
+    inner: Noted<W>,
     buffer: Buffer,
-    health: Health,
 }
 
 impl<W: Write> Output<W> {
     pub(crate) fn new(inner: W) -> Output<W>
-        ensures inner { result.inner ≡ inner }
+        ensures inner { result.inner.device ≡ inner }
         ensures empty { result.buffer ≡ [] }
-        ensures fine { result.health ≡ Fine }
+        ensures fine { result.inner.health ≡ Fine }
     {
         Output {
-            inner,
+            inner: Noted::new(inner),
             buffer: Buffer::new(),
-            health: Health::Fine,
         }
     }
 
-    // Goes on, unless the writer has failed: then it is left alone.
-    fn go_on(&mut self) -> Result<()>
-        ensures bytes { Keeps (output_contents W.contents self.old) (output_contents W.contents self.new) }
-        ensures fine { OnOk result ((self.old.health ≡ Fine) × (self.new ≡ self.old)) }
-        ensures health { self.new.health ≡ behind self.old.health result }
-    {
-        match self.health {
-            Health::Fine => Ok(()),
-            _ => {
-                self.health = Health::TriedAgain;
-                Err(Error::from(ErrorKind::Other))
-            }
-        }
-    }
-
-    // Hands all bytes of the buffer on. An error, or a write that takes no byte, ends it for good.
+    // Hands all bytes of the buffer on. A failure of the writer ends it for good.
     fn hand_on(&mut self) -> Result<()>
-        requires { self.old.health ≡ Fine }
+        requires { self.old.inner.health ≡ Fine }
         ensures bytes { Keeps (output_contents W.contents self.old) (output_contents W.contents self.new) }
         ensures empty { OnOk result (self.new.buffer ≡ []) }
-        ensures health { self.new.health ≡ behind Fine result }
+        ensures health { self.new.inner.health ≡ behind Fine result }
     {
         while !self.buffer.bytes().is_empty() {
-            match self.inner.write(self.buffer.bytes()) {
-                Ok(0) => {
-                    self.health = Health::Failed;
-                    return Err(Error::from(ErrorKind::WriteZero));
-                }
-                Ok(count) => self.buffer.drop_front(count),
-                Err(error) => {
-                    self.health = Health::Failed;
-                    return Err(error);
-                }
-            }
+            let count = self.inner.write(self.buffer.bytes())?;
+            self.buffer.drop_front(count);
         }
         Ok(())
     }
@@ -78,9 +52,9 @@ impl<W: Write> Sink for Output<W> {
         ensures bound { WritesAtMost result bytes.now }
         ensures bytes { WriteAppends (output_contents W.contents self.old) (output_contents W.contents self.new) result bytes.now }
         ensures takes { IfOk result (λ count. count ≡ 0 → bytes.now ≡ []) }
-        ensures health { self.new.health ≡ behind self.old.health result }
+        ensures health { self.new.inner.health ≡ behind self.old.inner.health result }
     {
-        self.go_on()?;
+        self.inner.go_on()?;
         if self.buffer.room() == 0 {
             self.hand_on()?;
         }
@@ -92,16 +66,10 @@ impl<W: Write> Sink for Output<W> {
     fn flush(&mut self) -> Result<()>
         ensures bytes { Keeps (output_contents W.contents self.old) (output_contents W.contents self.new) }
         ensures empty { OnOk result (self.new.buffer ≡ []) }
-        ensures health { self.new.health ≡ behind self.old.health result }
+        ensures health { self.new.inner.health ≡ behind self.old.inner.health result }
     {
-        self.go_on()?;
+        self.inner.go_on()?;
         self.hand_on()?;
-        match self.inner.flush() {
-            Ok(()) => Ok(()),
-            Err(error) => {
-                self.health = Health::Failed;
-                Err(error)
-            }
-        }
+        self.inner.flush()
     }
 }

@@ -6,7 +6,7 @@ use Rattle.rdbg.proofs.output.Output.hand_on.Given as goal
 
 abbrev pub invariant-loop-self : goal.invariant-loop-self
 invariant-loop-self g l =
-    (l.self.health ≡ Fine) × Keeps (output_contents g.W.Write.contents l.fn.self) (output_contents g.W.Write.contents l.self)
+    (l.self.inner.health ≡ Fine) × Keeps (output_contents g.W.Write.contents l.fn.self) (output_contents g.W.Write.contents l.self)
 
 abbrev pub decreases-loop-self : goal.decreases-loop-self
 decreases-loop-self g l = length l.self.buffer
