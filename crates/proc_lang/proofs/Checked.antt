@@ -62,7 +62,7 @@ place_from_position first name [] = refl
 place_from_position first name (n ∷ names) =
     ap (λ (o : Option ℕ). cond (bytes_eq n name) (Some first) o) (place_from_position (first + 1) name names)
 
-place_by_position : (name : List ℕ) (names : List (List ℕ)) → position (λ other. bytes_eq other name) names ≡ place_of name names
+pub place_by_position : (name : List ℕ) (names : List (List ℕ)) → position (λ other. bytes_eq other name) names ≡ place_of name names
 place_by_position name names = position_from-zero (λ other. bytes_eq other name) names ∙ place_from_position 0 name names
 
 -- a name that was found among these

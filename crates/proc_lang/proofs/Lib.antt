@@ -14,6 +14,7 @@ pub mod Commands
 pub mod Wholes
 pub mod Checked
 pub mod CheckedLists
+pub mod Places
 pub mod TokenFaults
 pub mod Texts
 pub mod EachText

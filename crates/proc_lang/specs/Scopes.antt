@@ -6,7 +6,7 @@ use Rattle.proc_lang.specs.declared.fitting.Bounds.{Bounds}
 
 -- by its name
 abbrev pub scope_of : Scope → names.Scope
-scope_of scope = record { processes = scope.processes.now; own = scope.own; variables = scope.variables.now }
+scope_of scope = record { processes = scope.processes.now.all.now; own = scope.own; variables = scope.variables.now }
 
 -- by its place
 abbrev pub bounds_of : Bounds → places.Bounds

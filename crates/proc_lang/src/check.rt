@@ -21,6 +21,7 @@ ghost use Rattle.proc_lang.specs.Checking.{Checks, starts, written_starts};
 
 use crate::expressions::{expression, target, variable};
 use crate::fault::{ProgError, bad};
+use crate::names::ProcessNames;
 use crate::process::{Action, Assignment, Guarded, Process, Variable};
 use crate::program::Program;
 use crate::scope::Scope;
@@ -197,12 +198,11 @@ fn variables(
 
 fn process(
     alloc: Global,
-    processes: &[Name],
+    processes: &ProcessNames,
     written: &WrittenProcess,
 ) -> Result<Process, ProgError>
-    requires { length processes.now < 2 ^ 32 }
-    ensures { Checks result (process_faults processes.now (process_of written.now))
-        (λ process. program.process_tree process ≡ model.process_tree processes.now (process_of written.now)) }
+    ensures { Checks result (process_faults processes.now.all.now (process_of written.now))
+        (λ process. program.process_tree process ≡ model.process_tree processes.now.all.now (process_of written.now)) }
 {
     let names = variable_names(alloc, written.variables.as_slice())?;
     let variables = variables(alloc, names.as_slice(), written.variables.as_slice())?;
@@ -221,17 +221,16 @@ fn process(
 
 fn all_processes(
     alloc: Global,
-    names: &[Name],
+    names: &ProcessNames,
     written: &[WrittenProcess],
 ) -> Result<Vec<Process>, ProgError>
-    requires names { names.now ≡ map (λ process. process.name.name) written.now }
-    requires few { length written.now < 2 ^ 32 }
-    ensures { Checks result (processes_faults names.now [] (processes_of written.now))
-        (λ read. process_trees read.items ≡ map (model.process_tree names.now) (processes_of written.now)) }
+    requires { names.now.all.now ≡ map (λ process. process.name.name) written.now }
+    ensures { Checks result (processes_faults names.now.all.now [] (processes_of written.now))
+        (λ read. process_trees read.items ≡ map (model.process_tree names.now.all.now) (processes_of written.now)) }
 {
     let mut processes = Vec::new(alloc);
     for (i, next) in written.iter().enumerate() {
-        fresh(next.name, &names[..i], PROCESSES)?;
+        fresh(next.name, &names.all[..i], PROCESSES)?;
         let read = process(alloc, names, next)?;
         processes.push(read)?;
     }
@@ -262,7 +261,8 @@ pub(crate) fn checked(alloc: Global, written: &[WrittenProcess]) -> Result<Progr
     ensures { Checks result (check_faults (processes_of written.now))
         (λ P. program_of P ≡ program_tree (processes_of written.now)) }
 {
-    let names = process_names(alloc, written)?;
-    let processes = all_processes(alloc, names.as_slice(), written)?;
+    let all = process_names(alloc, written)?;
+    let names = ProcessNames::new(alloc, all.as_slice())?;
+    let processes = all_processes(alloc, &names, written)?;
     Ok(Program { processes })
 }

@@ -1,8 +1,6 @@
 //! The checks of expressions and of the names that they use, in text order.
 
 ghost use Rattle.std.specs.Prelude.{◌≡◌, ◌<◌, length};
-ghost use Rattle.std.specs.List.{position};
-ghost use Rattle.std.specs.Str.{bytes_eq};
 ghost use Rattle.dbg_base.specs.Trees.{tree_of, Count};
 ghost use Rattle.dbg_base.specs.Checks.{wrong_sort, unknown, expression_faults, target_faults, index_of, phrase_tree};
 ghost use Rattle.proc_lang.specs.Writing.{named_of, phrase_of};
@@ -10,18 +8,12 @@ ghost use Rattle.proc_lang.specs.Scopes.{scope_of};
 ghost use Rattle.proc_lang.specs.Checking.{Checks};
 
 use crate::fault::{ProgError, bad};
+use crate::names::{ProcessNames, place};
 use crate::scope::Scope;
 use crate::sorts::{operand_sort, outcome_sort};
 use crate::syntax::{Named, Phrase};
 use dbg_base::{Direction, Expr, FaultKind, Name, Pid, Sort};
 use std::alloc::Global;
-
-// Where the name is among these, if it is one of them.
-fn place(names: &[Name], name: &Name) -> Option<usize>
-    ensures { result ≡ position (λ other. bytes_eq other name.now) names.now }
-{
-    names.iter().position(|other| *other == *name)
-}
 
 // The place of a name that has to be among these.
 fn known(names: &[Name], named: Named) -> Result<usize, ProgError>
@@ -29,6 +21,17 @@ fn known(names: &[Name], named: Named) -> Result<usize, ProgError>
         (λ index. (index ≡ index_of names.now named.name) × (index < length names.now)) }
 {
     match place(names, &named.name) {
+        Some(index) => Ok(index),
+        None => Err(bad(FaultKind::NameUnknown, named.at)),
+    }
+}
+
+// The place of a process that has to be among these.
+fn known_process(processes: &ProcessNames, named: Named) -> Result<usize, ProgError>
+    ensures { Checks result (unknown processes.now.all.now (named_of named))
+        (λ index. (index ≡ index_of processes.now.all.now named.name) × (index < length processes.now.all.now)) }
+{
+    match processes.place(&named.name) {
         Some(index) => Ok(index),
         None => Err(bad(FaultKind::NameUnknown, named.at)),
     }
@@ -48,7 +51,7 @@ pub(crate) fn target(scope: &Scope, named: Named) -> Result<Pid, ProgError>
     ensures { Checks result (target_faults (scope_of scope.now) (named_of named))
         (λ pid. pid.0 ≡ index_of (scope_of scope.now).processes named.name) }
 {
-    let index = known(scope.processes, named)?;
+    let index = known_process(scope.processes, named)?;
     if named.name == scope.own {
         return Err(bad(FaultKind::SelfSend, named.at));
     }

@@ -7,6 +7,7 @@ mod fault;
 mod fitting;
 pub mod laws;
 mod lexer;
+mod names;
 mod parse;
 mod parser;
 mod predicate;

@@ -10,6 +10,7 @@ ghost use Rattle.proc_lang.specs.Checking.{Checks};
 
 use crate::expressions::expression;
 use crate::fault::ProgError;
+use crate::names::ProcessNames;
 use crate::process::{Process, Variable};
 use crate::program::Program;
 use crate::scope::Scope;
@@ -44,10 +45,11 @@ pub(crate) fn predicate(
         (λ expr. tree_of expr ≡ phrase_tree (scope_of (program_of program.now) pid.0) (phrase_of phrase.now)) }
 {
     let own = &program.processes[pid.0 as usize];
-    let processes = process_names(alloc, program.processes.as_slice())?;
+    let names = process_names(alloc, program.processes.as_slice())?;
+    let processes = ProcessNames::new(alloc, names.as_slice())?;
     let variables = variable_names(alloc, own.variables.as_slice())?;
     let scope = Scope {
-        processes: processes.as_slice(),
+        processes: &processes,
         own: own.name,
         variables: variables.as_slice(),
     };

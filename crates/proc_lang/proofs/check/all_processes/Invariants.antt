@@ -11,6 +11,6 @@ abbrev pub invariant-loop-i : goal.invariant-loop-i
 invariant-loop-i l = record {
   len : vec_len l.processes ≡ l.i;
   few : l.i ≤ PROCESSES;
-  left : processes_faults l.names [] (processes_of l.written) ≡ processes_left l.names l.i l.written;
-  read : process_trees l.processes.items ≡ map (model.process_tree l.names) (processes_of (take l.i l.written));
+  left : processes_faults l.names.all.now [] (processes_of l.written) ≡ processes_left l.names.all.now l.i l.written;
+  read : process_trees l.processes.items ≡ map (model.process_tree l.names.all.now) (processes_of (take l.i l.written));
 }

@@ -1,4 +1,4 @@
-use Rattle.std.proofs.Common.{◌≡◌, [], true, map, sym, subst}
+use Rattle.std.proofs.Common.{◌≡◌, [], true, map, sym, subst, ◌∙◌}
 use Rattle.std.proofs.lemmas.Result.{err_from_is_err_and}
 use Rattle.dbg_base.specs.Trees as tree
 use Rattle.dbg_base.specs.WellFormed.{is_well_formed}
@@ -17,12 +17,12 @@ returns-in_err-processes c =
     passed_on c.from_residual-in_err-processes.result _ _ _
     (err_from_is_err_and c.from_residual-in_err-processes.result c.from_residual-in_err-processes.ensures.1)
     (subst (λ names. IsFirst c.in_err-processes.field-0.0 (processes_faults names [] written))
-    (process_names_are _ _ c.args.written.now c.as_slice.ensures.value c.in_ok-names.ensures) c.in_err-processes.ensures)
+    (process_names_are _ _ c.args.written.now (c.in_ok-names.ensures ∙ c.as_slice.ensures.value) c.in_ok-all.ensures) c.in_err-processes.ensures)
 
 pub invariant_of-result : goal.invariant_of-result
 invariant_of-result c =
     let written = processes_of c.args.written.now in
-    let names = process_names_are _ _ c.args.written.now c.as_slice.ensures.value c.in_ok-names.ensures in
+    let names = process_names_are _ _ c.args.written.now (c.in_ok-names.ensures ∙ c.as_slice.ensures.value) c.in_ok-all.ensures in
     let none = subst (λ names. processes_faults names [] written ≡ []) names c.in_ok-processes.ensures.0 in
     let read =
     subst (λ names. process_trees c.in_ok-processes.processes.items ≡ map (process_tree names) written) names c.in_ok-processes.ensures.1 in
@@ -33,4 +33,4 @@ returns c =
     let written = processes_of c.args.written.now in
     subst (λ names. (processes_faults names [] written ≡ [])
     × (process_trees c.in_ok-processes.processes.items ≡ map (process_tree names) written))
-    (process_names_are _ _ c.args.written.now c.as_slice.ensures.value c.in_ok-names.ensures) c.in_ok-processes.ensures
+    (process_names_are _ _ c.args.written.now (c.in_ok-names.ensures ∙ c.as_slice.ensures.value) c.in_ok-all.ensures) c.in_ok-processes.ensures

@@ -12,9 +12,9 @@ use Rattle.proc_lang.proofs.check.process.Goals as goal
 pub returns-in_err-commands : goal.returns-in_err-commands
 returns-in_err-commands c =
     let e = c.in_err-commands.field-0.0 in
-    let given = scope_with c.args.processes.now c.args.written.now.name.name c.as_slice-4.result.now in
+    let given = scope_with c.args.processes.now.all.now c.args.written.now.name.name c.as_slice-4.result.now in
     let scope =
-    scope_with_is c.args.processes.now _ _ _ c.args.written.now c.as_slice-4.ensures.value c.in_ok-names.ensures c.as_slice.ensures.value in
+    scope_with_is c.args.processes.now.all.now _ _ _ c.args.written.now c.as_slice-4.ensures.value c.in_ok-names.ensures c.as_slice.ensures.value in
     passed_on c.from_residual-in_err-commands.result _ _ _
     (err_from_is_err_and c.from_residual-in_err-commands.result c.from_residual-in_err-commands.ensures.1)
     (first_right _ _ _
@@ -24,9 +24,9 @@ returns-in_err-commands c =
 
 pub returns : goal.returns
 returns c =
-    let given = scope_with c.args.processes.now c.args.written.now.name.name c.as_slice-4.result.now in
+    let given = scope_with c.args.processes.now.all.now c.args.written.now.name.name c.as_slice-4.result.now in
     let scope =
-    scope_with_is c.args.processes.now _ _ _ c.args.written.now c.as_slice-4.ensures.value c.in_ok-names.ensures c.as_slice.ensures.value in
+    scope_with_is c.args.processes.now.all.now _ _ _ c.args.written.now c.as_slice-4.ensures.value c.in_ok-names.ensures c.as_slice.ensures.value in
     let variables =
     subst (λ all. (variables_faults [] (map variable_of all) ≡ []) × (starts c.in_ok-variables.variables.items ≡ written_starts all))
     c.as_slice-3.ensures.value c.in_ok-variables.ensures.faults in

@@ -32,9 +32,10 @@ pub returns : goal.returns
 returns c =
     let phrase = phrase_of c.args.phrase.now in
     let scope =
-    scope_is c.args.program.now.processes.items c.args.pid.0 c.index-own.result.now c.as_slice-3.result.now c.as_slice-4.result.now
+    scope_is c.args.program.now.processes.items c.args.pid.0 c.index-own.result.now c.in_ok-processes.processes.all.now c.as_slice-4.result.now
     c.requires c.index-own.ensures
-    (c.as_slice-3.ensures.value ∙ c.in_ok-processes.ensures ∙ ap (map (λ process. process.name)) c.as_slice.ensures.value)
-    (c.as_slice-4.ensures.value ∙ c.in_ok-variables.ensures ∙ ap (map (λ variable. variable.name)) c.as_slice-2.ensures.value) in
+    (c.in_ok-processes.ensures ∙ c.as_slice-2.ensures.value ∙ c.in_ok-names.ensures
+    ∙ ap (map (λ process. process.name)) c.as_slice.ensures.value)
+    (c.as_slice-4.ensures.value ∙ c.in_ok-variables.ensures ∙ ap (map (λ variable. variable.name)) c.as_slice-3.ensures.value) in
     subst (λ (s : Scope). Checks c.expression.result (expression_faults s sort.Truth phrase)
     (λ expr. tree.tree_of expr ≡ phrase_tree s phrase)) scope c.expression.ensures
