@@ -1,5 +1,5 @@
 -- What contracts see of a table, what it is of a program, what a command may do to it, and what it may tell.
-use Rattle.std.specs.Prelude.{◌≡◌, ◌⊎◌, ℕ, ◌+◌, ◌<◌, ◌≤◌, List, [], ◌∷◌, ◌++◌, length, Option, Some, None, Result, Ok, Err, IfOk}
+use Rattle.std.specs.Prelude.{◌≡◌, ◌⊎◌, ℕ, ◌+◌, ◌<◌, ◌≤◌, Bool, true, false, List, [], ◌∷◌, ◌++◌, length, Option, Some, None, Result, Ok, Err, IfOk}
 use Rattle.std.specs.Prelude.{IfErr, OnOk, OnErr, Vec}
 use Rattle.std.specs.declared.alloc.Global.{Global}
 use Rattle.dbg_base.specs.declared.call.Plan as plan
@@ -19,7 +19,7 @@ use Rattle.dbg_base.specs.Predicates.{Conjunct, IsLeast, NoCut}
 use Rattle.dbg_base.specs.Breakpoints.{Breakpoint, named, name_refusal}
 use Rattle.dbg_base.specs.ModelStates.{ModelState, IsHalted, with_system}
 use Rattle.dbg_base.specs.Refusals.{refusal_number}
-use Rattle.dbg_base.specs.Calls.{Plan, Order, AreCommands, Query}
+use Rattle.dbg_base.specs.Calls.{Plan, Order, AreCommands, Query, Place, Can}
 use Rattle.dbg_base.specs.Acts.{Acts, Accepts, Batches, Follows, Refuses}
 use Rattle.dbg_base.specs.Views.{Answers}
 use Rattle.causal_world.specs.Scenes.{Scene, IsWorldOf}
@@ -137,6 +137,12 @@ IsGivable given = (batch : Vec plan.Plan Global) → given ≡ plans.Batch batch
 abbrev pub told_of : Result Answer Refusal → Said
 told_of (Ok told) = Answered told
 told_of (Err refusal) = Refused refusal
+
+-- Answering the query may want memory: what is told of a process's place, and of whether its last event may be undone, takes none.
+abbrev pub asks_memory : Query → Bool
+asks_memory (Place p) = false
+asks_memory (Can p) = false
+asks_memory query = true
 
 -- the query was answered so, or memory ran out
 abbrev pub AnswersOrRefuses : Program → ModelState → Query → Result Answer Refusal → Type 0

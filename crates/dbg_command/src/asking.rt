@@ -1,5 +1,7 @@
 //! What a table tells.
 
+ghost use Rattle.std.specs.Prelude.{◌≢◌, IfErr};
+ghost use Rattle.dbg_base.specs.declared.refusal.Refusal.TheVariants.{Memory};
 ghost use Rattle.dbg_base.specs.Calls as model;
 ghost use Rattle.proc_lang.specs.Programs.{program_of};
 ghost use Rattle.dbg_command.specs.Tables.{IsTableOf, AnswersOrRefuses, state_of};
@@ -58,7 +60,8 @@ impl Table {
 
     // The process's place and the length of its line.
     pub(crate) fn place(&self, program: &Program, pid: Pid) -> Result<Answer, Refusal>
-        ensures { AnswersOrRefuses (program_of program.now) (state_of self.now) (model.Place pid.0) result }
+        ensures answers { AnswersOrRefuses (program_of program.now) (state_of self.now) (model.Place pid.0) result }
+        ensures memory { IfErr result (λ refusal. refusal ≢ Memory) }
     {
         known(program, pid)?;
         Ok(Answer::PlaceOf {
@@ -70,7 +73,8 @@ impl Table {
     // Whether the process's last event may be undone.
     pub(crate) fn can(&self, program: &Program, pid: Pid) -> Result<Answer, Refusal>
         requires { IsTableOf (program_of program.now) self.now }
-        ensures { AnswersOrRefuses (program_of program.now) (state_of self.now) (model.Can pid.0) result }
+        ensures answers { AnswersOrRefuses (program_of program.now) (state_of self.now) (model.Can pid.0) result }
+        ensures memory { IfErr result (λ refusal. refusal ≢ Memory) }
     {
         known(program, pid)?;
         Ok(Answer::CanUndo(self.world().can_undo(pid)))

@@ -1,8 +1,10 @@
 //! What a table is asked.
 
+ghost use Rattle.std.specs.Prelude.{◌≡◌, true, IfErr};
+ghost use Rattle.dbg_base.specs.declared.refusal.Refusal.TheVariants.{Memory};
 ghost use Rattle.dbg_base.specs.Calls.{query_of};
 ghost use Rattle.proc_lang.specs.Programs.{program_of};
-ghost use Rattle.dbg_command.specs.Tables.{IsTableOf, AnswersOrRefuses, state_of};
+ghost use Rattle.dbg_command.specs.Tables.{IsTableOf, AnswersOrRefuses, asks_memory, state_of};
 
 use crate::table::Table;
 use dbg_base::{Answer, Query, Refusal};
@@ -10,10 +12,11 @@ use proc_lang::Program;
 use std::alloc::Global;
 
 impl Table {
-    /// Answers a question. It is refused as its kind says, or as `Memory`, where that runs out.
+    /// Answers a question. It is refused as its kind says, or as `Memory`, where that runs out; `place` and `can` take none.
     pub fn ask(&self, alloc: Global, program: &Program, query: &Query) -> Result<Answer, Refusal>
         requires { IsTableOf (program_of program.now) self.now }
-        ensures { AnswersOrRefuses (program_of program.now) (state_of self.now) (query_of query.now) result }
+        ensures answers { AnswersOrRefuses (program_of program.now) (state_of self.now) (query_of query.now) result }
+        ensures memory { IfErr result (λ refusal. refusal ≡ Memory → asks_memory (query_of query.now) ≡ true) }
     {
         match query {
             Query::Vars(pid) => self.values(alloc, program, *pid),

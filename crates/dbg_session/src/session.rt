@@ -1,6 +1,6 @@
 //! A program, a table that follows the commands, and the commands that were accepted and are not taken back.
 
-ghost use Rattle.std.specs.Prelude.{◌≡◌, ◌≤◌, ◌⊎◌, [], Err, IfOk, IfErr, IfSome, OnErr};
+ghost use Rattle.std.specs.Prelude.{◌≡◌, ◌≤◌, ◌⊎◌, [], true, Err, IfOk, IfErr, IfSome, OnErr};
 ghost use Rattle.dbg_base.specs.declared.refusal.Refusal.TheVariants.{Memory};
 ghost use Rattle.dbg_base.specs.Calls.{Give, Back, Ask, order_of, query_of};
 ghost use Rattle.dbg_base.specs.declared.limits.TheConstants.{BREAKPOINTS};
@@ -8,7 +8,7 @@ ghost use Rattle.dbg_base.specs.ModelStates.{opening, IsHaltPlace};
 ghost use Rattle.dbg_base.specs.Journals.{StandsAt, AnswersBack, counting, last_given};
 ghost use Rattle.dbg_base.specs.Fits.{FitsCall};
 ghost use Rattle.proc_lang.specs.Programs.{program_of};
-ghost use Rattle.dbg_command.specs.Tables.{AnswersOrRefuses, FollowsOrRefuses, said_of, told_of};
+ghost use Rattle.dbg_command.specs.Tables.{asks_memory, AnswersOrRefuses, FollowsOrRefuses, said_of, told_of};
 ghost use Rattle.dbg_command.specs.Boxes.{IsScanFor, ScansFor};
 
 use dbg_base::{Answer, Done, Gate, Plan, Query, Refusal, Reply};
@@ -146,13 +146,16 @@ impl<C: Command> Session<C> {
         self.table.scan(rt, alloc, &self.program, plan, gate)
     }
 
-    /// Answers a question, which changes nothing. It is refused as its kind says, or as `Memory`, where that runs out.
+    /// Answers a question, which changes nothing. It is refused as its kind says, or as `Memory`, where that runs out; `place` and `can`
+    /// take none.
     pub fn ask(&self, alloc: Global, query: &Query) -> Result<Answer, Refusal>
         ensures answers { AnswersOrRefuses self.now.program self.now.state (query_of query.now) result }
+        ensures memory { IfErr result (λ refusal. refusal ≡ Memory → asks_memory (query_of query.now) ≡ true) }
         ensures fits { FitsCall self.now.program (Ask (query_of query.now)) (told_of result) }
     {
         self.table.ask(alloc, &self.program, query)
     }
+
     /// The place of the breakpoint that halts the session, counted from 1 in the order in which they were set, or 0 where none does. It
     /// takes no memory.
     pub fn halt_at(&self) -> u32
