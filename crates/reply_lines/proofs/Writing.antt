@@ -1,5 +1,5 @@
 -- Texts that are written one behind the other.
-use Rattle.std.proofs.Common.{◌≡◌, ℕ, List, [], ◌++◌, Option, Result, Ok, Err, refl, sym, ◌∙◌, ap, append_assoc, subst, take, drop, add-one}
+use Rattle.std.proofs.Common.{◌≡◌, ℕ, List, [], ◌++◌, Result, Ok, Err, refl, sym, ◌∙◌, ap, append_assoc, subst, take, drop, add-one}
 use Rattle.std.proofs.Common.{length, get_or, ◌<◌}
 use Rattle.std.specs.Prelude.{IsErrAnd, Some, None, ◌+◌, suc, ◌∷◌, slice_get, codes}
 use Rattle.std.specs.List.{flat_map}

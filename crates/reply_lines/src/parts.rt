@@ -1,10 +1,10 @@
 //! Lines, written word by word.
 
-ghost use Rattle.std.specs.Prelude.{◌≡◌, ◌≤◌, ◌+◌, ◌++◌, [], ◌∷◌, map, length, slice_get, codes};
+ghost use Rattle.std.specs.Prelude.{◌≡◌, ◌≤◌, ◌+◌, ◌++◌, [], ◌∷◌, map, length, slice_get, codes, IfSome};
 ghost use Rattle.std.specs.Option.{option_map};
-ghost use Rattle.std.specs.Fmt.{decimal, signed_decimal};
+ghost use Rattle.std.specs.Fmt.{signed_decimal};
 ghost use Rattle.dbg_base.specs.Trees.{process_of, names_of};
-ghost use Rattle.dbg_base.specs.Replies.{joined, spaced, head_text, pair_words};
+ghost use Rattle.dbg_base.specs.Replies.{joined, spaced, pair_words};
 ghost use Rattle.dbg_base.specs.Shell.{as_line};
 ghost use Rattle.proc_lang.specs.Programs.{program_of};
 ghost use Rattle.reply_lines.specs.Writing.{Writes, in_a_row};
@@ -136,34 +136,32 @@ fn write_short<W: Sink>(short: &[u8], writer: &mut W) -> Result<(), ServeFault>
     ensures { Writes (W.seen writer.old) (W.seen writer.new) result (codes " " ++ short.now) }
 {
     let mut text: Text<PAIR> = Text::new();
-    text.append(b" ");
+    text.push(b' ');
     text.append(short);
     write_whole(writer, text.bytes())
 }
 
 // Puts a name behind a space, and a short text behind a sign.
-fn append_pair<const ROOM: usize>(text: &mut Text<ROOM>, name: &Name, sign: &[u8], short: &[u8])
+fn append_pair<const ROOM: usize>(text: &mut Text<ROOM>, name: &Name, sign: u8, short: &[u8])
     requires room { length text.old + PAIR ≤ ROOM }
-    requires sign { length sign.now ≤ 1 }
     requires short { length short.now ≤ 40 }
-    ensures { text.new ≡ text.old ++ (codes " " ++ name.now ++ sign.now ++ short.now) }
+    ensures { text.new ≡ text.old ++ (codes " " ++ name.now ++ (sign ∷ []) ++ short.now) }
 {
-    text.append(b" ");
+    text.push(b' ');
     text.append(name.bytes());
-    text.append(sign);
+    text.push(sign);
     text.append(short);
 }
 
 // Writes a name, and a short text behind a sign.
 fn write_pair<W: Sink>(
     name: &Name,
-    sign: &[u8],
+    sign: u8,
     short: &[u8],
     writer: &mut W,
 ) -> Result<(), ServeFault>
-    requires sign { length sign.now ≤ 1 }
-    requires short { length short.now ≤ 40 }
-    ensures { Writes (W.seen writer.old) (W.seen writer.new) result (codes " " ++ name.now ++ sign.now ++ short.now) }
+    requires { length short.now ≤ 40 }
+    ensures { Writes (W.seen writer.old) (W.seen writer.new) result (codes " " ++ name.now ++ (sign ∷ []) ++ short.now) }
 {
     let mut text: Text<PAIR> = Text::new();
     append_pair(&mut text, name, sign, short);
@@ -200,8 +198,8 @@ fn write_word<W: Sink>(word: &Word, writer: &mut W) -> Result<(), ServeFault>
 {
     match word {
         Word::Plain(item) => write_item(item, writer),
-        Word::Mark(name, true) => write_pair(name, b" ", b"on", writer),
-        Word::Mark(name, false) => write_pair(name, b" ", b"off", writer),
+        Word::Mark(name, true) => write_pair(name, b' ', b"on", writer),
+        Word::Mark(name, false) => write_pair(name, b' ', b"off", writer),
     }
 }
 
@@ -223,25 +221,10 @@ fn variable_at(program: &Program, pid: Pid, place: usize) -> Option<Name>
     program.variable_name(pid, place as u32)
 }
 
-fn count_at(counts: &[u32], place: usize) -> Option<Item>
-    ensures { option_map item_text result ≡ slice_get (map decimal counts.now) place }
-{
-    counts.get(place).map(|count| Item::Count(*count))
-}
-
 fn number_at(numbers: &[i64], place: usize) -> Option<Item>
     ensures { option_map item_text result ≡ slice_get (map signed_decimal numbers.now) place }
 {
     numbers.get(place).map(|number| Item::Number(*number))
-}
-
-fn head_at(heads: &[Head], place: usize) -> Option<Item>
-    ensures { option_map item_text result ≡ slice_get (map head_text heads.now) place }
-{
-    heads.get(place).map(|head| match head {
-        Head::At(count) => Item::Count(*count),
-        Head::Past => Item::Term(Term::Past),
-    })
 }
 
 impl Names<'_> {
@@ -256,13 +239,18 @@ impl Names<'_> {
 }
 
 impl Amounts<'_> {
-    fn at(&self, place: usize) -> Option<Item>
-        ensures { option_map item_text result ≡ slice_get (amount_texts self.now) place }
+    // The text of what is at this place, that of a number in the buffer.
+    fn text_at<'b>(&self, place: usize, buffer: &'b mut Buffer) -> Option<&'b [u8]>
+        ensures text { option_map (λ text. text.now) result ≡ slice_get (amount_texts self.now) place }
+        ensures short { IfSome result (λ text. length text.now ≤ 40) }
     {
         match self {
-            Amounts::Counts(counts) => count_at(counts, place),
-            Amounts::Numbers(numbers) => number_at(numbers, place),
-            Amounts::Heads(heads) => head_at(heads, place),
+            Amounts::Counts(counts) => Some(buffer.format(*counts.get(place)?).as_bytes()),
+            Amounts::Numbers(numbers) => Some(buffer.format(*numbers.get(place)?).as_bytes()),
+            Amounts::Heads(heads) => match heads.get(place)? {
+                Head::At(count) => Some(buffer.format(*count).as_bytes()),
+                Head::Past => Some(b"past"),
+            },
         }
     }
 
@@ -292,14 +280,14 @@ fn write_pairs<W: Sink>(
         let Some(name) = names.at(place) else {
             break;
         };
-        let Some(item) = amounts.at(place) else {
+        let Some(amount) = amounts.text_at(place, &mut buffer) else {
             break;
         };
         if text.room() < PAIR {
             write_whole(writer, text.bytes())?;
             text.clear();
         }
-        append_pair(&mut text, &name, b"=", item.bytes(&mut buffer));
+        append_pair(&mut text, &name, b'=', amount);
     }
     write_whole(writer, text.bytes())
 }

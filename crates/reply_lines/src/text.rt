@@ -59,4 +59,12 @@ impl<const ROOM: usize> Text<ROOM> {
         bytes[self.used..end].copy_from_slice(more);
         self.used = end;
     }
+
+    pub(crate) fn push(&mut self, byte: u8)
+        requires { length self.old < ROOM }
+        ensures { self.new ≡ self.old ++ byte ∷ [] }
+    {
+        self.bytes[self.used] = byte;
+        self.used += 1;
+    }
 }

@@ -1,4 +1,4 @@
-use Rattle.std.proofs.Common.{◌≡◌, ◌++◌, ◌≤◌, [], List, ℕ, drop, length, ap, sym, ◌∙◌, subst, arith}
+use Rattle.std.proofs.Common.{◌≡◌, ◌++◌, ◌≤◌, [], List, ℕ, drop, length, ap, refl, sym, ◌∙◌, subst, arith}
 use Rattle.std.proofs.lemmas.List.{append-nil, drop_all}
 use Rattle.std.specs.Prelude.{codes}
 use Rattle.dbg_base.specs.Replies.{spaced, pair_words}
@@ -7,7 +7,7 @@ use Rattle.reply_lines.proofs.Pairs.{pair_at, no_name, no_text, few_pairs}
 use Rattle.reply_lines.proofs.Writing.{Progress, progress_more, progress_fails, progress_kept, progress_last, next_of, none_of}
 use Rattle.reply_lines.proofs.parts.write_pairs.Goals as goal
 use Rattle.reply_lines.proofs.parts.write_pairs.Goals.{then-room-lt-PAIR+in_ok-write_whole, else-room-lt-PAIR}
-use Rattle.reply_lines.proofs.parts.write_pairs.Goals.{else-loop-place-test, then-loop-place-test+in_default, then-loop-place-test+in-Some+in_default-at}
+use Rattle.reply_lines.proofs.parts.write_pairs.Goals.{else-loop-place-test, then-loop-place-test+in_default, then-loop-place-test+in-Some+in_default-text_at}
 
 pub returns-in_err-write_whole : goal.returns-in_err-write_whole
 returns-in_err-write_whole g c =
@@ -35,8 +35,8 @@ loop-place-preserved g c =
     ] in
     progress_kept _ _ _ _ _ _ _ _ kept
     (next_of (λ word. codes " " ++ word) words _ _
-    (pair_at (names_in c.args.names.now) (amount_texts c.args.amounts.now) c.loop-place.place c.in-Some.name _ c.bytes-in-loop-place.result.now
-    c.in-Some.ensures c.in-Some-at.ensures c.bytes-in-loop-place.ensures.text)) c.append_pair.ensures
+    (pair_at (names_in c.args.names.now) (amount_texts c.args.amounts.now) c.loop-place.place c.in-Some.name _ c.in-Some-text_at.amount.now
+    c.in-Some.ensures c.in-Some-text_at.ensures.text refl)) c.append_pair.ensures
 
 pub returns : goal.returns
 returns g c =
@@ -48,8 +48,8 @@ returns g c =
           ap spaced (drop_all c.loop-place.place words (omega (arith, few, w.loop-place-test.false)))
       | then-loop-place-test+in_default w ↦
           none_of (λ word. codes " " ++ word) words _ (no_name (names_in c.args.names.now) _ _ (sym w.in_default.ensures))
-      | then-loop-place-test+in-Some+in_default-at w ↦
-          none_of (λ word. codes " " ++ word) words _ (no_text _ (amount_texts c.args.amounts.now) _ (sym w.in_default-at.ensures))
+      | then-loop-place-test+in-Some+in_default-text_at w ↦
+          none_of (λ word. codes " " ++ word) words _ (no_text _ (amount_texts c.args.amounts.now) _ (sym w.in_default-text_at.ensures.text))
     ] in
     progress_last _ _ _ _ _ _ c.loop-place.invariant
     (ap (λ (t : List ℕ). c.loop-place.text ++ t) none ∙ append-nil c.loop-place.text ∙ sym c.bytes-2.ensures) c.write_whole-2.ensures
