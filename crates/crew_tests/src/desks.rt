@@ -3,12 +3,13 @@
 ghost use Rattle.crew_tests.specs.Runs.{IsOpeningOf};
 
 use crate::desk_trial::{Pair, THREE, begin_pair, make_opening};
-use crate::expecting::{expect, expect_same};
+use crate::expecting::{expect_same, expect_true};
 use crate::opening::Opening;
-use dbg_base::{OpenGate, Pid, Query, Refusal};
+use crate::told::{are_values, is_plain, said_to, said_to_question};
+use dbg_base::{Call, OpenGate, Pid, Query, Refusal};
 use dbg_board::Glance;
 use dbg_command::NextCmd;
-use dbg_desk::{Closing, Run};
+use dbg_desk::{Closing, Entry, Run};
 use std::alloc::Global;
 use std::marker::Brand;
 use std::process::Abort;
@@ -18,21 +19,35 @@ use std::thread::Threads;
 
 const A: Pid = Pid(0);
 
+// Expects the second seat to be told this value of the first process.
+fn expect_value<L: Run, R: Threads + Wait + Abort + Sync>(
+    rt: &R,
+    alloc: Global,
+    pair: &mut Pair<L, NextCmd>,
+    wanted: i64,
+) {
+    let values = said_to_question(pair.desk.ask(rt, alloc, &mut pair.two, Query::Vars(A)));
+    expect_true(rt, are_values(&values, &[wanted]));
+}
+
 // The second seat sees the first one's event, and that it was taken back.
 fn give_and_take_back<L: Run, R: Threads + Wait + Abort + Sync>(
     rt: &R,
     alloc: Global,
     pair: &mut Pair<L, NextCmd>,
 ) -> Result<(), Refusal> {
-    let Pair { desk, one, two } = pair;
-    desk.call(rt, alloc, one, NextCmd::new(A), &OpenGate)?;
-    let values = desk.ask(rt, alloc, two, Query::Vars(A));
-    expect(rt, alloc, &values, "Ok(Values(Sequence { items: [1] }))")?;
-    let back = desk.back(rt, one);
-    expect(rt, alloc, &back, "Ok(Reply { done: Plain, halted: None })")?;
-    let values = desk.ask(rt, alloc, two, Query::Vars(A));
-    expect(rt, alloc, &values, "Ok(Values(Sequence { items: [0] }))")?;
+    pair.desk
+        .call(rt, alloc, &mut pair.one, NextCmd::new(A), &OpenGate)?;
+    expect_value(rt, alloc, pair, 1);
+    let back = said_to(pair.desk.back(rt, &mut pair.one));
+    expect_true(rt, is_plain(&back));
+    expect_value(rt, alloc, pair, 0);
     Ok(())
+}
+
+// Whether the first seat has taken back its command.
+fn is_back(entry: &Entry) -> bool {
+    entry.seat == 1 && matches!(entry.call, Call::Back) && is_plain(&entry.said)
 }
 
 fn one_sees_the_other<L: Run, R: Threads + Wait + Abort + Sync>(
@@ -48,12 +63,7 @@ fn one_sees_the_other<L: Run, R: Threads + Wait + Abort + Sync>(
     expect_same(rt, desk.settle(rt, &[one, two]), Ok(Closing { calls: 4 }));
     let locked = desk.into_locked();
     expect_same(rt, locked.calls(), 4);
-    expect(
-        rt,
-        alloc,
-        &locked.entry(2),
-        "Some(Entry { seat: 1, call: Back, said: Accepted(Reply { done: Plain, halted: None }) })",
-    )?;
+    expect_true(rt, matches!(locked.entry(2), Some(entry) if is_back(entry)));
     Ok(())
 }
 

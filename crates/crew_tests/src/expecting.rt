@@ -1,6 +1,5 @@
 //! What a test expects. Each is a call, so that a test's own proof has no text to make where it fails.
 
-use std::alloc::{AllocError, Global};
 use std::fmt::Debug;
 use std::process::Abort;
 
@@ -22,16 +21,4 @@ pub fn expect_true(rt: &impl Abort, holds: bool) {
 /// Expects that what the name tells holds.
 pub fn expect_true_of(rt: &impl Abort, name: &str, holds: bool) {
     assert!(rt; holds, "{name}");
-}
-
-/// Expects a value to be shown so.
-pub fn expect<T: Debug>(
-    rt: &impl Abort,
-    alloc: Global,
-    value: &T,
-    wanted: &str,
-) -> Result<(), AllocError> {
-    let shown = format!(in alloc; "{value:?}")?;
-    assert_eq!(rt; shown.as_str(), wanted);
-    Ok(())
 }

@@ -23,4 +23,6 @@ mod plans;
 #[cfg(test)]
 mod shown;
 #[cfg(test)]
+mod told;
+#[cfg(test)]
 mod wide;

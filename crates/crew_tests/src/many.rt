@@ -1,15 +1,19 @@
-//! Sixteen seats at one desk, each in a thread of its own.
+//! Seats at one desk, each in a thread of its own; and the calls that were entered, given once more on one thread.
 
-ghost use Rattle.std.specs.Prelude.{IfOk};
+ghost use Rattle.std.specs.Prelude.{◌≤◌, IfOk};
+ghost use Rattle.dbg_base.specs.declared.limits.TheConstants.{SEATS};
+ghost use Rattle.dbg_base.specs.Calls.{AreCommands};
 ghost use Rattle.crew_tests.specs.Runs.{IsOpeningOf, MakesFresh};
 
-use crate::desk_trial::{THREE, begin_desk, give, make_opening};
-use crate::expecting::expect_same;
+use crate::desk_trial::{THREE, begin_desk, begin_locked, give, make_opening};
+use crate::expecting::{expect_same, expect_true};
 use crate::opening::Opening;
 use crate::plans::set_break;
-use dbg_base::{OpenGate, Pid, Plan, Query, Refusal};
-use dbg_command::{BreakCmd, Command, NextCmd, RollbackCmd, UndoCmd};
-use dbg_desk::{Closing, Desk, Run, Seat};
+use crate::told::{said_to, said_to_question};
+use dbg_base::{Call, OpenGate, Pid, Plan, Query, Refusal, Said};
+use dbg_command::{BatchCmd, BreakCmd, Command, NextCmd, RollbackCmd, UndoCmd};
+use dbg_desk::{Closing, Desk, Entry, Locked, Run, Seat};
+use kept_calls::is_same_said;
 use std::alloc::Global;
 use std::marker::Brand;
 use std::process::Abort;
@@ -18,43 +22,173 @@ use std::test::Fail;
 use std::thread;
 use std::thread::Threads;
 
-// How often each seat makes its three calls.
-const TURNS: u32 = 125;
+const A: Pid = Pid(0);
 
-// How many calls all seats make.
-const CALLS: usize = 6_000;
+const B: Pid = Pid(1);
 
-// How often it is all done.
+// How often the sixteen seats of mixed calls play.
 const ROUNDS: u32 = 100;
 
-// The command that a seat gives at this turn.
+// How often a seat looks at the board in each of its turns.
+const LOOKS: u32 = 100;
+
+// What a seat does when it is its turn.
+#[derive(Clone, Copy)]
+enum Role {
+    // A command of one of four kinds, `back`, and a question.
+    Mixed,
+    // `next a` and `undo a`.
+    Steps,
+    // `next b` and `rollback a 0`.
+    Rolls,
+    // `break k b (n = 1)` and `back`.
+    Breaks,
+    // A batch of two commands, and `undo b`.
+    Batches,
+    // It looks at the board, again and again.
+    Looks,
+}
+
+// Who plays.
+#[derive(Clone, Copy)]
+enum Play {
+    // Sixteen seats of mixed calls.
+    Mixed,
+    // Three seats, one of each kind that steps, rolls back and breaks.
+    Rivals,
+    // Fifteen seats of such kinds and of batches, and one that looks.
+    AllRivals,
+}
+
+// How many seats play.
+fn seats_of(play: Play) -> u32
+    ensures { (1 ≤ result) × (result ≤ SEATS) }
+{
+    match play {
+        Play::Rivals => 3,
+        _ => 16,
+    }
+}
+
+// How often each seat has its turn.
+fn turns_of(play: Play) -> u32 {
+    match play {
+        Play::Mixed => 125,
+        _ => 100,
+    }
+}
+
+// How many calls all seats make.
+fn calls_of(play: Play) -> usize {
+    match play {
+        Play::Mixed => 6_000,
+        Play::Rivals => 600,
+        Play::AllRivals => 3_000,
+    }
+}
+
+// What the seat at this place does.
+fn role_of(play: Play, place: usize) -> Role {
+    match (play, place) {
+        (Play::Mixed, _) => Role::Mixed,
+        (_, 15) => Role::Looks,
+        _ => match place % 4 {
+            0 => Role::Steps,
+            1 => Role::Rolls,
+            2 => Role::Breaks,
+            _ => Role::Batches,
+        },
+    }
+}
+
+// The command that a seat of mixed calls gives at this turn.
 fn plan_at(alloc: Global, turn: u32) -> Result<Plan, Refusal> {
     let pid = Pid(turn % 3);
     match turn % 8 {
         5 => Ok(Plan::Undo(pid)),
         6 => Ok(Plan::Rollback(pid, 0)),
-        7 => set_break(alloc, "k", &[(Pid(0), 0, 2)]),
+        7 => set_break(alloc, "k", &[(A, 0, 2)]),
         _ => Ok(Plan::Next(pid)),
     }
 }
 
-// The seat gives a command, takes the last one back, and asks a question, whatever is said to each.
+// The commands of each batch.
+fn two_commands(alloc: Global) -> Result<Vec<Plan>, Refusal>
+    ensures { IfOk result (λ plans. AreCommands plans.items) }
+{
+    let mut plans = Vec::new(alloc);
+    plans.push(Plan::Next(A))?;
+    plans.push(Plan::Next(B))?;
+    Ok(plans)
+}
+
+// A batch.
+fn batch(alloc: Global) -> Result<Plan, Refusal> {
+    Ok(Plan::Batch(two_commands(alloc)?))
+}
+
+// The seat gives this command, if there is one, whatever is said to it.
+fn try_give<L: Run, C: Command, M: Fn(Plan) -> Result<C, Refusal>, R: Threads + Wait + Sync>(
+    rt: &R,
+    alloc: Global,
+    desk: &Desk<L, C>,
+    seat: &mut Seat<L>,
+    make: &M,
+    plan: Result<Plan, Refusal>,
+)
+    requires may { M.IsAlwaysCallable make.now }
+    requires fresh { MakesFresh (M.post make.now) C.IsFresh }
+{
+    if let Ok(plan) = plan {
+        let _reply = give(rt, alloc, desk, seat, make, plan, &OpenGate);
+    }
+}
+
+// The seat looks at the board, again and again.
+fn look_on<L: Run, C: Command>(desk: &Desk<L, C>, seat: &mut Seat<L>) {
+    for _ in 0..LOOKS {
+        let _glance = desk.look(seat);
+    }
+}
+
+// The seat has its turn.
 fn take_turn<L: Run, C: Command, M: Fn(Plan) -> Result<C, Refusal>, R: Threads + Wait + Sync>(
     rt: &R,
     alloc: Global,
     desk: &Desk<L, C>,
     seat: &mut Seat<L>,
     make: &M,
+    role: Role,
     turn: u32,
 )
     requires may { M.IsAlwaysCallable make.now }
     requires fresh { MakesFresh (M.post make.now) C.IsFresh }
 {
-    if let Ok(plan) = plan_at(alloc, turn) {
-        let _reply = give(rt, alloc, desk, seat, make, plan, &OpenGate);
+    match role {
+        Role::Mixed => {
+            try_give(rt, alloc, desk, seat, make, plan_at(alloc, turn));
+            let _reply = desk.back(rt, seat);
+            let _answer = desk.ask(rt, alloc, seat, Query::Vars(Pid(turn % 3)));
+        }
+        Role::Steps => {
+            try_give(rt, alloc, desk, seat, make, Ok(Plan::Next(A)));
+            try_give(rt, alloc, desk, seat, make, Ok(Plan::Undo(A)));
+        }
+        Role::Rolls => {
+            try_give(rt, alloc, desk, seat, make, Ok(Plan::Next(B)));
+            try_give(rt, alloc, desk, seat, make, Ok(Plan::Rollback(A, 0)));
+        }
+        Role::Breaks => {
+            let plan = set_break(alloc, "k", &[(B, 1, 1)]);
+            try_give(rt, alloc, desk, seat, make, plan);
+            let _reply = desk.back(rt, seat);
+        }
+        Role::Batches => {
+            try_give(rt, alloc, desk, seat, make, batch(alloc));
+            try_give(rt, alloc, desk, seat, make, Ok(Plan::Undo(B)));
+        }
+        Role::Looks => look_on(desk, seat),
     }
-    let _reply = desk.back(rt, seat);
-    let _answer = desk.ask(rt, alloc, seat, Query::Vars(Pid(turn % 3)));
 }
 
 fn take_turns<L: Run, C: Command, M: Fn(Plan) -> Result<C, Refusal>, R: Threads + Wait + Sync>(
@@ -63,12 +197,15 @@ fn take_turns<L: Run, C: Command, M: Fn(Plan) -> Result<C, Refusal>, R: Threads 
     desk: &Desk<L, C>,
     seat: &mut Seat<L>,
     make: &M,
+    play: Play,
+    place: usize,
 )
     requires may { M.IsAlwaysCallable make.now }
     requires fresh { MakesFresh (M.post make.now) C.IsFresh }
 {
-    for turn in 0..TURNS {
-        take_turn(rt, alloc, desk, seat, make, turn);
+    let role = role_of(play, place);
+    for turn in 0..turns_of(play) {
+        take_turn(rt, alloc, desk, seat, make, role, turn);
     }
 }
 
@@ -78,16 +215,16 @@ fn all_take_turns<
     C: Command,
     M: Fn(Plan) -> Result<C, Refusal> + Sync,
     R: Threads + Wait + Sync,
->(rt: &R, alloc: Global, desk: &Desk<L, C>, seats: &mut [Seat<L>], make: &M)
+>(rt: &R, alloc: Global, desk: &Desk<L, C>, seats: &mut [Seat<L>], make: &M, play: Play)
     requires may { M.IsAlwaysCallable make.now }
     requires fresh { MakesFresh (M.post make.now) C.IsFresh }
 {
     if seats.is_empty() {
         return;
     }
-    let work = |_place: usize, seat: &mut Seat<L>|
+    let work = |place: usize, seat: &mut Seat<L>|
         requires { M.IsAlwaysCallable make.now × MakesFresh (M.post make.now) C.IsFresh }
-    { take_turns(rt, alloc, desk, seat, make) };
+    { take_turns(rt, alloc, desk, seat, make, play, place) };
     thread::for_each_mut(rt, seats, seats.len(), &work);
 }
 
@@ -100,29 +237,150 @@ fn count_calls<L: Run>(seats: &[Seat<L>]) -> usize {
     calls
 }
 
+// A call that was entered, its seat, and what was said to it.
+#[derive(Drop)]
+struct Told {
+    seat: u32,
+    call: Call,
+    said: Said,
+}
+
+// What was entered, once more.
+fn told_of(entry: &Entry) -> Result<Told, Refusal> {
+    let call = entry.call.copy()?;
+    let said = entry.said.copy()?;
+    let seat = entry.seat;
+    Ok(Told { seat, call, said })
+}
+
+// The calls that were entered, in order.
+fn told_calls<L: Run, C: Command>(
+    alloc: Global,
+    locked: &Locked<L, C>,
+) -> Result<Vec<Told>, Refusal> {
+    let mut told = Vec::new(alloc);
+    for place in 0..locked.calls() {
+        if let Some(entry) = locked.entry(place) {
+            told.push(told_of(entry)?)?;
+        }
+    }
+    Ok(told)
+}
+
+// The play: all calls are entered, and the seats settle. The calls that were entered are answered.
 fn many_calls<
     L: Run + Send + Sync,
     C: Command,
     M: Fn(Plan) -> Result<C, Refusal> + Sync,
     R: Threads + Wait + Abort + Sync,
->(rt: &R, alloc: Global, make: &M, opening: Opening) -> Result<(), Fail>
+>(rt: &R, alloc: Global, make: &M, opening: Opening, play: Play) -> Result<Vec<Told>, Fail>
     requires may { M.IsAlwaysCallable make.now }
     requires fresh { MakesFresh (M.post make.now) C.IsFresh }
     requires run { IsOpeningOf L.program L.board L.name L.parts L.seats opening }
 {
     let (desk, mut seats) = begin_desk::<L, C>(alloc, opening)?;
-    all_take_turns(rt, alloc, &desk, seats.as_mut_slice(), make);
-    expect_same(rt, count_calls(seats.as_slice()), CALLS);
-    expect_same(
-        rt,
-        desk.settle(rt, seats.as_slice()),
-        Ok(Closing { calls: CALLS }),
-    );
+    all_take_turns(rt, alloc, &desk, seats.as_mut_slice(), make, play);
+    let calls = calls_of(play);
+    expect_same(rt, count_calls(seats.as_slice()), calls);
+    expect_same(rt, desk.settle(rt, seats.as_slice()), Ok(Closing { calls }));
+    Ok(told_calls(alloc, &desk.into_locked())?)
+}
+
+// The seat makes this call.
+fn enter<L: Run, C: Command, M: Fn(Plan) -> Result<C, Refusal>>(
+    alloc: Global,
+    locked: &mut Locked<L, C>,
+    seat: &mut Seat<L>,
+    make: &M,
+    call: Call,
+) -> Result<Said, Refusal>
+    requires may { M.IsAlwaysCallable make.now }
+    requires fresh { MakesFresh (M.post make.now) C.IsFresh }
+{
+    match call {
+        Call::Give(plan) => {
+            let command = make(plan)?;
+            Ok(said_to(locked.enter(alloc, seat, command, None)))
+        }
+        Call::Back => Ok(said_to(locked.enter_back(seat))),
+        Call::Ask(query) => Ok(said_to_question(locked.enter_ask(alloc, seat, query))),
+    }
+}
+
+// Whether this call is answered the same once more.
+fn is_said_again<L: Run, C: Command, M: Fn(Plan) -> Result<C, Refusal>>(
+    alloc: Global,
+    locked: &mut Locked<L, C>,
+    seats: &mut [Seat<L>],
+    make: &M,
+    told: Told,
+) -> Result<bool, Refusal>
+    requires may { M.IsAlwaysCallable make.now }
+    requires fresh { MakesFresh (M.post make.now) C.IsFresh }
+{
+    let Told { seat, call, said } = told;
+    let Some(seat) = seats.get_mut(seat.saturating_sub(1) as usize) else {
+        return Ok(false);
+    };
+    let again = enter(alloc, locked, seat, make, call)?;
+    Ok(is_same_said(&again, &said))
+}
+
+// The same calls, given in order on one thread, are answered the same.
+fn expect_again<L: Run, C: Command, M: Fn(Plan) -> Result<C, Refusal>>(
+    rt: &impl Abort,
+    alloc: Global,
+    make: &M,
+    opening: Opening,
+    told: Vec<Told>,
+) -> Result<(), Fail>
+    requires may { M.IsAlwaysCallable make.now }
+    requires fresh { MakesFresh (M.post make.now) C.IsFresh }
+    requires run { IsOpeningOf L.program L.board L.name L.parts L.seats opening }
+{
+    let (mut locked, mut seats) = begin_locked::<L, C>(alloc, opening)?;
+    for told in told {
+        let same = is_said_again(alloc, &mut locked, seats.as_mut_slice(), make, told)?;
+        expect_true(rt, same);
+    }
     Ok(())
 }
 
+// What a desk is made of for this play.
+fn opening_of(alloc: Global, play: Play) -> Result<Opening, Fail> {
+    make_opening(alloc, THREE, seats_of(play))
+}
+
+// The play, from the beginning.
+fn play_once<
+    C: Command,
+    M: Fn(Plan) -> Result<C, Refusal> + Sync,
+    R: Threads + Wait + Abort + Sync,
+>(rt: &R, alloc: Global, make: &M, play: Play) -> Result<Vec<Told>, Fail>
+    requires may { M.IsAlwaysCallable make.now }
+    requires fresh { MakesFresh (M.post make.now) C.IsFresh }
+{
+    let opening = opening_of(alloc, play)?;
+    many_calls::<Brand, C, M, R>(rt, alloc, make, opening, play)
+}
+
+// The play, and its calls once more, given in order on one thread.
+fn play_again<
+    C: Command,
+    M: Fn(Plan) -> Result<C, Refusal> + Sync,
+    R: Threads + Wait + Abort + Sync,
+>(rt: &R, alloc: Global, make: &M, play: Play) -> Result<(), Fail>
+    requires may { M.IsAlwaysCallable make.now }
+    requires fresh { MakesFresh (M.post make.now) C.IsFresh }
+{
+    let told = play_once(rt, alloc, make, play)?;
+    expect_same(rt, told.len(), calls_of(play));
+    let opening = opening_of(alloc, play)?;
+    expect_again::<Brand, C, M>(rt, alloc, make, opening, told)
+}
+
 #[test]
-fn sixteen_seats_settle(rt: HostRuntime) -> Result<(), Fail> {
+fn seats_on_threads_settle(rt: HostRuntime) -> Result<(), Fail> {
     let alloc = rt.alloc();
     let make = |plan: Plan| -> Result<Box<dyn Command>, Refusal>
         ensures { IfOk result (λ command. IsFresh command) }
@@ -132,13 +390,14 @@ fn sixteen_seats_settle(rt: HostRuntime) -> Result<(), Fail> {
             Plan::Undo(pid) => Box::new(alloc, UndoCmd::new(pid))?,
             Plan::Rollback(pid, place) => Box::new(alloc, RollbackCmd::new(pid, place))?,
             Plan::Break(name, conjuncts) => Box::new(alloc, BreakCmd::new(name, conjuncts))?,
+            Plan::Batch(_) => Box::new(alloc, BatchCmd::new(two_commands(alloc)?))?,
             _ => return Err(Refusal::BadLine),
         };
         Ok(command)
     };
     for _ in 0..ROUNDS {
-        let opening = make_opening(alloc, THREE, 16)?;
-        many_calls::<Brand, Box<dyn Command>, _, _>(&rt, alloc, &make, opening)?;
+        play_once(&rt, alloc, &make, Play::Mixed)?;
     }
-    Ok(())
+    play_again(&rt, alloc, &make, Play::Rivals)?;
+    play_again(&rt, alloc, &make, Play::AllRivals)
 }

@@ -4,14 +4,17 @@ ghost use Rattle.std.specs.Prelude.{IfOk};
 ghost use Rattle.crew_tests.specs.Runs.{IsOpeningOf, MakesFresh};
 
 use crate::desk_trial::{THREE, begin_desk, begin_locked, give, make_opening};
-use crate::expecting::expect_same;
+use crate::expecting::{expect_same, expect_true};
 use crate::opening::Opening;
 use crate::plans::set_break;
-use dbg_base::{OpenGate, Pid, Plan, Refusal};
+use crate::told::said_to;
+use dbg_base::{OpenGate, Pid, Plan, Refusal, Said};
 use dbg_command::{BreakCmd, Command, NextCmd};
 use dbg_desk::{Locked, Run};
+use kept_calls::is_same_said;
 use std::alloc::Global;
 use std::marker::Brand;
+use std::process::Abort;
 use std::sync::Wait;
 use std::test::Fail;
 use std::thread::Threads;
@@ -36,7 +39,7 @@ fn said_at_a_desk<L: Run, C: Command, M: Fn(Plan) -> Result<C, Refusal>, R: Thre
     alloc: Global,
     make: &M,
     opening: Opening,
-) -> Result<String, Fail>
+) -> Result<Vec<Said>, Fail>
     requires may { M.IsAlwaysCallable make.now }
     requires fresh { MakesFresh (M.post make.now) C.IsFresh }
     requires run { IsOpeningOf L.program L.board L.name L.parts L.seats opening }
@@ -45,9 +48,9 @@ fn said_at_a_desk<L: Run, C: Command, M: Fn(Plan) -> Result<C, Refusal>, R: Thre
     let mut seat = seats.pop().ok_or("no seat")?;
     let mut said = Vec::new(alloc);
     for plan in plans(alloc)? {
-        said.push(give(rt, alloc, &desk, &mut seat, make, plan, &OpenGate))?;
+        said.push(said_to(give(rt, alloc, &desk, &mut seat, make, plan, &OpenGate)))?;
     }
-    Ok(format!(in alloc; "{said:?}")?)
+    Ok(said)
 }
 
 // What is said to them under the lock.
@@ -55,7 +58,7 @@ fn said_under_the_lock<L: Run, C: Command, M: Fn(Plan) -> Result<C, Refusal>>(
     alloc: Global,
     make: &M,
     opening: Opening,
-) -> Result<String, Fail>
+) -> Result<Vec<Said>, Fail>
     requires may { M.IsAlwaysCallable make.now }
     requires fresh { MakesFresh (M.post make.now) C.IsFresh }
     requires run { IsOpeningOf L.program L.board L.name L.parts L.seats opening }
@@ -65,9 +68,17 @@ fn said_under_the_lock<L: Run, C: Command, M: Fn(Plan) -> Result<C, Refusal>>(
     let mut said = Vec::new(alloc);
     for plan in plans(alloc)? {
         let command = make(plan)?;
-        said.push(locked.enter(alloc, &mut seat, command, None))?;
+        said.push(said_to(locked.enter(alloc, &mut seat, command, None)))?;
     }
-    Ok(format!(in alloc; "{said:?}")?)
+    Ok(said)
+}
+
+// Expects the same to be said to each of so many commands.
+fn expect_alike(rt: &impl Abort, told: &[Said], want: &[Said], count: usize) {
+    expect_same(rt, (told.len(), want.len()), (count, count));
+    for (one, other) in told.iter().zip(want) {
+        expect_true(rt, is_same_said(one, other));
+    }
 }
 
 #[test]
@@ -87,6 +98,6 @@ fn the_same_is_said_with_several_threads(rt: HostRuntime) -> Result<(), Fail> {
     let wide = said_at_a_desk::<Brand, Box<dyn Command>, _, _>(&rt, alloc, &make, opening)?;
     let opening = make_opening(alloc, THREE, 1)?;
     let plain = said_under_the_lock::<Brand, Box<dyn Command>, _>(alloc, &make, opening)?;
-    expect_same(&rt, wide, plain);
+    expect_alike(&rt, wide.as_slice(), plain.as_slice(), 5);
     Ok(())
 }

@@ -82,6 +82,20 @@ fn set_another<
     Ok(())
 }
 
+// Each of these calls is shown.
+fn set_both<
+    L: Run,
+    C: Command,
+    M: Fn(Plan) -> Result<C, Refusal>,
+    R: Threads + Wait + Abort + Sync,
+>(rt: &R, alloc: Global, make: &M, pair: &mut Pair<L, C>) -> Result<(), Refusal>
+    requires may { M.IsAlwaysCallable make.now }
+    requires fresh { MakesFresh (M.post make.now) C.IsFresh }
+{
+    set_and_pass(rt, alloc, make, pair)?;
+    set_another(rt, alloc, make, pair)
+}
+
 fn each_call_is_shown<
     L: Run,
     C: Command,
@@ -93,9 +107,7 @@ fn each_call_is_shown<
     requires run { IsOpeningOf L.program L.board L.name L.parts L.seats opening }
 {
     let mut pair = begin_pair::<L, C>(alloc, opening)?;
-    set_and_pass(rt, alloc, make, &mut pair)?;
-    set_another(rt, alloc, make, &mut pair)?;
-    Ok(())
+    Ok(set_both(rt, alloc, make, &mut pair)?)
 }
 
 #[test]

@@ -5,9 +5,10 @@ ghost use Rattle.crew_tests.specs.Runs.{IsOpeningOf, MakesFresh};
 
 use crate::crew_gate::CrewGate;
 use crate::desk_trial::{THREE, begin_desk, give, make_opening};
-use crate::expecting::{expect, expect_same, expect_true};
+use crate::expecting::{expect_same, expect_true};
 use crate::opening::Opening;
 use crate::plans::{named, set_break};
+use crate::told::{is_cut, said_to_question};
 use dbg_base::{OpenGate, Pid, Plan, Query, Refusal};
 use dbg_command::{BreakCmd, Command, NextCmd};
 use dbg_desk::{Desk, Run, Seat};
@@ -17,6 +18,22 @@ use std::process::Abort;
 use std::sync::Wait;
 use std::test::Fail;
 use std::thread::Threads;
+
+// One process makes its next command.
+fn play<L: Run, C: Command, M: Fn(Plan) -> Result<C, Refusal>, R: Threads + Wait + Sync>(
+    rt: &R,
+    alloc: Global,
+    desk: &Desk<L, C>,
+    seat: &mut Seat<L>,
+    make: &M,
+    pid: Pid,
+) -> Result<(), Refusal>
+    requires may { M.IsAlwaysCallable make.now }
+    requires fresh { MakesFresh (M.post make.now) C.IsFresh }
+{
+    give(rt, alloc, desk, seat, make, Plan::Next(pid), &OpenGate)?;
+    Ok(())
+}
 
 // What is played before the breakpoint is set: the first process twice, the third one, the second one.
 fn play_four<L: Run, C: Command, M: Fn(Plan) -> Result<C, Refusal>, R: Threads + Wait + Sync>(
@@ -29,11 +46,10 @@ fn play_four<L: Run, C: Command, M: Fn(Plan) -> Result<C, Refusal>, R: Threads +
     requires may { M.IsAlwaysCallable make.now }
     requires fresh { MakesFresh (M.post make.now) C.IsFresh }
 {
-    for process in [0, 0, 2, 1] {
-        let plan = Plan::Next(Pid(process));
-        give(rt, alloc, desk, seat, make, plan, &OpenGate)?;
-    }
-    Ok(())
+    play(rt, alloc, desk, seat, make, Pid(0))?;
+    play(rt, alloc, desk, seat, make, Pid(0))?;
+    play(rt, alloc, desk, seat, make, Pid(2))?;
+    play(rt, alloc, desk, seat, make, Pid(1))
 }
 
 // A breakpoint where the first process has counted to 2, the second has taken one message, and the third has counted to 1.
@@ -43,6 +59,41 @@ fn halting(alloc: Global) -> Result<Plan, Refusal> {
         "w",
         &[(Pid(0), 0, 2), (Pid(1), 1, 1), (Pid(2), 0, 1)],
     )
+}
+
+// Expects the breakpoint to have a cut where the first has counted to 2, and the others to 1.
+fn expect_cut<L: Run, C: Command, R: Threads + Wait + Abort + Sync>(
+    rt: &R,
+    alloc: Global,
+    desk: &Desk<L, C>,
+    seat: &mut Seat<L>,
+) -> Result<(), Refusal> {
+    let name = named("w")?;
+    let cut = said_to_question(desk.ask(rt, alloc, seat, Query::CutOf(name)));
+    expect_true(rt, is_cut(&cut, &[2, 1, 1]));
+    Ok(())
+}
+
+// The breakpoint is set where a gate lets two workers through, and halts.
+fn set_at_a_gate<
+    L: Run,
+    C: Command,
+    M: Fn(Plan) -> Result<C, Refusal>,
+    R: Threads + Wait + Abort + Sync,
+>(
+    rt: &R,
+    alloc: Global,
+    desk: &Desk<L, C>,
+    seat: &mut Seat<L>,
+    make: &M,
+    gate: &CrewGate,
+) -> Result<(), Refusal>
+    requires may { M.IsAlwaysCallable make.now }
+    requires fresh { MakesFresh (M.post make.now) C.IsFresh }
+{
+    let reply = give(rt, alloc, desk, seat, make, halting(alloc)?, gate)?;
+    expect_same(rt, reply.halted, Some(named("w")?));
+    Ok(())
 }
 
 // The workers of the scan meet at the gate, and the breakpoint halts at its least cut.
@@ -60,16 +111,9 @@ fn the_scan_meets<
     let mut seat = seats.pop().ok_or("no seat")?;
     play_four(rt, alloc, &desk, &mut seat, make)?;
     let gate = CrewGate::new();
-    let reply = give(rt, alloc, &desk, &mut seat, make, halting(alloc)?, &gate)?;
+    set_at_a_gate(rt, alloc, &desk, &mut seat, make, &gate)?;
     expect_true(rt, gate.two_met());
-    expect_same(rt, reply.halted, Some(named("w")?));
-    let cut = desk.ask(rt, alloc, &mut seat, Query::CutOf(named("w")?));
-    expect(
-        rt,
-        alloc,
-        &cut,
-        "Ok(CutIs(Some(Cut { counts: [2, 1, 1] })))",
-    )?;
+    expect_cut(rt, alloc, &desk, &mut seat)?;
     Ok(())
 }
 

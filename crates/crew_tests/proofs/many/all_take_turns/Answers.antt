@@ -11,6 +11,8 @@ use Rattle.std.specs.contracts.alloc.Global as global
 use Rattle.dbg_desk.proofs.Sending.{desk_sync, seat_send}
 use Rattle.dbg_desk.specs.contracts.desk.Desk as desk
 use Rattle.dbg_desk.specs.contracts.seat.Seat as seat
+use Rattle.crew_tests.specs.contracts.many.Play as play
+use Rattle.crew_tests.proofs.many.Play.TheSendSync as play_sent
 use Rattle.crew_tests.proofs.many.all_take_turns.Goals as goal
 
 pub for_each_mut-requires-send-T : goal.for_each_mut-requires-send-T
@@ -28,14 +30,19 @@ for_each_mut-requires-sync-F g c κs within =
     let b = κs.1.1.1.1.1.1.1.0 in
     let e = κs.1.1.1.1.1.1.1.1.0 in
     let h = κs.1.1.1.1.1.1.1.1.1.0 in
+    let k = κs.1.1.1.1.1.1.1.1.1.1.0 in
     let T = tuple_type
-    (ShrRef (named 6) a R ∷ ShrRef (named 7) b global.the_row ∷ ShrRef (named 8) e D ∷ ShrRef (named 9) h M ∷ []) in
+    (ShrRef (named 6) a R ∷ ShrRef (named 7) b global.the_row ∷ ShrRef (named 8) e D ∷ ShrRef (named 9) h M
+    ∷ ShrRef (named 10) k play.the_row ∷ []) in
     let d : IsSync D = desk_sync (param 0 g.row.L) g.L.Run g.L.Ledger (param 1 g.row.C) g.C.Command c.type_bounds.send-C in
     let s = declared_sync T (
       shr_sync (named 6) a R c.type_bounds.sync-R,
       (
         shr_sync (named 7) b global.the_row sync,
-        (shr_sync (named 8) e D d, (shr_sync (named 9) h M c.type_bounds.sync-M, tt)),
+        (
+          shr_sync (named 8) e D d,
+          (shr_sync (named 9) h M c.type_bounds.sync-M, (shr_sync (named 10) k play.the_row play_sent.the_sync, tt)),
+        ),
       ),
     ) in
     record { shared = s.shared }

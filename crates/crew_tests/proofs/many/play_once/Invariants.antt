@@ -1,5 +1,5 @@
 use Rattle.proc_lang.specs.Programs.{program_of}
-use Rattle.crew_tests.proofs.many.sixteen_seats_settle.Given as goal
+use Rattle.crew_tests.proofs.many.play_once.Given as goal
 
 abbrev pub ghosts-many_calls-L-Ledger : goal.ghosts-many_calls-L-Ledger
 ghosts-many_calls-L-Ledger g a = record { name = a.opening.blank.name; parts = a.opening.blank.parts }
