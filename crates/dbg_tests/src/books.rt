@@ -3,6 +3,7 @@
 ghost use Rattle.std.specs.Prelude.{IfOk};
 ghost use Rattle.proc_lang.specs.Programs.{program_of};
 ghost use Rattle.causal_world.specs.Scenes.{IsWorldOf};
+ghost use Rattle.least_cut.specs.Detectors.{IsDetectorOf};
 ghost use Rattle.break_book.specs.Books.{AreDetectorsOf};
 
 use crate::detector_calls as follow;
@@ -105,31 +106,46 @@ fn expect_none(rt: &impl Abort, book: &Book) -> Result<(), Fail> {
     Ok(())
 }
 
-// The breakpoint of this name is taken out, and put back where it was.
-fn out_and_back(rt: &impl Abort, alloc: Global, book: &mut Book, named: &str) -> Result<(), Fail> {
-    let named = name(named)?;
+// Three breakpoints in the world where the counter has counted once.
+fn three_of_one(alloc: Global) -> Result<Book, Fail> {
+    let program = counter(alloc)?;
+    let world = counted(alloc, &program)?;
+    Ok(three(alloc, &program, &world)?)
+}
+
+// Expects the first and the third breakpoint, neither of which halts the session.
+fn expect_out(rt: &impl Abort, alloc: Global, book: &Book) -> Result<(), Fail> {
+    expect(rt, alloc, book, &[("first", true), ("third", true)])?;
+    expect_none(rt, book)
+}
+
+// The second breakpoint is taken out, and put back where it was.
+fn out_and_back(rt: &impl Abort, alloc: Global, book: &mut Book) -> Result<(), Fail> {
+    let named = name("second")?;
     let (position, breakpoint) = book.clear(named)?;
     expect_same(rt, position, 1);
-    expect(rt, alloc, book, &[("first", true), ("third", true)])?;
-    expect_none(rt, book)?;
+    let out = expect_out(rt, alloc, book);
     expect_true(rt, book.restore_at(position, named, breakpoint).is_ok());
-    Ok(())
+    out
+}
+
+// Expects the three breakpoints, of which the second halts the session and the first may have been disarmed.
+fn expect_three(rt: &impl Abort, alloc: Global, book: &Book, first: bool) -> Result<(), Fail> {
+    expect_halt(rt, book, "second")?;
+    expect(
+        rt,
+        alloc,
+        book,
+        &[("first", first), ("second", true), ("third", true)],
+    )
 }
 
 #[test]
 fn a_breakpoint_that_was_taken_out_goes_back_to_its_place(rt: HostRuntime) -> Result<(), Fail> {
     let alloc = rt.alloc();
-    let program = counter(alloc)?;
-    let world = counted(alloc, &program)?;
-    let mut book = three(alloc, &program, &world)?;
-    out_and_back(&rt, alloc, &mut book, "second")?;
-    expect_halt(&rt, &book, "second")?;
-    expect(
-        &rt,
-        alloc,
-        &book,
-        &[("first", true), ("second", true), ("third", true)],
-    )
+    let mut book = three_of_one(alloc)?;
+    out_and_back(&rt, alloc, &mut book)?;
+    expect_three(&rt, alloc, &book, true)
 }
 
 // The breakpoint of this name, which is there, no longer halts the session.
@@ -140,40 +156,40 @@ fn disarm(rt: &impl Abort, book: &mut Book, named: &str) -> Result<(), Fail> {
     Ok(())
 }
 
-#[test]
-fn a_breakpoint_is_disarmed_whether_or_not_it_has_a_cut(rt: HostRuntime) -> Result<(), Fail> {
-    let alloc = rt.alloc();
-    let program = counter(alloc)?;
-    let world = counted(alloc, &program)?;
-    let mut book = three(alloc, &program, &world)?;
-    disarm(&rt, &mut book, "third")?;
-    disarm(&rt, &mut book, "second")?;
-    expect_none(&rt, &book)?;
+// Expects the three breakpoints, of which only the first is armed.
+fn expect_disarmed(rt: &impl Abort, alloc: Global, book: &Book) -> Result<(), Fail> {
+    expect_none(rt, book)?;
     expect(
-        &rt,
+        rt,
         alloc,
-        &book,
+        book,
         &[("first", true), ("second", false), ("third", false)],
     )
 }
 
 #[test]
+fn a_breakpoint_is_disarmed_whether_or_not_it_has_a_cut(rt: HostRuntime) -> Result<(), Fail> {
+    let alloc = rt.alloc();
+    let mut book = three_of_one(alloc)?;
+    disarm(&rt, &mut book, "third")?;
+    disarm(&rt, &mut book, "second")?;
+    expect_disarmed(&rt, alloc, &book)
+}
+
+// The second breakpoint is disarmed, and none halts the session.
+fn disarm_second(rt: &impl Abort, book: &mut Book) -> Result<(), Fail> {
+    disarm(rt, book, "second")?;
+    expect_none(rt, book)
+}
+
+#[test]
 fn a_copied_book_is_apart(rt: HostRuntime) -> Result<(), Fail> {
     let alloc = rt.alloc();
-    let program = counter(alloc)?;
-    let world = counted(alloc, &program)?;
-    let mut book = three(alloc, &program, &world)?;
+    let mut book = three_of_one(alloc)?;
     disarm(&rt, &mut book, "first")?;
     let made = book.copy()?;
-    disarm(&rt, &mut book, "second")?;
-    expect_none(&rt, &book)?;
-    expect_halt(&rt, &made, "second")?;
-    expect(
-        &rt,
-        alloc,
-        &made,
-        &[("first", false), ("second", true), ("third", true)],
-    )
+    disarm_second(&rt, &mut book)?;
+    expect_three(&rt, alloc, &made, false)
 }
 
 // The book gets room for so many events of the counter.
@@ -190,19 +206,21 @@ fn make_room(
     Ok(())
 }
 
+// A book of three breakpoints gets room, and is otherwise the same.
+fn expect_room(rt: &impl Abort, alloc: Global, program: &Program, world: &World) -> Result<(), Fail>
+    requires { IsWorldOf (program_of program.now) world.now }
+{
+    let mut book = three(alloc, program, world)?;
+    make_room(rt, alloc, &mut book, world, 100)?;
+    expect_three(rt, alloc, &book, true)
+}
+
 #[test]
 fn there_is_room_for_the_events_of_a_cut(rt: HostRuntime) -> Result<(), Fail> {
     let alloc = rt.alloc();
     let program = counter(alloc)?;
     let world = counted(alloc, &program)?;
-    let mut book = three(alloc, &program, &world)?;
-    make_room(&rt, alloc, &mut book, &world, 100)?;
-    expect(
-        &rt,
-        alloc,
-        &book,
-        &[("first", true), ("second", true), ("third", true)],
-    )
+    expect_room(&rt, alloc, &program, &world)
 }
 
 // The counter goes on from this place to that one, since it is not what it is to be there.
@@ -227,6 +245,19 @@ fn expect_told(
     Ok(())
 }
 
+// The detector of the counter that has come to this.
+fn comes_to(
+    alloc: Global,
+    program: &Program,
+    world: &World,
+    text: &str,
+) -> Result<Detector, Refusal>
+    requires { IsWorldOf (program_of program.now) world.now }
+    ensures { IfOk result (λ made. IsDetectorOf world.now made) }
+{
+    detector(alloc, program, world, at(alloc, program, text)?)
+}
+
 // Expects that of the search for the counter that has come to this.
 fn expect_search(
     rt: &impl Abort,
@@ -237,7 +268,7 @@ fn expect_search(
 ) -> Result<(), Fail> {
     let program = counter(alloc)?;
     let world = counted(alloc, &program)?;
-    let told = detector(alloc, &program, &world, at(alloc, &program, text)?)?;
+    let told = comes_to(alloc, &program, &world, text)?;
     expect_told(rt, &told, has_cut, wanted)
 }
 
@@ -258,14 +289,40 @@ fn expect_front(rt: &impl Abort, alloc: Global, told: &Detector, head: Head) -> 
     expect_told(rt, told, head == Head::At(2), &[passed(0, 1), passed(1, 2)])
 }
 
+// A copy of the detector that goes on with the world.
+fn gone_on(
+    alloc: Global,
+    program: &Program,
+    world: &mut World,
+    told: &Detector,
+) -> Result<Detector, Refusal>
+    requires of { IsWorldOf (program_of program.now) world.old }
+    requires detector { IsDetectorOf world.old told.now }
+{
+    let mut made = told.copy()?;
+    follow::step(world, &mut made, alloc, program, A, Choice(0))?;
+    Ok(made)
+}
+
+// The copy goes on with the world, and the detector does not.
+fn expect_apart(
+    rt: &impl Abort,
+    alloc: Global,
+    program: &Program,
+    world: &mut World,
+) -> Result<(), Fail>
+    requires { IsWorldOf (program_of program.now) world.old }
+{
+    let told = comes_to(alloc, program, world, "(x = 2)")?;
+    let made = gone_on(alloc, program, world, &told)?;
+    expect_front(rt, alloc, &made, Head::At(2))?;
+    expect_front(rt, alloc, &told, Head::Past)
+}
+
 #[test]
 fn a_copied_detector_is_apart(rt: HostRuntime) -> Result<(), Fail> {
     let alloc = rt.alloc();
     let program = counter(alloc)?;
     let mut world = counted(alloc, &program)?;
-    let told = detector(alloc, &program, &world, at(alloc, &program, "(x = 2)")?)?;
-    let mut made = told.copy()?;
-    follow::step(&mut world, &mut made, alloc, &program, A, Choice(0))?;
-    expect_front(&rt, alloc, &made, Head::At(2))?;
-    expect_front(&rt, alloc, &told, Head::Past)
+    expect_apart(&rt, alloc, &program, &mut world)
 }

@@ -71,14 +71,42 @@ fn shown(alloc: Global, scan: &Scan) -> Result<String, AllocError> {
     format!(in alloc; "{scan:?}")
 }
 
+// The scan of workers that meet, as it is shown.
+fn wide<R: Threads + Wait + Abort + Sync>(
+    rt: &R,
+    alloc: Global,
+    world: &World,
+    conjuncts: &[Conjunct],
+) -> Result<String, Refusal> {
+    let scan = scan_at_a_gate(rt, alloc, world, conjuncts)?;
+    Ok(shown(alloc, &scan)?)
+}
+
+// The scan of one thread, as it is shown.
+fn plain(alloc: Global, world: &World, conjuncts: &[Conjunct]) -> Result<String, Refusal> {
+    let scan = Scan::of(alloc, world, conjuncts)?;
+    Ok(shown(alloc, &scan)?)
+}
+
+// Expects the two to be the same.
+fn expect_alike<R: Threads + Wait + Abort + Sync>(
+    rt: &R,
+    alloc: Global,
+    world: &World,
+    conjuncts: &[Conjunct],
+) -> Result<(), Refusal> {
+    let wide = wide(rt, alloc, world, conjuncts)?;
+    let plain = plain(alloc, world, conjuncts)?;
+    expect_same(rt, wide, plain);
+    Ok(())
+}
+
 #[test]
 fn scan_meets(rt: HostRuntime) -> Result<(), Fail> {
     let alloc = rt.alloc();
     let program = counters(alloc)?;
     let world = played(alloc, &program)?;
     let conjuncts = conjuncts(alloc, &program)?;
-    let wide = scan_at_a_gate(&rt, alloc, &world, conjuncts.as_slice())?;
-    let plain = Scan::of(alloc, &world, conjuncts.as_slice())?;
-    expect_same(&rt, shown(alloc, &wide)?, shown(alloc, &plain)?);
+    expect_alike(&rt, alloc, &world, conjuncts.as_slice())?;
     Ok(())
 }

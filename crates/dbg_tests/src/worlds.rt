@@ -1,6 +1,6 @@
 //! Tests of `causal_world`: with ample memory a world goes forth and back, and tells what its events did.
 
-ghost use Rattle.std.specs.Prelude.{IfOk};
+ghost use Rattle.std.specs.Prelude.{IfOk, OnOk};
 ghost use Rattle.proc_lang.specs.Programs.{program_of};
 ghost use Rattle.causal_world.specs.Scenes.{IsWorldOf};
 
@@ -192,36 +192,68 @@ fn a_tally_of_events(rt: HostRuntime) -> Result<(), Fail> {
     Ok(())
 }
 
+// The process goes back to this count of events, which is shown, and then all that was taken back is made again.
+fn back_and_forth(
+    rt: &impl Abort,
+    alloc: Global,
+    world: &mut World,
+    program: &Program,
+    back: (Pid, u32),
+    shown: &Shown,
+) -> Result<(), Refusal>
+    requires { IsWorldOf (program_of program.now) world.old }
+    ensures { OnOk result (IsWorldOf (program_of program.now) world.new) }
+{
+    let (pid, n) = back;
+    let rolled = rollback(world, alloc, program, pid, n)?;
+    expect(rt, alloc, world, shown)?;
+    forth(world, program, rolled)?;
+    expect(rt, alloc, world, &PLAYED)
+}
+
+// What a world shows whose first process has gone back to its beginning.
+const START: Shown = Shown {
+    processes: [(0, 2, 0), (0, 2, 0), (0, 1, 0)],
+    messages: [&[], &[]],
+};
+
 #[test]
 fn a_rollback_and_forth(rt: HostRuntime) -> Result<(), Fail> {
     let alloc = rt.alloc();
     let program = relay(alloc)?;
     let mut world = played(alloc, &program)?;
-    let rolled = rollback(&mut world, alloc, &program, A, 0)?;
-    let start = Shown {
-        processes: [(0, 2, 0), (0, 2, 0), (0, 1, 0)],
-        messages: [&[], &[]],
-    };
-    expect(&rt, alloc, &world, &start)?;
-    forth(&mut world, &program, rolled)?;
-    expect(&rt, alloc, &world, &PLAYED)?;
+    back_and_forth(&rt, alloc, &mut world, &program, (A, 0), &START)?;
     expect_clock(&rt, alloc, &world, &program, (C, 1), [1, 2, 1])
 }
+
+// What it shows where the second process has gone back to its first event.
+const SENT_BACK: Shown = Shown {
+    processes: [(2, 2, 2), (1, 2, 1), (0, 1, 0)],
+    messages: [&[2], &[]],
+};
 
 #[test]
 fn a_rollback_of_some_and_forth(rt: HostRuntime) -> Result<(), Fail> {
     let alloc = rt.alloc();
     let program = relay(alloc)?;
     let mut world = played(alloc, &program)?;
-    let rolled = rollback(&mut world, alloc, &program, B, 1)?;
-    let sent_back = Shown {
-        processes: [(2, 2, 2), (1, 2, 1), (0, 1, 0)],
-        messages: [&[2], &[]],
-    };
-    expect(&rt, alloc, &world, &sent_back)?;
-    forth(&mut world, &program, rolled)?;
-    expect(&rt, alloc, &world, &PLAYED)?;
+    back_and_forth(&rt, alloc, &mut world, &program, (B, 1), &SENT_BACK)?;
     Ok(())
+}
+
+// The third process takes back its event, and makes it again.
+fn undo_and_forth(
+    rt: &impl Abort,
+    alloc: Global,
+    world: &mut World,
+    program: &Program,
+) -> Result<(), Refusal>
+    requires { IsWorldOf (program_of program.now) world.old }
+{
+    let rolled = undo(world, alloc, program, C)?;
+    expect(rt, alloc, world, &RECEIVED_BACK)?;
+    forth(world, program, rolled)?;
+    expect(rt, alloc, world, &PLAYED)
 }
 
 #[test]
@@ -229,11 +261,30 @@ fn an_undo_and_forth(rt: HostRuntime) -> Result<(), Fail> {
     let alloc = rt.alloc();
     let program = relay(alloc)?;
     let mut world = played(alloc, &program)?;
-    let rolled = undo(&mut world, alloc, &program, C)?;
-    expect(&rt, alloc, &world, &RECEIVED_BACK)?;
-    forth(&mut world, &program, rolled)?;
-    expect(&rt, alloc, &world, &PLAYED)?;
+    undo_and_forth(&rt, alloc, &mut world, &program)?;
     Ok(())
+}
+
+// Expects a world whose third process has gone back, and one where it has not.
+fn expect_both(rt: &impl Abort, alloc: Global, world: &World, made: &World) -> Result<(), Refusal> {
+    expect_places(rt, alloc, world, &[2, 2, 0])?;
+    expect_places(rt, alloc, made, &[2, 2, 1])?;
+    expect(rt, alloc, world, &RECEIVED_BACK)?;
+    expect(rt, alloc, made, &PLAYED)
+}
+
+// The third process takes back its event, in one world and not in its copy.
+fn undo_apart(
+    rt: &impl Abort,
+    alloc: Global,
+    world: &mut World,
+    program: &Program,
+) -> Result<(), Refusal>
+    requires { IsWorldOf (program_of program.now) world.old }
+{
+    let made = world.copy()?;
+    undo(world, alloc, program, C)?;
+    expect_both(rt, alloc, world, &made)
 }
 
 #[test]
@@ -241,13 +292,24 @@ fn a_copied_world_is_apart(rt: HostRuntime) -> Result<(), Fail> {
     let alloc = rt.alloc();
     let program = relay(alloc)?;
     let mut world = played(alloc, &program)?;
-    let made = world.copy()?;
-    undo(&mut world, alloc, &program, C)?;
-    expect_places(&rt, alloc, &world, &[2, 2, 0])?;
-    expect_places(&rt, alloc, &made, &[2, 2, 1])?;
-    expect(&rt, alloc, &world, &RECEIVED_BACK)?;
-    expect(&rt, alloc, &made, &PLAYED)?;
+    undo_apart(&rt, alloc, &mut world, &program)?;
     Ok(())
+}
+
+// The third process takes back its event, makes it again, and takes that back.
+fn redo_and_back(
+    rt: &impl Abort,
+    alloc: Global,
+    world: &mut World,
+    program: &Program,
+) -> Result<(), Refusal>
+    requires { IsWorldOf (program_of program.now) world.old }
+{
+    undo(world, alloc, program, C)?;
+    redo(world, alloc, program, C)?;
+    expect(rt, alloc, world, &PLAYED)?;
+    unredo(world, program, C)?;
+    expect(rt, alloc, world, &RECEIVED_BACK)
 }
 
 #[test]
@@ -255,12 +317,45 @@ fn a_redo_is_taken_back(rt: HostRuntime) -> Result<(), Fail> {
     let alloc = rt.alloc();
     let program = relay(alloc)?;
     let mut world = played(alloc, &program)?;
-    undo(&mut world, alloc, &program, C)?;
-    redo(&mut world, alloc, &program, C)?;
-    expect(&rt, alloc, &world, &PLAYED)?;
-    unredo(&mut world, &program, C)?;
-    expect(&rt, alloc, &world, &RECEIVED_BACK)?;
+    redo_and_back(&rt, alloc, &mut world, &program)?;
     Ok(())
+}
+
+// What a world shows whose second process has gone back, and has sent its first message again.
+const SENT_TEN: Shown = Shown {
+    processes: [(2, 2, 2), (1, 1, 0), (0, 1, 0)],
+    messages: [&[1, 2], &[10]],
+};
+
+// A step that cuts off what the second process has made is made and taken back.
+fn step_and_back(
+    rt: &impl Abort,
+    alloc: Global,
+    world: &mut World,
+    program: &Program,
+) -> Result<(), Refusal>
+    requires { IsWorldOf (program_of program.now) world.old }
+    ensures { OnOk result (IsWorldOf (program_of program.now) world.new) }
+{
+    let cutoff = step(world, alloc, program, B, Choice(1))?;
+    expect(rt, alloc, world, &SENT_TEN)?;
+    unstep(world, program, B, cutoff)
+}
+
+// The second process goes back, steps and takes that back, and makes its two events again.
+fn step_between(
+    rt: &impl Abort,
+    alloc: Global,
+    world: &mut World,
+    program: &Program,
+) -> Result<(), Refusal>
+    requires { IsWorldOf (program_of program.now) world.old }
+{
+    rollback(world, alloc, program, B, 0)?;
+    step_and_back(rt, alloc, world, program)?;
+    redo(world, alloc, program, B)?;
+    redo(world, alloc, program, B)?;
+    expect(rt, alloc, world, &RECEIVED_BACK)
 }
 
 #[test]
@@ -268,16 +363,6 @@ fn a_step_gives_back_what_it_cut_off(rt: HostRuntime) -> Result<(), Fail> {
     let alloc = rt.alloc();
     let program = relay(alloc)?;
     let mut world = played(alloc, &program)?;
-    rollback(&mut world, alloc, &program, B, 0)?;
-    let cutoff = step(&mut world, alloc, &program, B, Choice(1))?;
-    let sent_ten = Shown {
-        processes: [(2, 2, 2), (1, 1, 0), (0, 1, 0)],
-        messages: [&[1, 2], &[10]],
-    };
-    expect(&rt, alloc, &world, &sent_ten)?;
-    unstep(&mut world, &program, B, cutoff)?;
-    redo(&mut world, alloc, &program, B)?;
-    redo(&mut world, alloc, &program, B)?;
-    expect(&rt, alloc, &world, &RECEIVED_BACK)?;
+    step_between(&rt, alloc, &mut world, &program)?;
     Ok(())
 }
