@@ -3,40 +3,26 @@
 ghost use Rattle.desk_tests.specs.Runs.{IsRunOf};
 
 use crate::beginning::Beginning;
+use crate::expecting::{expect_same, expect_true};
 use crate::trial::{TWO, Trial, begin, make_beginning, next};
-use dbg_base::{Pid, Query};
+use dbg_base::{Answer, Call, Choice, Done, Pid, Plan, Query, Refusal, Reply, Said};
 use dbg_command::NextCmd;
-use dbg_desk::Run;
-use std::alloc::{AllocError, Global};
-use std::fmt::Debug;
+use dbg_desk::{Entry, Own, Run};
+use std::alloc::Global;
 use std::marker::Brand;
 use std::process::Abort;
 use std::test::Fail;
 
 const A: Pid = Pid(0);
 
-// Expects a value to be shown so.
-fn expect<T: Debug>(
-    rt: &impl Abort,
-    alloc: Global,
-    value: &T,
-    wanted: &str,
-) -> Result<(), AllocError> {
-    let shown = format!(in alloc; "{value:?}")?;
-    assert_eq!(rt; shown.as_str(), wanted);
-    Ok(())
-}
-
-// Expects the two seats to have these calls of their own.
-fn expect_own<L: Run>(
-    rt: &impl Abort,
-    alloc: Global,
-    trial: &Trial<L, NextCmd>,
-    one: &str,
-    two: &str,
-) -> Result<(), AllocError> {
-    expect(rt, alloc, &trial.one.own_calls(), one)?;
-    expect(rt, alloc, &trial.two.own_calls(), two)
+// Expects two processes, the two seats, and no call.
+fn expect_none<L: Run>(rt: &impl Abort, trial: &Trial<L, NextCmd>) {
+    expect_same(rt, trial.locked.program().processes(), 2);
+    expect_same(rt, (trial.one.number(), trial.two.number()), (1, 2));
+    expect_same(rt, trial.locked.calls(), 0);
+    expect_true(rt, trial.locked.entry(0).is_none());
+    expect_true(rt, trial.one.own_calls().is_empty());
+    expect_true(rt, trial.two.own_calls().is_empty());
 }
 
 fn no_call_at_first<L: Run>(
@@ -47,16 +33,7 @@ fn no_call_at_first<L: Run>(
     requires { IsRunOf L.program L.board L.name L.parts L.seats beginning }
 {
     let trial = begin::<L, NextCmd>(alloc, beginning)?;
-    expect(rt, alloc, &trial.locked.calls(), "0")?;
-    expect(rt, alloc, &trial.locked.entry(0), "None")?;
-    expect(rt, alloc, &trial.locked.program().processes(), "2")?;
-    expect(
-        rt,
-        alloc,
-        &(trial.one.number(), trial.two.number()),
-        "(1, 2)",
-    )?;
-    expect_own(rt, alloc, &trial, "[]", "[]")?;
+    expect_none(rt, &trial);
     Ok(())
 }
 
@@ -66,57 +43,124 @@ fn a_run_begins_with_no_call(rt: HostRuntime) -> Result<(), Fail> {
     no_call_at_first::<Brand>(&rt, alloc, make_beginning(alloc, TWO)?)
 }
 
+// Whether the first process has played its first command, and no breakpoint halts.
+fn has_played(reply: &Reply) -> bool {
+    match &reply.done {
+        Done::Played(pid, choice) => *pid == A && *choice == Choice(0) && reply.halted.is_none(),
+        _ => false,
+    }
+}
+
+// Whether nothing more is told, and no breakpoint halts.
+fn is_plain(reply: &Reply) -> bool {
+    matches!(reply.done, Done::Plain) && reply.halted.is_none()
+}
+
+// Whether the one value that is told is 1.
+fn is_one(answer: &Answer) -> bool {
+    match answer {
+        Answer::Values(values) => values.items() == [1].as_slice(),
+        _ => false,
+    }
+}
+
 // Calls of two seats, accepted and refused.
-fn give_calls<L: Run>(
-    rt: &impl Abort,
-    alloc: Global,
-    trial: &mut Trial<L, NextCmd>,
-) -> Result<(), AllocError> {
+fn give_calls<L: Run>(rt: &impl Abort, alloc: Global, trial: &mut Trial<L, NextCmd>) {
     let played = next(trial, alloc, A);
-    expect(
-        rt,
-        alloc,
-        &played,
-        "Ok(Reply { done: Played(Pid(0), Choice(0)), halted: None })",
-    )?;
+    expect_true(rt, matches!(&played, Ok(reply) if has_played(reply)));
     let values = trial
         .locked
         .enter_ask(alloc, &mut trial.two, Query::Vars(A));
-    expect(rt, alloc, &values, "Ok(Values(Sequence { items: [1] }))")?;
+    expect_true(rt, matches!(&values, Ok(answer) if is_one(answer)));
     let other = trial.locked.enter_back(&mut trial.two);
-    expect(rt, alloc, &other, "Err(OtherSeat(1))")?;
+    expect_true(rt, matches!(other, Err(Refusal::OtherSeat(1))));
     let refused = next(trial, alloc, Pid(2));
-    expect(rt, alloc, &refused, "Err(UnknownProcess)")?;
+    expect_true(rt, matches!(refused, Err(Refusal::UnknownProcess)));
     let back = trial.locked.enter_back(&mut trial.one);
-    expect(rt, alloc, &back, "Ok(Reply { done: Plain, halted: None })")
+    expect_true(rt, matches!(&back, Ok(reply) if is_plain(reply)));
+}
+
+// Whether the call gives `next` for this process.
+fn gives_next(call: &Call, pid: Pid) -> bool {
+    match call {
+        Call::Give(Plan::Next(given)) => *given == pid,
+        _ => false,
+    }
+}
+
+// Whether the call asks for the variables of the first process, and is answered with the one value 1.
+fn asks_values(call: &Call, said: &Said) -> bool {
+    match (call, said) {
+        (Call::Ask(Query::Vars(pid)), Said::Answered(answer)) => *pid == A && is_one(answer),
+        _ => false,
+    }
+}
+
+// Whether the first process has played.
+fn is_first(own: &Own) -> bool {
+    match &own.said {
+        Said::Accepted(reply) => gives_next(&own.call, A) && has_played(reply),
+        _ => false,
+    }
+}
+
+// Whether there was no such process.
+fn is_unknown(own: &Own) -> bool {
+    gives_next(&own.call, Pid(2)) && matches!(own.said, Said::Refused(Refusal::UnknownProcess))
+}
+
+// Whether the last command was taken back.
+fn is_back(own: &Own) -> bool {
+    match (&own.call, &own.said) {
+        (Call::Back, Said::Accepted(reply)) => is_plain(reply),
+        _ => false,
+    }
+}
+
+// Whether it was the other seat's to take back.
+fn is_other(own: &Own) -> bool {
+    matches!(own.call, Call::Back) && matches!(own.said, Said::Refused(Refusal::OtherSeat(1)))
 }
 
 // What the first seat has of its calls.
-const ONE: &str = "[\
-    Own { call: Give(Next(Pid(0))), said: Accepted(Reply { done: Played(Pid(0), Choice(0)), halted: None }) }, \
-    Own { call: Give(Next(Pid(2))), said: Refused(UnknownProcess) }, \
-    Own { call: Back, said: Accepted(Reply { done: Plain, halted: None }) }]";
+fn are_ones(calls: &[Own]) -> bool {
+    match calls {
+        [first, second, third] => is_first(first) && is_unknown(second) && is_back(third),
+        _ => false,
+    }
+}
 
 // And the second one.
-const OTHER: &str = "[\
-    Own { call: Ask(Vars(Pid(0))), said: Answered(Values(Sequence { items: [1] })) }, \
-    Own { call: Back, said: Refused(OtherSeat(1)) }]";
+fn are_others(calls: &[Own]) -> bool {
+    match calls {
+        [first, second] => asks_values(&first.call, &first.said) && is_other(second),
+        _ => false,
+    }
+}
 
-// The journal has them in order, and each seat its own.
+// Whether the second seat has asked.
+fn is_asked(entry: &Entry) -> bool {
+    entry.seat == 2 && asks_values(&entry.call, &entry.said)
+}
+
+// Expects the journal to have them in order, and each seat its own.
+fn expect_calls<L: Run>(rt: &impl Abort, trial: &Trial<L, NextCmd>) {
+    expect_same(rt, trial.locked.calls(), 5);
+    expect_true(
+        rt,
+        matches!(trial.locked.entry(1), Some(entry) if is_asked(entry)),
+    );
+    expect_true(rt, trial.locked.entry(5).is_none());
+    expect_true(rt, are_ones(trial.one.own_calls()));
+    expect_true(rt, are_others(trial.two.own_calls()));
+}
+
 fn calls_in_order<L: Run>(rt: &impl Abort, alloc: Global, beginning: Beginning) -> Result<(), Fail>
     requires { IsRunOf L.program L.board L.name L.parts L.seats beginning }
 {
     let mut trial = begin::<L, NextCmd>(alloc, beginning)?;
-    give_calls(rt, alloc, &mut trial)?;
-    expect(rt, alloc, &trial.locked.calls(), "5")?;
-    expect(
-        rt,
-        alloc,
-        &trial.locked.entry(1),
-        "Some(Entry { seat: 2, call: Ask(Vars(Pid(0))), said: Answered(Values(Sequence { items: [1] })) })",
-    )?;
-    expect(rt, alloc, &trial.locked.entry(5), "None")?;
-    expect_own(rt, alloc, &trial, ONE, OTHER)?;
+    give_calls(rt, alloc, &mut trial);
+    expect_calls(rt, &trial);
     Ok(())
 }
 

@@ -98,6 +98,20 @@ fn set_another<L: Run, C: Command, M: Fn(Plan) -> Result<C, Refusal>>(
     Ok(())
 }
 
+// Each call of these is shown.
+fn set_both<L: Run, C: Command, M: Fn(Plan) -> Result<C, Refusal>>(
+    rt: &impl Abort,
+    alloc: Global,
+    make: &M,
+    trial: &mut Trial<L, C>,
+) -> Result<(), Refusal>
+    requires may { M.IsAlwaysCallable make.now }
+    requires fresh { MakesFresh (M.post make.now) C.IsFresh }
+{
+    set_and_pass(rt, alloc, make, trial)?;
+    set_another(rt, alloc, make, trial)
+}
+
 fn each_call_is_shown<L: Run, C: Command, M: Fn(Plan) -> Result<C, Refusal>>(
     rt: &impl Abort,
     alloc: Global,
@@ -109,9 +123,7 @@ fn each_call_is_shown<L: Run, C: Command, M: Fn(Plan) -> Result<C, Refusal>>(
     requires run { IsRunOf L.program L.board L.name L.parts L.seats beginning }
 {
     let mut trial = begin::<L, C>(alloc, beginning)?;
-    set_and_pass(rt, alloc, make, &mut trial)?;
-    set_another(rt, alloc, make, &mut trial)?;
-    Ok(())
+    Ok(set_both(rt, alloc, make, &mut trial)?)
 }
 
 #[test]

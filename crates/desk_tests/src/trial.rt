@@ -52,6 +52,14 @@ pub struct Trial<L: Run, C: Command> {
     ghost looks: { display.board ≡ board },
 }
 
+// The two seats.
+fn pair<L: Run>(mut seats: Vec<Seat<L>>) -> Result<(Seat<L>, Seat<L>), Fail> {
+    match (seats.pop(), seats.pop()) {
+        (Some(two), Some(one)) => Ok((one, two)),
+        _ => Err(Fail::from("no two seats")),
+    }
+}
+
 /// Begins a run.
 pub fn begin<L: Run, C: Command>(alloc: Global, beginning: Beginning) -> Result<Trial<L, C>, Fail>
     requires { IsRunOf L.program L.board L.name L.parts L.seats beginning }
@@ -64,9 +72,8 @@ pub fn begin<L: Run, C: Command>(alloc: Global, beginning: Beginning) -> Result<
         board,
         display,
     } = beginning;
-    let (locked, mut seats) = Locked::new(alloc, blank, publisher, views, program)?;
-    let two = seats.pop().ok_or("no second seat")?;
-    let one = seats.pop().ok_or("no seat")?;
+    let (locked, seats) = Locked::new(alloc, blank, publisher, views, program)?;
+    let (one, two) = pair(seats)?;
     Ok(Trial {
         locked,
         one,
