@@ -67,16 +67,19 @@ fn said_at_a_desk<L: Run, C: Command, M: Fn(Plan) -> Result<C, Refusal>, R: Thre
     Ok(tell_at_a_desk(rt, alloc, &desk, &mut seat, make)?)
 }
 
-// What a seat is told to them under the lock.
+// What the first seat is told to them under the lock.
 fn tell_under_the_lock<L: Run, C: Command, M: Fn(Plan) -> Result<C, Refusal>>(
     alloc: Global,
     locked: &mut Locked<L, C>,
-    seat: &mut Seat<L>,
+    seats: &mut [Seat<L>],
     make: &M,
 ) -> Result<Vec<Said>, Refusal>
     requires may { M.IsAlwaysCallable make.now }
     requires fresh { MakesFresh (M.post make.now) C.IsFresh }
 {
+    let Some(seat) = seats.first_mut() else {
+        return Err(Refusal::BadLine);
+    };
     let mut said = Vec::new(alloc);
     for plan in plans(alloc)? {
         said.push(enter(alloc, locked, seat, make, Call::Give(plan))?)?;
@@ -95,8 +98,7 @@ fn said_under_the_lock<L: Run, C: Command, M: Fn(Plan) -> Result<C, Refusal>>(
     requires run { IsOpeningOf L.program L.board L.name L.parts L.seats opening }
 {
     let (mut locked, mut seats) = begin_locked::<L, C>(alloc, opening)?;
-    let mut seat = seats.pop().ok_or("no seat")?;
-    Ok(tell_under_the_lock(alloc, &mut locked, &mut seat, make)?)
+    Ok(tell_under_the_lock(alloc, &mut locked, seats.as_mut_slice(), make)?)
 }
 
 // Expects the same to be said to each of so many commands.
