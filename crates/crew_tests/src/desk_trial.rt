@@ -5,7 +5,8 @@ ghost use Rattle.dbg_base.specs.declared.limits.TheConstants.{SEATS};
 ghost use Rattle.crew_tests.specs.Runs.{IsOpeningOf, MakesFresh};
 
 use crate::opening::Opening;
-use dbg_base::{Gate, Plan, Refusal, Reply};
+use crate::told::{said_to, said_to_question};
+use dbg_base::{Call, Gate, Plan, Refusal, Reply, Said};
 use dbg_board::Board;
 use dbg_command::Command;
 use dbg_desk::{Desk, Locked, Run, Seat};
@@ -123,4 +124,25 @@ pub fn give<
 {
     let command = make(plan)?;
     desk.call(rt, alloc, seat, command, gate)
+}
+
+/// The seat makes this call under the lock.
+pub fn enter<L: Run, C: Command, M: Fn(Plan) -> Result<C, Refusal>>(
+    alloc: Global,
+    locked: &mut Locked<L, C>,
+    seat: &mut Seat<L>,
+    make: &M,
+    call: Call,
+) -> Result<Said, Refusal>
+    requires may { M.IsAlwaysCallable make.now }
+    requires fresh { MakesFresh (M.post make.now) C.IsFresh }
+{
+    match call {
+        Call::Give(plan) => {
+            let command = make(plan)?;
+            Ok(said_to(locked.enter(alloc, seat, command, None)))
+        }
+        Call::Back => Ok(said_to(locked.enter_back(seat))),
+        Call::Ask(query) => Ok(said_to_question(locked.enter_ask(alloc, seat, query))),
+    }
 }

@@ -5,11 +5,10 @@ ghost use Rattle.dbg_base.specs.declared.limits.TheConstants.{SEATS};
 ghost use Rattle.dbg_base.specs.Calls.{AreCommands};
 ghost use Rattle.crew_tests.specs.Runs.{IsOpeningOf, MakesFresh};
 
-use crate::desk_trial::{THREE, begin_desk, begin_locked, give, make_opening};
+use crate::desk_trial::{THREE, begin_desk, begin_locked, enter, give, make_opening};
 use crate::expecting::{expect_same, expect_true};
 use crate::opening::Opening;
 use crate::plans::set_break;
-use crate::told::{said_to, said_to_question};
 use dbg_base::{Call, OpenGate, Pid, Plan, Query, Refusal, Said};
 use dbg_command::{BatchCmd, BreakCmd, Command, NextCmd, RollbackCmd, UndoCmd};
 use dbg_desk::{Closing, Desk, Entry, Locked, Run, Seat};
@@ -284,27 +283,6 @@ fn many_calls<
     expect_same(rt, count_calls(seats.as_slice()), calls);
     expect_same(rt, desk.settle(rt, seats.as_slice()), Ok(Closing { calls }));
     Ok(told_calls(alloc, &desk.into_locked())?)
-}
-
-// The seat makes this call.
-fn enter<L: Run, C: Command, M: Fn(Plan) -> Result<C, Refusal>>(
-    alloc: Global,
-    locked: &mut Locked<L, C>,
-    seat: &mut Seat<L>,
-    make: &M,
-    call: Call,
-) -> Result<Said, Refusal>
-    requires may { M.IsAlwaysCallable make.now }
-    requires fresh { MakesFresh (M.post make.now) C.IsFresh }
-{
-    match call {
-        Call::Give(plan) => {
-            let command = make(plan)?;
-            Ok(said_to(locked.enter(alloc, seat, command, None)))
-        }
-        Call::Back => Ok(said_to(locked.enter_back(seat))),
-        Call::Ask(query) => Ok(said_to_question(locked.enter_ask(alloc, seat, query))),
-    }
 }
 
 // Whether this call is answered the same once more.

@@ -3,14 +3,14 @@
 ghost use Rattle.std.specs.Prelude.{IfOk};
 ghost use Rattle.crew_tests.specs.Runs.{IsOpeningOf, MakesFresh};
 
-use crate::desk_trial::{THREE, begin_desk, begin_locked, give, make_opening};
+use crate::desk_trial::{THREE, begin_desk, begin_locked, enter, give, make_opening};
 use crate::expecting::{expect_same, expect_true};
 use crate::opening::Opening;
 use crate::plans::set_break;
 use crate::told::said_to;
-use dbg_base::{OpenGate, Pid, Plan, Refusal, Said};
+use dbg_base::{Call, OpenGate, Pid, Plan, Refusal, Said};
 use dbg_command::{BreakCmd, Command, NextCmd};
-use dbg_desk::{Locked, Run};
+use dbg_desk::{Desk, Locked, Run, Seat};
 use kept_calls::is_same_said;
 use std::alloc::Global;
 use std::marker::Brand;
@@ -33,6 +33,24 @@ fn plans(alloc: Global) -> Result<Vec<Plan>, Refusal> {
     Ok(plans)
 }
 
+// What a seat is told to them at a desk.
+fn tell_at_a_desk<L: Run, C: Command, M: Fn(Plan) -> Result<C, Refusal>, R: Threads + Wait + Sync>(
+    rt: &R,
+    alloc: Global,
+    desk: &Desk<L, C>,
+    seat: &mut Seat<L>,
+    make: &M,
+) -> Result<Vec<Said>, Refusal>
+    requires may { M.IsAlwaysCallable make.now }
+    requires fresh { MakesFresh (M.post make.now) C.IsFresh }
+{
+    let mut said = Vec::new(alloc);
+    for plan in plans(alloc)? {
+        said.push(said_to(give(rt, alloc, desk, seat, make, plan, &OpenGate)))?;
+    }
+    Ok(said)
+}
+
 // What is said to them at a desk.
 fn said_at_a_desk<L: Run, C: Command, M: Fn(Plan) -> Result<C, Refusal>, R: Threads + Wait + Sync>(
     rt: &R,
@@ -46,9 +64,25 @@ fn said_at_a_desk<L: Run, C: Command, M: Fn(Plan) -> Result<C, Refusal>, R: Thre
 {
     let (desk, mut seats) = begin_desk::<L, C>(alloc, opening)?;
     let mut seat = seats.pop().ok_or("no seat")?;
+    Ok(tell_at_a_desk(rt, alloc, &desk, &mut seat, make)?)
+}
+
+// What the first seat is told to them under the lock.
+fn tell_under_the_lock<L: Run, C: Command, M: Fn(Plan) -> Result<C, Refusal>>(
+    alloc: Global,
+    locked: &mut Locked<L, C>,
+    seats: &mut [Seat<L>],
+    make: &M,
+) -> Result<Vec<Said>, Refusal>
+    requires may { M.IsAlwaysCallable make.now }
+    requires fresh { MakesFresh (M.post make.now) C.IsFresh }
+{
+    let Some(seat) = seats.first_mut() else {
+        return Err(Refusal::BadLine);
+    };
     let mut said = Vec::new(alloc);
     for plan in plans(alloc)? {
-        said.push(said_to(give(rt, alloc, &desk, &mut seat, make, plan, &OpenGate)))?;
+        said.push(enter(alloc, locked, seat, make, Call::Give(plan))?)?;
     }
     Ok(said)
 }
@@ -64,13 +98,7 @@ fn said_under_the_lock<L: Run, C: Command, M: Fn(Plan) -> Result<C, Refusal>>(
     requires run { IsOpeningOf L.program L.board L.name L.parts L.seats opening }
 {
     let (mut locked, mut seats) = begin_locked::<L, C>(alloc, opening)?;
-    let mut seat = seats.pop().ok_or("no seat")?;
-    let mut said = Vec::new(alloc);
-    for plan in plans(alloc)? {
-        let command = make(plan)?;
-        said.push(said_to(locked.enter(alloc, &mut seat, command, None)))?;
-    }
-    Ok(said)
+    Ok(tell_under_the_lock(alloc, &mut locked, seats.as_mut_slice(), make)?)
 }
 
 // Expects the same to be said to each of so many commands.
