@@ -1,2 +1,3 @@
 pub mod Healths
+pub mod Lines
 pub mod Seen
