@@ -10,3 +10,11 @@ pub enum Job {
     /// Give `next` for each process of a program text so many times, from threads.
     Crew(u32),
 }
+
+/// What the program is to do, and with what its input begins.
+#[derive(Clone, Copy, Debug)]
+pub struct Asked<'a> {
+    pub job: Job,
+    /// The name of a file, or none, where all input is standard input.
+    pub file: Option<&'a str>,
+}

@@ -3,9 +3,9 @@
 ghost use Rattle.std.specs.Prelude.{IfOk};
 ghost use Rattle.dbg_shell.specs.Jobs.{MayBeAsked};
 
-use crate::jobs::Job;
+use crate::jobs::{Asked, Job};
 use clap::error::ErrorKind;
-use clap::{Arg, Command, Error};
+use clap::{Arg, ArgMatches, Command, Error};
 use dbg_base::limits::CALLS;
 use std::alloc::{AllocError, Global};
 use std::convert::AsStr;
@@ -19,8 +19,9 @@ const TURNS: u32 = 100_000;
 const _: () = prove!(TURNS as usize == CALLS);
 
 static GUIDE: &str =
-    "The text comes from standard input: a program, a line `%%`, and for `run` command lines behind it. Where no line
-is `%%`, all of it is the program of `check` and `crew`.
+    "The text is a program, a line `%%`, and for `run` command lines behind it. Where no line is `%%`, all of it is the
+program of `check` and `crew`. It comes from FILE, where one is named, and for `run` goes on with standard input; else
+it all comes from standard input.
 
 Command lines, each behind a seat from 1 to 16:
   step P K, next P, redo P       make an event of the process P
@@ -68,13 +69,18 @@ Example of a text for `run`:
   1 undo a
   1 vars a";
 
+// The file that a job may be given.
+fn file<'a>(alloc: Global) -> Arg<'a> {
+    Arg::new(alloc, "file").value_name("FILE")
+}
+
 fn command<'a>(alloc: Global) -> Result<Command<'a>, AllocError> {
-    let run = Command::new(alloc, "run").about(
-        "Reads a program, a line `%%` and command lines, and answers each line",
-    );
-    let check = Command::new(alloc, "check").about(
-        "Reads a program and says how many processes and commands it has, or what is wrong",
-    );
+    let run = Command::new(alloc, "run")
+        .about("Reads a program, a line `%%` and command lines, and answers each line")
+        .arg(file(alloc).help("The program and command lines; those of standard input come behind them"))?;
+    let check = Command::new(alloc, "check")
+        .about("Reads a program and says how many processes and commands it has, or what is wrong")
+        .arg(file(alloc).help("The program, in place of standard input"))?;
     let turns = Arg::new(alloc, "turns")
         .long("turns")
         .value_name("N")
@@ -85,7 +91,8 @@ fn command<'a>(alloc: Global) -> Result<Command<'a>, AllocError> {
         .about(
             "Reads a program, gives `next` for each process so many times, from threads, and says how many calls there were",
         )
-        .arg(turns)?;
+        .arg(turns)?
+        .arg(file(alloc).help("The program, in place of standard input"))?;
     Command::new(alloc, "rdbg")
         .about(ABOUT)
         .after_help(GUIDE)
@@ -95,20 +102,47 @@ fn command<'a>(alloc: Global) -> Result<Command<'a>, AllocError> {
         .subcommand(crew)
 }
 
-/// The job that the words ask for, of which the first is the program's own name. The error is a request for help, or words that
-/// ask for no job; it has the text to print and the status to end with. A crew has 1 to 100,000 turns.
-pub fn job<'a, S: AsStr>(alloc: Global, words: &'a [S]) -> Result<Job, Error>
+// The job of the subcommand of this name.
+fn named_job(command: &mut Command<'_>, name: &str, matches: &ArgMatches<'_>) -> Result<Job, Error>
     ensures { IfOk result MayBeAsked }
 {
-    let mut command = command(alloc)?;
-    let matches = command.try_get_matches_from_mut(words)?;
-    match matches.subcommand() {
-        Some(("check", _)) => Ok(Job::Check),
-        Some(("crew", crew)) => match crew.get_one::<u32>("turns") {
+    match name {
+        "check" => Ok(Job::Check),
+        "crew" => match matches.get_one::<u32>("turns") {
             Some(turns) if 1 <= turns && turns <= TURNS => Ok(Job::Crew(turns)),
             // The command has looked at the number already.
             _ => Err(command.error(ErrorKind::ValueValidation, "a crew has 1 to 100000 turns")?),
         },
         _ => Ok(Job::Run),
     }
+}
+
+/// What the words ask for, of which the first is the program's own name: a job, and the file with which its input begins, if they name
+/// one. The error is a request for help, or words that ask for no job; it has the text to print and the status to end with. A crew has 1
+/// to 100,000 turns.
+pub fn asked<'a, S: AsStr>(alloc: Global, words: &'a [S]) -> Result<Asked<'a>, Error>
+    ensures { IfOk result (λ asked. MayBeAsked asked.job) }
+{
+    let mut command = command(alloc)?;
+    let matches = command.try_get_matches_from_mut(words)?;
+    match matches.subcommand() {
+        Some((name, own)) => {
+            let job = named_job(&mut command, name, own)?;
+            Ok(Asked {
+                job,
+                file: own.get_str("file"),
+            })
+        }
+        None => Ok(Asked {
+            job: Job::Run,
+            file: None,
+        }),
+    }
+}
+
+/// The job that the words ask for, as `asked` tells it.
+pub fn job<'a, S: AsStr>(alloc: Global, words: &'a [S]) -> Result<Job, Error>
+    ensures { IfOk result MayBeAsked }
+{
+    Ok(asked(alloc, words)?.job)
 }

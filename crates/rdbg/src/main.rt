@@ -1,4 +1,4 @@
-//! The program `rdbg`: its words go to `job`, its streams to `serve`, `check` or `run_crew`, and the status comes out.
+//! The program `rdbg`: its words go to `asked`, its streams to `serve`, `check` or `run_crew`, and the status comes out.
 #![tactic(auto)]
 
 mod buffer;
@@ -8,14 +8,20 @@ mod tests;
 mod words;
 
 use clap::error::ErrorKind;
-use dbg_shell::{Job, check, crew_status, job, run_crew, serve, status};
-use devices::{Noted, Sink, Source};
+use dbg_shell::{Asked, Job, asked, check, crew_status, run_crew, serve, status};
+use devices::{Noted, Sink, Source, one_behind_the_other};
 use output::Output;
 use std::alloc::Global;
+use std::fs::{File, OpenFile};
+use std::io;
+use std::io::Error;
 use std::process::ExitCode;
 use std::sync::Wait;
 use std::thread::Threads;
 use words::{WordsFault, words};
+
+// The status of a usage fault.
+const NO_FILE: u8 = 2;
 
 // Does the job from this reader to this writer, and says the status with which the program ends.
 fn run<R: Threads + Wait + Sync, I: Source, W: Sink>(
@@ -32,6 +38,50 @@ fn run<R: Threads + Wait + Sync, I: Source, W: Sink>(
     }
 }
 
+// Does a job whose input begins with a file: a run goes on with standard input behind it.
+fn run_with_file<W: Sink>(rt: &HostRuntime, job: Job, file: File, writer: &mut W) -> u8 {
+    match job {
+        Job::Run => {
+            let mut reader = Noted::new(one_behind_the_other(file, rt.stdin()));
+            run(rt, rt.alloc(), job, &mut reader, writer)
+        }
+        Job::Check | Job::Crew(_) => {
+            let mut reader = Noted::new(file);
+            run(rt, rt.alloc(), job, &mut reader, writer)
+        }
+    }
+}
+
+// Opens a file that can be read. A folder can not.
+fn open(rt: &HostRuntime, name: &str) -> io::Result<File> {
+    let file = File::open(rt, name)?;
+    if file.metadata()?.is_dir() {
+        return Err(Error::from(io::ErrorKind::IsADirectory));
+    }
+    Ok(file)
+}
+
+// Does what the words ask for, and says the status with which the program ends.
+fn do_job(rt: &HostRuntime, asked: Asked<'_>) -> u8 {
+    let mut writer = Output::new(rt.stdout());
+    // `-` stands for standard input, as elsewhere.
+    match asked.file.filter(|name| *name != "-") {
+        Some(name) => match open(rt, name) {
+            Ok(file) => run_with_file(rt, asked.job, file, &mut writer),
+            Err(error) => {
+                let _ = eprintln!(rt;
+                    "error: the file '{name}' cannot be read: {error}\n\nFor more information, try '--help'."
+                );
+                NO_FILE
+            }
+        },
+        None => {
+            let mut reader = Noted::new(rt.stdin());
+            run(rt, rt.alloc(), asked.job, &mut reader, &mut writer)
+        }
+    }
+}
+
 fn main(rt: HostRuntime) -> ExitCode {
     let words = match words(&rt) {
         Ok(words) => words,
@@ -44,12 +94,8 @@ fn main(rt: HostRuntime) -> ExitCode {
             return ExitCode::from(fault.status());
         }
     };
-    match job(rt.alloc(), words.as_slice()) {
-        Ok(job) => {
-            let mut reader = Noted::new(rt.stdin());
-            let mut writer = Output::new(rt.stdout());
-            ExitCode::from(run(&rt, rt.alloc(), job, &mut reader, &mut writer))
-        }
+    match asked(rt.alloc(), words.as_slice()) {
+        Ok(asked) => ExitCode::from(do_job(&rt, asked)),
         Err(error) => {
             if error.kind() == ErrorKind::OutOfMemory {
                 return ExitCode::from(WordsFault::Memory.status());

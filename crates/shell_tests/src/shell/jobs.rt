@@ -1,6 +1,6 @@
 use crate::expecting::{expect_same, expect_true};
 use clap::error::ErrorKind;
-use dbg_shell::{Job, job};
+use dbg_shell::{Job, asked, job};
 use std::alloc::Global;
 use std::process::Abort;
 use std::test::Fail;
@@ -31,12 +31,32 @@ fn expect_refused(rt: &impl Abort, alloc: Global, rows: &[Row]) {
     }
 }
 
-const OTHER_WORDS: [Row; 4] = [
+const OTHER_WORDS: [Row; 5] = [
     (&["rdbg"], ErrorKind::MissingSubcommand, 2),
     (&["rdbg", "jump"], ErrorKind::InvalidSubcommand, 2),
-    (&["rdbg", "run", "now"], ErrorKind::UnknownArgument, 2),
+    (&["rdbg", "run", "--now"], ErrorKind::UnknownArgument, 2),
+    (&["rdbg", "run", "one", "two"], ErrorKind::UnknownArgument, 2),
     (&["rdbg", "--help"], ErrorKind::DisplayHelp, 0),
 ];
+
+// The file that the words name.
+fn file_of(alloc: Global, words: &'static [&'static str]) -> Option<&'static str> {
+    match asked(alloc, words) {
+        Ok(asked) => asked.file,
+        Err(_) => None,
+    }
+}
+
+#[test]
+fn words_name_a_file(rt: HostRuntime) {
+    let alloc = rt.alloc();
+    expect_true(&rt, file_of(alloc, ["rdbg", "run", "one"].as_slice()) == Some("one"));
+    expect_true(&rt, file_of(alloc, ["rdbg", "check", "a b"].as_slice()) == Some("a b"));
+    let crew = ["rdbg", "crew", "--turns", "2", "one"].as_slice();
+    expect_true(&rt, file_of(alloc, crew) == Some("one"));
+    expect_true(&rt, file_of(alloc, ["rdbg", "run", "--", "--now"].as_slice()) == Some("--now"));
+    expect_true(&rt, file_of(alloc, ["rdbg", "run"].as_slice()).is_none());
+}
 
 #[test]
 fn other_words_are_refused(rt: HostRuntime) {
@@ -107,8 +127,9 @@ Commands:
 Options:
   -h, --help  Print help
 
-The text comes from standard input: a program, a line `%%`, and for `run` command lines behind it. Where no line
-is `%%`, all of it is the program of `check` and `crew`.
+The text is a program, a line `%%`, and for `run` command lines behind it. Where no line is `%%`, all of it is the
+program of `check` and `crew`. It comes from FILE, where one is named, and for `run` goes on with standard input; else
+it all comes from standard input.
 
 Command lines, each behind a seat from 1 to 16:
   step P K, next P, redo P       make an event of the process P
@@ -160,7 +181,10 @@ Example of a text for `run`:
 const CREW_HELP: &str =
     "Reads a program, gives `next` for each process so many times, from threads, and says how many calls there were
 
-Usage: rdbg crew --turns <N>
+Usage: rdbg crew --turns <N> [FILE]
+
+Arguments:
+  [FILE]  The program, in place of standard input
 
 Options:
       --turns <N>  How often each process is given `next`, from 1 to 100000
