@@ -129,6 +129,13 @@ impl Lines {
         self.line(pid).len()
     }
 
+    /// The choice at this place of the line of a process.
+    pub(crate) fn choice(&self, pid: Pid, at: u32) -> Option<u32>
+        ensures { result ≡ slice_get (line_of self.now pid.0) at }
+    {
+        self.line(pid).get(at as usize).copied()
+    }
+
     /// The choice at the place of a process, which can be made again.
     pub(crate) fn next(&self, pid: Pid) -> Option<u32>
         ensures { result ≡ slice_get (line_of self.now pid.0) (place_at self.now pid.0) }

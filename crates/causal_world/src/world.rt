@@ -263,11 +263,26 @@ impl World {
         self.lines.line_len(pid) as u32
     }
 
+    /// The choice at this place of the process's line, from 0, or None where the line is not so long. Those before the process's place are
+    /// its events, and the others can be made again.
+    pub fn choice(&self, pid: Pid, at: u32) -> Option<Choice>
+        ensures { option_map (λ choice. choice.0) result ≡ slice_get (line_of self.now.state pid.0) at }
+    {
+        self.lines.choice(pid, at).map(Choice)
+    }
+
     /// The choice of the process's last event, or None where it has no event.
     pub fn last(&self, pid: Pid) -> Option<Choice>
         ensures { option_map (λ choice. choice.0) result ≡ last_choice self.now.state pid.0 }
     {
         self.lines.last(pid).map(Choice)
+    }
+
+    /// The local state of a process, or None where there is no such process.
+    pub fn local_state(&self, pid: Pid) -> Option<&Env>
+        ensures { option_map (λ env. env.now) result ≡ slice_get self.now.standing.states pid.0 }
+    {
+        self.envs.get(pid.0 as usize)
     }
 
     /// The local state of a process that is there.

@@ -81,6 +81,14 @@ impl<C: Command> Session<C> {
         &self.program
     }
 
+    /// The table: the world of the program, and the breakpoints. It takes no memory.
+    pub fn table(&self) -> &Table
+        ensures of { IsTableOf self.now.program result.now }
+        ensures state { state_of result.now ≡ self.now.state }
+    {
+        &self.table
+    }
+
     /// Gives a command for the seat, which counts from then on where it is accepted. A command that sets a breakpoint may be given the
     /// scan of its conjuncts; no other looks at one. It is refused, and changes nothing, as its kind says, or as `Memory`, where that
     /// runs out.

@@ -3,7 +3,7 @@ use Rattle.std.specs.Prelude.{◌≡◌, ℕ, ◌+◌, ◌<◌, ◌≤◌, ◌�
 use Rattle.std.specs.Prelude.{if◌then◌else◌, slice_index_or, slice_set}
 use Rattle.std.specs.List.{AllByRecursion, list_any}
 use Rattle.dbg_base.specs.declared.elimination.Elimination.{Elimination}
-use Rattle.dbg_base.specs.Trees.{Program}
+use Rattle.dbg_base.specs.Trees.{Tree, Program}
 use Rattle.dbg_base.specs.Histories.{History}
 use Rattle.dbg_base.specs.Cuts.{IsAtMost}
 use Rattle.dbg_base.specs.Reversal.{without_last}
@@ -27,6 +27,10 @@ pub record DetectorState : Type 0 where
 
 abbrev pub states_of : DetectorState → List WatchState
 states_of d = map (λ watch. watch.state) d.watches
+
+-- the conjunct of this process with this expression
+abbrev pub conjunct_with : ℕ → Tree → Conjunct
+conjunct_with process expression = record { process = process; expression = expression }
 
 abbrev pub conjuncts_of : DetectorState → List Conjunct
 conjuncts_of d = map (λ watch. conjunct_in watch.state) d.watches

@@ -1,9 +1,11 @@
 //! A detector: the least cut that satisfies a breakpoint, as far as the events go.
 
 ghost use Rattle.std.specs.Prelude.{◌≡◌, ◌<◌, ◌≤◌, ◌+◌, length, map, IfOk, IfErr, IfSome, OnOk, MatchOption};
-ghost use Rattle.std.specs.Prelude.{slice_index};
+ghost use Rattle.std.specs.Prelude.{slice_index, slice_get};
+ghost use Rattle.std.specs.Option.{option_map};
 ghost use Rattle.std.specs.List.{AllByRecursion};
 ghost use Rattle.dbg_base.specs.Trees as tree;
+ghost use Rattle.dbg_base.specs.Trees.{tree_of};
 ghost use Rattle.dbg_base.specs.Calls.{conjunct_of};
 ghost use Rattle.dbg_base.specs.Copies.{IsCopy};
 ghost use Rattle.dbg_base.specs.Predicates.{IsLeast, NoCut};
@@ -16,7 +18,7 @@ ghost use Rattle.dbg_base.specs.declared.refusal.Refusal.TheVariants.{Memory};
 ghost use Rattle.causal_world.specs.Worlds.{IsSomeWorld};
 ghost use Rattle.least_cut.specs.Searches as model;
 ghost use Rattle.least_cut.specs.Searches.{is_false_in};
-ghost use Rattle.least_cut.specs.Detectors.{conjuncts_of, lines_of, is_past_in, one_more, AreWatchesOf, HasTruthRoom, HasRoomUpTo};
+ghost use Rattle.least_cut.specs.Detectors.{conjunct_with, conjuncts_of, lines_of, is_past_in, one_more, AreWatchesOf, HasTruthRoom, HasRoomUpTo};
 ghost use Rattle.least_cut.specs.Detectors.{IsSearchOf, IsDetectorOf, IsGrown, IsShrunk, IsMoved, IsSameButRoom, DropsTo, IsLimit};
 ghost use Rattle.least_cut.specs.Detectors.{Watches, TellsFrontier, AreRoomier, AreWatched, told_head};
 
@@ -26,7 +28,7 @@ use crate::room::copy_items;
 use crate::scan::Scan;
 use crate::watch::Watch;
 use causal_world::World;
-use dbg_base::{Conjunct, Cut, Elimination, Head, Pid, Refusal, Sequence};
+use dbg_base::{Conjunct, Cut, Elimination, Expr, Head, Pid, Refusal, Sequence};
 use std::alloc::{AllocError, Global};
 use std::marker::Model;
 
@@ -310,6 +312,14 @@ impl Detector {
         }
         self.watch(world);
         self.run(world);
+    }
+
+    /// A conjunct, by its place from 0: its process and its expression, or None where there are not so many. It takes no memory.
+    pub fn conjunct(&self, at: usize) -> Option<(Pid, &Expr)>
+        ensures { option_map (λ found. conjunct_with found.0.0 (tree_of found.1.now)) result ≡ slice_get (conjuncts_of self.now) at }
+    {
+        let watch = self.watches.get(at)?;
+        Some((watch.pid(), watch.expr()))
     }
 
     /// The least cut that satisfies the conjuncts, or None where none does. It takes no memory.

@@ -1,6 +1,7 @@
 //! A conjunct that is watched as its process makes events and takes them back.
 
 ghost use Rattle.std.specs.Prelude.{◌≡◌, ◌<◌, ◌≤◌, ◌+◌, ◌&&◌, ◌==◌, not, true, length, IfOk, IfErr, OnOk, nat_le, slice_index_or};
+ghost use Rattle.dbg_base.specs.Trees.{tree_of};
 ghost use Rattle.dbg_base.specs.Calls.{conjunct_of};
 ghost use Rattle.dbg_base.specs.Copies.{IsCopy};
 ghost use Rattle.dbg_base.specs.declared.refusal.Refusal.TheVariants.{Memory};
@@ -70,6 +71,13 @@ impl Watch {
         ensures { result.0 ≡ self.now.state.line.process }
     {
         self.truths.pid()
+    }
+
+    /// The expression.
+    pub(crate) fn expr(&self) -> &Expr
+        ensures { tree_of result.now ≡ self.now.state.expression }
+    {
+        &self.expr
     }
 
     /// Whether the process has fewer events than these, as far as it is known.

@@ -1,0 +1,63 @@
+//! Lines beside a reply, put together of parts.
+
+use dbg_base::Name;
+use itoa::Buffer;
+use std::alloc::{AllocError, Global};
+
+/// A part of a line.
+#[derive(Clone, Copy)]
+pub(crate) enum Part<'a> {
+    Text(&'a str),
+    Bytes(&'a [u8]),
+    Name(Name),
+    Number(i64),
+    Count(usize),
+}
+
+/// Lines that are told beside a reply, each without a line end.
+#[derive(Debug, Drop)]
+pub struct Notes {
+    lines: Vec<Vec<u8>>,
+}
+
+// Puts a part behind a line.
+fn put_part(line: &mut Vec<u8>, part: &Part<'_>) -> Result<(), AllocError> {
+    let mut buffer = Buffer::new();
+    match part {
+        Part::Text(text) => line.extend_from_slice(text.as_bytes()),
+        Part::Bytes(bytes) => line.extend_from_slice(bytes),
+        Part::Name(name) => line.extend_from_slice(name.bytes()),
+        Part::Number(number) => line.extend_from_slice(buffer.format(*number).as_bytes()),
+        Part::Count(count) => line.extend_from_slice(buffer.format(*count).as_bytes()),
+    }
+}
+
+impl Notes {
+    /// No line. It takes no memory.
+    pub fn new(alloc: Global) -> Notes {
+        Notes {
+            lines: Vec::new(alloc),
+        }
+    }
+
+    /// The lines, in order.
+    pub fn lines(&self) -> &[Vec<u8>] {
+        self.lines.as_slice()
+    }
+
+    /// Begins a line with these parts.
+    pub(crate) fn say(&mut self, parts: &[Part<'_>]) -> Result<(), AllocError> {
+        self.lines.push(Vec::new(*self.lines.allocator()))?;
+        self.add(parts)
+    }
+
+    /// Puts these parts behind the last line.
+    pub(crate) fn add(&mut self, parts: &[Part<'_>]) -> Result<(), AllocError> {
+        if let Some(line) = self.lines.last_mut() {
+            for part in parts {
+                put_part(line, part)?;
+            }
+        }
+        Ok(())
+    }
+}
