@@ -1,10 +1,23 @@
 //! Sentences about a session, for a person: what a command did, and why a line is refused.
 #![tactic(auto)]
 
+mod accepted;
+mod breakpoints;
+mod commands;
+mod events;
 mod expressions;
+mod forms;
+mod hindrances;
 mod notes;
+mod numbers;
+mod refusals;
 mod source;
+mod standing;
 mod values;
+mod view;
 
+pub use accepted::Before;
+pub use forms::tell_help;
 pub use notes::Notes;
 pub use source::Source;
+pub use view::View;

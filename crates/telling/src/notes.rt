@@ -60,4 +60,12 @@ impl Notes {
         }
         Ok(())
     }
+
+    /// Appends these lines.
+    pub(crate) fn append(&mut self, others: &Notes) -> Result<(), AllocError> {
+        for line in &others.lines {
+            self.say(&[Part::Bytes(line.as_slice())])?;
+        }
+        Ok(())
+    }
 }

@@ -1,0 +1,116 @@
+//! What an accepted command did.
+
+use crate::breakpoints::tell_breakpoint;
+use crate::notes::{Notes, Part};
+use crate::view::View;
+use dbg_base::{Call, Done, Pid, Plan, Refusal, Reply};
+use std::alloc::{AllocError, Global};
+
+/// How many events each process had, and how long its line was, and what its last event did, where it is to be taken back.
+#[derive(Debug, Drop)]
+pub struct Before {
+    places: Vec<(u32, u32)>,
+    undone: Notes,
+}
+
+// Puts a count of events behind the last line.
+fn put_events(notes: &mut Notes, count: u32) -> Result<(), AllocError> {
+    let word = if count == 1 { " event" } else { " events" };
+    notes.add(&[Part::Number(i64::from(count)), Part::Text(word)])
+}
+
+impl View<'_> {
+    fn place_of(&self, pid: Pid) -> (u32, u32) {
+        (self.world.place(pid), self.world.line_len(pid))
+    }
+
+    fn note_undone(&self, undone: &mut Notes, pid: Pid) -> Result<(), AllocError> {
+        match self.world.rows().last(pid) {
+            Some(event) => {
+                let scope = self.scope(pid);
+                undone.say(&[scope.name(), Part::Text(": taken back: ")])?;
+                scope.put_event(undone, self.world.rows(), event)
+            }
+            None => Ok(()),
+        }
+    }
+
+    /// What has to be known of a session before a call, to tell afterwards what it did.
+    pub fn before(&self, alloc: Global, call: &Call) -> Result<Before, AllocError> {
+        let mut places = Vec::new(alloc);
+        let mut undone = Notes::new(alloc);
+        match call {
+            Call::Give(Plan::Undo(pid)) => self.note_undone(&mut undone, *pid)?,
+            Call::Give(Plan::Rollback(_, _) | Plan::Goto(_) | Plan::Batch(_)) | Call::Back => {
+                for p in 0..self.program.processes() {
+                    places.push(self.place_of(Pid(p)))?;
+                }
+            }
+            _ => {}
+        }
+        Ok(Before { places, undone })
+    }
+
+    // Tells how a process's number of events, or its line, has changed.
+    fn tell_move(&self, notes: &mut Notes, pid: Pid, before: (u32, u32)) -> Result<(), AllocError> {
+        let (place, line) = self.place_of(pid);
+        let (old_place, old_line) = before;
+        if place == old_place && line == old_line {
+            return Ok(());
+        }
+        notes.say(&[self.scope(pid).name(), Part::Text(": ")])?;
+        if place < old_place {
+            notes.add(&[Part::Text("back from "), Part::Number(i64::from(old_place)), Part::Text(" to ")])?;
+        } else if place > old_place {
+            notes.add(&[Part::Text("from "), Part::Number(i64::from(old_place)), Part::Text(" to ")])?;
+        }
+        put_events(notes, place)?;
+        let redo = line.saturating_sub(place);
+        if redo > 0 {
+            notes.add(&[Part::Text(", "), Part::Number(i64::from(redo)), Part::Text(" to make again")])?;
+        }
+        Ok(())
+    }
+
+    fn tell_moves(&self, notes: &mut Notes, before: &Before) -> Result<(), AllocError> {
+        for p in 0..self.program.processes() {
+            if let Some(place) = before.places.get(p as usize) {
+                self.tell_move(notes, Pid(p), *place)?;
+            }
+        }
+        Ok(())
+    }
+
+    fn tell_done(&self, notes: &mut Notes, before: &Before, done: &Done) -> Result<(), AllocError> {
+        match done {
+            Done::Played(pid, _) => match self.world.rows().last(*pid) {
+                Some(event) => self
+                    .scope(*pid)
+                    .tell_event(notes, self.source, self.world.rows(), event),
+                None => Ok(()),
+            },
+            Done::Undone(_, _) => notes.append(&before.undone),
+            Done::Places(_) | Done::Plain => self.tell_moves(notes, before),
+        }
+    }
+
+    /// Tells what an accepted command did.
+    pub fn tell_reply(
+        &self,
+        alloc: Global,
+        notes: &mut Notes,
+        before: &Before,
+        call: &Call,
+        reply: &Reply,
+    ) -> Result<(), Refusal> {
+        self.tell_done(notes, before, &reply.done)?;
+        if let Some(name) = reply.halted {
+            notes.say(&[Part::Text("halted by")])?;
+            return tell_breakpoint(alloc, notes, self.program, self.book, name);
+        }
+        match call {
+            Call::Give(Plan::Break(name, _)) => tell_breakpoint(alloc, notes, self.program, self.book, *name),
+            _ => Ok(()),
+        }
+    }
+}

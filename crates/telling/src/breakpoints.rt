@@ -1,0 +1,69 @@
+//! What a breakpoint asks for, and where it has its cut.
+
+use crate::expressions::Scope;
+use crate::notes::{Notes, Part};
+use break_book::Book;
+use dbg_base::{Cut, Head, Name, Pid, Refusal};
+use least_cut::Detector;
+use proc_lang::Program;
+use std::alloc::{AllocError, Global};
+
+// Puts the conjuncts of a breakpoint behind the last line.
+fn put_conjuncts(notes: &mut Notes, program: &Program, detector: &Detector) -> Result<(), AllocError> {
+    let mut word = "";
+    for at in 0..program.processes() {
+        let Some((pid, expr)) = detector.conjunct(at as usize) else {
+            break;
+        };
+        let scope = Scope { program, pid };
+        notes.add(&[Part::Text(word), scope.name(), Part::Text(" ")])?;
+        scope.put_expression(notes, expr)?;
+        word = " and ";
+    }
+    Ok(())
+}
+
+// Tells how many events of each process a cut has.
+fn tell_cut(notes: &mut Notes, program: &Program, cut: &Cut) -> Result<(), AllocError> {
+    notes.say(&[Part::Text("first in the state behind")])?;
+    let mut word = " ";
+    for p in 0..program.processes() {
+        let scope = Scope { program, pid: Pid(p) };
+        let count = Part::Number(i64::from(cut.count(Pid(p))));
+        notes.add(&[Part::Text(word), count, Part::Text(" of "), scope.name()])?;
+        word = ", ";
+    }
+    Ok(())
+}
+
+// Tells of which processes there are not enough events.
+fn tell_past(alloc: Global, notes: &mut Notes, program: &Program, detector: &Detector) -> Result<(), Refusal> {
+    let heads = detector.frontier(alloc)?;
+    for p in 0..program.processes() {
+        if let Some(Head::Past) = heads.items().get(p as usize) {
+            let scope = Scope { program, pid: Pid(p) };
+            notes.say(&[Part::Text("no event of "), scope.name(), Part::Text(" so far leads to a state that satisfies its part")])?;
+        }
+    }
+    Ok(())
+}
+
+/// Tells what a breakpoint asks for, and where it has its cut, or of which processes there are not enough events.
+pub(crate) fn tell_breakpoint(
+    alloc: Global,
+    notes: &mut Notes,
+    program: &Program,
+    book: &Book,
+    name: Name,
+) -> Result<(), Refusal> {
+    let Some((_, breakpoint)) = book.find(name) else {
+        return Ok(());
+    };
+    let detector = breakpoint.detector();
+    notes.say(&[Part::Name(name), Part::Text(": ")])?;
+    put_conjuncts(notes, program, detector)?;
+    match detector.cut() {
+        Some(cut) => Ok(tell_cut(notes, program, cut)?),
+        None => tell_past(alloc, notes, program, detector),
+    }
+}

@@ -1,0 +1,153 @@
+//! Why a command does not fire where its process stands.
+
+use crate::expressions::Scope;
+use crate::notes::{Notes, Part};
+use crate::source::Source;
+use causal_world::World;
+use dbg_base::{Choice, Expr, Pid, Refusal};
+use local_eval::{Env, EvalError, effect, eval, guard};
+use proc_lang::{Action, Guarded};
+use std::alloc::{AllocError, Global};
+
+// What keeps a command from firing.
+#[derive(Clone, Copy, PartialEq, Eq)]
+enum Hindrance {
+    Nothing,
+    GuardFalse,
+    GuardFaults,
+    /// No message from this process is on its way.
+    NoMessage(Pid),
+    Faults,
+}
+
+// The first message on the way from one process to another.
+fn front(alloc: Global, world: &World, source: Pid, target: Pid) -> Result<Option<i64>, Refusal> {
+    let messages = world.channel(alloc, source, target)?;
+    Ok(messages.items().first().copied())
+}
+
+fn faults(alloc: Global, command: &Guarded, env: &Env, message: Option<i64>) -> Result<bool, Refusal> {
+    match effect(alloc, command, env, message) {
+        Ok(_) => Ok(false),
+        Err(EvalError::Fault) => Ok(true),
+        Err(EvalError::Memory) => Err(Refusal::Memory),
+    }
+}
+
+fn hindrance_behind_guard(
+    alloc: Global,
+    world: &World,
+    pid: Pid,
+    command: &Guarded,
+    env: &Env,
+) -> Result<Hindrance, Refusal> {
+    let mut message = None;
+    if let Action::Receive { source, .. } = &command.action {
+        message = front(alloc, world, *source, pid)?;
+        if message.is_none() {
+            return Ok(Hindrance::NoMessage(*source));
+        }
+    }
+    if faults(alloc, command, env, message)? {
+        return Ok(Hindrance::Faults);
+    }
+    Ok(Hindrance::Nothing)
+}
+
+fn find_hindrance(
+    alloc: Global,
+    world: &World,
+    pid: Pid,
+    command: &Guarded,
+    env: &Env,
+) -> Result<Hindrance, Refusal> {
+    match guard(&command.guard, env) {
+        Err(_) => Ok(Hindrance::GuardFaults),
+        Ok(false) => Ok(Hindrance::GuardFalse),
+        Ok(true) => hindrance_behind_guard(alloc, world, pid, command, env),
+    }
+}
+
+impl Scope<'_> {
+    // Puts an expression and the values of what it names behind the last line.
+    fn put_evaluated(&self, notes: &mut Notes, env: &Env, expr: &Expr, is: &'static str) -> Result<(), AllocError> {
+        self.put_expression(notes, expr)?;
+        notes.add(&[Part::Text(is)])?;
+        self.put_values(notes, env, expr)
+    }
+
+    // Puts the first part of a command that faults behind the last line.
+    fn put_faulting(&self, notes: &mut Notes, env: &Env, command: &Guarded) -> Result<(), AllocError> {
+        if let Action::Send { value, .. } = &command.action {
+            if eval(value, env).is_err() {
+                return self.put_evaluated(notes, env, value, " faults");
+            }
+        }
+        for assignment in command.assignments.items() {
+            if eval(&assignment.value, env).is_err() {
+                return self.put_evaluated(notes, env, &assignment.value, " faults");
+            }
+        }
+        notes.add(&[Part::Text("an expression faults")])
+    }
+
+    fn put_hindrance(
+        &self,
+        notes: &mut Notes,
+        env: &Env,
+        command: &Guarded,
+        hindrance: Hindrance,
+    ) -> Result<(), AllocError> {
+        match hindrance {
+            Hindrance::Nothing => notes.add(&[Part::Text("it can fire")]),
+            Hindrance::GuardFalse => self.put_evaluated(notes, env, &command.guard, " is false"),
+            Hindrance::GuardFaults => self.put_evaluated(notes, env, &command.guard, " faults"),
+            Hindrance::NoMessage(source) => {
+                notes.add(&[Part::Text("no message from "), self.process(source), Part::Text(" is on its way")])
+            }
+            Hindrance::Faults => self.put_faulting(notes, env, command),
+        }
+    }
+
+    /// Tells why this command does not fire, or that it can.
+    pub(crate) fn tell_hindrance(
+        &self,
+        alloc: Global,
+        notes: &mut Notes,
+        source: &Source,
+        world: &World,
+        choice: Choice,
+    ) -> Result<(), Refusal> {
+        let (Some(command), Some(env)) = (self.program.command(self.pid, choice), world.local_state(self.pid)) else {
+            return Ok(());
+        };
+        let hindrance = find_hindrance(alloc, world, self.pid, command, env)?;
+        notes.say(&[])?;
+        self.put_command(notes, source, choice)?;
+        notes.add(&[Part::Text(": ")])?;
+        self.put_hindrance(notes, env, command, hindrance)?;
+        Ok(())
+    }
+
+    /// Tells of each command of the process why it does not fire, or that it can.
+    pub(crate) fn tell_hindrances(
+        &self,
+        alloc: Global,
+        notes: &mut Notes,
+        source: &Source,
+        world: &World,
+    ) -> Result<(), Refusal> {
+        for number in 0..self.program.commands(self.pid) {
+            self.tell_hindrance(alloc, notes, source, world, Choice(number))?;
+        }
+        Ok(())
+    }
+
+    /// Whether a command of the process fires where it stands.
+    pub(crate) fn fires(&self, alloc: Global, world: &World, choice: Choice) -> Result<bool, Refusal> {
+        let (Some(command), Some(env)) = (self.program.command(self.pid, choice), world.local_state(self.pid)) else {
+            return Ok(false);
+        };
+        Ok(find_hindrance(alloc, world, self.pid, command, env)? == Hindrance::Nothing)
+    }
+}

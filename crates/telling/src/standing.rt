@@ -1,0 +1,134 @@
+//! Where a session stands.
+
+use crate::notes::{Notes, Part};
+use crate::view::View;
+use dbg_base::{Choice, Name, Pid, Refusal};
+use std::alloc::{AllocError, Global};
+
+impl View<'_> {
+    // Tells which commands of a process can fire, and whether there is one.
+    fn tell_firing(&self, alloc: Global, notes: &mut Notes, pid: Pid) -> Result<bool, Refusal> {
+        let scope = self.scope(pid);
+        let mut any = false;
+        for number in 0..self.program.commands(pid) {
+            let choice = Choice(number);
+            if scope.fires(alloc, self.world, choice)? {
+                any = true;
+                notes.say(&[scope.name(), Part::Text(": ")])?;
+                scope.put_command(notes, self.source, choice)?;
+                scope.put_text(notes, self.source, choice)?;
+            }
+        }
+        Ok(any)
+    }
+
+    /// Tells which commands can fire where the session stands, or that none can.
+    pub fn tell_on(&self, alloc: Global, notes: &mut Notes) -> Result<(), Refusal> {
+        let mut any = false;
+        for p in 0..self.program.processes() {
+            any = self.tell_firing(alloc, notes, Pid(p))? || any;
+        }
+        if !any {
+            notes.say(&[Part::Text("no command of any process can fire")])?;
+        }
+        if let Some(name) = self.book.halted() {
+            notes.say(&[Part::Text("the breakpoint "), Part::Name(name), Part::Text(" halts the session: `pass` lets it go on")])?;
+        }
+        Ok(())
+    }
+
+    fn tell_values(&self, notes: &mut Notes, pid: Pid) -> Result<(), AllocError> {
+        let scope = self.scope(pid);
+        let place = Part::Number(i64::from(self.world.place(pid)));
+        let line = Part::Number(i64::from(self.world.line_len(pid)));
+        notes.say(&[scope.name(), Part::Text(", "), place, Part::Text(" of "), line])?;
+        let Some(env) = self.world.local_state(pid) else {
+            return Ok(());
+        };
+        let mut word = ": ";
+        for variable in 0..self.program.variables(pid) {
+            if let Some(value) = env.values().get(variable as usize) {
+                notes.add(&[Part::Text(word), scope.variable(variable)])?;
+                notes.add(&[Part::Text(" = "), Part::Number(*value)])?;
+                word = ", ";
+            }
+        }
+        Ok(())
+    }
+
+    fn tell_channel(&self, alloc: Global, notes: &mut Notes, source: Pid, target: Pid) -> Result<(), Refusal> {
+        let messages = self.world.channel(alloc, source, target)?;
+        if messages.items().is_empty() {
+            return Ok(());
+        }
+        let scope = self.scope(source);
+        notes.say(&[scope.name(), Part::Text(" -> "), scope.process(target), Part::Text(":")])?;
+        for message in messages.items() {
+            notes.add(&[Part::Text(" "), Part::Number(*message)])?;
+        }
+        Ok(())
+    }
+
+    /// Tells the variables of all processes, and the messages on their way.
+    pub fn tell_state(&self, alloc: Global, notes: &mut Notes) -> Result<(), Refusal> {
+        for p in 0..self.program.processes() {
+            self.tell_values(notes, Pid(p))?;
+        }
+        for p in 0..self.program.processes() {
+            for q in 0..self.program.processes() {
+                self.tell_channel(alloc, notes, Pid(p), Pid(q))?;
+            }
+        }
+        Ok(())
+    }
+
+    fn tell_made(&self, notes: &mut Notes, pid: Pid, at: u32) -> Result<(), AllocError> {
+        let Some(event) = self.world.rows().event(pid, at as usize) else {
+            return Ok(());
+        };
+        let scope = self.scope(pid);
+        notes.say(&[Part::Count((at as usize).saturating_add(1)), Part::Text(": ")])?;
+        scope.put_command(notes, self.source, event.choice())?;
+        notes.add(&[Part::Text(": ")])?;
+        scope.put_event(notes, self.world.rows(), event)
+    }
+
+    fn tell_again(&self, notes: &mut Notes, pid: Pid, at: u32) -> Result<(), AllocError> {
+        match self.world.choice(pid, at) {
+            Some(choice) => {
+                notes.say(&[Part::Text("to make again: ")])?;
+                self.scope(pid).put_command(notes, self.source, choice)
+            }
+            None => Ok(()),
+        }
+    }
+
+    /// Tells the events of the process of this name, and what it can make again.
+    pub fn tell_line(&self, notes: &mut Notes, word: &[u8]) -> Result<(), AllocError> {
+        let found = Name::new(word).and_then(|name| self.program.find_process(name));
+        let Some(pid) = found else {
+            return self.tell_processes(notes, word);
+        };
+        let place = self.world.place(pid);
+        for at in 0..place {
+            self.tell_made(notes, pid, at)?;
+        }
+        notes.say(&[self.scope(pid).name(), Part::Text(" stands here, behind "), Part::Number(i64::from(place)), Part::Text(" of ")])?;
+        notes.add(&[Part::Number(i64::from(self.world.line_len(pid)))])?;
+        for at in place..self.world.line_len(pid) {
+            self.tell_again(notes, pid, at)?;
+        }
+        Ok(())
+    }
+
+    /// Tells that no process has this name, and which there are.
+    pub(crate) fn tell_processes(&self, notes: &mut Notes, word: &[u8]) -> Result<(), AllocError> {
+        notes.say(&[Part::Text("`"), Part::Bytes(word), Part::Text("` is no process; there are")])?;
+        let mut between = " ";
+        for p in 0..self.program.processes() {
+            notes.add(&[Part::Text(between), self.scope(Pid(p)).name()])?;
+            between = ", ";
+        }
+        Ok(())
+    }
+}
