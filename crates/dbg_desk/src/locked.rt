@@ -9,7 +9,7 @@ ghost use Rattle.dbg_base.specs.ModelStates.{ModelState};
 ghost use Rattle.dbg_base.specs.Journals.{Makes, StandsAt, IsLegal, effective};
 ghost use Rattle.dbg_base.specs.Fits.{FitsCall};
 ghost use Rattle.proc_lang.specs.Programs.{program_of};
-ghost use Rattle.dbg_command.specs.Tables.{said_of, told_of};
+ghost use Rattle.dbg_command.specs.Tables.{said_of, told_of, state_of, IsTableOf};
 ghost use Rattle.dbg_command.specs.Boxes.{IsScanFor};
 ghost use Rattle.dbg_board.specs.Boards.{listing};
 ghost use Rattle.std.specs.List.{AllByRecursion};
@@ -26,7 +26,7 @@ use crate::settling::{Closing, Mismatch, are_kept};
 use dbg_base::limits::CALLS;
 use dbg_base::{Answer, Call, Gate, Query, Refusal, Reply};
 use dbg_board::{Publisher, SeatView};
-use dbg_command::Command;
+use dbg_command::{Command, Table};
 use dbg_session::Session;
 use kept_calls::call_that_gives;
 use least_cut::Scan;
@@ -133,6 +133,14 @@ impl<L: Run, C: Command> Locked<L, C> {
         ensures { program_of result.now ≡ L.program }
     {
         self.session.program()
+    }
+
+    /// The table where the calls that were entered have led. It takes no memory.
+    pub fn table(&self) -> &Table
+        ensures of { IsTableOf L.program result.now }
+        ensures stands { StandsAt L.program (effective self.now.journal) (state_of result.now) }
+    {
+        self.session.table()
     }
 
     /// How many calls were entered. They are a legal journal, and each was told on the board. It takes no memory.

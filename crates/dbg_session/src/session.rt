@@ -8,7 +8,7 @@ ghost use Rattle.dbg_base.specs.ModelStates.{opening, IsHaltPlace};
 ghost use Rattle.dbg_base.specs.Journals.{StandsAt, AnswersBack, counting, last_given};
 ghost use Rattle.dbg_base.specs.Fits.{FitsCall};
 ghost use Rattle.proc_lang.specs.Programs.{program_of};
-ghost use Rattle.dbg_command.specs.Tables.{asks_memory, AnswersOrRefuses, FollowsOrRefuses, said_of, told_of};
+ghost use Rattle.dbg_command.specs.Tables.{asks_memory, state_of, IsTableOf, AnswersOrRefuses, FollowsOrRefuses, said_of, told_of};
 ghost use Rattle.dbg_command.specs.Boxes.{IsScanFor, ScansFor};
 
 use dbg_base::{Answer, Done, Gate, Plan, Query, Refusal, Reply};
