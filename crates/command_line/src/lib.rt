@@ -9,3 +9,4 @@ mod line;
 mod words;
 
 pub use line::{Line, parse_line, without_return};
+pub use words::next_word;

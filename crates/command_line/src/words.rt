@@ -44,8 +44,8 @@ pub(crate) fn word_length(bytes: &[u8]) -> usize
     bytes.len()
 }
 
-// The first word, which is empty where there are blanks alone, and the bytes behind it.
-pub(crate) fn next_word(bytes: &[u8]) -> (&[u8], &[u8])
+/// The first word, which is empty where there are blanks alone, and the bytes behind it. It takes no memory.
+pub fn next_word(bytes: &[u8]) -> (&[u8], &[u8])
     ensures word { result.0.now ≡ next_word bytes.now }
     ensures rest { result.1.now ≡ after_word bytes.now }
 {

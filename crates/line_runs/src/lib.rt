@@ -7,3 +7,4 @@ mod serving;
 mod session;
 
 pub use serving::serve;
+pub use session::answer;

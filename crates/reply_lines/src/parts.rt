@@ -116,8 +116,8 @@ pub(crate) enum Piece<'a> {
     Halted(Option<Name>),
 }
 
-// Writes all of the bytes. A failure ends it, and nothing is tried again.
-fn write_whole<W: Sink>(writer: &mut W, bytes: &[u8]) -> Result<(), ServeFault>
+/// Writes all of the bytes. A failure ends it, and nothing is tried again.
+pub fn write_whole<W: Sink>(writer: &mut W, bytes: &[u8]) -> Result<(), ServeFault>
     ensures { Writes (W.seen writer.old) (W.seen writer.new) result bytes.now }
 {
     let mut rest = bytes;

@@ -2,6 +2,7 @@
 #![tactic(auto)]
 
 mod accepted;
+mod answers;
 mod breakpoints;
 mod commands;
 mod events;

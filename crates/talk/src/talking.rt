@@ -1,0 +1,97 @@
+//! The lines of a talk.
+
+ghost use Rattle.std.specs.Prelude.{◌≡◌, OnOk, IfOk, IfErr};
+ghost use Rattle.devices.specs.Seen.{Appended};
+ghost use Rattle.reply_lines.specs.declared.outcome.ServeFault.TheVariants.{Write};
+ghost use Rattle.line_runs.specs.Answering.{IsMaker, AreAllSeats};
+ghost use Rattle.talk.specs.Writing.{WritesTold, WritesLine, WritesAnswer};
+
+use crate::own::{Room, first_word, is_own};
+use crate::sentences::{Asked, call_notes, line_notes, own_notes, view};
+use crate::written::{write_echo, write_told};
+use command_line::parse_line;
+use dbg_base::Refusal;
+use dbg_command::{Command, Givable};
+use dbg_desk::{Locked, Run, Seat};
+use devices::Sink;
+use line_runs::answer;
+use reply_lines::{ServeFault, hand_on, print_refusal, print_reply};
+use std::alloc::Global;
+use telling::{Notes, Source};
+
+// Writes what is told, and hands it on.
+fn tell<W: Sink>(notes: &Notes, writer: &mut W) -> Result<(), ServeFault>
+    ensures told { OnOk result (WritesTold (W.seen writer.old) (W.seen writer.new)) }
+    ensures fault { IfErr result (λ fault. fault ≡ Write) }
+{
+    let written = write_told(notes.lines(), writer);
+    hand_on(written, writer)
+}
+
+// Answers a command line, which has its seat, and tells what happened. The reply is handed on before that.
+fn answer_line<L: Run, C: Command, M: Fn(Givable) -> Result<C, Refusal>, W: Sink>(
+    alloc: Global,
+    make: &M,
+    source: &Source,
+    locked: &mut Locked<L, C>,
+    seats: &mut [Seat<L>],
+    line: &[u8],
+    writer: &mut W,
+) -> Result<(), ServeFault>
+    requires may { M.IsAlwaysCallable make.now }
+    requires makes { IsMaker (M.post make.now) C.IsFresh C.order }
+    requires seats { AreAllSeats seats.old }
+    ensures seats { AreAllSeats seats.new }
+    ensures answers { OnOk result (WritesAnswer L.program line.now locked.old.journal (W.seen writer.old) (W.seen writer.new)
+        locked.new.journal) }
+    ensures fault { IfErr result (λ fault. fault ≡ Write) }
+{
+    match parse_line(alloc, locked.program(), line) {
+        Ok(Some(line)) => {
+            let asked = Asked::new(alloc, view(locked.program(), source, locked.table()), &line.call);
+            let seat = &mut seats[line.seat as usize - 1];
+            let (call, said) = answer(locked, alloc, make, seat, line.call);
+            let written = print_reply(locked.program(), &call, &said, writer);
+            hand_on(written, writer)?;
+            let notes = call_notes(alloc, view(locked.program(), source, locked.table()), &asked, &said);
+            tell(&notes, writer)
+        }
+        Ok(None) => Ok(()),
+        Err(refusal) => {
+            let written = print_refusal(locked.program(), &refusal, writer);
+            hand_on(written, writer)?;
+            let notes = line_notes(alloc, view(locked.program(), source, locked.table()), line, &refusal);
+            tell(&notes, writer)
+        }
+    }
+}
+
+/// Answers a line, and says whether the talk goes on.
+pub(crate) fn talk_line<L: Run, C: Command, M: Fn(Givable) -> Result<C, Refusal>, W: Sink>(
+    alloc: Global,
+    make: &M,
+    source: &Source,
+    locked: &mut Locked<L, C>,
+    seats: &mut [Seat<L>],
+    room: &mut Room,
+    line: &[u8],
+    echoes: bool,
+    writer: &mut W,
+) -> Result<bool, ServeFault>
+    requires may { M.IsAlwaysCallable make.now }
+    requires makes { IsMaker (M.post make.now) C.IsFresh C.order }
+    requires seats { AreAllSeats seats.old }
+    ensures seats { AreAllSeats seats.new }
+    ensures talks { OnOk result (WritesLine L.program line.now locked.old.journal (W.seen writer.old) (W.seen writer.new)
+        locked.new.journal) }
+    ensures fault { IfErr result (λ fault. fault ≡ Write) }
+{
+    write_echo(echoes, line, writer)?;
+    if is_own(line) {
+        let notes = own_notes(alloc, view(locked.program(), source, locked.table()), line);
+        tell(&notes, writer)?;
+        return Ok(first_word(line) != b"quit".as_slice());
+    }
+    answer_line(alloc, make, source, locked, seats, room.with_seat(line), writer)?;
+    Ok(true)
+}
