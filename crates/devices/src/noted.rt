@@ -38,6 +38,13 @@ impl<D> Noted<D> {
         self.health
     }
 
+    /// The device, to look at.
+    pub fn device(&self) -> &D
+        ensures { result.now ≡ self.now.device }
+    {
+        &self.device
+    }
+
     /// The device.
     pub fn into_inner(self) -> D
         ensures { result ≡ self.device }

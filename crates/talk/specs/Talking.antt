@@ -1,6 +1,6 @@
 -- What a session for a person writes for its lines.
 use Rattle.std.specs.Prelude.{◌≡◌, ◌⊎◌, ◌==◌, ◌&&◌, ◌||◌, ℕ, Bool, true, false, nat_le, nat_lt, List, [], ◌∷◌, ◌++◌, length, codes, if◌then◌else◌}
-use Rattle.std.specs.List.{list_any, list_all, flat_map}
+use Rattle.std.specs.List.{AllByRecursion, list_any, flat_map}
 use Rattle.std.specs.Bool.{MatchBool}
 use Rattle.std.specs.Str.{bytes_eq}
 use Rattle.devices.specs.Seen.{Seen, Appended}
@@ -9,7 +9,7 @@ use Rattle.dbg_base.specs.Tokens.{is_digit}
 use Rattle.dbg_base.specs.CommandLines.{next_word, without_return}
 use Rattle.dbg_base.specs.Trees.{Program}
 use Rattle.dbg_base.specs.Journals.{Journal}
-use Rattle.dbg_base.specs.Shell.{as_line, AnswersLine}
+use Rattle.dbg_base.specs.Shell.{as_line, AnswersLine, too_long_text}
 use Rattle.shell_input.specs.Spans.{is_unended, lines_from, MayBe}
 
 -- the words of a talk's own
@@ -41,7 +41,7 @@ abbrev pub told_text : List (List ℕ) → List ℕ
 told_text lines = flat_map (λ line. codes "  " ++ as_line line) lines
 
 abbrev pub IsTold : List ℕ → Type 0
-IsTold text = (lines : List (List ℕ)) × (list_all is_unended lines ≡ true) × (text ≡ told_text lines)
+IsTold text = (lines : List (List ℕ)) × AllByRecursion (λ line. is_unended line ≡ true) lines × (text ≡ told_text lines)
 
 -- the line itself, or nothing
 abbrev pub IsEcho : List ℕ → List ℕ → Type 0
@@ -63,11 +63,14 @@ TalksLines P [] J out J' = (out ≡ []) × (J' ≡ J)
 TalksLines P (line ∷ lines) J out J' =
     (first rest : List ℕ) (next : Journal) × TalksLine P line J first next × TalksLines P lines next rest J' × (out ≡ first ++ rest)
 
--- The lines from this place on were answered in turn, all of them or up to one behind which the talk ended.
+-- The lines from this place on were answered in turn, all of them or up to one behind which the talk ended, and at the end it may be told
+-- that the input is too long.
 pub record Talks (P : Program) (bytes : List ℕ) (ended : Bool) (from : ℕ) (old new : Seen) : Type 0 where
   pub lines : List (List ℕ)
   pub text : List ℕ
+  pub last : List ℕ
   pub journal : Journal
   pub among : (input : List ℕ) → MayBe bytes ended input → (others : List (List ℕ)) × (lines_from from input ≡ lines ++ others)
   pub talks : TalksLines P lines [] text journal
-  pub written : (last : List ℕ) × Appended old new (text ++ last)
+  pub ends : (last ≡ []) ⊎ (last ≡ too_long_text)
+  pub written : Appended old new (text ++ last)

@@ -2,4 +2,11 @@
 #![tactic(auto)]
 
 mod own;
+mod running;
+mod sentences;
+mod talking;
+mod typed;
 mod written;
+
+pub use running::talk;
+pub use typed::Typed;

@@ -4,9 +4,9 @@ use crate::own::first_word;
 use command_line::next_word;
 use dbg_base::{Call, Refusal, Said};
 use dbg_command::Table;
-use proc_lang::Program;
-use std::alloc::{AllocError, Global};
-use telling::{Before, Notes, Source, View, tell_help};
+use proc_lang::{ProgFault, Program};
+use std::alloc::Global;
+use telling::{Before, Notes, Source, View, tell_help, tell_program_fault};
 
 /// A session as it stands.
 pub(crate) fn view<'a>(program: &'a Program, source: &'a Source, table: &'a Table) -> View<'a> {
@@ -72,5 +72,12 @@ pub(crate) fn call_notes(alloc: Global, view: View<'_>, asked: &Option<Asked>, s
 pub(crate) fn line_notes(alloc: Global, view: View<'_>, line: &[u8], refusal: &Refusal) -> Notes {
     let mut notes = Notes::new(alloc);
     let _ended = view.tell_bad_line(alloc, &mut notes, line, refusal);
+    notes
+}
+
+/// What is told of a program that is refused.
+pub(crate) fn fault_notes(alloc: Global, text: &[u8], fault: &ProgFault) -> Notes {
+    let mut notes = Notes::new(alloc);
+    let _ended = tell_program_fault(&mut notes, text, fault);
     notes
 }

@@ -19,8 +19,8 @@ use reply_lines::{ServeFault, hand_on, print_refusal, print_reply};
 use std::alloc::Global;
 use telling::{Notes, Source};
 
-// Writes what is told, and hands it on.
-fn tell<W: Sink>(notes: &Notes, writer: &mut W) -> Result<(), ServeFault>
+/// Writes what is told, and hands it on.
+pub(crate) fn tell<W: Sink>(notes: &Notes, writer: &mut W) -> Result<(), ServeFault>
     ensures told { OnOk result (WritesTold (W.seen writer.old) (W.seen writer.new)) }
     ensures fault { IfErr result (λ fault. fault ≡ Write) }
 {

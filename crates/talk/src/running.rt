@@ -1,0 +1,221 @@
+//! A talk: a program text, and the lines of a person behind it.
+
+ghost use Rattle.std.specs.Prelude.{◌≡◌, [], replicate, IfOk, IfErr};
+ghost use Rattle.dbg_base.specs.declared.refusal.Refusal.TheVariants as refusals;
+ghost use Rattle.dbg_base.specs.Calls.{order_of};
+ghost use Rattle.dbg_base.specs.declared.limits.TheConstants.{SEATS};
+ghost use Rattle.dbg_board.specs.Boards.{listing};
+ghost use Rattle.proc_lang.specs.Programs.{program_of};
+ghost use Rattle.shell_input.specs.Spans.{EndsWith};
+ghost use Rattle.line_runs.specs.Answering.{IsMaker, AreAllSeats};
+ghost use Rattle.talk.specs.Talking.{Talks};
+
+use crate::own::Room;
+use crate::sentences::fault_notes;
+use crate::talking::{talk_line, tell};
+use crate::typed::Typed;
+use dbg_base::limits::SEATS;
+use dbg_base::{Plan, Refusal};
+use dbg_board::{Board, Publisher, SeatView};
+use dbg_command::{
+    ArmCmd, BatchCmd, BreakCmd, ClearCmd, Command, Givable, GotoCmd, NextCmd, PassCmd, RedoCmd,
+    RollbackCmd, StepCmd, UndoCmd,
+};
+use dbg_desk::{Locked, Run, Seat};
+use devices::{Sink, Source};
+use proc_lang::{ProgError, ProgFault, Program, parse_program};
+use reply_lines::{ServeFault, Served, tell_fault, tell_no_end_line, tell_too_long};
+use shell_input::{Input, Next, TextEnd, read_program_text};
+use std::alloc::Global;
+use std::marker::Brand;
+use std::mem;
+use std::sync::ledger::Blank;
+use telling::Source as Text;
+
+
+// Leaves a talk that is over, whose memory goes with the process.
+fn leave<L: Run, C: Command>(locked: Locked<L, C>, seats: Vec<Seat<L>>) {
+    mem::forget(locked);
+    mem::forget(seats);
+}
+
+// Answers the lines of a talk in which no call was made yet.
+fn talk_run<L: Run, C: Command, M: Fn(Givable) -> Result<C, Refusal>, R: Source + Typed, W: Sink>(
+    alloc: Global,
+    make: &M,
+    text: &Text,
+    locked: Locked<L, C>,
+    seats: Vec<Seat<L>>,
+    input: &mut Input,
+    reader: &mut R,
+    writer: &mut W,
+) -> Result<Served, ServeFault>
+    requires may { M.IsAlwaysCallable make.now }
+    requires makes { IsMaker (M.post make.now) C.IsFresh C.order }
+    requires journal { locked.journal ≡ [] }
+    requires seats { AreAllSeats seats.items }
+    requires ends { EndsWith input.old.ended (R.remaining reader.old) }
+    ensures talks { IfOk result (λ _. Talks L.program input.new.bytes.items input.new.ended input.old.at (W.seen writer.old)
+        (W.seen writer.new)) }
+{
+    let mut locked = locked;
+    let mut seats = seats;
+    let mut room = Room::new(alloc)?;
+    loop {
+        match input.next_line(reader)? {
+            Next::Line(span) => {
+                let line = input.line(span);
+                let echoes = !reader.is_typed();
+                let goes_on = talk_line(
+                    alloc, make, text, &mut locked, &mut seats, &mut room, line, echoes, writer,
+                )?;
+                if !goes_on {
+                    leave(locked, seats);
+                    return Ok(Served::Done);
+                }
+            },
+            Next::End => {
+                leave(locked, seats);
+                return Ok(Served::Done);
+            },
+            Next::TooLong => {
+                leave(locked, seats);
+                return tell_too_long(writer);
+            },
+        }
+    }
+}
+
+// What a talk is made of: its program, the ledger of its calls, and its board.
+#[derive(Drop)]
+struct Beginning {
+    program: Program,
+    blank: Blank,
+    publisher: Publisher,
+    views: Vec<SeatView>,
+}
+
+// Begins a talk, and answers its lines.
+fn begin_talk<L: Run, C: Command, M: Fn(Givable) -> Result<C, Refusal>, R: Source + Typed, W: Sink>(
+    alloc: Global,
+    make: &M,
+    text: &Text,
+    beginning: Beginning,
+    input: &mut Input,
+    reader: &mut R,
+    writer: &mut W,
+) -> Result<Served, ServeFault>
+    requires may { M.IsAlwaysCallable make.now }
+    requires makes { IsMaker (M.post make.now) C.IsFresh C.order }
+    requires program { program_of beginning.program ≡ L.program }
+    requires name { beginning.blank.name ≡ L.name }
+    requires parts { (beginning.blank.parts ≡ L.parts) × (beginning.blank.parts ≡ L.seats) }
+    requires board { beginning.publisher ≡ listing L.board [] }
+    requires views { beginning.views.items ≡ replicate L.seats (listing L.board []) }
+    requires seats { L.seats ≡ SEATS }
+    requires ends { EndsWith input.old.ended (R.remaining reader.old) }
+    ensures talks { IfOk result (λ _. Talks L.program input.new.bytes.items input.new.ended input.old.at (W.seen writer.old)
+        (W.seen writer.new)) }
+{
+    let Beginning {
+        program,
+        blank,
+        publisher,
+        views,
+    } = beginning;
+    match Locked::<L, C>::new(alloc, blank, publisher, views, program) {
+        Ok((locked, seats)) => talk_run(alloc, make, text, locked, seats, input, reader, writer),
+        Err(_) => Err(ServeFault::Memory),
+    }
+}
+
+// Answers the lines behind this program, whose text this is.
+fn talk_lines<C: Command, M: Fn(Givable) -> Result<C, Refusal>, R: Source + Typed, W: Sink>(
+    alloc: Global,
+    make: &M,
+    text: &Text,
+    program: Program,
+    input: &mut Input,
+    reader: &mut R,
+    writer: &mut W,
+) -> Result<Served, ServeFault>
+    requires may { M.IsAlwaysCallable make.now }
+    requires makes { IsMaker (M.post make.now) C.IsFresh C.order }
+    requires ends { EndsWith input.old.ended (R.remaining reader.old) }
+    ensures talks { IfOk result (λ _. Talks (program_of program) input.new.bytes.items input.new.ended input.old.at
+        (W.seen writer.old) (W.seen writer.new)) }
+{
+    match Board::new(alloc, SEATS) {
+        Ok((_board, publisher, views)) => {
+            let beginning = Beginning {
+                program,
+                blank: Blank::new(u64::from(SEATS)),
+                publisher,
+                views,
+            };
+            begin_talk::<Brand, C, M, R, W>(alloc, make, text, beginning, input, reader, writer)
+        }
+        Err(_) => Err(ServeFault::Memory),
+    }
+}
+
+// Tells that the program is refused, and why.
+fn tell_program_refused<W: Sink>(
+    alloc: Global,
+    text: &[u8],
+    fault: &ProgFault,
+    writer: &mut W,
+) -> Result<Served, ServeFault> {
+    let served = tell_fault(fault, writer)?;
+    tell(&fault_notes(alloc, text, fault), writer)?;
+    Ok(served)
+}
+
+/// Reads a program text up to a line `%%`, and then answers each line behind it: a command line, without a seat that of seat 1, by its
+/// reply and by sentences that say what happened, each behind two blanks; and the lines of the talk's own (`help`, `on`, `state`, `line P`,
+/// `quit`, comments) by such sentences alone. A line that was not typed is written before its reply. A text that is no program is
+/// refused, and it is told why.
+pub fn talk<R: Source + Typed, W: Sink>(
+    alloc: Global,
+    reader: &mut R,
+    writer: &mut W,
+) -> Result<Served, ServeFault> {
+    let make = |given: Givable| -> Result<Box<dyn Command>, Refusal>
+        ensures makes { IfOk result (λ command. IsFresh command × (order command ≡ order_of given.plan)) }
+        ensures refuses { IfErr result (λ refusal. refusal ≡ refusals.Memory) }
+    {
+        let Givable { plan } = given;
+        let command: Box<dyn Command> = match plan {
+            Plan::Step(pid, choice) => Box::new(alloc, StepCmd::new(pid, choice))?,
+            Plan::Next(pid) => Box::new(alloc, NextCmd::new(pid))?,
+            Plan::Undo(pid) => Box::new(alloc, UndoCmd::new(pid))?,
+            Plan::Redo(pid) => Box::new(alloc, RedoCmd::new(pid))?,
+            Plan::Rollback(pid, place) => Box::new(alloc, RollbackCmd::new(pid, place))?,
+            Plan::Goto(name) => Box::new(alloc, GotoCmd::new(name))?,
+            Plan::Break(name, conjuncts) => Box::new(alloc, BreakCmd::new(name, conjuncts))?,
+            Plan::Clear(name) => Box::new(alloc, ClearCmd::new(name))?,
+            Plan::Arm(name) => Box::new(alloc, ArmCmd::new(name))?,
+            Plan::Pass(name) => Box::new(alloc, PassCmd::new(name))?,
+            Plan::Batch(plans) => Box::new(alloc, BatchCmd::new(plans))?,
+        };
+        Ok(command)
+    };
+    let mut input = Input::new(alloc)?;
+    match read_program_text(&mut input, reader)? {
+        TextEnd::Before(span) => {
+            let text = input.before(span);
+            match parse_program(alloc, text) {
+                Ok(program) => {
+                    let source = Text::new(alloc, text)?;
+                    talk_lines::<Box<dyn Command>, _, _, _>(
+                        alloc, &make, &source, program, &mut input, reader, writer,
+                    )
+                }
+                Err(ProgError::Bad(fault)) => tell_program_refused(alloc, text, &fault, writer),
+                Err(ProgError::Memory) => Err(ServeFault::Memory),
+            }
+        }
+        TextEnd::End => tell_no_end_line(writer),
+        TextEnd::TooLong => tell_too_long(writer),
+    }
+}
