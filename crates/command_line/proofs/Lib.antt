@@ -1,5 +1,6 @@
 pub mod FirstWords
 pub mod Digits
+pub mod Pairs
 pub mod Places
 pub mod BreakLines
 pub mod PartsRead

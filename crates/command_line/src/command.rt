@@ -1,89 +1,150 @@
 //! Commands by themselves: a word, and what is behind it.
 
-ghost use Rattle.std.specs.Prelude.{◌≡◌, ◌∷◌, [], IfOk};
+ghost use Rattle.std.specs.Prelude.{◌≡◌, ℕ, List, ◌∷◌, [], Result, IfOk};
 ghost use Rattle.std.specs.Option.{option_map};
 ghost use Rattle.dbg_base.specs.Calls.{call_of};
 ghost use Rattle.dbg_base.specs.CommandLines.{words_of, map_ok, process_call, break_call, step_call, rollback_call, chan_call, lone_call};
-ghost use Rattle.dbg_base.specs.CommandLines.{call_of_words};
+ghost use Rattle.dbg_base.specs.CommandLines.{call_of_words, with_word, name_word};
+ghost use Rattle.dbg_base.specs.declared.refusal.Refusal.{Refusal};
 ghost use Rattle.proc_lang.specs.Programs.{program_of};
 ghost use Rattle.command_line.specs.Lines.{IsOneParsed, IsGivable, has_shape};
+ghost use Rattle.command_line.specs.Words.{process_word_call, call_by_process, break_word_call};
 
 use crate::break_line::{is_break, parse_break};
-use crate::words::{first_word, name_word, named_process, next_word, number_word};
+use crate::words::{first_word, name_word, named_process, next_word, number_word, process_word};
 use dbg_base::{Call, Choice, Name, Pid, Plan, Query, Refusal};
 use proc_lang::Program;
 use std::alloc::Global;
 
-// The call of a word that is about a process, which may be missing. A word that is none of these makes the line a bad one.
-fn process_call(word: &[u8], process: Result<Pid, Refusal>) -> Result<Call, Refusal>
-    ensures { map_ok call_of result ≡ process_call word.now (map_ok (λ pid. pid.0) process) }
-{
-    if word == b"next".as_slice() {
-        Ok(Call::Give(Plan::Next(process?)))
-    } else if word == b"undo".as_slice() {
-        Ok(Call::Give(Plan::Undo(process?)))
-    } else if word == b"redo".as_slice() {
-        Ok(Call::Give(Plan::Redo(process?)))
-    } else if word == b"vars".as_slice() {
-        Ok(Call::Ask(Query::Vars(process?)))
-    } else if word == b"clock".as_slice() {
-        Ok(Call::Ask(Query::Clock(process?)))
-    } else if word == b"place".as_slice() {
-        Ok(Call::Ask(Query::Place(process?)))
-    } else if word == b"can".as_slice() {
-        Ok(Call::Ask(Query::Can(process?)))
-    } else {
-        Err(Refusal::BadLine)
+// A command word that is about a process.
+#[derive(Clone, Copy)]
+enum ProcessWord {
+    Next,
+    Undo,
+    Redo,
+    Vars,
+    Clock,
+    Place,
+    Can,
+}
+
+impl ProcessWord {
+    // The word of these bytes, if they are one.
+    fn read(word: &[u8]) -> Option<ProcessWord>
+        ensures { (process : Result ℕ Refusal) → process_call word.now process ≡ call_by_process result process }
+    {
+        if word == b"next".as_slice() {
+            Some(ProcessWord::Next)
+        } else if word == b"undo".as_slice() {
+            Some(ProcessWord::Undo)
+        } else if word == b"redo".as_slice() {
+            Some(ProcessWord::Redo)
+        } else if word == b"vars".as_slice() {
+            Some(ProcessWord::Vars)
+        } else if word == b"clock".as_slice() {
+            Some(ProcessWord::Clock)
+        } else if word == b"place".as_slice() {
+            Some(ProcessWord::Place)
+        } else if word == b"can".as_slice() {
+            Some(ProcessWord::Can)
+        } else {
+            None
+        }
+    }
+
+    // Its call, of this process.
+    fn call(self, process: Pid) -> Call
+        ensures { call_of result ≡ process_word_call self process.0 }
+    {
+        match self {
+            ProcessWord::Next => Call::Give(Plan::Next(process)),
+            ProcessWord::Undo => Call::Give(Plan::Undo(process)),
+            ProcessWord::Redo => Call::Give(Plan::Redo(process)),
+            ProcessWord::Vars => Call::Ask(Query::Vars(process)),
+            ProcessWord::Clock => Call::Ask(Query::Clock(process)),
+            ProcessWord::Place => Call::Ask(Query::Place(process)),
+            ProcessWord::Can => Call::Ask(Query::Can(process)),
+        }
+    }
+}
+
+// A command word that is about a breakpoint.
+#[derive(Clone, Copy)]
+enum BreakWord {
+    Goto,
+    Clear,
+    Arm,
+    Pass,
+    Cut,
+    Why,
+}
+
+impl BreakWord {
+    // The word of these bytes, if they are one.
+    fn read(word: &[u8]) -> Option<BreakWord>
+        ensures { (name : List ℕ) → break_call word.now name ≡ option_map (λ word. break_word_call word name) result }
+    {
+        if word == b"goto".as_slice() {
+            Some(BreakWord::Goto)
+        } else if word == b"clear".as_slice() {
+            Some(BreakWord::Clear)
+        } else if word == b"arm".as_slice() {
+            Some(BreakWord::Arm)
+        } else if word == b"pass".as_slice() {
+            Some(BreakWord::Pass)
+        } else if word == b"cut".as_slice() {
+            Some(BreakWord::Cut)
+        } else if word == b"why".as_slice() {
+            Some(BreakWord::Why)
+        } else {
+            None
+        }
+    }
+
+    // Its call, of this breakpoint.
+    fn call(self, name: Name) -> Call
+        ensures { call_of result ≡ break_word_call self name }
+    {
+        match self {
+            BreakWord::Goto => Call::Give(Plan::Goto(name)),
+            BreakWord::Clear => Call::Give(Plan::Clear(name)),
+            BreakWord::Arm => Call::Give(Plan::Arm(name)),
+            BreakWord::Pass => Call::Give(Plan::Pass(name)),
+            BreakWord::Cut => Call::Ask(Query::CutOf(name)),
+            BreakWord::Why => Call::Ask(Query::Why(name)),
+        }
     }
 }
 
 // The call that makes the process give this command.
-fn step_call(program: &Program, process: Name, choice: &[u8]) -> Result<Call, Refusal>
-    ensures { map_ok call_of result ≡ step_call (program_of program.now) process choice.now }
+fn step_call(program: &Program, process: &[u8], choice: &[u8]) -> Result<Call, Refusal>
+    ensures { map_ok call_of result ≡ with_word (name_word process.now)
+        (λ name. step_call (program_of program.now) name choice.now) }
 {
     let choice = number_word(choice).ok_or(Refusal::BadLine)?;
-    let pid = named_process(program, process)?;
+    let pid = process_word(program, process)?;
     Ok(Call::Give(Plan::Step(pid, Choice(choice))))
 }
 
 // The call that takes the process back to this count of events.
-fn rollback_call(program: &Program, process: Name, place: &[u8]) -> Result<Call, Refusal>
-    ensures { map_ok call_of result ≡ rollback_call (program_of program.now) process place.now }
+fn rollback_call(program: &Program, process: &[u8], place: &[u8]) -> Result<Call, Refusal>
+    ensures { map_ok call_of result ≡ with_word (name_word process.now)
+        (λ name. rollback_call (program_of program.now) name place.now) }
 {
     let place = number_word(place).ok_or(Refusal::BadLine)?;
-    let pid = named_process(program, process)?;
+    let pid = process_word(program, process)?;
     Ok(Call::Give(Plan::Rollback(pid, place)))
 }
 
 // The call that asks for the messages between two processes.
-fn chan_call(program: &Program, source: Name, target: &[u8]) -> Result<Call, Refusal>
-    ensures { map_ok call_of result ≡ chan_call (program_of program.now) source target.now }
+fn chan_call(program: &Program, source: &[u8], target: &[u8]) -> Result<Call, Refusal>
+    ensures { map_ok call_of result ≡ with_word (name_word source.now)
+        (λ name. chan_call (program_of program.now) name target.now) }
 {
     let target = name_word(target).ok_or(Refusal::BadLine)?;
-    let source = named_process(program, source)?;
+    let source = process_word(program, source)?;
     let target = named_process(program, target)?;
     Ok(Call::Ask(Query::Chan(source, target)))
-}
-
-// The call of a word that is about a breakpoint, if it is one of these.
-fn break_call(word: &[u8], name: Name) -> Option<Call>
-    ensures { option_map call_of result ≡ break_call word.now name }
-{
-    if word == b"goto".as_slice() {
-        Some(Call::Give(Plan::Goto(name)))
-    } else if word == b"clear".as_slice() {
-        Some(Call::Give(Plan::Clear(name)))
-    } else if word == b"arm".as_slice() {
-        Some(Call::Give(Plan::Arm(name)))
-    } else if word == b"pass".as_slice() {
-        Some(Call::Give(Plan::Pass(name)))
-    } else if word == b"cut".as_slice() {
-        Some(Call::Ask(Query::CutOf(name)))
-    } else if word == b"why".as_slice() {
-        Some(Call::Ask(Query::Why(name)))
-    } else {
-        None
-    }
 }
 
 // The call of a word without argument.
@@ -103,11 +164,13 @@ fn lone_call(word: &[u8]) -> Result<Call, Refusal>
 fn call_with(program: &Program, word: &[u8], argument: &[u8]) -> Result<Call, Refusal>
     ensures { map_ok call_of result ≡ call_of_words (program_of program.now) word.now (argument.now ∷ []) }
 {
-    let name = name_word(argument).ok_or(Refusal::BadLine)?;
-    match break_call(word, name) {
-        Some(call) => Ok(call),
-        None => process_call(word, named_process(program, name)),
+    if let Some(word) = BreakWord::read(word) {
+        let name = name_word(argument).ok_or(Refusal::BadLine)?;
+        return Ok(word.call(name));
     }
+    let word = ProcessWord::read(word).ok_or(Refusal::BadLine)?;
+    let process = process_word(program, argument)?;
+    Ok(word.call(process))
 }
 
 // The call of a word and its two arguments.
@@ -119,13 +182,12 @@ fn call_with_two(
 ) -> Result<Call, Refusal>
     ensures { map_ok call_of result ≡ call_of_words (program_of program.now) word.now (first.now ∷ second.now ∷ []) }
 {
-    let name = name_word(first).ok_or(Refusal::BadLine)?;
     if word == b"step".as_slice() {
-        step_call(program, name, second)
+        step_call(program, first, second)
     } else if word == b"rollback".as_slice() {
-        rollback_call(program, name, second)
+        rollback_call(program, first, second)
     } else if word == b"chan".as_slice() {
-        chan_call(program, name, second)
+        chan_call(program, first, second)
     } else {
         Err(Refusal::BadLine)
     }

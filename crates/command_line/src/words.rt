@@ -7,6 +7,7 @@ ghost use Rattle.dbg_base.specs.Tokens.{is_letter, is_word_byte};
 ghost use Rattle.dbg_base.specs.CommandLines.{is_blank, words_of, without_blanks, next_word, after_word, number_word, seat_word, name_word};
 ghost use Rattle.dbg_base.specs.CommandLines.{map_ok, named_process};
 ghost use Rattle.proc_lang.specs.Programs.{program_of};
+ghost use Rattle.command_line.specs.Words.{process_word};
 
 use dbg_base::limits::SEATS;
 use dbg_base::{Name, Pid, Refusal};
@@ -127,4 +128,12 @@ pub(crate) fn named_process(program: &Program, name: Name) -> Result<Pid, Refusa
     ensures known { IfOk result (λ pid. pid.0 < length (program_of program.now)) }
 {
     program.find_process(name).ok_or(Refusal::UnknownProcess)
+}
+
+// A process by the word that names it.
+pub(crate) fn process_word(program: &Program, word: &[u8]) -> Result<Pid, Refusal>
+    ensures { map_ok (λ pid. pid.0) result ≡ process_word (program_of program.now) (name_word word.now) }
+{
+    let name = name_word(word).ok_or(Refusal::BadLine)?;
+    named_process(program, name)
 }

@@ -1,7 +1,9 @@
--- Names with what belongs to them.
+-- Names, and names with what belongs to them.
 use Rattle.std.proofs.Common.{◌≡◌, ℕ, zero, suc, ◌≤◌, length, List, [], ◌∷◌, Some, None, refl, arith}
 use Rattle.std.specs.Prelude.{slice_get}
-use Rattle.dbg_base.specs.Replies.{pair_word, pair_words}
+use Rattle.std.specs.Option.{option_map}
+use Rattle.dbg_base.specs.Trees.{Program}
+use Rattle.dbg_base.specs.Replies.{pair_word, pair_words, name_of}
 
 -- the pair at a place is of the name and the text there
 pub pair_at : (names texts : List (List ℕ)) (i : ℕ) (name text written : List ℕ) → Some name ≡ slice_get names i
@@ -29,3 +31,9 @@ pub few_pairs : (names texts : List (List ℕ)) → length (pair_words names tex
 few_pairs [] texts = omega arith
 few_pairs (name ∷ names) [] = omega arith
 few_pairs (name ∷ names) (y ∷ texts) = let less = few_pairs names texts in omega arith
+
+-- a process that a program has not has no name
+pub unnamed : (P : Program) (p : ℕ) → None ≡ option_map (λ process. process.name) (slice_get P p) → name_of P p ≡ []
+unnamed [] p h = refl
+unnamed (process ∷ P) zero h = cc
+unnamed (process ∷ P) (suc p) h = unnamed P p h

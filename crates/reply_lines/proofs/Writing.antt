@@ -1,7 +1,7 @@
 -- Texts that are written one behind the other.
 use Rattle.std.proofs.Common.{◌≡◌, ℕ, List, [], ◌++◌, Result, Ok, Err, refl, sym, ◌∙◌, ap, append_assoc, subst, take, drop, add-one}
-use Rattle.std.proofs.Common.{length, get_or, ◌<◌}
-use Rattle.std.specs.Prelude.{IsErrAnd, Some, None, ◌+◌, suc, ◌∷◌, slice_get, codes}
+use Rattle.std.proofs.Common.{length, map, get_or, ◌<◌, arith}
+use Rattle.std.specs.Prelude.{IsErrAnd, IsErr, Some, None, ◌+◌, suc, ◌∷◌, slice_get, codes}
 use Rattle.std.specs.List.{flat_map}
 use Rattle.devices.specs.Seen.{Seen, Appended, CutShort}
 use Rattle.devices.proofs.Appending.{appended_none, appended_then, cut_then}
@@ -11,7 +11,7 @@ use Rattle.std.proofs.lemmas.Option.{slice_get_read}
 use Rattle.reply_lines.specs.declared.outcome.ServeFault.{ServeFault}
 use Rattle.reply_lines.specs.declared.outcome.ServeFault.TheVariants.{Write}
 use Rattle.dbg_base.specs.Replies.{spaced}
-use Rattle.reply_lines.specs.Writing.{AppendsFront, Writes, in_a_row}
+use Rattle.reply_lines.specs.Writing.{AppendsFront, Writes, Progress, Puts, in_a_row}
 
 pub front_then : (a b c : Seen) (x y : List ℕ) → Appended a b x → AppendsFront b c y → AppendsFront a c (x ++ y)
 front_then a b c x y h k = (x ++ k.0, k.1, ap (λ t. x ++ t) k.2 ∙ sym (append_assoc x k.0 k.1), cut_then a b c x k.0 h k.3)
@@ -41,11 +41,7 @@ handed_on {u = u} {a = a} {b = b} {c = c} {r = r} {x = x} wrote whole flushed =
     subst (λ (t : List ℕ). Writes a c r t) (append-nil x)
     (writes_then (subst (λ o. Writes a b o x) whole wrote) flushed)
 
--- how far the bytes are written
-pub record Progress (a b : Seen) (bytes rest : List ℕ) : Type 0 where
-  pub done : List ℕ
-  pub all : bytes ≡ done ++ rest
-  pub appends : Appended a b done
+-- How far bytes are written.
 
 pub progress_begins : (a : Seen) (bytes : List ℕ) → Progress a a bytes bytes
 progress_begins a bytes = record { done = []; all = refl; appends = appended_none a }
@@ -71,32 +67,6 @@ pub progress_stops : {A : Type 0} (a b c : Seen) (bytes rest : List ℕ) → Pro
 progress_stops a b c bytes rest p h =
     let all : bytes ≡ (p.done ++ []) ++ rest = p.all ∙ ap (λ t. t ++ rest) (sym (append-nil p.done)) in
     record { whole = tt; part = (p.done ++ [], rest, all, cut_then a b c p.done [] p.appends h); fault = refl }
-
--- the first of three texts was not written whole
-pub stopped_first : {A B : Type 0} {e : ServeFault} {r : Result B ServeFault} {a b : Seen} {x : List ℕ} (y z : List ℕ)
-    → Writes {A = A} a b (Err e) x → IsErrAnd r (λ f. f ≡ e)
-    → Writes a b r (x ++ y ++ z)
-stopped_first {x = x} y z h k = rw (append_assoc x y z) (stopped (y ++ z) h k)
-
--- the next part of a text is written
-pub progress_more : {A : Type 0} {u : A} (a b c : Seen) (bytes rest part others : List ℕ) → Progress a b bytes rest
-    → rest ≡ part ++ others → Writes b c (Ok u) part → Progress a c bytes others
-progress_more a b c bytes rest part others p e h = record {
-  done = p.done ++ part;
-  all = p.all ∙ ap (λ t. p.done ++ t) e ∙ sym (append_assoc p.done part others);
-  appends = appended_then a b c p.done part p.appends h.whole;
-}
-
--- the next part of a text was not written whole
-pub progress_fails : {A B : Type 0} {e : ServeFault} {r : Result B ServeFault} (a b c : Seen) (bytes rest part others : List ℕ)
-    → Progress a b bytes rest → rest ≡ part ++ others
-    → Writes {A = A} b c (Err e) part → IsErrAnd r (λ f. f ≡ e) → Writes a c r bytes
-progress_fails {r = Ok v} a b c bytes rest part others p e h k = absurd k
-progress_fails {r = Err f} a b c bytes rest part others p e h k =
-    let front = front_then a b c p.done part p.appends h.part in
-    let longer = front_longer a c (p.done ++ part) others front in
-    let whole : bytes ≡ p.done ++ part ++ others = p.all ∙ ap (λ t. p.done ++ t) e ∙ sym (append_assoc p.done part others) in
-    record { whole = tt; part = (longer.0, longer.1, whole ∙ longer.2, longer.3); fault = k ∙ h.fault }
 
 -- what an item of several gives, and what those behind it give
 next_one : {X : Type 0} (f : X → List ℕ) (xs : List X) (i : ℕ) (x : X) → slice_get xs i ≡ Some x
@@ -131,24 +101,142 @@ row_spaced f (x ∷ y ∷ xs) =
 pub writes_same : {A : Type 0} {a b : Seen} {r : Result A ServeFault} {x y : List ℕ} → x ≡ y → Writes a b r x → Writes a b r y
 writes_same {a = a} {b = b} {r = r} same wrote = subst (λ (t : List ℕ). Writes a b r t) same wrote
 
--- one word, and two words
-pub spaced_one : (word : List ℕ) → spaced (word ∷ []) ≡ codes " " ++ word
-spaced_one word = append-nil (codes " " ++ word)
-
+-- two words
 pub spaced_two : (word other : List ℕ) → spaced (word ∷ other ∷ []) ≡ (codes " " ++ word) ++ (codes " " ++ other)
-spaced_two word other = ap (λ (t : List ℕ). (codes " " ++ word) ++ t) (spaced_one other)
+spaced_two word other = ap (λ (t : List ℕ). (codes " " ++ word) ++ t) (append-nil (codes " " ++ other))
 
--- a part that is due is kept to be written with what is kept already
-pub progress_kept : (a b : Seen) (bytes text due part others longer : List ℕ) → Progress a b bytes (text ++ due)
-    → due ≡ part ++ others → longer ≡ text ++ part → Progress a b bytes (longer ++ others)
-progress_kept a b bytes text due part others longer p e more =
-    subst (λ (rest : List ℕ). Progress a b bytes rest)
-    (ap (λ t. text ++ t) e ∙ sym (append_assoc text part others) ∙ ap (λ t. t ++ others) (sym more)) p
+-- Words that are put together before they are written.
 
--- the last part of a text was written or not
-pub progress_last : {A : Type 0} {r : Result A ServeFault} (a b c : Seen) (bytes rest part : List ℕ) → Progress a b bytes rest
-    → rest ≡ part → Writes b c r part → Writes a c r bytes
-progress_last {r = Ok v} a b c bytes rest part p e h =
-    progress_ends a c bytes [] (progress_more a b c bytes rest part [] p (e ∙ sym (append-nil part)) h) refl
-progress_last {r = Err f} a b c bytes rest part p e h =
-    progress_fails a b c bytes rest part [] p (e ∙ sym (append-nil part)) h refl
+-- words that are put behind what is kept, of which nothing is written
+pub puts_kept : {A : Type 0} {u : A} (a : Seen) (kept words left : List ℕ) → left ≡ kept ++ words → Puts a kept a left (Ok u) words
+puts_kept a kept words left is = record
+    { some = record { done = []; all = sym is; appends = appended_none a }; part = tt; fault = tt }
+
+-- all that is kept is written
+pub puts_written : {A B : Type 0} {u : A} {v : B} {a b : Seen} {kept text left : List ℕ} → Writes {A = A} a b (Ok u) text → text ≡ kept
+    → left ≡ [] → Puts {A = B} a kept b left (Ok v) []
+puts_written {a = a} {b = b} {kept = kept} {text = text} {left = left} h same none = record {
+  some = record { done = text; all = ap (λ (t : List ℕ). t ++ []) (sym same) ∙ ap (λ (t : List ℕ). text ++ t) (sym none); appends = h.whole };
+  part = tt;
+  fault = tt;
+}
+
+-- or it is not
+pub puts_unwritten : {A B : Type 0} {e : ServeFault} {r : Result B ServeFault} {a b : Seen} {kept text left : List ℕ}
+    → Writes {A = A} a b (Err e) text → text ≡ kept → IsErrAnd r (λ f. f ≡ e) → Puts a kept b left r []
+puts_unwritten {r = Ok v} h same k = absurd k
+puts_unwritten {r = Err f} {a = a} {b = b} {kept = kept} {text = text} h same k = record {
+  some = tt;
+  part = subst (AppendsFront a b) (same ∙ sym (append-nil kept)) h.part;
+  fault = k ∙ h.fault;
+}
+
+same_rest : (kept words more done left others rest : List ℕ) → kept ++ words ≡ done ++ left → left ++ more ≡ others ++ rest
+    → kept ++ (words ++ more) ≡ done ++ (others ++ rest)
+same_rest kept words more done left others rest e f =
+    sym (append_assoc kept words more) ∙ ap (λ (t : List ℕ). t ++ more) e ∙ append_assoc done left more ∙ ap (λ t. done ++ t) f
+
+-- words were put, and then more were or not
+pub puts_then : {A B : Type 0} {u : A} {r : Result B ServeFault} {a b c : Seen} {kept left last x y : List ℕ} → Puts a kept b left (Ok u) x
+    → Puts b left c last r y → Puts a kept c last r (x ++ y)
+puts_then {r = Ok v} {a = a} {b = b} {c = c} {kept = kept} {left = left} {last = last} {x = x} {y = y} h k = record {
+  some = record {
+    done = h.some.done ++ k.some.done;
+    all = same_rest kept x y h.some.done left k.some.done last h.some.all k.some.all
+        ∙ sym (append_assoc h.some.done k.some.done last);
+    appends = appended_then a b c h.some.done k.some.done h.some.appends k.some.appends;
+  };
+  part = tt;
+  fault = tt;
+}
+puts_then {r = Err e} {a = a} {b = b} {c = c} {kept = kept} {left = left} {last = last} {x = x} {y = y} h k = record {
+  some = tt;
+  part = (
+    h.some.done ++ k.part.0,
+    k.part.1,
+    same_rest kept x y h.some.done left k.part.0 k.part.1 h.some.all k.part.2 ∙ sym (append_assoc h.some.done k.part.0 k.part.1),
+    cut_then a b c h.some.done k.part.0 h.some.appends k.part.3,
+  );
+  fault = k.fault;
+}
+
+-- words were not put, and nothing behind them is
+pub puts_stopped : {A B : Type 0} {e : ServeFault} {r : Result B ServeFault} {a b : Seen} {kept left last x : List ℕ} (y : List ℕ)
+    → Puts {A = A} a kept b left (Err e) x → IsErrAnd r (λ f. f ≡ e) → Puts a kept b last r (x ++ y)
+puts_stopped {r = Ok v} y h k = absurd k
+puts_stopped {r = Err f} {a = a} {b = b} {kept = kept} {x = x} y h k = record {
+  some = tt;
+  part = subst (AppendsFront a b) (append_assoc kept x y) (front_longer a b (kept ++ x) y h.part);
+  fault = k ∙ h.fault;
+}
+
+-- words are put where nothing is kept
+pub puts_first : (a : Seen) (begun words left : List ℕ) → begun ≡ [] → left ≡ begun ++ words → Puts a [] a left (Ok (tt {0})) words
+puts_first a begun words left none is = puts_kept a [] words left (is ∙ ap (λ (t : List ℕ). t ++ words) none)
+
+-- words were put where nothing was kept, and then what is left was written or not
+pub puts_ends : {A B : Type 0} {u : A} {r : Result B ServeFault} {a b c : Seen} {left x : List ℕ} → Puts a [] b left (Ok u) x
+    → Writes b c r left → Writes a c r x
+puts_ends {A = A} {u = u} {r = r} {a = a} {b = b} {c = c} {left = left} {x = x} h k =
+    writes_same (sym h.some.all)
+    (writes_then {A = A} {u = u} (record { whole = h.some.appends; part = tt; fault = tt }) k)
+
+-- or they were not put
+pub puts_failed : {A : Type 0} {r : Result A ServeFault} {a b : Seen} {left x : List ℕ} → Puts a [] b left r x → IsErr r → Writes a b r x
+puts_failed {r = Ok v} h k = cc
+puts_failed {r = Err f} h k = record { whole = tt; part = h.part; fault = h.fault }
+
+-- what was put is this text, too
+pub puts_same : {A : Type 0} {a b : Seen} {kept left x y : List ℕ} {r : Result A ServeFault} → x ≡ y → Puts a kept b left r x
+    → Puts a kept b left r y
+puts_same {a = a} {b = b} {kept = kept} {left = left} {r = r} same put = subst (λ (t : List ℕ). Puts a kept b left r t) same put
+
+-- Rows of words, put one behind the other: some are put, and others are due.
+
+-- the next ones are put
+pub row_put : {A : Type 0} {u : A} (a b c : Seen) (whole left last due x others : List ℕ) → Progress a b whole (left ++ due)
+    → due ≡ x ++ others → Puts b left c last (Ok u) x → Progress a c whole (last ++ others)
+row_put a b c whole left last due x others p e h = record {
+  done = p.done ++ h.some.done;
+  all = p.all ∙ ap (λ (t : List ℕ). p.done ++ (left ++ t)) e ∙ ap (λ (t : List ℕ). p.done ++ t) (sym (append_assoc left x others))
+      ∙ ap (λ (t : List ℕ). p.done ++ (t ++ others)) h.some.all
+      ∙ ap (λ (t : List ℕ). p.done ++ t) (append_assoc h.some.done last others)
+      ∙ sym (append_assoc p.done h.some.done (last ++ others));
+  appends = appended_then a b c p.done h.some.done p.appends h.some.appends;
+}
+
+-- or they are not
+pub row_stopped : {A B : Type 0} {e : ServeFault} {r : Result B ServeFault} (a b c : Seen) (kept words left last due x others : List ℕ)
+    → Progress a b (kept ++ words) (left ++ due) → due ≡ x ++ others → Puts {A = A} b left c last (Err e) x → IsErrAnd r (λ f. f ≡ e)
+    → Puts a kept c last r words
+row_stopped {r = Ok v} a b c kept words left last due x others p e h k = absurd k
+row_stopped {r = Err f} a b c kept words left last due x others p e h k =
+    let longer = front_longer b c (left ++ x) others h.part in
+    let front = front_then a b c p.done ((left ++ x) ++ others) p.appends longer in
+    let whole : kept ++ words ≡ p.done ++ ((left ++ x) ++ others) =
+    p.all ∙ ap (λ (t : List ℕ). p.done ++ (left ++ t)) e ∙ ap (λ (t : List ℕ). p.done ++ t) (sym (append_assoc left x others)) in
+    record { some = tt; part = (front.0, front.1, whole ∙ front.2, front.3); fault = k ∙ h.fault }
+
+-- all are put
+pub row_ends : {A : Type 0} {u : A} (a b : Seen) (kept words left due : List ℕ) → Progress a b (kept ++ words) (left ++ due) → due ≡ []
+    → Puts a kept b left (Ok u) words
+row_ends a b kept words left due p none = record {
+  some = record {
+    done = p.done;
+    all = p.all ∙ ap (λ (t : List ℕ). p.done ++ (left ++ t)) none ∙ ap (λ (t : List ℕ). p.done ++ t) (append-nil left);
+    appends = p.appends;
+  };
+  part = tt;
+  fault = tt;
+}
+
+next_at : {X : Type 0} (f : X → List ℕ) (xs : List X) (i : ℕ) (none x : X) → i < length xs → x ≡ get_or xs i none
+    → spaced (map f (drop i xs)) ≡ (codes " " ++ f x) ++ spaced (map f (drop (suc i) xs))
+next_at f [] i none x lt is = absurd (omega (arith, lt))
+next_at f (y ∷ xs) ℕ.zero none x lt is = ap (λ z. (codes " " ++ f z) ++ spaced (map f xs)) (sym is)
+next_at f (y ∷ xs) (suc i) none x lt is = next_at f xs i none x (omega (arith, lt)) is
+
+-- the word of one of several, and the words of those behind it
+pub next_mapped : {X : Type 0} (f : X → List ℕ) (xs : List X) (i : ℕ) (none x : X) → i < length xs → x ≡ get_or xs i none
+    → spaced (map f (drop i xs)) ≡ (codes " " ++ f x) ++ spaced (map f (drop (i + 1) xs))
+next_mapped f xs i none x lt is = rw add-one (next_at f xs i none x lt is)

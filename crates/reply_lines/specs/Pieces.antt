@@ -2,14 +2,12 @@
 use Rattle.std.specs.Prelude.{ℕ, List, [], ◌∷◌, map, codes}
 use Rattle.std.specs.Fmt.{decimal, signed_decimal}
 use Rattle.dbg_base.specs.Trees.{process_of, names_of}
-use Rattle.dbg_base.specs.Replies.{pair_words, mark_word, head_text, halted_words}
+use Rattle.dbg_base.specs.Replies.{pair_words, mark_word, head_text, halted_words, name_of}
 use Rattle.proc_lang.specs.Programs.{program_of}
 use Rattle.reply_lines.specs.declared.parts.Term.{Term}
 use Rattle.reply_lines.specs.declared.parts.Term.TheVariants as term
 use Rattle.reply_lines.specs.declared.parts.Item.{Item}
 use Rattle.reply_lines.specs.declared.parts.Item.TheVariants as item
-use Rattle.reply_lines.specs.declared.parts.Word.{Word}
-use Rattle.reply_lines.specs.declared.parts.Word.TheVariants as word
 use Rattle.reply_lines.specs.declared.parts.Words.{Words}
 use Rattle.reply_lines.specs.declared.parts.Words.TheVariants as words
 use Rattle.reply_lines.specs.declared.parts.Names.{Names}
@@ -34,15 +32,11 @@ term_text term.Yes = codes "yes"
 -- what stands in a word
 abbrev pub item_text : Item → List ℕ
 item_text (item.Term term) = term_text term
-item_text (item.Name name) = name
+item_text (item.Name name) = name.now
+item_text (item.Process program pid) = name_of (program_of program.now) pid.0
 item_text (item.Count count) = decimal count
 item_text (item.Size size) = decimal size
 item_text (item.Number number) = signed_decimal number
-
--- a word
-abbrev pub word_text : Word → List ℕ
-word_text (word.Plain item) = item_text item
-word_text (word.Mark name armed) = mark_word (name, armed)
 
 -- words of one kind
 abbrev pub word_texts : Words → List (List ℕ)
@@ -67,4 +61,4 @@ piece_words (piece.Counts first second) = decimal first ∷ decimal second ∷ [
 piece_words piece.Nothing = []
 piece_words (piece.Words words) = word_texts words
 piece_words (piece.Pairs names amounts) = pair_words (names_in names) (amount_texts amounts)
-piece_words (piece.Halted halted) = halted_words halted
+piece_words (piece.Halted halted) = halted_words halted.now

@@ -15,6 +15,20 @@ pub record Writes {A : Type 0} (old new : Seen) (result : Result A ServeFault) (
   pub part : OnErr result (AppendsFront old new text)
   pub fault : IfErr result (λ fault. fault ≡ Write)
 
+-- these bytes were appended of the text, and the rest is not written yet
+pub record Progress (old new : Seen) (text rest : List ℕ) : Type 0 where
+  pub done : List ℕ
+  pub all : text ≡ done ++ rest
+  pub appends : Appended old new done
+
+-- A call that puts words behind what is kept, which is not written yet. At `Ok` a front of all that was appended, which may be empty, and
+-- the rest is what is left to be written. At `Err`, which is `Write`, it is as for a text that is written.
+pub record Puts {A : Type 0} (old : Seen) (kept : List ℕ) (new : Seen) (left : List ℕ) (result : Result A ServeFault) (words : List ℕ)
+    : Type 0 where
+  pub some : OnOk result (Progress old new (kept ++ words) left)
+  pub part : OnErr result (AppendsFront old new (kept ++ words))
+  pub fault : IfErr result (λ fault. fault ≡ Write)
+
 -- what each item gives, one behind the other
 abbrev pub in_a_row : {A B : Type 0} → (A → List B) → List A → List B
 in_a_row f [] = []

@@ -1,6 +1,6 @@
 //! What is told beside the replies.
 
-ghost use Rattle.std.specs.Prelude.{◌≡◌, ◌∷◌, ℕ, List, [], IfOk};
+ghost use Rattle.std.specs.Prelude.{◌≡◌, ◌≤◌, ◌∷◌, ℕ, List, [], length, IfOk};
 ghost use Rattle.devices.specs.Seen.{Seen};
 ghost use Rattle.dbg_base.specs.Shell.{as_line, too_long_text, no_end_line_text, fault_text, size_text};
 ghost use Rattle.reply_lines.specs.Writing.{Writes, in_a_row};
@@ -40,6 +40,7 @@ fn tell<E: Copy, W: Sink>(
     end: E,
     writer: &mut W,
 ) -> Result<E, ServeFault>
+    requires { length first.now ≤ 40 }
     ensures written { Writes (W.seen writer.old) (W.seen writer.new) result
         (as_line (joined (first.now ∷ in_a_row piece_words pieces.now))) }
     ensures served { IfOk result (λ ended. ended ≡ end) }

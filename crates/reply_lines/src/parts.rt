@@ -1,15 +1,15 @@
-//! Lines, written word by word.
+//! Lines, put together word by word and then written.
 
-ghost use Rattle.std.specs.Prelude.{◌≡◌, ◌≤◌, ◌+◌, ◌++◌, [], ◌∷◌, map, length, slice_get, codes, IfSome};
+ghost use Rattle.std.specs.Prelude.{◌≡◌, ◌≤◌, ◌+◌, ◌++◌, [], ◌∷◌, map, length, slice_get, codes, IfOk, IfSome};
 ghost use Rattle.std.specs.Option.{option_map};
-ghost use Rattle.std.specs.Fmt.{signed_decimal};
+ghost use Rattle.std.specs.Fmt.{decimal, signed_decimal};
 ghost use Rattle.dbg_base.specs.Trees.{process_of, names_of};
-ghost use Rattle.dbg_base.specs.Replies.{joined, spaced, pair_words};
+ghost use Rattle.dbg_base.specs.Replies.{joined, spaced, pair_words, mark_word, halted_words, name_of};
 ghost use Rattle.dbg_base.specs.Shell.{as_line};
 ghost use Rattle.proc_lang.specs.Programs.{program_of};
-ghost use Rattle.reply_lines.specs.Writing.{Writes, in_a_row};
-ghost use Rattle.reply_lines.specs.declared.parts.TheConstants.{PAIR};
-ghost use Rattle.reply_lines.specs.Pieces.{term_text, item_text, word_text, word_texts, names_in, amount_texts, piece_words};
+ghost use Rattle.reply_lines.specs.Writing.{Writes, Puts, in_a_row};
+ghost use Rattle.reply_lines.specs.declared.parts.TheConstants.{PAIR, LINE};
+ghost use Rattle.reply_lines.specs.Pieces.{term_text, item_text, word_texts, names_in, amount_texts, piece_words};
 
 use crate::outcome::ServeFault;
 use crate::text::Text;
@@ -20,8 +20,8 @@ use proc_lang::Program;
 
 // Room for a space, a name, a sign and a number.
 const PAIR: usize = 80;
-// Room for some pairs, which are written at once.
-const PAIRS: usize = 400;
+// Room for a line. Of a longer one, what is put together is written where there is no more room for a pair.
+const LINE: usize = 256;
 
 /// A word that stands in lines as it is.
 #[derive(Clone, Copy)]
@@ -58,20 +58,14 @@ impl Term {
 
 /// What stands in a word.
 #[derive(Clone, Copy)]
-pub(crate) enum Item {
+pub(crate) enum Item<'a> {
     Term(Term),
-    Name(Name),
+    Name(&'a Name),
+    /// The name of a process.
+    Process(&'a Program, Pid),
     Count(u32),
     Size(usize),
     Number(i64),
-}
-
-/// A word of a line.
-#[derive(Clone, Copy)]
-pub(crate) enum Word {
-    Plain(Item),
-    /// A breakpoint, and is it armed.
-    Mark(Name, bool),
 }
 
 /// Words of one kind.
@@ -103,7 +97,7 @@ pub(crate) enum Amounts<'a> {
 #[derive(Clone, Copy)]
 pub(crate) enum Piece<'a> {
     /// One word.
-    Item(Item),
+    Item(Item<'a>),
     /// Two counts.
     Counts(u32, u32),
     /// No word.
@@ -113,7 +107,7 @@ pub(crate) enum Piece<'a> {
     /// Names, each with what belongs to it.
     Pairs(Names<'a>, Amounts<'a>),
     /// The breakpoint that halts the session, if any.
-    Halted(Option<Name>),
+    Halted(&'a Option<Name>),
 }
 
 /// Writes all of the bytes. A failure ends it, and nothing is tried again.
@@ -130,20 +124,61 @@ pub fn write_whole<W: Sink>(writer: &mut W, bytes: &[u8]) -> Result<(), ServeFau
     Ok(())
 }
 
-// Writes a short text, with a space before it.
-fn write_short<W: Sink>(short: &[u8], writer: &mut W) -> Result<(), ServeFault>
-    requires { length short.now ≤ 40 }
-    ensures { Writes (W.seen writer.old) (W.seen writer.new) result (codes " " ++ short.now) }
+// Makes room for a pair. Where there is less, what is put together is written.
+fn make_room<W: Sink>(text: &mut Text<LINE>, writer: &mut W) -> Result<(), ServeFault>
+    ensures puts { Puts (W.seen writer.old) text.old (W.seen writer.new) text.new result [] }
+    ensures room { IfOk result (λ _. length text.new + PAIR ≤ LINE) }
 {
-    let mut text: Text<PAIR> = Text::new();
-    text.push(b' ');
-    text.append(short);
-    write_whole(writer, text.bytes())
+    if text.room() >= PAIR {
+        return Ok(());
+    }
+    write_whole(writer, text.bytes())?;
+    text.clear();
+    Ok(())
 }
 
-// Puts a name behind a space, and a short text behind a sign.
-fn append_pair<const ROOM: usize>(text: &mut Text<ROOM>, name: &Name, sign: u8, short: &[u8])
-    requires room { length text.old + PAIR ≤ ROOM }
+// Appends the name of a process.
+fn append_process(text: &mut Text<LINE>, program: &Program, pid: Pid)
+    requires { length text.old + 40 ≤ LINE }
+    ensures { text.new ≡ text.old ++ name_of (program_of program.now) pid.0 }
+{
+    if let Some(name) = program.process_name(pid) {
+        text.append(name.bytes());
+    }
+}
+
+// Appends an item.
+fn append_item(text: &mut Text<LINE>, item: &Item<'_>)
+    requires { length text.old + 40 ≤ LINE }
+    ensures { text.new ≡ text.old ++ item_text item.now }
+{
+    match item {
+        Item::Term(term) => text.append(term.text()),
+        Item::Name(name) => text.append(name.bytes()),
+        Item::Process(program, pid) => append_process(text, program, *pid),
+        Item::Count(count) => text.append(Buffer::new().format(*count).as_bytes()),
+        Item::Size(size) => text.append(Buffer::new().format(*size).as_bytes()),
+        Item::Number(number) => text.append(Buffer::new().format(*number).as_bytes()),
+    }
+}
+
+// Puts an item behind a space.
+fn put_item<W: Sink>(
+    item: &Item<'_>,
+    text: &mut Text<LINE>,
+    writer: &mut W,
+) -> Result<(), ServeFault>
+    ensures { Puts (W.seen writer.old) text.old (W.seen writer.new) text.new result (codes " " ++ item_text item.now) }
+{
+    make_room(text, writer)?;
+    text.push(b' ');
+    append_item(text, item);
+    Ok(())
+}
+
+// Appends a name behind a space, and a short text behind a sign.
+fn append_pair(text: &mut Text<LINE>, name: &Name, sign: u8, short: &[u8])
+    requires room { length text.old + PAIR ≤ LINE }
     requires short { length short.now ≤ 40 }
     ensures { text.new ≡ text.old ++ (codes " " ++ name.now ++ (sign ∷ []) ++ short.now) }
 {
@@ -153,54 +188,21 @@ fn append_pair<const ROOM: usize>(text: &mut Text<ROOM>, name: &Name, sign: u8, 
     text.append(short);
 }
 
-// Writes a name, and a short text behind a sign.
-fn write_pair<W: Sink>(
+// Puts a name behind a space, and a short text behind a sign.
+fn put_pair<W: Sink>(
     name: &Name,
     sign: u8,
     short: &[u8],
+    text: &mut Text<LINE>,
     writer: &mut W,
 ) -> Result<(), ServeFault>
     requires { length short.now ≤ 40 }
-    ensures { Writes (W.seen writer.old) (W.seen writer.new) result (codes " " ++ name.now ++ (sign ∷ []) ++ short.now) }
+    ensures { Puts (W.seen writer.old) text.old (W.seen writer.new) text.new result
+        (codes " " ++ name.now ++ (sign ∷ []) ++ short.now) }
 {
-    let mut text: Text<PAIR> = Text::new();
-    append_pair(&mut text, name, sign, short);
-    write_whole(writer, text.bytes())
-}
-
-impl Item {
-    // The bytes, those of a number in the buffer.
-    fn bytes<'b>(&'b self, buffer: &'b mut Buffer) -> &'b [u8]
-        ensures text { result.now ≡ item_text self.now }
-        ensures short { length result.now ≤ 40 }
-    {
-        match self {
-            Item::Term(term) => term.text(),
-            Item::Name(name) => name.bytes(),
-            Item::Count(count) => buffer.format(*count).as_bytes(),
-            Item::Size(size) => buffer.format(*size).as_bytes(),
-            Item::Number(number) => buffer.format(*number).as_bytes(),
-        }
-    }
-}
-
-// Writes an item, with a space before it.
-fn write_item<W: Sink>(item: &Item, writer: &mut W) -> Result<(), ServeFault>
-    ensures { Writes (W.seen writer.old) (W.seen writer.new) result (codes " " ++ item_text item.now) }
-{
-    let mut buffer = Buffer::new();
-    write_short(item.bytes(&mut buffer), writer)
-}
-
-// Writes a word, with a space before it.
-fn write_word<W: Sink>(word: &Word, writer: &mut W) -> Result<(), ServeFault>
-    ensures { Writes (W.seen writer.old) (W.seen writer.new) result (codes " " ++ word_text word.now) }
-{
-    match word {
-        Word::Plain(item) => write_item(item, writer),
-        Word::Mark(name, true) => write_pair(name, b' ', b"on", writer),
-        Word::Mark(name, false) => write_pair(name, b' ', b"off", writer),
-    }
+    make_room(text, writer)?;
+    append_pair(text, name, sign, short);
+    Ok(())
 }
 
 fn process_at(program: &Program, place: usize) -> Option<Name>
@@ -219,12 +221,6 @@ fn variable_at(program: &Program, pid: Pid, place: usize) -> Option<Name>
         return None;
     }
     program.variable_name(pid, place as u32)
-}
-
-fn number_at(numbers: &[i64], place: usize) -> Option<Item>
-    ensures { option_map item_text result ≡ slice_get (map signed_decimal numbers.now) place }
-{
-    numbers.get(place).map(|number| Item::Number(*number))
 }
 
 impl Names<'_> {
@@ -265,17 +261,17 @@ impl Amounts<'_> {
     }
 }
 
-// Writes each name with what belongs to it, as long as there are both.
-fn write_pairs<W: Sink>(
+// Puts each name with what belongs to it, as long as there are both.
+fn put_pairs<W: Sink>(
     names: &Names<'_>,
     amounts: &Amounts<'_>,
+    text: &mut Text<LINE>,
     writer: &mut W,
 ) -> Result<(), ServeFault>
-    ensures { Writes (W.seen writer.old) (W.seen writer.new) result
+    ensures { Puts (W.seen writer.old) text.old (W.seen writer.new) text.new result
         (spaced (pair_words (names_in names.now) (amount_texts amounts.now))) }
 {
     let mut buffer = Buffer::new();
-    let mut text: Text<PAIRS> = Text::new();
     for place in 0..amounts.len() {
         let Some(name) = names.at(place) else {
             break;
@@ -283,83 +279,129 @@ fn write_pairs<W: Sink>(
         let Some(amount) = amounts.text_at(place, &mut buffer) else {
             break;
         };
-        if text.room() < PAIR {
-            write_whole(writer, text.bytes())?;
-            text.clear();
-        }
-        append_pair(&mut text, &name, b'=', amount);
-    }
-    write_whole(writer, text.bytes())
-}
-
-impl Words<'_> {
-    fn at(&self, place: usize) -> Option<Word>
-        ensures { option_map word_text result ≡ slice_get (word_texts self.now) place }
-    {
-        match self {
-            Words::Numbers(numbers) => number_at(numbers, place).map(Word::Plain),
-            Words::Marks(marks) => marks
-                .get(place)
-                .map(|(name, armed)| Word::Mark(*name, *armed)),
-        }
-    }
-
-    fn len(&self) -> usize
-        ensures { result ≡ length (word_texts self.now) }
-    {
-        match self {
-            Words::Numbers(numbers) => numbers.len(),
-            Words::Marks(marks) => marks.len(),
-        }
-    }
-}
-
-// Writes the words, one after the other.
-fn write_words<W: Sink>(words: &Words<'_>, writer: &mut W) -> Result<(), ServeFault>
-    ensures { Writes (W.seen writer.old) (W.seen writer.new) result (spaced (word_texts words.now)) }
-{
-    for place in 0..words.len() {
-        match words.at(place) {
-            Some(word) => write_word(&word, writer)?,
-            None => return Ok(()),
-        }
+        put_pair(&name, b'=', amount, text, writer)?;
     }
     Ok(())
 }
 
-// Writes two words.
-fn write_both<W: Sink>(first: &Item, second: &Item, writer: &mut W) -> Result<(), ServeFault>
-    ensures { Writes (W.seen writer.old) (W.seen writer.new) result
-        (spaced (item_text first.now ∷ item_text second.now ∷ [])) }
+// Puts a number behind a space.
+fn put_number<W: Sink>(
+    number: &i64,
+    text: &mut Text<LINE>,
+    writer: &mut W,
+) -> Result<(), ServeFault>
+    ensures { Puts (W.seen writer.old) text.old (W.seen writer.new) text.new result (codes " " ++ signed_decimal number.now) }
 {
-    write_item(first, writer)?;
-    write_item(second, writer)
+    put_item(&Item::Number(*number), text, writer)
 }
 
-fn write_piece<W: Sink>(piece: &Piece<'_>, writer: &mut W) -> Result<(), ServeFault>
-    ensures { Writes (W.seen writer.old) (W.seen writer.new) result (spaced (piece_words piece.now)) }
+// Puts the numbers.
+fn put_numbers<W: Sink>(
+    numbers: &[i64],
+    text: &mut Text<LINE>,
+    writer: &mut W,
+) -> Result<(), ServeFault>
+    ensures { Puts (W.seen writer.old) text.old (W.seen writer.new) text.new result (spaced (map signed_decimal numbers.now)) }
 {
-    match piece {
-        Piece::Nothing | Piece::Halted(None) => Ok(()),
-        Piece::Item(item) => write_item(item, writer),
-        Piece::Counts(first, second) => {
-            write_both(&Item::Count(*first), &Item::Count(*second), writer)
-        }
-        Piece::Halted(Some(name)) => write_both(
-            &Item::Term(Term::Halted),
-            &Item::Name(*name),
-            writer,
-        ),
-        Piece::Words(words) => write_words(words, writer),
-        Piece::Pairs(names, amounts) => write_pairs(names, amounts, writer),
+    for number in numbers {
+        put_number(number, text, writer)?;
+    }
+    Ok(())
+}
+
+// Puts a breakpoint, with its mark.
+fn put_mark<W: Sink>(
+    mark: &(Name, bool),
+    text: &mut Text<LINE>,
+    writer: &mut W,
+) -> Result<(), ServeFault>
+    ensures { Puts (W.seen writer.old) text.old (W.seen writer.new) text.new result (codes " " ++ mark_word mark.now) }
+{
+    let armed: &[u8] = if mark.1 { b"on" } else { b"off" };
+    put_pair(&mark.0, b' ', armed, text, writer)
+}
+
+// Puts the breakpoints, each with its mark.
+fn put_marks<W: Sink>(
+    marks: &[(Name, bool)],
+    text: &mut Text<LINE>,
+    writer: &mut W,
+) -> Result<(), ServeFault>
+    ensures { Puts (W.seen writer.old) text.old (W.seen writer.new) text.new result (spaced (map mark_word marks.now)) }
+{
+    for mark in marks {
+        put_mark(mark, text, writer)?;
+    }
+    Ok(())
+}
+
+// Puts two words.
+fn put_both<W: Sink>(
+    first: &Item<'_>,
+    second: &Item<'_>,
+    text: &mut Text<LINE>,
+    writer: &mut W,
+) -> Result<(), ServeFault>
+    ensures { Puts (W.seen writer.old) text.old (W.seen writer.new) text.new result
+        (spaced (item_text first.now ∷ item_text second.now ∷ [])) }
+{
+    put_item(first, text, writer)?;
+    put_item(second, text, writer)
+}
+
+// Puts two counts.
+fn put_counts<W: Sink>(
+    first: u32,
+    second: u32,
+    text: &mut Text<LINE>,
+    writer: &mut W,
+) -> Result<(), ServeFault>
+    ensures { Puts (W.seen writer.old) text.old (W.seen writer.new) text.new result (spaced (decimal first ∷ decimal second ∷ [])) }
+{
+    put_both(&Item::Count(first), &Item::Count(second), text, writer)
+}
+
+// Puts the breakpoint that halts the session, if any.
+fn put_halted<W: Sink>(
+    halted: &Option<Name>,
+    text: &mut Text<LINE>,
+    writer: &mut W,
+) -> Result<(), ServeFault>
+    ensures { Puts (W.seen writer.old) text.old (W.seen writer.new) text.new result (spaced (halted_words halted.now)) }
+{
+    match halted {
+        Some(name) => put_both(&Item::Term(Term::Halted), &Item::Name(name), text, writer),
+        None => Ok(()),
     }
 }
 
-fn write_pieces<W: Sink>(pieces: &[Piece<'_>], writer: &mut W) -> Result<(), ServeFault>
-    ensures { Writes (W.seen writer.old) (W.seen writer.new) result (spaced (in_a_row piece_words pieces.now)) }
+fn put_piece<W: Sink>(
+    piece: &Piece<'_>,
+    text: &mut Text<LINE>,
+    writer: &mut W,
+) -> Result<(), ServeFault>
+    ensures { Puts (W.seen writer.old) text.old (W.seen writer.new) text.new result (spaced (piece_words piece.now)) }
+{
+    match piece {
+        Piece::Nothing => Ok(()),
+        Piece::Item(item) => put_item(item, text, writer),
+        Piece::Counts(first, second) => put_counts(*first, *second, text, writer),
+        Piece::Halted(halted) => put_halted(halted, text, writer),
+        Piece::Words(Words::Numbers(numbers)) => put_numbers(numbers, text, writer),
+        Piece::Words(Words::Marks(marks)) => put_marks(marks, text, writer),
+        Piece::Pairs(names, amounts) => put_pairs(names, amounts, text, writer),
+    }
+}
+
+fn put_pieces<W: Sink>(
+    pieces: &[Piece<'_>],
+    text: &mut Text<LINE>,
+    writer: &mut W,
+) -> Result<(), ServeFault>
+    ensures { Puts (W.seen writer.old) text.old (W.seen writer.new) text.new result (spaced (in_a_row piece_words pieces.now)) }
 {
     for piece in pieces {
-        write_piece(piece, writer)?;
+        put_piece(piece, text, writer)?;
     }
     Ok(())
 }
@@ -370,10 +412,14 @@ pub(crate) fn write_line<W: Sink>(
     pieces: &[Piece<'_>],
     writer: &mut W,
 ) -> Result<(), ServeFault>
+    requires { length first.now ≤ 40 }
     ensures { Writes (W.seen writer.old) (W.seen writer.new) result
         (as_line (joined (first.now ∷ in_a_row piece_words pieces.now))) }
 {
-    write_whole(writer, first)?;
-    write_pieces(pieces, writer)?;
-    write_whole(writer, b"\n")
+    let mut text: Text<LINE> = Text::new();
+    text.append(first);
+    put_pieces(pieces, &mut text, writer)?;
+    make_room(&mut text, writer)?;
+    text.push(b'\n');
+    write_whole(writer, text.bytes())
 }

@@ -1,17 +1,17 @@
 //! What a session says becomes text.
 
-ghost use Rattle.std.specs.Prelude.{◌≡◌, ◌<◌, ◌∷◌, map, length, codes};
+ghost use Rattle.std.specs.Prelude.{◌≡◌, ◌≤◌, ◌∷◌, map, length, codes};
 ghost use Rattle.std.specs.Fmt.{decimal, signed_decimal};
 ghost use Rattle.dbg_base.specs.declared.said.Said.TheVariants.{Accepted};
 ghost use Rattle.dbg_base.specs.declared.said.Answer.TheVariants.{PlaceOf, CanUndo, CutIs};
 ghost use Rattle.dbg_base.specs.Calls as model;
 ghost use Rattle.dbg_base.specs.Calls.{call_of, query_of};
-ghost use Rattle.dbg_base.specs.Fits.{FitsRefusal, FitsDone, FitsAnswer, FitsCall};
+ghost use Rattle.dbg_base.specs.Fits.{FitsRefusal, FitsAnswer, FitsCall};
 ghost use Rattle.dbg_base.specs.Replies.{joined, pair_words, name_of, halted_words, carried_words, answer_words, refusal_text, reply_text};
 ghost use Rattle.dbg_base.specs.Shell.{as_line};
 ghost use Rattle.proc_lang.specs.Programs.{program_of};
 ghost use Rattle.reply_lines.specs.Writing.{Writes};
-ghost use Rattle.reply_lines.specs.Pieces.{names_in, amount_texts, piece_words};
+ghost use Rattle.reply_lines.specs.Pieces.{item_text, names_in, amount_texts, piece_words};
 
 use crate::outcome::ServeFault;
 use crate::parts::{Amounts, Item, Names, Piece, Term, Words, write_line};
@@ -19,22 +19,13 @@ use dbg_base::{Answer, Call, Choice, Cut, Done, Name, Pid, Query, Refusal, Reply
 use devices::Sink;
 use proc_lang::Program;
 
-// The name of a process.
-fn name_of(program: &Program, pid: Pid) -> Name
-    requires { pid.0 < length (program_of program.now) }
-    ensures { result ≡ name_of (program_of program.now) pid.0 }
-{
-    program.process_name(pid).unwrap()
-}
-
 // What a refusal carries, if it carries something.
-fn carried(program: &Program, refusal: &Refusal) -> Piece<'static>
-    requires { FitsRefusal (program_of program.now) refusal.now }
+fn carried<'a>(program: &'a Program, refusal: &'a Refusal) -> Piece<'a>
     ensures { piece_words result ≡ carried_words (program_of program.now) refusal.now }
 {
     match refusal {
-        Refusal::Consequence(pid) => Piece::Item(Item::Name(name_of(program, *pid))),
-        Refusal::Halted(name) => Piece::Item(Item::Name(*name)),
+        Refusal::Consequence(pid) => Piece::Item(Item::Process(program, *pid)),
+        Refusal::Halted(name) => Piece::Item(Item::Name(name)),
         Refusal::OtherSeat(seat) => Piece::Item(Item::Count(*seat)),
         Refusal::InBatch { at, number } => Piece::Counts(*at, *number),
         _ => Piece::Nothing,
@@ -42,22 +33,19 @@ fn carried(program: &Program, refusal: &Refusal) -> Piece<'static>
 }
 
 // The line that tells the event that a command made or took back.
-fn print_event<W: Sink>(
-    program: &Program,
+fn print_event<'a, W: Sink>(
+    program: &'a Program,
     pid: Pid,
     choice: Choice,
-    halted: Option<Name>,
+    halted: &'a Option<Name>,
     writer: &mut W,
 ) -> Result<(), ServeFault>
-    requires { pid.0 < length (program_of program.now) }
     ensures { Writes (W.seen writer.old) (W.seen writer.new) result
-        (as_line (joined (codes "ok" ∷ name_of (program_of program.now) pid.0 ∷ decimal choice.0 ∷ halted_words halted))) }
+        (as_line (joined (codes "ok" ∷ name_of (program_of program.now) pid.0 ∷ decimal choice.0 ∷ halted_words halted.now))) }
 {
-    let name = Item::Name(name_of(program, pid));
-    let choice = Item::Count(choice.0);
     let pieces = [
-        Piece::Item(name),
-        Piece::Item(choice),
+        Piece::Item(Item::Process(program, pid)),
+        Piece::Item(Item::Count(choice.0)),
         Piece::Halted(halted),
     ];
     write_line(b"ok", &pieces, writer)
@@ -69,19 +57,18 @@ fn print_accepted<'a, W: Sink>(
     reply: &'a Reply,
     writer: &mut W,
 ) -> Result<(), ServeFault>
-    requires { FitsDone (program_of program.now) reply.now.done }
     ensures { (call : model.Call) → Writes (W.seen writer.old) (W.seen writer.new) result
         (as_line (reply_text (program_of program.now) call (Accepted reply.now))) }
 {
     match &reply.done {
         Done::Played(pid, choice) | Done::Undone(pid, choice) => {
-            print_event(program, *pid, *choice, reply.halted, writer)
+            print_event(program, *pid, *choice, &reply.halted, writer)
         }
         Done::Places(cut) => {
             let places = Piece::Pairs(Names::Processes(program), Amounts::Counts(cut.counts()));
-            write_line(b"ok", &[places, Piece::Halted(reply.halted)], writer)
+            write_line(b"ok", &[places, Piece::Halted(&reply.halted)], writer)
         }
-        Done::Plain => write_line(b"ok", &[Piece::Halted(reply.halted)], writer),
+        Done::Plain => write_line(b"ok", &[Piece::Halted(&reply.halted)], writer),
     }
 }
 
@@ -93,70 +80,55 @@ fn print_place<W: Sink>(
     line: u32,
     writer: &mut W,
 ) -> Result<(), ServeFault>
-    requires { pid.0 < length (program_of program.now) }
     ensures { Writes (W.seen writer.old) (W.seen writer.new) result
         (as_line (joined (answer_words (program_of program.now) (model.Place pid.0) (PlaceOf at line)))) }
 {
-    let name = Item::Name(name_of(program, pid));
-    let at = Item::Count(at);
-    let of = Item::Term(Term::Of);
-    let line = Item::Count(line);
     let pieces = [
-        Piece::Item(name),
-        Piece::Item(at),
-        Piece::Item(of),
-        Piece::Item(line),
+        Piece::Item(Item::Process(program, pid)),
+        Piece::Item(Item::Count(at)),
+        Piece::Item(Item::Term(Term::Of)),
+        Piece::Item(Item::Count(line)),
     ];
     write_line(b"place", &pieces, writer)
 }
 
 // The line that tells whether a process's last event may be undone.
-fn print_can<W: Sink>(
-    program: &Program,
+fn print_can<'a, W: Sink>(
+    program: &'a Program,
     pid: Pid,
-    outcome: &Result<(), Refusal>,
+    outcome: &'a Result<(), Refusal>,
     writer: &mut W,
 ) -> Result<(), ServeFault>
-    requires { FitsAnswer (program_of program.now) (model.Can pid.0) (CanUndo outcome.now) }
     ensures { Writes (W.seen writer.old) (W.seen writer.new) result
         (as_line (joined (answer_words (program_of program.now) (model.Can pid.0) (CanUndo outcome.now)))) }
 {
-    let name = Item::Name(name_of(program, pid));
+    let name = Piece::Item(Item::Process(program, pid));
     match outcome {
         Ok(()) => {
-            let yes = Item::Term(Term::Yes);
-            write_line(b"can", &[Piece::Item(name), Piece::Item(yes)], writer)
+            let yes = Piece::Item(Item::Term(Term::Yes));
+            write_line(b"can", &[name, yes], writer)
         }
         Err(refusal) => {
-            let no = Item::Term(Term::No);
-            let number = Item::Count(refusal.number());
+            let no = Piece::Item(Item::Term(Term::No));
+            let number = Piece::Item(Item::Count(refusal.number()));
             let carried = carried(program, refusal);
-            write_line(
-                b"can",
-                &[
-                    Piece::Item(name),
-                    Piece::Item(no),
-                    Piece::Item(number),
-                    carried,
-                ],
-                writer,
-            )
+            write_line(b"can", &[name, no, number, carried], writer)
         }
     }
 }
 
-// A line about this name: names, each with what belongs to it.
+// A line about what this names: names, each with what belongs to it.
 fn print_pairs<'a, W: Sink>(
     first: &[u8],
-    name: Name,
+    name: Item<'a>,
     names: Names<'a>,
     amounts: Amounts<'a>,
     writer: &mut W,
 ) -> Result<(), ServeFault>
+    requires { length first.now ≤ 40 }
     ensures { Writes (W.seen writer.old) (W.seen writer.new) result
-        (as_line (joined (first.now ∷ name ∷ pair_words (names_in names.entry) (amount_texts amounts.entry)))) }
+        (as_line (joined (first.now ∷ item_text name.entry ∷ pair_words (names_in names.entry) (amount_texts amounts.entry)))) }
 {
-    let name = Item::Name(name);
     write_line(
         first,
         &[Piece::Item(name), Piece::Pairs(names, amounts)],
@@ -172,14 +144,12 @@ fn print_chan<W: Sink>(
     messages: &[i64],
     writer: &mut W,
 ) -> Result<(), ServeFault>
-    requires source { source.0 < length (program_of program.now) }
-    requires target { target.0 < length (program_of program.now) }
     ensures { Writes (W.seen writer.old) (W.seen writer.new) result
         (as_line (joined (codes "chan" ∷ name_of (program_of program.now) source.0 ∷ name_of (program_of program.now) target.0
         ∷ map signed_decimal messages.now))) }
 {
-    let source = Item::Name(name_of(program, source));
-    let target = Item::Name(name_of(program, target));
+    let source = Item::Process(program, source);
+    let target = Item::Process(program, target);
     let messages = Piece::Words(Words::Numbers(messages));
     write_line(
         b"chan",
@@ -191,20 +161,20 @@ fn print_chan<W: Sink>(
 // The line that tells a breakpoint's cut, if it has one.
 fn print_cut<'a, W: Sink>(
     program: &'a Program,
-    name: Name,
+    name: &'a Name,
     cut: &'a Option<Cut>,
     writer: &mut W,
 ) -> Result<(), ServeFault>
     ensures { Writes (W.seen writer.old) (W.seen writer.new) result
-        (as_line (joined (answer_words (program_of program.now) (model.CutOf name) (CutIs cut.now)))) }
+        (as_line (joined (answer_words (program_of program.now) (model.CutOf name.now) (CutIs cut.now)))) }
 {
+    let name = Item::Name(name);
     match cut {
         Some(cut) => {
             let counts = Amounts::Counts(cut.counts());
             print_pairs(b"cut", name, Names::Processes(program), counts, writer)
         }
         None => {
-            let name = Item::Name(name);
             let none = Item::Term(Term::None);
             write_line(b"cut", &[Piece::Item(name), Piece::Item(none)], writer)
         }
@@ -214,7 +184,7 @@ fn print_cut<'a, W: Sink>(
 // The line that answers a question.
 fn print_answer<'a, W: Sink>(
     program: &'a Program,
-    query: &Query,
+    query: &'a Query,
     answer: &'a Answer,
     writer: &mut W,
 ) -> Result<(), ServeFault>
@@ -224,7 +194,7 @@ fn print_answer<'a, W: Sink>(
 {
     match (query, answer) {
         (Query::Vars(pid), Answer::Values(values)) => {
-            let name = name_of(program, *pid);
+            let name = Item::Process(program, *pid);
             let values = Amounts::Numbers(values.items());
             print_pairs(
                 b"vars",
@@ -238,7 +208,7 @@ fn print_answer<'a, W: Sink>(
             print_chan(program, *source, *target, messages.items(), writer)
         }
         (Query::Clock(pid), Answer::Counts(cut)) => {
-            let name = name_of(program, *pid);
+            let name = Item::Process(program, *pid);
             let counts = Amounts::Counts(cut.counts());
             print_pairs(b"clock", name, Names::Processes(program), counts, writer)
         }
@@ -246,10 +216,16 @@ fn print_answer<'a, W: Sink>(
             program, *pid, *at, *line, writer,
         ),
         (Query::Can(pid), Answer::CanUndo(outcome)) => print_can(program, *pid, outcome, writer),
-        (Query::CutOf(name), Answer::CutIs(cut)) => print_cut(program, *name, cut, writer),
+        (Query::CutOf(name), Answer::CutIs(cut)) => print_cut(program, name, cut, writer),
         (Query::Why(name), Answer::Frontier(heads)) => {
             let heads = Amounts::Heads(heads.items());
-            print_pairs(b"why", *name, Names::Processes(program), heads, writer)
+            print_pairs(
+                b"why",
+                Item::Name(name),
+                Names::Processes(program),
+                heads,
+                writer,
+            )
         }
         (Query::Breaks, Answer::Marks(marks)) => {
             write_line(
@@ -260,6 +236,19 @@ fn print_answer<'a, W: Sink>(
         }
         _ => unreachable!(),
     }
+}
+
+// The line that refuses a call or a command line.
+fn print_no<'a, W: Sink>(
+    program: &'a Program,
+    refusal: &'a Refusal,
+    writer: &mut W,
+) -> Result<(), ServeFault>
+    ensures { Writes (W.seen writer.old) (W.seen writer.new) result (as_line (refusal_text (program_of program.now) refusal.now)) }
+{
+    let number = Item::Count(refusal.number());
+    let carried = carried(program, refusal);
+    write_line(b"no", &[Piece::Item(number), carried], writer)
 }
 
 /// Writes the line that answers a call, with its line end. What is said fits the call: a command is accepted and a question answered,
@@ -280,7 +269,7 @@ pub fn print_reply<W: Sink>(
             print_accepted(program, reply, writer)
         }
         (Call::Ask(query), Said::Answered(answer)) => print_answer(program, query, answer, writer),
-        (_, Said::Refused(refusal)) => print_refusal(program, refusal, writer),
+        (_, Said::Refused(refusal)) => print_no(program, refusal, writer),
         _ => unreachable!(),
     }
 }
@@ -294,7 +283,5 @@ pub fn print_refusal<W: Sink>(
     requires { FitsRefusal (program_of program.now) refusal.now }
     ensures { Writes (W.seen writer.old) (W.seen writer.new) result (as_line (refusal_text (program_of program.now) refusal.now)) }
 {
-    let number = Item::Count(refusal.number());
-    let carried = carried(program, refusal);
-    write_line(b"no", &[Piece::Item(number), carried], writer)
+    print_no(program, refusal, writer)
 }

@@ -1,5 +1,5 @@
 use Rattle.std.proofs.Common.{length}
-use Rattle.reply_lines.proofs.Writing.{Progress}
+use Rattle.reply_lines.specs.Writing.{Progress}
 use Rattle.reply_lines.proofs.parts.write_whole.Given as goal
 
 abbrev pub invariant-loop-rest : goal.invariant-loop-rest
