@@ -9,7 +9,6 @@ mod small_call;
 mod small_said;
 
 pub use copies::call_that_gives;
-pub use same_call::is_same_call;
 pub use same_said::is_same_said;
 pub use small_call::SmallCall;
 pub use small_said::SmallSaid;
