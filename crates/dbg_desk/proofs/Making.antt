@@ -16,6 +16,7 @@ use Rattle.dbg_base.specs.Calls.{Order, Query, Call, Give, Back, Ask, call_of}
 use Rattle.dbg_base.specs.ModelStates.{ModelState, IsHaltPlace}
 use Rattle.dbg_base.specs.Journals.{Entry, Given, Journal, StandsAt, IsDue, AnswersBack, IsLegal, counting, effective, last_given}
 use Rattle.histories.proofs.Legal.{effective_more, legal_more}
+use Rattle.kept_calls.specs.Small.{small_call_of, small_said_of}
 use Rattle.dbg_board.specs.declared.glance.Glance.{Glance}
 use Rattle.dbg_board.specs.Pairs.{Begins}
 use Rattle.dbg_command.specs.Tables.{FollowsOrRefuses, AnswersOrRefuses, said_of, told_of}
@@ -128,8 +129,8 @@ module _ (P : Program) (seats : ℕ) (session : SessionState) (items : List entr
         -- it is kept under the lock, and noted beside the journal
         pub entered : IsAmong seats seat → (old : Standing) (was : SeatState) (mine : own.Own) (owns more : List own.Own)
             (seen sees : List Glance) → record { journal = J; pairs = pairs } ≡ old
-            → record { number = seat; own = map own_of owns; seen = seen } ≡ was → call_of mine.call ≡ call → mine.said ≡ said
-            → more ≡ owns ++ mine ∷ [] → sees ≡ told → Begins seen sees
+            → record { number = seat; own = map own_of owns; seen = seen } ≡ was → small_call_of mine.call ≡ call
+            → small_said_of mine.said ≡ said → more ≡ owns ++ mine ∷ [] → sees ≡ told → Begins seen sees
             → IsEntered P seats call said old was after (map entry_of others) told (record { number = seat; own = map own_of more; seen = sees })
         entered among old was mine owns more seen sees of was_seat own_call own_said kept_too same_seen begins =
             let size : length (map entry_of others) ≡ suc (length old.journal) =

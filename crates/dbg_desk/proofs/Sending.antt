@@ -8,6 +8,7 @@ use Rattle.std.proofs.sync.ledger.Share.TheSendSync as share_sent
 use Rattle.std.specs.declared.sync.ledger.Ledger as ledger
 use Rattle.dbg_base.proofs.expr.Expr.TheLaws.TheKnot.{send-Expr}
 use Rattle.dbg_base.proofs.ids.Pid.TheSendSync as pid_sent
+use Rattle.dbg_base.proofs.ids.Choice.TheSendSync as choice_sent
 use Rattle.dbg_base.proofs.name.Name.TheSendSync as name_sent
 use Rattle.dbg_base.proofs.sequence.Sequence.TheSendSync as sequence_sent
 use Rattle.dbg_base.proofs.call.Query.TheSendSync as query_sent
@@ -26,6 +27,8 @@ use Rattle.dbg_session.proofs.session.Stacked.TheSendSync as stacked_sent
 use Rattle.dbg_session.specs.contracts.session.Stacked as stacked
 use Rattle.dbg_session.specs.contracts.session.Session as session
 use Rattle.dbg_session.specs.contracts.session.Session.TheInside as session_inside
+use Rattle.kept_calls.proofs.small_said.SmallSaid.TheSendSync as small_said_sent
+use Rattle.kept_calls.specs.contracts.small_call.SmallCall as small_call
 use Rattle.dbg_board.proofs.board.Board.TheSendSync as board_sent
 use Rattle.dbg_board.proofs.publisher.Publisher.TheSendSync as publisher_sent
 use Rattle.dbg_board.proofs.seat_view.SeatView.TheSendSync as view_sent
@@ -68,8 +71,37 @@ call_send = variants_send call.enum ((plan_send, tt), (tt, ((query_sent.the_send
 entry_send : IsSend entry.the_row
 entry_send = declared_send entry.the_type (search sendable, (call_send, (said_sent.the_send, tt)))
 
+small_call_send : IsSend small_call.the_row
+small_call_send =
+    let pid = pid_sent.the_send in
+    variants_send small_call.enum (
+      (pid, (choice_sent.the_send, tt)),
+      (
+        (pid, tt),
+        (
+          (pid, tt),
+          (
+            (pid, tt),
+            (
+              (pid, (search sendable, tt)),
+              (
+                tt,
+                (
+                  (pid, tt),
+                  (
+                    (pid, (pid, tt)),
+                    ((pid, tt), ((pid, tt), ((pid, tt), ((search (call_send, sendable, crosses) depth 20, tt), tt)))),
+                  ),
+                ),
+              ),
+            ),
+          ),
+        ),
+      ),
+    )
+
 own_send : IsSend own.the_row
-own_send = declared_send own.the_type (call_send, (said_sent.the_send, tt))
+own_send = declared_send own.the_type (small_call_send, (small_said_sent.the_send, tt))
 
 module _ (C : RattleType) (c : command.Ghosts C.Denot) (sent : IsSend C) where
   stacked_send : IsSend (stacked.the_row C)

@@ -10,6 +10,7 @@ use Rattle.dbg_base.specs.Calls.{Call, call_of}
 use Rattle.dbg_base.specs.ModelStates.{ModelState, IsHaltPlace}
 use Rattle.dbg_base.specs.Journals as model
 use Rattle.dbg_base.specs.Journals.{Journal, StandsAt, IsLegal, effective}
+use Rattle.kept_calls.specs.Small.{small_call_of, small_said_of}
 use Rattle.dbg_board.specs.declared.glance.Glance.{Glance}
 use Rattle.dbg_board.specs.Boards.{BoardId, Listing}
 use Rattle.dbg_board.specs.Pairs.{Begins}
@@ -27,7 +28,7 @@ pub record Own : Type 0 where
   pub said : Said
 
 abbrev pub own_of : own.Own → Own
-own_of kept = record { call = call_of kept.call; said = kept.said }
+own_of kept = record { call = small_call_of kept.call; said = small_said_of kept.said }
 
 -- the calls that were entered, and what was published of them
 pub record Standing : Type 0 where

@@ -1,4 +1,4 @@
-//! What is said to a question, for the journal and for the seat's own record.
+//! What is said to a question, for the journal.
 
 ghost use Rattle.std.specs.Prelude.{◌≡◌, ◌≢◌, ◌↔◌, IfOk, IfErr, OnOk, Err, IsTrue};
 ghost use Rattle.dbg_base.specs.declared.refusal.Refusal.TheVariants.{Memory};
@@ -13,20 +13,15 @@ pub(crate) fn ran_out<T>(outcome: &Result<T, Refusal>) -> bool
     matches!(outcome, Err(Refusal::Memory))
 }
 
-/// What is said to a question, twice. It is refused only as `Memory`, where that runs out, or ran out already.
-pub(crate) fn said_to_question(outcome: &Result<Answer, Refusal>) -> Result<(Said, Said), Refusal>
-    ensures said { IfOk result (λ made. made.0 ≡ told_of outcome.now) }
-    ensures own { IfOk result (λ made. made.1 ≡ told_of outcome.now) }
+/// What is said to a question. It is refused only as `Memory`, where that runs out, or ran out already.
+pub(crate) fn said_to_question(outcome: &Result<Answer, Refusal>) -> Result<Said, Refusal>
+    ensures said { IfOk result (λ made. made ≡ told_of outcome.now) }
     ensures there { OnOk result (outcome.now ≢ Err Memory) }
     ensures refuses { IfErr result (λ refusal. refusal ≡ Memory) }
 {
     match outcome {
-        Ok(answer) => {
-            let said = answer.copy()?;
-            let own = answer.copy()?;
-            Ok((Said::Answered(said), Said::Answered(own)))
-        }
+        Ok(answer) => Ok(Said::Answered(answer.copy()?)),
         Err(Refusal::Memory) => Err(Refusal::Memory),
-        Err(refusal) => Ok((Said::Refused(*refusal), Said::Refused(*refusal))),
+        Err(refusal) => Ok(Said::Refused(*refusal)),
     }
 }

@@ -28,7 +28,7 @@ use dbg_base::{Answer, Call, Gate, Query, Refusal, Reply};
 use dbg_board::{Publisher, SeatView};
 use dbg_command::{Command, Table};
 use dbg_session::Session;
-use kept_calls::call_that_gives;
+use kept_calls::{SmallCall, SmallSaid, call_that_gives};
 use least_cut::Scan;
 use proc_lang::Program;
 use std::alloc::Global;
@@ -192,7 +192,7 @@ impl<L: Run, C: Command> Locked<L, C> {
         log.make_room(own)?;
         rooms.make(session.program())?;
         let call = call_that_gives(command.plan())?;
-        let own_call = call_that_gives(command.plan())?;
+        let own_call = SmallCall::new(alloc, &call)?;
         let outcome = session.perform(alloc, *number, command, scan);
         if ran_out(&outcome) {
             return outcome;
@@ -278,7 +278,7 @@ impl<L: Run, C: Command> Locked<L, C> {
             return taken;
         }
         let entry = Entry::new(*number, Call::Back, rooms.say(&taken));
-        let kept = Own::new(Call::Back, rooms.say_own(&taken));
+        let kept = Own::new(SmallCall::Back, rooms.say_own(&taken));
         log.enter(own, share, view, entry, kept, session.halt_at());
         taken
     }
@@ -305,9 +305,12 @@ impl<L: Run, C: Command> Locked<L, C> {
         } = seat;
         log.make_room(own)?;
         let answered = session.ask(alloc, &query);
-        let (said, own_said) = said_to_question(&answered)?;
-        let entry = Entry::new(*number, Call::Ask(query), said);
-        let kept = Own::new(Call::Ask(query), own_said);
+        let said = said_to_question(&answered)?;
+        let asked = Call::Ask(query);
+        let own_call = SmallCall::new(alloc, &asked)?;
+        let own_said = SmallSaid::new(alloc, &said)?;
+        let entry = Entry::new(*number, asked, said);
+        let kept = Own::new(own_call, own_said);
         log.enter(own, share, view, entry, kept, session.halt_at());
         answered
     }

@@ -9,7 +9,6 @@ ghost use Rattle.dbg_desk.specs.Finding.{IsFound, IsOther, AreFound, HasOtherNex
 use crate::entry::{Entry, Own};
 use crate::run::Run;
 use crate::seat::Seat;
-use kept_calls::{is_same_call, is_same_said};
 
 // The calls of so many seats are looked for in the journal at once.
 const TOGETHER: usize = 16;
@@ -30,7 +29,7 @@ pub struct Mismatch {
 fn is_same(entry: &Entry, own: &Own) -> bool
     ensures { IsTrue result ↔ (own_of own.now ≡ as_own (entry_of entry.now)) }
 {
-    is_same_call(&own.call, &entry.call) && is_same_said(&own.said, &entry.said)
+    own.call.is_call(&entry.call) && own.said.is_said(&entry.said)
 }
 
 // Whether the call at this place of a seat's own is there, and is that of the entry.

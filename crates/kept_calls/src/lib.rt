@@ -1,11 +1,14 @@
-//! Calls as they are kept: copies of them, and whether two of them are the same.
+//! Calls as they are kept: copies of them, whether two of them are the same, and calls with what was said to them in few bytes.
 #![tactic(auto)]
 
 mod copies;
 mod same_call;
 mod same_expr;
 mod same_said;
+mod small_call;
+mod small_said;
 
 pub use copies::call_that_gives;
-pub use same_call::is_same_call;
 pub use same_said::is_same_said;
+pub use small_call::SmallCall;
+pub use small_said::SmallSaid;

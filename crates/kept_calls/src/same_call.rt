@@ -89,7 +89,7 @@ fn is_same_plan(left: &Plan, right: &Plan) -> bool
 }
 
 /// Whether two calls that have no batch within a batch are the same. It takes no memory.
-pub fn is_same_call(left: &Call, right: &Call) -> bool
+pub(crate) fn is_same_call(left: &Call, right: &Call) -> bool
     requires { (is_flat_call left.now ≡ true) × (is_flat_call right.now ≡ true) }
     ensures { IsTrue result ↔ (call_of left.now ≡ call_of right.now) }
 {

@@ -10,7 +10,7 @@ fn is_same_refusal(left: &Refusal, right: &Refusal) -> bool
     left == right
 }
 
-fn is_same_cut(left: &Cut, right: &Cut) -> bool
+pub(crate) fn is_same_cut(left: &Cut, right: &Cut) -> bool
     ensures { IsTrue result ↔ (left.now ≡ right.now) }
 {
     left.counts() == right.counts()
@@ -34,13 +34,13 @@ fn is_same_reply(left: &Reply, right: &Reply) -> bool
     left.halted == right.halted && is_same_done(&left.done, &right.done)
 }
 
-fn are_same_numbers(left: &[i64], right: &[i64]) -> bool
+pub(crate) fn are_same_numbers(left: &[i64], right: &[i64]) -> bool
     ensures { IsTrue result ↔ (left.now ≡ right.now) }
 {
     left == right
 }
 
-fn are_same_heads(left: &[Head], right: &[Head]) -> bool
+pub(crate) fn are_same_heads(left: &[Head], right: &[Head]) -> bool
     ensures { IsTrue result ↔ (left.now ≡ right.now) }
 {
     left == right

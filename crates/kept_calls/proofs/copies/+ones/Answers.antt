@@ -1,6 +1,6 @@
-use Rattle.std.proofs.Common.{◌≡◌, ◌<◌, ◌++◌, Bool, true, List, length, get_or, ap, ◌∙◌, arith, take_all}
+use Rattle.std.proofs.Common.{◌≡◌, ◌<◌, ◌++◌, true, List, length, get_or, ap, ◌∙◌, arith, take_all}
 use Rattle.dbg_base.specs.declared.call.Plan as plan
-use Rattle.dbg_base.specs.Calls.{Order, order_of, plans_of, plans_in}
+use Rattle.dbg_base.specs.Calls.{Order, plans_of, plans_in}
 use Rattle.kept_calls.specs.Flat.{is_one, are_ones, one_order}
 use Rattle.kept_calls.proofs.Ones.{plans_push, ones_push, plans_more, one_if}
 use Rattle.kept_calls.proofs.copies.+ones.Goals as goal

@@ -8,6 +8,7 @@ use Rattle.dbg_base.specs.Journals.{Given, AnswersBack, effective, last_given}
 use Rattle.dbg_board.specs.declared.glance.Glance.{Glance}
 use Rattle.dbg_board.specs.Boards.{Listing}
 use Rattle.dbg_command.specs.Tables.{said_of}
+use Rattle.kept_calls.specs.Small.{small_call_of, small_said_of}
 use Rattle.dbg_desk.specs.declared.entry.Entry as entry
 use Rattle.dbg_desk.specs.declared.entry.Own as own
 use Rattle.dbg_desk.specs.Desks.{entry_of, own_of}
@@ -49,7 +50,7 @@ here g c =
     (c.enter.ensures.pairs ∙ ap (λ (l : Listing). l.pairs ++ pair ∷ []) c.make_room.ensures.publisher)
     c.seat.invariant.among c.args.self.now c.args.seat.now mine c.seat.inside.own.items c.enter.new.own.items c.seat.inside.view.pairs
     c.enter.new.view.pairs c.self.view_is c.seat.view_is
-    (ap call_of c.new-kept.ensures.call) (c.new-kept.ensures.said ∙ c.say_own.ensures)
+    (ap small_call_of c.new-kept.ensures.call) (ap small_said_of c.new-kept.ensures.said ∙ c.say_own.ensures)
     (c.enter.ensures.own ∙ ap (λ (l : List own.Own). l ++ mine ∷ []) c.make_room.ensures.own)
     (ap (λ (l : Listing). l.pairs) c.enter.ensures.told)
     c.enter.ensures.begins
