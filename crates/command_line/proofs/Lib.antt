@@ -5,6 +5,7 @@ pub mod Places
 pub mod BreakLines
 pub mod PartsRead
 pub mod Asked
+pub mod ByWord
 pub mod Shapes
 pub mod EachAsks
 pub mod Separators

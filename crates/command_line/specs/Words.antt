@@ -1,5 +1,5 @@
 -- What command words with one name behind them ask for.
-use Rattle.std.specs.Prelude.{ℕ, List, Option, Some, None, Result, Ok, Err}
+use Rattle.std.specs.Prelude.{ℕ, List, Option, Some, None, Result, Err}
 use Rattle.dbg_base.specs.declared.refusal.Refusal.{Refusal}
 use Rattle.dbg_base.specs.declared.refusal.Refusal.TheVariants.{BadLine}
 use Rattle.dbg_base.specs.Calls.{Call, Next, Undo, Redo, Goto, Clear, Arm, Pass, Ask, Vars, Clock, Place, Can, CutOf, Why}

@@ -8,7 +8,7 @@ ghost use Rattle.proc_lang.specs.Programs.{program_of};
 ghost use Rattle.command_line.specs.Lines.{depth_of, spot_of, has_shape, are_commands, IsMember, AreRead, IsBatchParsed, IsCommandParsed, IsGivable};
 
 use crate::break_line::is_apart;
-use crate::command::{has_shape, parse_one};
+use crate::command::{has_shape, parse_by_word, parse_one};
 use crate::words::{is_blank, next_word};
 use dbg_base::limits::BATCH;
 use dbg_base::{Call, Plan, Refusal};
@@ -162,5 +162,5 @@ pub(crate) fn parse_command(alloc: Global, program: &Program, bytes: &[u8]) -> R
     if word == b"batch".as_slice() {
         return parse_batch(alloc, program, rest);
     }
-    parse_one(alloc, program, bytes)
+    parse_by_word(alloc, program, word, rest)
 }

@@ -1,13 +1,15 @@
 //! Commands by themselves: a word, and what is behind it.
+//!
+//! What each line goes through is inlined, so that its call is made where it is handed on, and not copied from one function to the next.
 
-ghost use Rattle.std.specs.Prelude.{◌≡◌, ℕ, List, ◌∷◌, [], Result, IfOk};
+ghost use Rattle.std.specs.Prelude.{◌≡◌, ℕ, List, ◌∷◌, [], Result};
 ghost use Rattle.std.specs.Option.{option_map};
 ghost use Rattle.dbg_base.specs.Calls.{call_of};
 ghost use Rattle.dbg_base.specs.CommandLines.{words_of, map_ok, process_call, break_call, step_call, rollback_call, chan_call, lone_call};
-ghost use Rattle.dbg_base.specs.CommandLines.{call_of_words, with_word, name_word};
+ghost use Rattle.dbg_base.specs.CommandLines.{call_of_words, with_word, name_word, next_word, after_word};
 ghost use Rattle.dbg_base.specs.declared.refusal.Refusal.{Refusal};
 ghost use Rattle.proc_lang.specs.Programs.{program_of};
-ghost use Rattle.command_line.specs.Lines.{IsOneParsed, IsGivable, has_shape};
+ghost use Rattle.command_line.specs.Lines.{IsOneParsed, has_shape};
 ghost use Rattle.command_line.specs.Words.{process_word_call, call_by_process, break_word_call};
 
 use crate::break_line::{is_break, parse_break};
@@ -30,29 +32,24 @@ enum ProcessWord {
 
 impl ProcessWord {
     // The word of these bytes, if they are one.
+    #[inline(always)]
     fn read(word: &[u8]) -> Option<ProcessWord>
         ensures { (process : Result ℕ Refusal) → process_call word.now process ≡ call_by_process result process }
     {
-        if word == b"next".as_slice() {
-            Some(ProcessWord::Next)
-        } else if word == b"undo".as_slice() {
-            Some(ProcessWord::Undo)
-        } else if word == b"redo".as_slice() {
-            Some(ProcessWord::Redo)
-        } else if word == b"vars".as_slice() {
-            Some(ProcessWord::Vars)
-        } else if word == b"clock".as_slice() {
-            Some(ProcessWord::Clock)
-        } else if word == b"place".as_slice() {
-            Some(ProcessWord::Place)
-        } else if word == b"can".as_slice() {
-            Some(ProcessWord::Can)
-        } else {
-            None
+        match word {
+            b"next" => Some(ProcessWord::Next),
+            b"undo" => Some(ProcessWord::Undo),
+            b"redo" => Some(ProcessWord::Redo),
+            b"vars" => Some(ProcessWord::Vars),
+            b"clock" => Some(ProcessWord::Clock),
+            b"place" => Some(ProcessWord::Place),
+            b"can" => Some(ProcessWord::Can),
+            _ => None,
         }
     }
 
     // Its call, of this process.
+    #[inline(always)]
     fn call(self, process: Pid) -> Call
         ensures { call_of result ≡ process_word_call self process.0 }
     {
@@ -81,27 +78,23 @@ enum BreakWord {
 
 impl BreakWord {
     // The word of these bytes, if they are one.
+    #[inline(always)]
     fn read(word: &[u8]) -> Option<BreakWord>
         ensures { (name : List ℕ) → break_call word.now name ≡ option_map (λ word. break_word_call word name) result }
     {
-        if word == b"goto".as_slice() {
-            Some(BreakWord::Goto)
-        } else if word == b"clear".as_slice() {
-            Some(BreakWord::Clear)
-        } else if word == b"arm".as_slice() {
-            Some(BreakWord::Arm)
-        } else if word == b"pass".as_slice() {
-            Some(BreakWord::Pass)
-        } else if word == b"cut".as_slice() {
-            Some(BreakWord::Cut)
-        } else if word == b"why".as_slice() {
-            Some(BreakWord::Why)
-        } else {
-            None
+        match word {
+            b"goto" => Some(BreakWord::Goto),
+            b"clear" => Some(BreakWord::Clear),
+            b"arm" => Some(BreakWord::Arm),
+            b"pass" => Some(BreakWord::Pass),
+            b"cut" => Some(BreakWord::Cut),
+            b"why" => Some(BreakWord::Why),
+            _ => None,
         }
     }
 
     // Its call, of this breakpoint.
+    #[inline(always)]
     fn call(self, name: Name) -> Call
         ensures { call_of result ≡ break_word_call self name }
     {
@@ -117,6 +110,7 @@ impl BreakWord {
 }
 
 // The call that makes the process give this command.
+#[inline(always)]
 fn step_call(program: &Program, process: &[u8], choice: &[u8]) -> Result<Call, Refusal>
     ensures { map_ok call_of result ≡ with_word (name_word process.now)
         (λ name. step_call (program_of program.now) name choice.now) }
@@ -127,6 +121,7 @@ fn step_call(program: &Program, process: &[u8], choice: &[u8]) -> Result<Call, R
 }
 
 // The call that takes the process back to this count of events.
+#[inline(always)]
 fn rollback_call(program: &Program, process: &[u8], place: &[u8]) -> Result<Call, Refusal>
     ensures { map_ok call_of result ≡ with_word (name_word process.now)
         (λ name. rollback_call (program_of program.now) name place.now) }
@@ -137,6 +132,7 @@ fn rollback_call(program: &Program, process: &[u8], place: &[u8]) -> Result<Call
 }
 
 // The call that asks for the messages between two processes.
+#[inline(always)]
 fn chan_call(program: &Program, source: &[u8], target: &[u8]) -> Result<Call, Refusal>
     ensures { map_ok call_of result ≡ with_word (name_word source.now)
         (λ name. chan_call (program_of program.now) name target.now) }
@@ -148,6 +144,7 @@ fn chan_call(program: &Program, source: &[u8], target: &[u8]) -> Result<Call, Re
 }
 
 // The call of a word without argument.
+#[inline(always)]
 fn lone_call(word: &[u8]) -> Result<Call, Refusal>
     ensures { map_ok call_of result ≡ lone_call word.now }
 {
@@ -161,6 +158,7 @@ fn lone_call(word: &[u8]) -> Result<Call, Refusal>
 }
 
 // The call of a word and its only argument.
+#[inline(always)]
 fn call_with(program: &Program, word: &[u8], argument: &[u8]) -> Result<Call, Refusal>
     ensures { map_ok call_of result ≡ call_of_words (program_of program.now) word.now (argument.now ∷ []) }
 {
@@ -174,6 +172,7 @@ fn call_with(program: &Program, word: &[u8], argument: &[u8]) -> Result<Call, Re
 }
 
 // The call of a word and its two arguments.
+#[inline(always)]
 fn call_with_two(
     program: &Program,
     word: &[u8],
@@ -194,6 +193,7 @@ fn call_with_two(
 }
 
 // The call of a command word and the words behind it.
+#[inline(always)]
 fn parse_words(program: &Program, word: &[u8], bytes: &[u8]) -> Result<Call, Refusal>
     ensures { map_ok call_of result ≡ call_of_words (program_of program.now) word.now (words_of bytes.now) }
 {
@@ -209,16 +209,28 @@ fn parse_words(program: &Program, word: &[u8], bytes: &[u8]) -> Result<Call, Ref
     }
 }
 
-/// The call of a command by itself.
-pub(crate) fn parse_one(alloc: Global, program: &Program, bytes: &[u8]) -> Result<Call, Refusal>
-    ensures asks { IsOneParsed (program_of program.now) bytes.now result }
-    ensures fits { IfOk result IsGivable }
+/// The call of a command by itself, of which this is the word, and these are the bytes behind it.
+pub(crate) fn parse_by_word(
+    alloc: Global,
+    program: &Program,
+    word: &[u8],
+    rest: &[u8],
+) -> Result<Call, Refusal>
+    ensures { (bytes : List ℕ) → next_word bytes ≡ word.now → after_word bytes ≡ rest.now
+        → IsOneParsed (program_of program.now) bytes result }
 {
-    let (word, rest) = next_word(bytes);
     if word == b"break".as_slice() {
         return parse_break(alloc, program, rest);
     }
     parse_words(program, word, rest)
+}
+
+/// The call of a command by itself.
+pub(crate) fn parse_one(alloc: Global, program: &Program, bytes: &[u8]) -> Result<Call, Refusal>
+    ensures { IsOneParsed (program_of program.now) bytes.now result }
+{
+    let (word, rest) = next_word(bytes);
+    parse_by_word(alloc, program, word, rest)
 }
 
 /// Whether the command has the shape of one that may stand in a batch, whatever it names. It takes no memory.

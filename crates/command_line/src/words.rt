@@ -123,6 +123,7 @@ pub(crate) fn name_word(word: &[u8]) -> Option<Name>
 }
 
 // A process by its name.
+#[inline(always)]
 pub(crate) fn named_process(program: &Program, name: Name) -> Result<Pid, Refusal>
     ensures place { map_ok (λ pid. pid.0) result ≡ named_process (program_of program.now) name }
     ensures known { IfOk result (λ pid. pid.0 < length (program_of program.now)) }
@@ -131,6 +132,7 @@ pub(crate) fn named_process(program: &Program, name: Name) -> Result<Pid, Refusa
 }
 
 // A process by the word that names it.
+#[inline(always)]
 pub(crate) fn process_word(program: &Program, word: &[u8]) -> Result<Pid, Refusal>
     ensures { map_ok (λ pid. pid.0) result ≡ process_word (program_of program.now) (name_word word.now) }
 {

@@ -9,4 +9,4 @@ pub returns-in-Give : goal.returns-in-Give
 returns-in-Give c =
     let P = program_of c.args.program.now in
     member_read P c.args.bytes.now c.in-Give.plan c.requires
-    (subst (λ (given : call.Call). IsOneParsed P c.args.bytes.now (Ok given)) c.in-Give.is c.in_ok-plan.ensures.asks)
+    (subst (λ (given : call.Call). IsOneParsed P c.args.bytes.now (Ok given)) c.in-Give.is c.in_ok-plan.ensures)
