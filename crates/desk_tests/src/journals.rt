@@ -97,44 +97,55 @@ fn asks_values(call: &Call, said: &Said) -> bool {
 }
 
 // Whether the first process has played.
-fn is_first(own: &Own) -> bool {
-    match &own.said {
-        Said::Accepted(reply) => gives_next(&own.call, A) && has_played(reply),
+fn is_first(call: &Call, said: &Said) -> bool {
+    match said {
+        Said::Accepted(reply) => gives_next(call, A) && has_played(reply),
         _ => false,
     }
 }
 
 // Whether there was no such process.
-fn is_unknown(own: &Own) -> bool {
-    gives_next(&own.call, Pid(2)) && matches!(own.said, Said::Refused(Refusal::UnknownProcess))
+fn is_unknown(call: &Call, said: &Said) -> bool {
+    gives_next(call, Pid(2)) && matches!(said, Said::Refused(Refusal::UnknownProcess))
 }
 
 // Whether the last command was taken back.
-fn is_back(own: &Own) -> bool {
-    match (&own.call, &own.said) {
+fn is_back(call: &Call, said: &Said) -> bool {
+    match (call, said) {
         (Call::Back, Said::Accepted(reply)) => is_plain(reply),
         _ => false,
     }
 }
 
 // Whether it was the other seat's to take back.
-fn is_other(own: &Own) -> bool {
-    matches!(own.call, Call::Back) && matches!(own.said, Said::Refused(Refusal::OtherSeat(1)))
+fn is_other(call: &Call, said: &Said) -> bool {
+    matches!(call, Call::Back) && matches!(said, Said::Refused(Refusal::OtherSeat(1)))
+}
+
+// Whether this holds of a call of a seat's own and of what was said to it.
+fn holds(own: &Own, is: fn(&Call, &Said) -> bool) -> Result<bool, Refusal>
+    requires { IsAlwaysCallable is }
+{
+    let call = own.call()?;
+    let said = own.said()?;
+    Ok(is(&call, &said))
 }
 
 // What the first seat has of its calls.
-fn are_ones(calls: &[Own]) -> bool {
+fn are_ones(calls: &[Own]) -> Result<bool, Refusal> {
     match calls {
-        [first, second, third] => is_first(first) && is_unknown(second) && is_back(third),
-        _ => false,
+        [first, second, third] => {
+            Ok(holds(first, is_first)? && holds(second, is_unknown)? && holds(third, is_back)?)
+        }
+        _ => Ok(false),
     }
 }
 
 // And the second one.
-fn are_others(calls: &[Own]) -> bool {
+fn are_others(calls: &[Own]) -> Result<bool, Refusal> {
     match calls {
-        [first, second] => asks_values(&first.call, &first.said) && is_other(second),
-        _ => false,
+        [first, second] => Ok(holds(first, asks_values)? && holds(second, is_other)?),
+        _ => Ok(false),
     }
 }
 
@@ -144,15 +155,16 @@ fn is_asked(entry: &Entry) -> bool {
 }
 
 // Expects the journal to have them in order, and each seat its own.
-fn expect_calls<L: Run>(rt: &impl Abort, trial: &Trial<L, NextCmd>) {
+fn expect_calls<L: Run>(rt: &impl Abort, trial: &Trial<L, NextCmd>) -> Result<(), Fail> {
     expect_same(rt, trial.locked.calls(), 5);
     expect_true(
         rt,
         matches!(trial.locked.entry(1), Some(entry) if is_asked(entry)),
     );
     expect_true(rt, trial.locked.entry(5).is_none());
-    expect_true(rt, are_ones(trial.one.own_calls()));
-    expect_true(rt, are_others(trial.two.own_calls()));
+    expect_true(rt, are_ones(trial.one.own_calls())?);
+    expect_true(rt, are_others(trial.two.own_calls())?);
+    Ok(())
 }
 
 fn calls_in_order<L: Run>(rt: &impl Abort, alloc: Global, beginning: Beginning) -> Result<(), Fail>
@@ -160,8 +172,7 @@ fn calls_in_order<L: Run>(rt: &impl Abort, alloc: Global, beginning: Beginning) 
 {
     let mut trial = begin::<L, NextCmd>(alloc, beginning)?;
     give_calls(rt, alloc, &mut trial);
-    expect_calls(rt, &trial);
-    Ok(())
+    expect_calls(rt, &trial)
 }
 
 #[test]
