@@ -7,14 +7,20 @@ pub enum Job {
     Run,
     /// Look at a program text.
     Check,
+    /// Look at a program text, and tell what is wrong.
+    Explain,
     /// Give `next` for each process of a program text so many times, from threads.
     Crew(u32),
+    /// Answer the lines of a person, and tell what happened.
+    Talk,
+    /// Play sessions, and look whether each reply is as it has to be.
+    Test,
 }
 
 /// What the program is to do, and with what its input begins.
-#[derive(Clone, Copy, Debug)]
+#[derive(Debug, Drop)]
 pub struct Asked<'a> {
     pub job: Job,
-    /// The name of a file, or none, where all input is standard input.
-    pub file: Option<&'a str>,
+    /// The names of files: at least one for `Test`, and else one or none. Where there is none, all input is standard input.
+    pub files: Vec<&'a str>,
 }

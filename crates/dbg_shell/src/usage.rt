@@ -5,7 +5,7 @@ ghost use Rattle.dbg_shell.specs.Jobs.{MayBeAsked};
 
 use crate::jobs::{Asked, Job};
 use clap::error::ErrorKind;
-use clap::{Arg, ArgMatches, Command, Error};
+use clap::{Arg, ArgAction, ArgMatches, Command, Error};
 use dbg_base::limits::CALLS;
 use std::alloc::{AllocError, Global};
 use std::convert::AsStr;
@@ -80,7 +80,24 @@ fn command<'a>(alloc: Global) -> Result<Command<'a>, AllocError> {
         .arg(file(alloc).help("The program and command lines; those of standard input come behind them"))?;
     let check = Command::new(alloc, "check")
         .about("Reads a program and says how many processes and commands it has, or what is wrong")
-        .arg(file(alloc).help("The program, in place of standard input"))?;
+        .arg(file(alloc).help("The program, in place of standard input"))?
+        .arg(
+            Arg::new(alloc, "explain")
+                .long("explain")
+                .action(ArgAction::SetTrue)
+                .help("Tells the line, the place and the likely mend of what is wrong"),
+        )?;
+    let talk = Command::new(alloc, "talk")
+        .about("A session for a person: tells behind each reply what happened, or what stands in the way")
+        .arg(file(alloc).help("The program and first lines; those of standard input come behind them"))?;
+    let test = Command::new(alloc, "test")
+        .about("Plays sessions, and looks whether each command line is answered as a line `> REPLY` behind it says")
+        .arg(
+            file(alloc)
+                .required(true)
+                .num_args(1..)
+                .help("The sessions"),
+        )?;
     let turns = Arg::new(alloc, "turns")
         .long("turns")
         .value_name("N")
@@ -97,9 +114,11 @@ fn command<'a>(alloc: Global) -> Result<Command<'a>, AllocError> {
         .about(ABOUT)
         .after_help(GUIDE)
         .subcommand_required(true)
+        .subcommand(talk)?
         .subcommand(run)?
         .subcommand(check)?
-        .subcommand(crew)
+        .subcommand(crew)?
+        .subcommand(test)
 }
 
 // The job of the subcommand of this name.
@@ -107,6 +126,9 @@ fn named_job(command: &mut Command<'_>, name: &str, matches: &ArgMatches<'_>) ->
     ensures { IfOk result MayBeAsked }
 {
     match name {
+        "talk" => Ok(Job::Talk),
+        "test" => Ok(Job::Test),
+        "check" if matches.get_flag("explain") => Ok(Job::Explain),
         "check" => Ok(Job::Check),
         "crew" => match matches.get_one::<u32>("turns") {
             Some(turns) if 1 <= turns && turns <= TURNS => Ok(Job::Crew(turns)),
@@ -117,9 +139,16 @@ fn named_job(command: &mut Command<'_>, name: &str, matches: &ArgMatches<'_>) ->
     }
 }
 
-/// What the words ask for, of which the first is the program's own name: a job, and the file with which its input begins, if they name
-/// one. The error is a request for help, or words that ask for no job; it has the text to print and the status to end with. A crew has 1
-/// to 100,000 turns.
+// The files that the words name.
+fn named_files<'a>(alloc: Global, matches: &ArgMatches<'a>) -> Result<Vec<&'a str>, AllocError> {
+    match matches.get_strs("file") {
+        Some(names) => Vec::from_slice(alloc, names),
+        None => Ok(Vec::new(alloc)),
+    }
+}
+
+/// What the words ask for, of which the first is the program's own name: a job, and the files that they name. The error is a request for
+/// help, or words that ask for no job; it has the text to print and the status to end with. A crew has 1 to 100,000 turns.
 pub fn asked<'a, S: AsStr>(alloc: Global, words: &'a [S]) -> Result<Asked<'a>, Error>
     ensures { IfOk result (λ asked. MayBeAsked asked.job) }
 {
@@ -128,14 +157,13 @@ pub fn asked<'a, S: AsStr>(alloc: Global, words: &'a [S]) -> Result<Asked<'a>, E
     match matches.subcommand() {
         Some((name, own)) => {
             let job = named_job(&mut command, name, own)?;
-            Ok(Asked {
-                job,
-                file: own.get_str("file"),
-            })
+            let files = named_files(alloc, own)?;
+            Ok(Asked { job, files })
         }
+        // The command has asked for one.
         None => Ok(Asked {
             job: Job::Run,
-            file: None,
+            files: Vec::new(alloc),
         }),
     }
 }

@@ -5,6 +5,7 @@ mod buffer;
 mod output;
 #[cfg(test)]
 mod tests;
+mod typing;
 mod words;
 
 use clap::error::ErrorKind;
@@ -12,19 +13,21 @@ use dbg_shell::{Asked, Job, asked, check, crew_status, run_crew, serve, status};
 use devices::{Noted, Sink, Source, one_behind_the_other};
 use output::Output;
 use std::alloc::Global;
-use std::fs::{File, OpenFile};
-use std::io;
+use std::fs;
+use std::fs::File;
 use std::io::Error;
 use std::process::ExitCode;
 use std::sync::Wait;
 use std::thread::Threads;
+use talk::{Tested, Typed, explain, talk, test_session};
+use typing::{Shown, Typing, open};
 use words::{WordsFault, words};
 
-// The status of a usage fault.
-const NO_FILE: u8 = 2;
+// The status where a session was not answered as it has to be.
+const DIFFERS: u8 = 1;
 
 // Does the job from this reader to this writer, and says the status with which the program ends.
-fn run<R: Threads + Wait + Sync, I: Source, W: Sink>(
+fn run<R: Threads + Wait + Sync, I: Source + Typed, W: Sink>(
     rt: &R,
     alloc: Global,
     job: Job,
@@ -34,49 +37,66 @@ fn run<R: Threads + Wait + Sync, I: Source, W: Sink>(
     match job {
         Job::Run => status(&serve(alloc, reader, writer)),
         Job::Check => status(&check(alloc, reader, writer)),
+        Job::Explain => status(&explain(alloc, reader, writer)),
         Job::Crew(turns) => crew_status(&run_crew(rt, alloc, turns, reader, writer)),
+        // A test has files, and reads them itself.
+        Job::Talk | Job::Test => status(&talk(alloc, reader, writer)),
     }
 }
 
-// Does a job whose input begins with a file: a run goes on with standard input behind it.
+// Does a job whose input begins with a file: a run and a talk go on with standard input behind it.
 fn run_with_file<W: Sink>(rt: &HostRuntime, job: Job, file: File, writer: &mut W) -> u8 {
     match job {
-        Job::Run => {
-            let mut reader = Noted::new(one_behind_the_other(file, rt.stdin()));
+        Job::Run | Job::Talk => {
+            let mut reader = Noted::new(one_behind_the_other(file, Typing::new(rt, job)));
             run(rt, rt.alloc(), job, &mut reader, writer)
         }
-        Job::Check | Job::Crew(_) => {
-            let mut reader = Noted::new(file);
+        Job::Check | Job::Explain | Job::Crew(_) | Job::Test => {
+            let mut reader = Noted::new(Shown { file });
             run(rt, rt.alloc(), job, &mut reader, writer)
         }
     }
 }
 
-// Opens a file that can be read. A folder can not.
-fn open(rt: &HostRuntime, name: &str) -> io::Result<File> {
-    let file = File::open(rt, name)?;
-    if file.metadata()?.is_dir() {
-        return Err(Error::from(io::ErrorKind::IsADirectory));
+// Tells that a file cannot be read, and says the status of a usage fault.
+fn tell_unreadable(rt: &HostRuntime, name: &str, error: &Error) -> u8 {
+    let _ = eprintln!(rt;
+        "error: the file '{name}' cannot be read: {error}\n\nFor more information, try '--help'."
+    );
+    2
+}
+
+// Plays the sessions of these files.
+fn test<W: Sink>(rt: &HostRuntime, files: &[&str], writer: &mut W) -> u8 {
+    let mut worst = 0;
+    for name in files {
+        let session = match fs::read(rt, *name) {
+            Ok(session) => session,
+            Err(error) => return tell_unreadable(rt, name, &error),
+        };
+        match test_session(rt.alloc(), name, session.as_slice(), writer) {
+            Ok(Tested::Passed) => {}
+            Ok(Tested::Failed) => worst = DIFFERS,
+            Err(fault) => return fault.status(),
+        }
     }
-    Ok(file)
+    worst
 }
 
 // Does what the words ask for, and says the status with which the program ends.
-fn do_job(rt: &HostRuntime, asked: Asked<'_>) -> u8 {
+fn do_job(rt: &HostRuntime, asked: &Asked<'_>) -> u8 {
     let mut writer = Output::new(rt.stdout());
-    // `-` stands for standard input, as elsewhere.
-    match asked.file.filter(|name| *name != "-") {
-        Some(name) => match open(rt, name) {
+    if asked.job == Job::Test {
+        return test(rt, asked.files.as_slice(), &mut writer);
+    }
+    match asked.files.first() {
+        // `-` stands for standard input.
+        Some(name) if *name != "-" => match open(rt, name) {
             Ok(file) => run_with_file(rt, asked.job, file, &mut writer),
-            Err(error) => {
-                let _ = eprintln!(rt;
-                    "error: the file '{name}' cannot be read: {error}\n\nFor more information, try '--help'."
-                );
-                NO_FILE
-            }
+            Err(error) => tell_unreadable(rt, name, &error),
         },
-        None => {
-            let mut reader = Noted::new(rt.stdin());
+        _ => {
+            let mut reader = Noted::new(Typing::new(rt, asked.job));
             run(rt, rt.alloc(), asked.job, &mut reader, &mut writer)
         }
     }
@@ -95,7 +115,7 @@ fn main(rt: HostRuntime) -> ExitCode {
         }
     };
     match asked(rt.alloc(), words.as_slice()) {
-        Ok(asked) => ExitCode::from(do_job(&rt, asked)),
+        Ok(asked) => ExitCode::from(do_job(&rt, &asked)),
         Err(error) => {
             if error.kind() == ErrorKind::OutOfMemory {
                 return ExitCode::from(WordsFault::Memory.status());

@@ -5,8 +5,10 @@ mod own;
 mod running;
 mod sentences;
 mod talking;
+mod testing;
 mod typed;
 mod written;
 
-pub use running::talk;
+pub use running::{explain, talk};
+pub use testing::{Tested, test_session};
 pub use typed::Typed;

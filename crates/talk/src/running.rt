@@ -15,7 +15,7 @@ use crate::sentences::fault_notes;
 use crate::talking::{talk_line, tell};
 use crate::typed::Typed;
 use dbg_base::limits::SEATS;
-use dbg_base::{Plan, Refusal};
+use dbg_base::{Pid, Plan, Refusal};
 use dbg_board::{Board, Publisher, SeatView};
 use dbg_command::{
     ArmCmd, BatchCmd, BreakCmd, ClearCmd, Command, Givable, GotoCmd, NextCmd, PassCmd, RedoCmd,
@@ -24,8 +24,8 @@ use dbg_command::{
 use dbg_desk::{Locked, Run, Seat};
 use devices::{Sink, Source};
 use proc_lang::{ProgError, ProgFault, Program, parse_program};
-use reply_lines::{ServeFault, Served, tell_fault, tell_no_end_line, tell_too_long};
-use shell_input::{Input, Next, TextEnd, read_program_text};
+use reply_lines::{ServeFault, Served, tell_fault, tell_no_end_line, tell_size, tell_too_long};
+use shell_input::{Input, Next, TextEnd, read_program_text, text_alone};
 use std::alloc::Global;
 use std::marker::Brand;
 use std::mem;
@@ -156,6 +156,34 @@ fn talk_lines<C: Command, M: Fn(Givable) -> Result<C, Refusal>, R: Source + Type
             begin_talk::<Brand, C, M, R, W>(alloc, make, text, beginning, input, reader, writer)
         }
         Err(_) => Err(ServeFault::Memory),
+    }
+}
+
+// The commands of all processes.
+fn command_count(program: &Program) -> u32 {
+    let mut count = 0u32;
+    for p in 0..program.processes() {
+        count = count.saturating_add(program.commands(Pid(p)));
+    }
+    count
+}
+
+/// Reads a program text, which a line `%%` ends or the input's end, and writes how many processes and commands the program has, or what
+/// is wrong with it: behind the refusal the line and the column, the text of the line with a mark under the place, and the likely mend.
+pub fn explain<R: Source, W: Sink>(
+    alloc: Global,
+    reader: &mut R,
+    writer: &mut W,
+) -> Result<Served, ServeFault> {
+    let mut input = Input::new(alloc)?;
+    let end = read_program_text(&mut input, reader)?;
+    let Some(text) = text_alone(&input, end) else {
+        return tell_too_long(writer);
+    };
+    match parse_program(alloc, text) {
+        Ok(program) => tell_size(program.processes(), command_count(&program), writer),
+        Err(ProgError::Bad(fault)) => tell_program_refused(alloc, text, &fault, writer),
+        Err(ProgError::Memory) => Err(ServeFault::Memory),
     }
 }
 

@@ -5,7 +5,7 @@ use crate::running::talk;
 use crate::typed::Typed;
 use devices::{Noted, Sink};
 use itoa::Buffer;
-use reply_lines::{ServeFault, write_whole};
+use reply_lines::{ServeFault, Served, hand_on, write_whole};
 use std::alloc::{AllocError, Global};
 use std::io;
 use std::io::Read;
@@ -30,9 +30,19 @@ impl Typed for Silent<'_> {
     }
 }
 
+/// How a session did, in which a line `> REPLY` says what the command line before it has to be answered.
+#[derive(Clone, Copy, Debug, PartialEq, Eq)]
+pub enum Tested {
+    /// Each reply was as it has to be.
+    Passed,
+    /// One was not, or the program was refused, or there was too much input.
+    Failed,
+}
+
 // A line whose reply is another than it has to be.
 #[derive(Clone, Copy, Debug)]
 struct Difference<'a> {
+    // The line's number in the session, from 1.
     number: usize,
     line: &'a [u8],
     wanted: &'a [u8],
@@ -40,7 +50,7 @@ struct Difference<'a> {
     before: usize,
 }
 
-// What is wanted of the line before this one, if this one says so.
+// What is wanted of the command line before this line, if it says so.
 fn wanted(line: &[u8]) -> Option<&[u8]> {
     match line.trim_ascii() {
         [b'>', rest @ ..] => Some(rest.trim_ascii()),
@@ -52,41 +62,153 @@ fn is_told(line: &[u8]) -> bool {
     matches!(line, [b' ', b' ', ..])
 }
 
-// The reply behind so many others.
-fn reply(page: &[u8], before: usize) -> &[u8] {
-    let mut replies = page.split(|byte| *byte == b'\n').filter(|line| !is_told(line));
-    replies.nth(before).unwrap_or(&[])
-}
-
-// The first line of a session whose reply is another than it has to be.
-fn first_difference<'a>(session: &'a [u8], page: &[u8]) -> Option<Difference<'a>> {
-    let mut lines = session.split(|byte| *byte == b'\n').enumerate();
-    let mut asked: Option<Difference<'a>> = None;
-    let mut replies = 0usize;
-    // The program's text.
-    for (_, line) in &mut lines {
+// The lines of a session behind its program, each with its number.
+fn command_lines(session: &[u8]) -> (usize, &[u8]) {
+    let mut rest = session;
+    let mut number = 1usize;
+    for line in session.split(|byte| *byte == b'\n') {
+        rest = rest.get(line.len().saturating_add(1)..).unwrap_or(&[]);
+        number = number.saturating_add(1);
         if line.trim_ascii_end() == b"%%".as_slice() {
             break;
         }
     }
-    for (number, line) in lines {
-        match (wanted(line), asked) {
-            (Some(wanted), Some(asked)) => {
-                if reply(page, asked.before) != wanted {
-                    return Some(Difference { wanted, ..asked });
-                }
+    (number, rest)
+}
+
+// The first line of a session whose reply is another than it has to be, where the talk wrote this page.
+fn first_difference<'a>(session: &'a [u8], page: &[u8]) -> Option<Difference<'a>> {
+    let (mut number, lines) = command_lines(session);
+    let mut asked = Difference {
+        number,
+        line: &[],
+        wanted: &[],
+        before: 0,
+    };
+    let mut replies = 0usize;
+    let mut rest = page;
+    let mut reply: &[u8] = &[];
+    for line in lines.split(|byte| *byte == b'\n') {
+        match wanted(line) {
+            Some(wanted) if wanted != reply => {
+                asked.wanted = wanted;
+                return Some(asked);
             }
-            (None, _) if !is_own(line) => {
-                asked = Some(Difference {
-                    number: number.saturating_add(1),
+            Some(_) => {}
+            None if is_own(line) => {}
+            None => {
+                asked = Difference {
+                    number,
                     line,
                     wanted: &[],
                     before: replies,
-                });
+                };
+                (reply, rest) = next_reply(rest);
                 replies = replies.saturating_add(1);
             }
-            _ => {}
         }
+        number = number.saturating_add(1);
     }
     None
+}
+
+// The first line, and what is behind it.
+fn next_line(page: &[u8]) -> (&[u8], &[u8]) {
+    let length = page.iter().take_while(|byte| **byte != b'\n').count();
+    let line = page.get(..length).unwrap_or(page);
+    (line, page.get(length.saturating_add(1)..).unwrap_or(&[]))
+}
+
+// The first reply, and what is behind it.
+fn next_reply(page: &[u8]) -> (&[u8], &[u8]) {
+    let mut rest = page;
+    for _ in 0..page.len() {
+        let (line, behind) = next_line(rest);
+        if !is_told(line) {
+            return (line, behind);
+        }
+        rest = behind;
+    }
+    (&[], &[])
+}
+
+// Tells a line whose reply is another, and what was told of that reply.
+fn tell_difference(
+    alloc: Global,
+    name: &str,
+    difference: &Difference<'_>,
+    page: &[u8],
+) -> Result<Vec<u8>, AllocError> {
+    let mut text = Vec::new(alloc);
+    let mut rest = page;
+    let mut reply: &[u8] = &[];
+    for _ in 0..difference.before.saturating_add(1) {
+        (reply, rest) = next_reply(rest);
+    }
+    text.extend_from_slice(name.as_bytes())?;
+    text.extend_from_slice(b":")?;
+    text.extend_from_slice(Buffer::new().format(difference.number).as_bytes())?;
+    text.extend_from_slice(b": ")?;
+    text.extend_from_slice(difference.line)?;
+    text.extend_from_slice(b"\n  wanted: ")?;
+    text.extend_from_slice(difference.wanted)?;
+    text.extend_from_slice(b"\n  reply:  ")?;
+    text.extend_from_slice(reply)?;
+    text.extend_from_slice(b"\n")?;
+    for _ in 0..rest.len() {
+        let (line, behind) = next_line(rest);
+        if !is_told(line) {
+            break;
+        }
+        text.extend_from_slice(b"  ")?;
+        text.extend_from_slice(line)?;
+        text.extend_from_slice(b"\n")?;
+        rest = behind;
+    }
+    Ok(text)
+}
+
+// Tells that all replies were as they have to be.
+fn tell_passed(alloc: Global, name: &str) -> Result<Vec<u8>, AllocError> {
+    let mut text = Vec::from_slice(alloc, name.as_bytes())?;
+    text.extend_from_slice(b": ok\n")?;
+    Ok(text)
+}
+
+// Writes a text and hands it on.
+fn write_text<W: Sink>(text: &[u8], writer: &mut W) -> Result<(), ServeFault> {
+    let written = write_whole(writer, text);
+    hand_on(written, writer)
+}
+
+/// Plays the session of this name, and writes whether each reply was what a line `> REPLY` behind the command line wants, or the first that
+/// was not, with what a talk tells of it. A program that is refused, and too much input, are told as a talk tells them.
+pub fn test_session<W: Sink>(
+    alloc: Global,
+    name: &str,
+    session: &[u8],
+    writer: &mut W,
+) -> Result<Tested, ServeFault> {
+    let mut reader = Noted::new(Silent { rest: session });
+    let mut page = Noted::new(Vec::new(alloc));
+    // A page fails only where memory runs out.
+    let Ok(served) = talk(alloc, &mut reader, &mut page) else {
+        return Err(ServeFault::Memory);
+    };
+    let page = page.into_inner();
+    if served != Served::Done {
+        write_text(page.as_slice(), writer)?;
+        return Ok(Tested::Failed);
+    }
+    match first_difference(session, page.as_slice()) {
+        Some(difference) => {
+            let text = tell_difference(alloc, name, &difference, page.as_slice())?;
+            write_text(text.as_slice(), writer)?;
+            Ok(Tested::Failed)
+        }
+        None => {
+            write_text(tell_passed(alloc, name)?.as_slice(), writer)?;
+            Ok(Tested::Passed)
+        }
+    }
 }
