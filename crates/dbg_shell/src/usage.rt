@@ -77,7 +77,9 @@ fn file<'a>(alloc: Global) -> Arg<'a> {
 fn command<'a>(alloc: Global) -> Result<Command<'a>, AllocError> {
     let run = Command::new(alloc, "run")
         .about("Reads a program, a line `%%` and command lines, and answers each line")
-        .arg(file(alloc).help("The program and command lines; those of standard input come behind them"))?;
+        .arg(file(alloc).help(
+            "The program and command lines; those of standard input come behind them",
+        ))?;
     let check = Command::new(alloc, "check")
         .about("Reads a program and says how many processes and commands it has, or what is wrong")
         .arg(file(alloc).help("The program, in place of standard input"))?
@@ -88,10 +90,16 @@ fn command<'a>(alloc: Global) -> Result<Command<'a>, AllocError> {
                 .help("Tells the line, the place and the likely mend of what is wrong"),
         )?;
     let talk = Command::new(alloc, "talk")
-        .about("A session for a person: tells behind each reply what happened, or what stands in the way")
-        .arg(file(alloc).help("The program and first lines; those of standard input come behind them"))?;
+        .about(
+            "A session for a person: tells behind each reply what happened, or what stands in the way",
+        )
+        .arg(file(alloc).help(
+            "The program and first lines; those of standard input come behind them",
+        ))?;
     let test = Command::new(alloc, "test")
-        .about("Plays sessions, and looks whether each command line is answered as a line `> REPLY` behind it says")
+        .about(
+            "Plays sessions, and looks whether each command line is answered as a line `> REPLY` behind it says",
+        )
         .arg(
             file(alloc)
                 .required(true)

@@ -66,13 +66,18 @@ command_line P line seated J after a b c own is echo answer =
 lines_more : (P : Program) (lines : List (List ℕ)) (line : List ℕ) (J mid after : Journal) (text more : List ℕ)
     → TalksLines P lines J text mid → TalksLine P line mid more after → TalksLines P (lines ++ line ∷ []) J (text ++ more) after
 lines_more P [] line J mid after text more h k = (
-  more, [], after,
+  more,
+  [],
+  after,
   subst (λ (K : Journal). TalksLine P line K more after) h.1 k,
   (refl, refl),
   ap (λ (t : List ℕ). t ++ more) h.0 ∙ sym (append-nil more),
 )
 lines_more P (first ∷ lines) line J mid after text more h k = (
-  h.0, h.1 ++ more, h.2, h.3,
+  h.0,
+  h.1 ++ more,
+  h.2,
+  h.3,
   lines_more P lines line h.2 mid after h.1 more h.4 k,
   ap (λ (t : List ℕ). t ++ more) h.5 ∙ append_assoc h.0 h.1 more,
 )
@@ -88,13 +93,16 @@ pub record Talked (P : Program) (bytes : List ℕ) (ended : Bool) (from at : ℕ
 pub talked_begins : (P : Program) (bytes : List ℕ) (ended : Bool) (from : ℕ) (J : Journal) (a : Seen) → J ≡ []
     → Talked P bytes ended from from J a a
 talked_begins P bytes ended from J a none = record {
-  lines = []; text = []; among = λ input may. refl; talks = (refl, none); written = appended_none a;
+  lines = [];
+  text = [];
+  among = λ input may. refl;
+  talks = (refl, none);
+  written = appended_none a;
 }
 
 module _ (P : Program) (before : List ℕ) (was : Bool) (bytes : List ℕ) (ended : Bool) (from at new : ℕ) (next : Next) (J : Journal)
     (old mid : Seen)
     (talked : Talked P before was from at J old mid) (narrows : Narrows before was bytes ended) where
-
   pub talked_on : (line : List ℕ) (span : Span) (out : Seen) (after : Journal) → TellsAny bytes ended at new next
       → next ≡ nexts.Line span
       → (span.from ≤ span.to → span.to ≤ length bytes → line ≡ slice_range bytes span.from span.to)

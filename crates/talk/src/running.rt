@@ -32,7 +32,6 @@ use std::mem;
 use std::sync::ledger::Blank;
 use telling::Source as Text;
 
-
 // Leaves a talk that is over, whose memory goes with the process.
 fn leave<L: Run, C: Command>(locked: Locked<L, C>, seats: Vec<Seat<L>>) {
     mem::forget(locked);
@@ -67,7 +66,15 @@ fn talk_run<L: Run, C: Command, M: Fn(Givable) -> Result<C, Refusal>, R: Source 
                 let line = input.line(span);
                 let echoes = !reader.is_typed();
                 let goes_on = talk_line(
-                    alloc, make, text, &mut locked, &mut seats, &mut room, line, echoes, writer,
+                    alloc,
+                    make,
+                    text,
+                    &mut locked,
+                    &mut seats,
+                    &mut room,
+                    line,
+                    echoes,
+                    writer,
                 )?;
                 if !goes_on {
                     leave(locked, seats);

@@ -49,7 +49,13 @@ impl Asked {
         Some(Asked { call, before })
     }
 
-    fn tell(&self, alloc: Global, view: View<'_>, said: &Said, notes: &mut Notes) -> Result<(), Refusal> {
+    fn tell(
+        &self,
+        alloc: Global,
+        view: View<'_>,
+        said: &Said,
+        notes: &mut Notes,
+    ) -> Result<(), Refusal> {
         match said {
             Said::Accepted(reply) => view.tell_reply(alloc, notes, &self.before, &self.call, reply),
             Said::Refused(refusal) => view.tell_refusal(alloc, notes, &self.call, refusal),
@@ -59,7 +65,12 @@ impl Asked {
 }
 
 /// What is told beside the reply to a call.
-pub(crate) fn call_notes(alloc: Global, view: View<'_>, asked: &Option<Asked>, said: &Said) -> Notes {
+pub(crate) fn call_notes(
+    alloc: Global,
+    view: View<'_>,
+    asked: &Option<Asked>,
+    said: &Said,
+) -> Notes {
     let mut notes = Notes::new(alloc);
     if let Some(asked) = asked {
         // Where memory runs out the sentences end.

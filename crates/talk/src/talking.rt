@@ -48,19 +48,33 @@ fn answer_line<L: Run, C: Command, M: Fn(Givable) -> Result<C, Refusal>, W: Sink
 {
     match parse_line(alloc, locked.program(), line) {
         Ok(Some(line)) => {
-            let asked = Asked::new(alloc, view(locked.program(), source, locked.table()), &line.call);
+            let asked = Asked::new(
+                alloc,
+                view(locked.program(), source, locked.table()),
+                &line.call,
+            );
             let seat = &mut seats[line.seat as usize - 1];
             let (call, said) = answer(locked, alloc, make, seat, line.call);
             let written = print_reply(locked.program(), &call, &said, writer);
             hand_on(written, writer)?;
-            let notes = call_notes(alloc, view(locked.program(), source, locked.table()), &asked, &said);
+            let notes = call_notes(
+                alloc,
+                view(locked.program(), source, locked.table()),
+                &asked,
+                &said,
+            );
             tell(&notes, writer)
         }
         Ok(None) => Ok(()),
         Err(refusal) => {
             let written = print_refusal(locked.program(), &refusal, writer);
             hand_on(written, writer)?;
-            let notes = line_notes(alloc, view(locked.program(), source, locked.table()), line, &refusal);
+            let notes = line_notes(
+                alloc,
+                view(locked.program(), source, locked.table()),
+                line,
+                &refusal,
+            );
             tell(&notes, writer)
         }
     }
@@ -92,6 +106,14 @@ pub(crate) fn talk_line<L: Run, C: Command, M: Fn(Givable) -> Result<C, Refusal>
         tell(&notes, writer)?;
         return Ok(first_word(line) != b"quit".as_slice());
     }
-    answer_line(alloc, make, source, locked, seats, room.with_seat(line), writer)?;
+    answer_line(
+        alloc,
+        make,
+        source,
+        locked,
+        seats,
+        room.with_seat(line),
+        writer,
+    )?;
     Ok(true)
 }

@@ -41,7 +41,11 @@ pub(crate) fn write_told<W: Sink>(lines: &[Vec<u8>], writer: &mut W) -> Result<(
 }
 
 /// Writes the line itself, where that is asked for.
-pub(crate) fn write_echo<W: Sink>(echoes: bool, line: &[u8], writer: &mut W) -> Result<(), ServeFault>
+pub(crate) fn write_echo<W: Sink>(
+    echoes: bool,
+    line: &[u8],
+    writer: &mut W,
+) -> Result<(), ServeFault>
     ensures echo { OnOk result (WritesEcho line.now (W.seen writer.old) (W.seen writer.new)) }
     ensures fault { IfErr result (λ fault. fault ≡ Write) }
 {

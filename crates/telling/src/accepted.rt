@@ -60,14 +60,26 @@ impl View<'_> {
         }
         notes.say(&[self.scope(pid).name(), Part::Text(": ")])?;
         if place < old_place {
-            notes.add(&[Part::Text("back from "), Part::Number(i64::from(old_place)), Part::Text(" to ")])?;
+            notes.add(&[
+                Part::Text("back from "),
+                Part::Number(i64::from(old_place)),
+                Part::Text(" to "),
+            ])?;
         } else if place > old_place {
-            notes.add(&[Part::Text("from "), Part::Number(i64::from(old_place)), Part::Text(" to ")])?;
+            notes.add(&[
+                Part::Text("from "),
+                Part::Number(i64::from(old_place)),
+                Part::Text(" to "),
+            ])?;
         }
         put_events(notes, place)?;
         let redo = line.saturating_sub(place);
         if redo > 0 {
-            notes.add(&[Part::Text(", "), Part::Number(i64::from(redo)), Part::Text(" to make again")])?;
+            notes.add(&[
+                Part::Text(", "),
+                Part::Number(i64::from(redo)),
+                Part::Text(" to make again"),
+            ])?;
         }
         Ok(())
     }
@@ -109,7 +121,13 @@ impl View<'_> {
             return tell_breakpoint(alloc, notes, self.program, self.book, name);
         }
         match call {
-            Call::Give(Plan::Break(name, _)) => tell_breakpoint(alloc, notes, self.program, self.book, *name),
+            Call::Give(Plan::Break(name, _)) => tell_breakpoint(
+                alloc,
+                notes,
+                self.program,
+                self.book,
+                *name,
+            ),
             _ => Ok(()),
         }
     }

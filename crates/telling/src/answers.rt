@@ -9,16 +9,35 @@ use std::alloc::AllocError;
 const TOLD: usize = 12;
 
 impl View<'_> {
-    fn tell_elimination(&self, notes: &mut Notes, elimination: &Elimination) -> Result<(), AllocError> {
+    fn tell_elimination(
+        &self,
+        notes: &mut Notes,
+        elimination: &Elimination,
+    ) -> Result<(), AllocError> {
         let scope = self.scope(elimination.pid);
         let from = Part::Number(i64::from(elimination.from));
         match elimination.cause {
-            Cause::FalseAt => notes.say(&[scope.name(), Part::Text(" behind "), from, Part::Text(" events: its part is false")]),
+            Cause::FalseAt => notes.say(&[
+                scope.name(),
+                Part::Text(" behind "),
+                from,
+                Part::Text(" events: its part is false"),
+            ]),
             Cause::Passed(pid, count) => {
                 let count = Part::Number(i64::from(count));
                 let to = Part::Number(i64::from(elimination.to));
-                notes.say(&[scope.name(), Part::Text(" needs "), to, Part::Text(" events: event ")])?;
-                notes.add(&[count, Part::Text(" of "), scope.process(pid), Part::Text(" depends on them")])
+                notes.say(&[
+                    scope.name(),
+                    Part::Text(" needs "),
+                    to,
+                    Part::Text(" events: event "),
+                ])?;
+                notes.add(&[
+                    count,
+                    Part::Text(" of "),
+                    scope.process(pid),
+                    Part::Text(" depends on them"),
+                ])
             }
         }
     }
@@ -34,7 +53,10 @@ impl View<'_> {
         let trail = breakpoint.detector().why();
         let told = trail.len().min(TOLD);
         if told < trail.len() {
-            notes.say(&[Part::Count(trail.len()), Part::Text(" states were left out, the last of them these:")])?;
+            notes.say(&[
+                Part::Count(trail.len()),
+                Part::Text(" states were left out, the last of them these:"),
+            ])?;
         }
         for elimination in trail.get(trail.len() - told..).unwrap_or(&[]) {
             self.tell_elimination(notes, elimination)?;

@@ -9,7 +9,11 @@ use proc_lang::Program;
 use std::alloc::{AllocError, Global};
 
 // Puts the conjuncts of a breakpoint behind the last line.
-fn put_conjuncts(notes: &mut Notes, program: &Program, detector: &Detector) -> Result<(), AllocError> {
+fn put_conjuncts(
+    notes: &mut Notes,
+    program: &Program,
+    detector: &Detector,
+) -> Result<(), AllocError> {
     let mut word = "";
     for at in 0..program.processes() {
         let Some((pid, expr)) = detector.conjunct(at as usize) else {
@@ -28,7 +32,10 @@ fn tell_cut(notes: &mut Notes, program: &Program, cut: &Cut) -> Result<(), Alloc
     notes.say(&[Part::Text("first in the state behind")])?;
     let mut word = " ";
     for p in 0..program.processes() {
-        let scope = Scope { program, pid: Pid(p) };
+        let scope = Scope {
+            program,
+            pid: Pid(p),
+        };
         let count = Part::Number(i64::from(cut.count(Pid(p))));
         notes.add(&[Part::Text(word), count, Part::Text(" of "), scope.name()])?;
         word = ", ";
@@ -37,12 +44,24 @@ fn tell_cut(notes: &mut Notes, program: &Program, cut: &Cut) -> Result<(), Alloc
 }
 
 // Tells of which processes there are not enough events.
-fn tell_past(alloc: Global, notes: &mut Notes, program: &Program, detector: &Detector) -> Result<(), Refusal> {
+fn tell_past(
+    alloc: Global,
+    notes: &mut Notes,
+    program: &Program,
+    detector: &Detector,
+) -> Result<(), Refusal> {
     let heads = detector.frontier(alloc)?;
     for p in 0..program.processes() {
         if let Some(Head::Past) = heads.items().get(p as usize) {
-            let scope = Scope { program, pid: Pid(p) };
-            notes.say(&[Part::Text("no event of "), scope.name(), Part::Text(" so far leads to a state that satisfies its part")])?;
+            let scope = Scope {
+                program,
+                pid: Pid(p),
+            };
+            notes.say(&[
+                Part::Text("no event of "),
+                scope.name(),
+                Part::Text(" so far leads to a state that satisfies its part"),
+            ])?;
         }
     }
     Ok(())

@@ -11,7 +11,13 @@ use std::alloc::AllocError;
 fn sending(rows: &Rows, source: Pid, target: Pid, count: u32) -> Option<usize> {
     for at in (0..rows.len(source)).rev() {
         match rows.event(source, at).map(Event::exchange) {
-            Some(Exchange::Sent { target: to, count: number, .. }) if to == target && number == count => {
+            Some(
+                Exchange::Sent {
+                    target: to,
+                    count: number,
+                    ..
+                },
+            ) if to == target && number == count => {
                 return Some(at.saturating_add(1));
             }
             _ => {}
@@ -24,7 +30,13 @@ fn sending(rows: &Rows, source: Pid, target: Pid, count: u32) -> Option<usize> {
 pub(crate) fn receiving(rows: &Rows, target: Pid, source: Pid, count: u32) -> Option<usize> {
     for at in (0..rows.len(target)).rev() {
         match rows.event(target, at).map(Event::exchange) {
-            Some(Exchange::Took { source: from, count: number, .. }) if from == source && number == count => {
+            Some(
+                Exchange::Took {
+                    source: from,
+                    count: number,
+                    ..
+                },
+            ) if from == source && number == count => {
                 return Some(at.saturating_add(1));
             }
             _ => {}
@@ -34,10 +46,22 @@ pub(crate) fn receiving(rows: &Rows, target: Pid, source: Pid, count: u32) -> Op
 }
 
 impl Scope<'_> {
-    fn put_setting(&self, notes: &mut Notes, word: &'static str, setting: &Setting) -> Result<(), AllocError> {
+    fn put_setting(
+        &self,
+        notes: &mut Notes,
+        word: &'static str,
+        setting: &Setting,
+    ) -> Result<(), AllocError> {
         let old = Part::Number(setting.old);
         let new = Part::Number(setting.new);
-        notes.add(&[Part::Text(word), self.variable(setting.variable), Part::Text(" "), old, Part::Text(" -> "), new])
+        notes.add(&[
+            Part::Text(word),
+            self.variable(setting.variable),
+            Part::Text(" "),
+            old,
+            Part::Text(" -> "),
+            new,
+        ])
     }
 
     // Puts the message and where it came from, or went, behind the last line.
@@ -52,13 +76,33 @@ impl Scope<'_> {
             Exchange::Nothing => Ok(()),
             Exchange::Sent { target, value, .. } => {
                 let value = Part::Number(value);
-                notes.add(&[Part::Text(word), Part::Text("sent "), value, Part::Text(" to "), self.process(target)])
+                notes.add(&[
+                    Part::Text(word),
+                    Part::Text("sent "),
+                    value,
+                    Part::Text(" to "),
+                    self.process(target),
+                ])
             }
-            Exchange::Took { source, message, count } => {
+            Exchange::Took {
+                source,
+                message,
+                count,
+            } => {
                 let message = Part::Number(message);
-                notes.add(&[Part::Text(word), Part::Text("took "), message, Part::Text(" from "), self.process(source)])?;
+                notes.add(&[
+                    Part::Text(word),
+                    Part::Text("took "),
+                    message,
+                    Part::Text(" from "),
+                    self.process(source),
+                ])?;
                 match sending(rows, source, self.pid, count) {
-                    Some(number) => notes.add(&[Part::Text(" (sent by its event "), Part::Count(number), Part::Text(")")]),
+                    Some(number) => notes.add(&[
+                        Part::Text(" (sent by its event "),
+                        Part::Count(number),
+                        Part::Text(")"),
+                    ]),
                     None => Ok(()),
                 }
             }
@@ -66,7 +110,12 @@ impl Scope<'_> {
     }
 
     /// Puts what an event did behind the last line.
-    pub(crate) fn put_event(&self, notes: &mut Notes, rows: &Rows, event: &Event) -> Result<(), AllocError> {
+    pub(crate) fn put_event(
+        &self,
+        notes: &mut Notes,
+        rows: &Rows,
+        event: &Event,
+    ) -> Result<(), AllocError> {
         let mut word = "";
         for setting in event.settings() {
             self.put_setting(notes, word, setting)?;

@@ -62,7 +62,12 @@ impl<'a> Scope<'a> {
         named(self.program.variable_name(self.pid, variable))
     }
 
-    fn put_count(&self, notes: &mut Notes, direction: Direction, pid: Pid) -> Result<(), AllocError> {
+    fn put_count(
+        &self,
+        notes: &mut Notes,
+        direction: Direction,
+        pid: Pid,
+    ) -> Result<(), AllocError> {
         let open = Part::Text(direction_text(direction));
         notes.add(&[open, self.process(pid), Part::Text(")")])
     }
@@ -91,7 +96,12 @@ impl<'a> Scope<'a> {
     }
 
     #[cycle(expression)]
-    fn put_with_sign(&self, notes: &mut Notes, sign: &str, operand: &Expr) -> Result<(), AllocError> {
+    fn put_with_sign(
+        &self,
+        notes: &mut Notes,
+        sign: &str,
+        operand: &Expr,
+    ) -> Result<(), AllocError> {
         notes.add(&[Part::Text(sign)])?;
         self.put_expression(notes, operand)?;
         notes.add(&[Part::Text(")")])

@@ -8,19 +8,26 @@ use std::alloc::AllocError;
 fn fault_text(kind: FaultKind) -> &'static str {
     match kind {
         FaultKind::Byte => "no word and no sign begins with this byte",
-        FaultKind::Token => "a word has at most 32 bytes, and a number is at most 9223372036854775807",
+        FaultKind::Token =>
+            "a word has at most 32 bytes, and a number is at most 9223372036854775807",
         FaultKind::Grammar => "this cannot stand here",
         FaultKind::NameTaken => "the name is taken",
         FaultKind::NameUnknown => "nothing has this name",
-        FaultKind::TypeWrong => "a number stands where a truth value is due, or a truth value where a number is",
+        FaultKind::TypeWrong =>
+            "a number stands where a truth value is due, or a truth value where a number is",
         FaultKind::Limit => "there are too many of these",
-        FaultKind::SelfSend => "a process does not send to itself, and does not receive from itself",
+        FaultKind::SelfSend =>
+            "a process does not send to itself, and does not receive from itself",
         FaultKind::SetTwice => "the command sets this variable already",
     }
 }
 
 /// Tells what a fault is, with a mark behind as much room as these bytes take.
-pub(crate) fn tell_mark(notes: &mut Notes, before: &[u8], kind: FaultKind) -> Result<(), AllocError> {
+pub(crate) fn tell_mark(
+    notes: &mut Notes,
+    before: &[u8],
+    kind: FaultKind,
+) -> Result<(), AllocError> {
     notes.say(&[])?;
     for byte in before {
         notes.add(&[Part::Text(if *byte == b'\t' { "\t" } else { " " })])?;
@@ -49,10 +56,20 @@ fn mend(before: &[u8], at: &[u8]) -> Option<&'static str> {
     if begins(at, b"&") || begins(at, b"|") || begins(at, b"!") {
         return Some("the words are `and`, `or`, `not`, and unequal is `!=`");
     }
-    if matches!(at, [b'+' | b'-' | b'*' | b'/' | b'%' | b'<' | b'>', ..]) || begins(at, b"and") || begins(at, b"or") {
-        return Some("an operator with its two operands stands in parentheses: `(x + 1)`, `((a and b) and c)`");
+    if matches!(at, [b'+' | b'-' | b'*' | b'/' | b'%' | b'<' | b'>', ..])
+        || begins(at, b"and")
+        || begins(at, b"or")
+    {
+        return Some(
+            "an operator with its two operands stands in parentheses: `(x + 1)`, `((a and b) and c)`",
+        );
     }
-    for word in [b"when".as_slice(), b"var".as_slice(), b"process".as_slice(), b"}".as_slice()] {
+    for word in [
+        b"when".as_slice(),
+        b"var".as_slice(),
+        b"process".as_slice(),
+        b"}".as_slice(),
+    ] {
         if begins(at, word) && !matches!(before.last(), Some(b';' | b'{' | b'}')) {
             return Some("a `;` is missing before it");
         }
@@ -84,18 +101,28 @@ fn line_length(bytes: &[u8]) -> usize {
 }
 
 /// Tells a fault of a program text: its line and column, the line with a mark under the place, what is wrong, and the likely mend.
-pub fn tell_program_fault(notes: &mut Notes, text: &[u8], fault: &ProgFault) -> Result<(), AllocError> {
+pub fn tell_program_fault(
+    notes: &mut Notes,
+    text: &[u8],
+    fault: &ProgFault,
+) -> Result<(), AllocError> {
     let (number, from) = line_of(text, fault.at);
     let column = fault.at.saturating_sub(from);
     let begun = text.get(from..).unwrap_or(&[]);
     let line = begun.get(..line_length(begun)).unwrap_or(&[]);
-    notes.say(&[Part::Text("line "), Part::Count(number), Part::Text(", column "), Part::Count(column.saturating_add(1))])?;
+    notes.say(&[
+        Part::Text("line "),
+        Part::Count(number),
+        Part::Text(", column "),
+        Part::Count(column.saturating_add(1)),
+    ])?;
     notes.say(&[Part::Bytes(line)])?;
     tell_mark(notes, line.get(..column).unwrap_or(line), fault.kind)?;
     let before = text.get(..fault.at).unwrap_or(text);
     let at = text.get(fault.at..).unwrap_or(&[]);
     match mend(before, at) {
-        Some(mend) if fault.kind == FaultKind::Grammar || fault.kind == FaultKind::Byte => notes.say(&[Part::Text(mend)]),
+        Some(mend) if fault.kind == FaultKind::Grammar || fault.kind == FaultKind::Byte =>
+            notes.say(&[Part::Text(mend)]),
         _ => Ok(()),
     }
 }

@@ -26,7 +26,12 @@ fn front(alloc: Global, world: &World, source: Pid, target: Pid) -> Result<Optio
     Ok(messages.items().first().copied())
 }
 
-fn faults(alloc: Global, command: &Guarded, env: &Env, message: Option<i64>) -> Result<bool, Refusal> {
+fn faults(
+    alloc: Global,
+    command: &Guarded,
+    env: &Env,
+    message: Option<i64>,
+) -> Result<bool, Refusal> {
     match effect(alloc, command, env, message) {
         Ok(_) => Ok(false),
         Err(EvalError::Fault) => Ok(true),
@@ -70,14 +75,25 @@ fn find_hindrance(
 
 impl Scope<'_> {
     // Puts an expression and the values of what it names behind the last line.
-    fn put_evaluated(&self, notes: &mut Notes, env: &Env, expr: &Expr, is: &'static str) -> Result<(), AllocError> {
+    fn put_evaluated(
+        &self,
+        notes: &mut Notes,
+        env: &Env,
+        expr: &Expr,
+        is: &'static str,
+    ) -> Result<(), AllocError> {
         self.put_expression(notes, expr)?;
         notes.add(&[Part::Text(is)])?;
         self.put_values(notes, env, expr)
     }
 
     // Puts the first part of a command that faults behind the last line.
-    fn put_faulting(&self, notes: &mut Notes, env: &Env, command: &Guarded) -> Result<(), AllocError> {
+    fn put_faulting(
+        &self,
+        notes: &mut Notes,
+        env: &Env,
+        command: &Guarded,
+    ) -> Result<(), AllocError> {
         if let Action::Send { value, .. } = &command.action {
             if eval(value, env).is_err() {
                 return self.put_evaluated(notes, env, value, " faults");
@@ -103,7 +119,11 @@ impl Scope<'_> {
             Hindrance::GuardFalse => self.put_evaluated(notes, env, &command.guard, " is false"),
             Hindrance::GuardFaults => self.put_evaluated(notes, env, &command.guard, " faults"),
             Hindrance::NoMessage(source) => {
-                notes.add(&[Part::Text("no message from "), self.process(source), Part::Text(" is on its way")])
+                notes.add(&[
+                    Part::Text("no message from "),
+                    self.process(source),
+                    Part::Text(" is on its way"),
+                ])
             }
             Hindrance::Faults => self.put_faulting(notes, env, command),
         }
@@ -118,7 +138,10 @@ impl Scope<'_> {
         world: &World,
         choice: Choice,
     ) -> Result<(), Refusal> {
-        let (Some(command), Some(env)) = (self.program.command(self.pid, choice), world.local_state(self.pid)) else {
+        let (Some(command), Some(env)) = (
+            self.program.command(self.pid, choice),
+            world.local_state(self.pid),
+        ) else {
             return Ok(());
         };
         let hindrance = find_hindrance(alloc, world, self.pid, command, env)?;
@@ -144,8 +167,16 @@ impl Scope<'_> {
     }
 
     /// Whether a command of the process fires where it stands.
-    pub(crate) fn fires(&self, alloc: Global, world: &World, choice: Choice) -> Result<bool, Refusal> {
-        let (Some(command), Some(env)) = (self.program.command(self.pid, choice), world.local_state(self.pid)) else {
+    pub(crate) fn fires(
+        &self,
+        alloc: Global,
+        world: &World,
+        choice: Choice,
+    ) -> Result<bool, Refusal> {
+        let (Some(command), Some(env)) = (
+            self.program.command(self.pid, choice),
+            world.local_state(self.pid),
+        ) else {
             return Ok(false);
         };
         Ok(find_hindrance(alloc, world, self.pid, command, env)? == Hindrance::Nothing)

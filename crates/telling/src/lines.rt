@@ -87,7 +87,12 @@ impl View<'_> {
     }
 
     // Tells what is wrong with the first conjunct that is.
-    fn tell_conjuncts(&self, alloc: Global, notes: &mut Notes, parts: &[u8]) -> Result<(), Refusal> {
+    fn tell_conjuncts(
+        &self,
+        alloc: Global,
+        notes: &mut Notes,
+        parts: &[u8],
+    ) -> Result<(), Refusal> {
         let mut rest = parts;
         // A line has no more parts than this.
         for _ in 0..512 {
@@ -105,7 +110,12 @@ impl View<'_> {
     }
 
     // Tells which word is no process.
-    fn tell_unknown(&self, notes: &mut Notes, command: &[u8], arguments: &[u8]) -> Result<(), AllocError> {
+    fn tell_unknown(
+        &self,
+        notes: &mut Notes,
+        command: &[u8],
+        arguments: &[u8],
+    ) -> Result<(), AllocError> {
         let mut rest = arguments;
         if command == b"break".as_slice() {
             rest = next_word(rest).1;
@@ -118,15 +128,28 @@ impl View<'_> {
             if process_named(self.program, word).is_none() {
                 return self.tell_processes(notes, word);
             }
-            rest = if command == b"break".as_slice() { next_expression(others).1 } else { others };
+            rest = if command == b"break".as_slice() {
+                next_expression(others).1
+            } else {
+                others
+            };
         }
         Ok(())
     }
 
     // Tells what is wrong with the form of a line.
-    fn tell_form_of(&self, notes: &mut Notes, seat: &[u8], command: &[u8]) -> Result<(), AllocError> {
+    fn tell_form_of(
+        &self,
+        notes: &mut Notes,
+        seat: &[u8],
+        command: &[u8],
+    ) -> Result<(), AllocError> {
         if !matches!(seat, [b'1'..=b'9'] | [b'1', b'0'..=b'6']) {
-            return notes.say(&[Part::Text("`"), Part::Bytes(seat), Part::Text("` is no seat: these are the numbers from 1 to 16")]);
+            return notes.say(&[
+                Part::Text("`"),
+                Part::Bytes(seat),
+                Part::Text("` is no seat: these are the numbers from 1 to 16"),
+            ]);
         }
         if command.is_empty() {
             return notes.say(&[Part::Text("a command is missing behind the seat")]);
@@ -150,7 +173,9 @@ impl View<'_> {
         let (command, arguments) = next_word(rest);
         match refusal {
             Refusal::BadLine => self.tell_form_of(notes, seat, command)?,
-            Refusal::UnknownProcess if command != b"batch".as_slice() => self.tell_unknown(notes, command, arguments)?,
+            Refusal::UnknownProcess if command != b"batch".as_slice() => self.tell_unknown(
+                notes, command, arguments,
+            )?,
             Refusal::BadPredicate if command == b"break".as_slice() => {
                 self.tell_conjuncts(alloc, notes, next_word(arguments).1)?;
             }

@@ -27,7 +27,8 @@ pub(crate) fn meaning(number: u32) -> &'static str {
         22 => "the line has no form of a command line",
         23 => "a predicate is none of its process, or the process has one already",
         24 => "no command of the process fires",
-        25 => "a command of the batch is refused: the numbers are its place, from 1, and its refusal",
+        25 =>
+            "a command of the batch is refused: the numbers are its place, from 1, and its refusal",
         _ => "no refusal has this number",
     }
 }

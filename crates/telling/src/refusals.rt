@@ -13,7 +13,11 @@ use std::alloc::{AllocError, Global};
 fn process_of(call: &Call) -> Option<Pid> {
     match call {
         Call::Give(
-            Plan::Step(pid, _) | Plan::Next(pid) | Plan::Undo(pid) | Plan::Redo(pid) | Plan::Rollback(pid, _),
+            Plan::Step(pid, _)
+            | Plan::Next(pid)
+            | Plan::Undo(pid)
+            | Plan::Redo(pid)
+            | Plan::Rollback(pid, _),
         )
         | Call::Ask(Query::Can(pid)) => Some(*pid),
         _ => None,
@@ -24,7 +28,11 @@ fn process_of(call: &Call) -> Option<Pid> {
 fn breakpoint_of(call: &Call) -> Option<Name> {
     match call {
         Call::Give(
-            Plan::Goto(name) | Plan::Break(name, _) | Plan::Clear(name) | Plan::Arm(name) | Plan::Pass(name),
+            Plan::Goto(name)
+            | Plan::Break(name, _)
+            | Plan::Clear(name)
+            | Plan::Arm(name)
+            | Plan::Pass(name),
         )
         | Call::Ask(Query::CutOf(name) | Query::Why(name)) => Some(*name),
         _ => None,
@@ -64,7 +72,12 @@ impl View<'_> {
     }
 
     // Tells which events stand in the way of taking back the last one of a process, and what takes them back.
-    fn tell_consequence(&self, notes: &mut Notes, pid: Pid, receiver: Pid) -> Result<(), AllocError> {
+    fn tell_consequence(
+        &self,
+        notes: &mut Notes,
+        pid: Pid,
+        receiver: Pid,
+    ) -> Result<(), AllocError> {
         let Some(received) = self.received(pid, receiver) else {
             return Ok(());
         };
@@ -76,13 +89,30 @@ impl View<'_> {
             .saturating_sub(received)
             .saturating_add(1);
         let scope = self.scope(pid);
-        notes.say(&[scope.process(receiver), Part::Text(" received the message of event ")])?;
+        notes.say(&[
+            scope.process(receiver),
+            Part::Text(" received the message of event "),
+        ])?;
         notes.add(&[Part::Count(events), Part::Text(" of "), scope.name()])?;
         notes.add(&[Part::Text(" by its event "), Part::Count(received)])?;
-        notes.say(&[Part::Text("`undo "), scope.process(receiver), Part::Text("` ")])?;
-        notes.add(&[Part::Count(undone), Part::Text(if undone == 1 { " time" } else { " times" })])?;
-        notes.add(&[Part::Text(" first, or `rollback "), scope.name(), Part::Text(" ")])?;
-        notes.add(&[Part::Count(events.saturating_sub(1)), Part::Text("` takes all of it back")])
+        notes.say(&[
+            Part::Text("`undo "),
+            scope.process(receiver),
+            Part::Text("` "),
+        ])?;
+        notes.add(&[
+            Part::Count(undone),
+            Part::Text(if undone == 1 { " time" } else { " times" }),
+        ])?;
+        notes.add(&[
+            Part::Text(" first, or `rollback "),
+            scope.name(),
+            Part::Text(" "),
+        ])?;
+        notes.add(&[
+            Part::Count(events.saturating_sub(1)),
+            Part::Text("` takes all of it back"),
+        ])
     }
 
     // Tells which breakpoints there are.
@@ -117,12 +147,23 @@ impl View<'_> {
                 }
             }
             Refusal::NoneEnabled => scope.tell_hindrances(alloc, notes, self.source, self.world)?,
-            Refusal::NothingToUndo => notes.say(&[scope.name(), Part::Text(" stands at its start")])?,
+            Refusal::NothingToUndo => notes.say(&[
+                scope.name(),
+                Part::Text(" stands at its start"),
+            ])?,
             Refusal::Consequence(receiver) => self.tell_consequence(notes, pid, *receiver)?,
-            Refusal::NothingToRedo => notes.say(&[scope.name(), Part::Text(" has made all commands of its line")])?,
+            Refusal::NothingToRedo => notes.say(&[
+                scope.name(),
+                Part::Text(" has made all commands of its line"),
+            ])?,
             Refusal::BadPlace => {
                 let events = Part::Number(i64::from(self.world.place(pid)));
-                notes.say(&[scope.name(), Part::Text(" has "), events, Part::Text(" events")])?;
+                notes.say(&[
+                    scope.name(),
+                    Part::Text(" has "),
+                    events,
+                    Part::Text(" events"),
+                ])?;
             }
             _ => {}
         }
@@ -138,9 +179,23 @@ impl View<'_> {
     ) -> Result<(), Refusal> {
         match refusal {
             Refusal::UnknownBreak => self.tell_breakpoints(alloc, notes),
-            Refusal::BreakTaken | Refusal::NoCut => tell_breakpoint(alloc, notes, self.program, self.book, name),
-            Refusal::NotArmed => Ok(notes.say(&[Part::Text("`arm "), Part::Name(name), Part::Text("` arms it")])?),
-            Refusal::AlreadyArmed => Ok(notes.say(&[Part::Text("`pass "), Part::Name(name), Part::Text("` lets the session go on")])?),
+            Refusal::BreakTaken | Refusal::NoCut => tell_breakpoint(
+                alloc,
+                notes,
+                self.program,
+                self.book,
+                name,
+            ),
+            Refusal::NotArmed => Ok(notes.say(&[
+                Part::Text("`arm "),
+                Part::Name(name),
+                Part::Text("` arms it"),
+            ])?),
+            Refusal::AlreadyArmed => Ok(notes.say(&[
+                Part::Text("`pass "),
+                Part::Name(name),
+                Part::Text("` lets the session go on"),
+            ])?),
             _ => Ok(()),
         }
     }
@@ -158,13 +213,21 @@ impl View<'_> {
             Refusal::Halted(name) => {
                 tell_breakpoint(alloc, notes, self.program, self.book, *name)?;
                 notes.say(&[
-                    Part::Text("`pass "), Part::Name(*name),
-                    Part::Text("` lets the session go on; `undo`, `rollback` and `back` take back what led there"),
+                    Part::Text("`pass "),
+                    Part::Name(*name),
+                    Part::Text(
+                        "` lets the session go on; `undo`, `rollback` and `back` take back what led there",
+                    ),
                 ])?;
             }
             Refusal::InBatch { at, number } => {
                 let at = Part::Number(i64::from(*at));
-                notes.say(&[Part::Text("command "), at, Part::Text(" of the batch: "), Part::Text(meaning(*number))])?;
+                notes.say(&[
+                    Part::Text("command "),
+                    at,
+                    Part::Text(" of the batch: "),
+                    Part::Text(meaning(*number)),
+                ])?;
             }
             Refusal::OtherSeat(seat) => {
                 let seat = Part::Number(i64::from(*seat));

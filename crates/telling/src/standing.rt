@@ -32,7 +32,11 @@ impl View<'_> {
             notes.say(&[Part::Text("no command of any process can fire")])?;
         }
         if let Some(name) = self.book.halted() {
-            notes.say(&[Part::Text("the breakpoint "), Part::Name(name), Part::Text(" halts the session: `pass` lets it go on")])?;
+            notes.say(&[
+                Part::Text("the breakpoint "),
+                Part::Name(name),
+                Part::Text(" halts the session: `pass` lets it go on"),
+            ])?;
         }
         Ok(())
     }
@@ -41,7 +45,13 @@ impl View<'_> {
         let scope = self.scope(pid);
         let place = Part::Number(i64::from(self.world.place(pid)));
         let line = Part::Number(i64::from(self.world.line_len(pid)));
-        notes.say(&[scope.name(), Part::Text(", "), place, Part::Text(" of "), line])?;
+        notes.say(&[
+            scope.name(),
+            Part::Text(", "),
+            place,
+            Part::Text(" of "),
+            line,
+        ])?;
         let Some(env) = self.world.local_state(pid) else {
             return Ok(());
         };
@@ -56,13 +66,24 @@ impl View<'_> {
         Ok(())
     }
 
-    fn tell_channel(&self, alloc: Global, notes: &mut Notes, source: Pid, target: Pid) -> Result<(), Refusal> {
+    fn tell_channel(
+        &self,
+        alloc: Global,
+        notes: &mut Notes,
+        source: Pid,
+        target: Pid,
+    ) -> Result<(), Refusal> {
         let messages = self.world.channel(alloc, source, target)?;
         if messages.items().is_empty() {
             return Ok(());
         }
         let scope = self.scope(source);
-        notes.say(&[scope.name(), Part::Text(" -> "), scope.process(target), Part::Text(":")])?;
+        notes.say(&[
+            scope.name(),
+            Part::Text(" -> "),
+            scope.process(target),
+            Part::Text(":"),
+        ])?;
         for message in messages.items() {
             notes.add(&[Part::Text(" "), Part::Number(*message)])?;
         }
@@ -87,7 +108,10 @@ impl View<'_> {
             return Ok(());
         };
         let scope = self.scope(pid);
-        notes.say(&[Part::Count((at as usize).saturating_add(1)), Part::Text(": ")])?;
+        notes.say(&[
+            Part::Count((at as usize).saturating_add(1)),
+            Part::Text(": "),
+        ])?;
         scope.put_command(notes, self.source, event.choice())?;
         notes.add(&[Part::Text(": ")])?;
         scope.put_event(notes, self.world.rows(), event)
@@ -113,7 +137,12 @@ impl View<'_> {
         for at in 0..place {
             self.tell_made(notes, pid, at)?;
         }
-        notes.say(&[self.scope(pid).name(), Part::Text(" stands here, behind "), Part::Number(i64::from(place)), Part::Text(" of ")])?;
+        notes.say(&[
+            self.scope(pid).name(),
+            Part::Text(" stands here, behind "),
+            Part::Number(i64::from(place)),
+            Part::Text(" of "),
+        ])?;
         notes.add(&[Part::Number(i64::from(self.world.line_len(pid)))])?;
         for at in place..self.world.line_len(pid) {
             self.tell_again(notes, pid, at)?;
@@ -123,7 +152,11 @@ impl View<'_> {
 
     /// Tells that no process has this name, and which there are.
     pub(crate) fn tell_processes(&self, notes: &mut Notes, word: &[u8]) -> Result<(), AllocError> {
-        notes.say(&[Part::Text("`"), Part::Bytes(word), Part::Text("` is no process; there are")])?;
+        notes.say(&[
+            Part::Text("`"),
+            Part::Bytes(word),
+            Part::Text("` is no process; there are"),
+        ])?;
         let mut between = " ";
         for p in 0..self.program.processes() {
             notes.add(&[Part::Text(between), self.scope(Pid(p)).name()])?;

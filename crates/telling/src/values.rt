@@ -39,7 +39,12 @@ fn put_value(
 
 impl Scope<'_> {
     /// Puts the values of the variables and counts that an expression names behind the last line.
-    pub(crate) fn put_values(&self, notes: &mut Notes, env: &Env, expr: &Expr) -> Result<(), AllocError> {
+    pub(crate) fn put_values(
+        &self,
+        notes: &mut Notes,
+        env: &Env,
+        expr: &Expr,
+    ) -> Result<(), AllocError> {
         let mut word = ": ";
         for variable in 0..self.program.variables(self.pid) {
             if let Some(value) = env.values().get(variable as usize) {

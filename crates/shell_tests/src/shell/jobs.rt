@@ -35,7 +35,11 @@ const OTHER_WORDS: [Row; 5] = [
     (&["rdbg"], ErrorKind::MissingSubcommand, 2),
     (&["rdbg", "jump"], ErrorKind::InvalidSubcommand, 2),
     (&["rdbg", "run", "--now"], ErrorKind::UnknownArgument, 2),
-    (&["rdbg", "run", "one", "two"], ErrorKind::UnknownArgument, 2),
+    (
+        &["rdbg", "run", "one", "two"],
+        ErrorKind::UnknownArgument,
+        2,
+    ),
     (&["rdbg", "--help"], ErrorKind::DisplayHelp, 0),
 ];
 
@@ -50,11 +54,20 @@ fn file_of(alloc: Global, words: &'static [&'static str]) -> Option<&'static str
 #[test]
 fn words_name_a_file(rt: HostRuntime) {
     let alloc = rt.alloc();
-    expect_true(&rt, file_of(alloc, ["rdbg", "run", "one"].as_slice()) == Some("one"));
-    expect_true(&rt, file_of(alloc, ["rdbg", "check", "a b"].as_slice()) == Some("a b"));
+    expect_true(
+        &rt,
+        file_of(alloc, ["rdbg", "run", "one"].as_slice()) == Some("one"),
+    );
+    expect_true(
+        &rt,
+        file_of(alloc, ["rdbg", "check", "a b"].as_slice()) == Some("a b"),
+    );
     let crew = ["rdbg", "crew", "--turns", "2", "one"].as_slice();
     expect_true(&rt, file_of(alloc, crew) == Some("one"));
-    expect_true(&rt, file_of(alloc, ["rdbg", "run", "--", "--now"].as_slice()) == Some("--now"));
+    expect_true(
+        &rt,
+        file_of(alloc, ["rdbg", "run", "--", "--now"].as_slice()) == Some("--now"),
+    );
     expect_true(&rt, file_of(alloc, ["rdbg", "run"].as_slice()).is_none());
 }
 
