@@ -1,5 +1,5 @@
 -- What a session for a person writes for its lines.
-use Rattle.std.specs.Prelude.{◌≡◌, ◌⊎◌, ◌==◌, ◌&&◌, ◌||◌, ℕ, Bool, true, false, nat_le, nat_lt, List, [], ◌∷◌, ◌++◌, length, codes, if◌then◌else◌}
+use Rattle.std.specs.Prelude.{◌≡◌, ◌⊎◌, ◌==◌, ◌&&◌, ◌||◌, ℕ, Bool, true, false, nat_le, not, List, [], ◌∷◌, ◌++◌, length, codes, if◌then◌else◌}
 use Rattle.std.specs.List.{AllByRecursion, list_any, flat_map}
 use Rattle.std.specs.Bool.{MatchBool}
 use Rattle.std.specs.Str.{bytes_eq}
@@ -32,9 +32,13 @@ abbrev pub is_seat : List ℕ → Bool
 is_seat [] = false
 is_seat (byte ∷ bytes) = is_digit byte
 
+-- the line may be that of a command, and has no seat
+abbrev pub needs_seat : List ℕ → Bool
+needs_seat line = not (is_seat (first_word line)) && nat_le (length line) LINE_BYTES
+
 -- the line with the seat that it has, and else with the first seat
 abbrev pub with_seat : List ℕ → List ℕ
-with_seat line = if is_seat (first_word line) || nat_lt LINE_BYTES (length line) then line else codes "1 " ++ line
+with_seat line = if needs_seat line then codes "1 " ++ line else line
 
 -- lines that are told: each begins with two blanks
 abbrev pub told_text : List (List ℕ) → List ℕ
@@ -61,7 +65,7 @@ TalksLine P line J out J' =
 abbrev pub TalksLines : Program → List (List ℕ) → Journal → List ℕ → Journal → Type 0
 TalksLines P [] J out J' = (out ≡ []) × (J' ≡ J)
 TalksLines P (line ∷ lines) J out J' =
-    (first rest : List ℕ) (next : Journal) × TalksLine P line J first next × TalksLines P lines next rest J' × (out ≡ first ++ rest)
+    (first rest : List ℕ) × (next : Journal) × TalksLine P line J first next × TalksLines P lines next rest J' × (out ≡ first ++ rest)
 
 -- The lines from this place on were answered in turn, all of them or up to one behind which the talk ended, and at the end it may be told
 -- that the input is too long.

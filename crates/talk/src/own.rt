@@ -1,9 +1,10 @@
 //! The lines that a talk answers itself.
 
-ghost use Rattle.std.specs.Prelude.{◌≡◌, ◌≤◌, length};
+ghost use Rattle.std.specs.Prelude.{◌≡◌, ◌≤◌, ◌++◌, length, codes};
+ghost use Rattle.dbg_base.specs.declared.limits.TheConstants.{LINE_BYTES};
 ghost use Rattle.std.specs.Vec.{vec_capacity};
 ghost use Rattle.talk.specs.declared.own.TheConstants.{ROOM};
-ghost use Rattle.talk.specs.Talking.{is_remark, first_word, is_own, is_seat, with_seat};
+ghost use Rattle.talk.specs.Talking.{is_remark, first_word, is_own, is_seat, needs_seat};
 
 use command_line::{next_word, without_return};
 use dbg_base::limits::LINE_BYTES;
@@ -53,6 +54,13 @@ fn is_seat(word: &[u8]) -> bool
     }
 }
 
+/// Whether the line may be that of a command, and has no seat.
+pub(crate) fn needs_seat(line: &[u8]) -> bool
+    ensures { result ≡ needs_seat line.now }
+{
+    !is_seat(first_word(line)) && line.len() <= LINE_BYTES
+}
+
 /// Room for a line with a seat.
 #[derive(Debug, Drop)]
 pub(crate) struct Room {
@@ -67,13 +75,11 @@ impl Room {
         })
     }
 
-    /// The line with the seat that it has, and else with the first seat.
-    pub(crate) fn with_seat<'a>(&'a mut self, line: &'a [u8]) -> &'a [u8]
-        ensures { result.now ≡ with_seat line.now }
+    /// The line with the first seat.
+    pub(crate) fn first_seat(&mut self, line: &[u8]) -> &[u8]
+        requires { length line.now ≤ LINE_BYTES }
+        ensures { result.now ≡ codes "1 " ++ line.now }
     {
-        if is_seat(first_word(line)) || line.len() > LINE_BYTES {
-            return line;
-        }
         self.bytes.clear();
         self.bytes.extend_from_slice(b"1 ").unwrap();
         self.bytes.extend_from_slice(line).unwrap();

@@ -59,7 +59,7 @@ impl Asked {
         match said {
             Said::Accepted(reply) => view.tell_reply(alloc, notes, &self.before, &self.call, reply),
             Said::Refused(refusal) => view.tell_refusal(alloc, notes, &self.call, refusal),
-            Said::Answered(_) => view.tell_answer(notes, &self.call),
+            Said::Answered(_) => view.tell_answer(alloc, notes, &self.call),
         }
     }
 }

@@ -6,7 +6,7 @@ ghost use Rattle.reply_lines.specs.declared.outcome.ServeFault.TheVariants.{Writ
 ghost use Rattle.line_runs.specs.Answering.{IsMaker, AreAllSeats};
 ghost use Rattle.talk.specs.Writing.{WritesTold, WritesLine, WritesAnswer};
 
-use crate::own::{Room, first_word, is_own};
+use crate::own::{Room, first_word, is_own, needs_seat};
 use crate::sentences::{Asked, call_notes, line_notes, own_notes, view};
 use crate::written::{write_echo, write_told};
 use command_line::parse_line;
@@ -106,14 +106,11 @@ pub(crate) fn talk_line<L: Run, C: Command, M: Fn(Givable) -> Result<C, Refusal>
         tell(&notes, writer)?;
         return Ok(first_word(line) != b"quit".as_slice());
     }
-    answer_line(
-        alloc,
-        make,
-        source,
-        locked,
-        seats,
-        room.with_seat(line),
-        writer,
-    )?;
+    if needs_seat(line) {
+        let line = room.first_seat(line);
+        answer_line(alloc, make, source, locked, seats, line, writer)?;
+    } else {
+        answer_line(alloc, make, source, locked, seats, line, writer)?;
+    }
     Ok(true)
 }

@@ -1,5 +1,7 @@
 //! Sessions with expectations.
 
+ghost use Rattle.std.specs.Prelude.{Some};
+
 use crate::own::is_own;
 use crate::running::talk;
 use crate::typed::Typed;

@@ -2,8 +2,9 @@
 
 use crate::notes::{Notes, Part};
 use crate::view::View;
-use dbg_base::{Call, Cause, Elimination, Query, Refusal};
-use std::alloc::AllocError;
+use dbg_base::{Call, Cause, Choice, Elimination, Head, Pid, Query, Refusal};
+use least_cut::Detector;
+use std::alloc::{AllocError, Global};
 
 // At most this many eliminations are told.
 const TOLD: usize = 12;
@@ -42,8 +43,50 @@ impl View<'_> {
         }
     }
 
-    /// Tells beside the answer to `why` how the search for the cut went.
-    pub fn tell_answer(&self, notes: &mut Notes, call: &Call) -> Result<(), Refusal> {
+    // Tells whether a process that has too few events can make one now.
+    fn tell_further(&self, alloc: Global, notes: &mut Notes, pid: Pid) -> Result<(), Refusal> {
+        let scope = self.scope(pid);
+        let mut word = " can fire command ";
+        notes.say(&[
+            scope.name(),
+            Part::Text(" has no state so far in which its part holds, and"),
+        ])?;
+        for number in 0..self.program.commands(pid) {
+            if scope.fires(alloc, self.world, Choice(number))? {
+                notes.add(&[Part::Text(word), Part::Number(i64::from(number))])?;
+                word = ", ";
+            }
+        }
+        if word == ", " {
+            return Ok(notes.add(&[Part::Text(" now")])?);
+        }
+        Ok(notes.add(&[Part::Text(" no command of it can fire now")])?)
+    }
+
+    // Tells it of all processes that have too few events.
+    fn tell_past(
+        &self,
+        alloc: Global,
+        notes: &mut Notes,
+        detector: &Detector,
+    ) -> Result<(), Refusal> {
+        let heads = detector.frontier(alloc)?;
+        for p in 0..self.program.processes() {
+            if let Some(Head::Past) = heads.items().get(p as usize) {
+                self.tell_further(alloc, notes, Pid(p))?;
+            }
+        }
+        Ok(())
+    }
+
+    /// Tells beside the answer to `why` how the search for the cut went, and whether the processes that have too few events can make
+    /// one now.
+    pub fn tell_answer(
+        &self,
+        alloc: Global,
+        notes: &mut Notes,
+        call: &Call,
+    ) -> Result<(), Refusal> {
         let Call::Ask(Query::Why(name)) = call else {
             return Ok(());
         };
@@ -61,6 +104,6 @@ impl View<'_> {
         for elimination in trail.get(trail.len() - told..).unwrap_or(&[]) {
             self.tell_elimination(notes, elimination)?;
         }
-        Ok(())
+        self.tell_past(alloc, notes, breakpoint.detector())
     }
 }

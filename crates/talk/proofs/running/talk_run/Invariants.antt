@@ -2,7 +2,7 @@ use Rattle.std.proofs.Common.{◌≡◌, ◌-◌}
 use Rattle.dbg_base.specs.declared.limits.TheConstants.{INPUT_BYTES}
 use Rattle.shell_input.specs.Spans.{ReadsOn}
 use Rattle.line_runs.specs.Answering.{AreAllSeats}
-use Rattle.talk.proofs.Talking.{Talked}
+use Rattle.talk.proofs.Lines.{Talked}
 use Rattle.talk.proofs.running.talk_run.Given as goal
 
 abbrev pub invariant-loop-seats : goal.invariant-loop-seats

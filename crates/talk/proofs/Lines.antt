@@ -134,3 +134,18 @@ module _ (P : Program) (before : List ℕ) (was : Bool) (bytes : List ℕ) (ende
     ends = ends;
     written = appended_then old mid out talked.text last talked.written wrote;
   }
+
+-- what follows where a call ends well
+pub where_ok : {A E X Y : Type 0} (r : Result A E) → (X → Y) → IfOk r (λ _. X) → IfOk r (λ _. Y)
+where_ok (Ok value) f x = f x
+where_ok (Err error) f x = tt
+
+-- a reply was written, and then what is told
+pub answer_told : (P : Program) (line : List ℕ) (J after : Journal) (a b c : Seen) (reply : List ℕ) → AnswersLine P line J reply after
+    → Appended a b reply → WritesTold b c → WritesAnswer P line J a c after
+answer_told P line J after a b c reply answers wrote told =
+    (reply, told.0, answers, told.1, appended_then a b c reply told.0 wrote told.2)
+
+-- nothing was asked for, and nothing is told
+pub answer_none : (P : Program) (line : List ℕ) (J : Journal) (a : Seen) → AnswersLine P line J [] J → WritesAnswer P line J a a J
+answer_none P line J a answers = ([], [], answers, ([], tt, refl), appended_none a)
