@@ -2,4 +2,4 @@ mod Requests
 mod SomeAnswers
 mod LineReplies
 mod InputTexts
-mod Seats
+pub mod Seats

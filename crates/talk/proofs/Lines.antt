@@ -1,7 +1,7 @@
 -- Lines that a talk answers, one behind the other.
 use Rattle.std.proofs.Common.{◌≡◌, ◌⊎◌, ℕ, ◌≤◌, Bool, true, false, List, [], ◌∷◌, ◌++◌, length, refl, sym, ap, ◌∙◌, subst, inl, inr}
 use Rattle.std.proofs.Common.{append_assoc}
-use Rattle.std.specs.Prelude.{slice_range, codes, IfOk, Result, Ok, Err, ◌&&◌}
+use Rattle.std.specs.Prelude.{slice_range, codes, IfOk, Result, Ok, Err, Option, Some, None, if◌then◌else◌}
 use Rattle.std.specs.List.{AllByRecursion, flat_map}
 use Rattle.std.specs.Bool.{MatchBool}
 use Rattle.std.proofs.lemmas.List.{append-nil}
@@ -19,8 +19,13 @@ use Rattle.shell_input.proofs.Splits.{told_of}
 use Rattle.reply_lines.specs.declared.outcome.Served.{Served}
 use Rattle.reply_lines.specs.declared.outcome.ServeFault.{ServeFault}
 use Rattle.reply_lines.specs.Writing.{Writes}
-use Rattle.talk.specs.Talking.{is_own, with_seat, told_text, IsTold, IsEcho, Replies, TalksLine, TalksLines, Talks}
-use Rattle.talk.specs.Writing.{told_line, WritesTold, WritesEcho, WritesAnswer, WritesLine}
+use Rattle.talk.specs.Talking.{is_own, needs_seat, with_seat, told_text, IsTold, IsEcho, Replies, TalksLine, TalksLines, Talks}
+use Rattle.talk.specs.Writing.{told_line, WritesTold, WritesEcho, WritesCall, WritesRefusal, WritesAnswer, WritesLine}
+use Rattle.dbg_base.specs.Calls.{call_of}
+use Rattle.dbg_base.specs.Replies.{reply_text, refusal_text}
+use Rattle.dbg_base.specs.declared.refusal.Refusal.{Refusal}
+use Rattle.command_line.specs.declared.line.Line.{Line}
+use Rattle.command_line.specs.Lines.{IsParsed, requested}
 
 -- nothing was told
 pub told_none : (a : Seen) → WritesTold a a
@@ -121,31 +126,59 @@ module _ (P : Program) (before : List ℕ) (was : Bool) (bytes : List ℕ) (ende
     written = appended_then old mid out talked.text wrote.0 talked.written wrote.2;
   }
 
-  -- the talk ends here, and this may be told at its end
-  pub talk_ends : (last : List ℕ) (out : Seen) → (last ≡ []) ⊎ (last ≡ too_long_text) → Appended mid out last
-      → Talks P bytes ended from old out
-  talk_ends last out ends wrote = record {
-    lines = talked.lines;
-    text = talked.text;
-    last = last;
-    journal = J;
-    among = λ input may. (lines_from at input, talked.among input (narrows input may));
-    talks = talked.talks;
-    ends = ends;
-    written = appended_then old mid out talked.text last talked.written wrote;
-  }
+-- the talk ends here, and this may be told at its end
+pub talk_ends : (P : Program) (before : List ℕ) (was : Bool) (bytes : List ℕ) (ended : Bool) (from at : ℕ) (J : Journal)
+    (old mid out : Seen) (last : List ℕ) → Talked P before was from at J old mid → Narrows before was bytes ended
+    → (last ≡ []) ⊎ (last ≡ too_long_text) → Appended mid out last → Talks P bytes ended from old out
+talk_ends P before was bytes ended from at J old mid out last talked narrows ends wrote = record {
+  lines = talked.lines;
+  text = talked.text;
+  last = last;
+  journal = J;
+  among = λ input may. (lines_from at input, talked.among input (narrows input may));
+  talks = talked.talks;
+  ends = ends;
+  written = appended_then old mid out talked.text last talked.written wrote;
+}
 
 -- what follows where a call ends well
 pub where_ok : {A E X Y : Type 0} (r : Result A E) → (X → Y) → IfOk r (λ _. X) → IfOk r (λ _. Y)
 where_ok (Ok value) f x = f x
 where_ok (Err error) f x = tt
 
--- a reply was written, and then what is told
-pub answer_told : (P : Program) (line : List ℕ) (J after : Journal) (a b c : Seen) (reply : List ℕ) → AnswersLine P line J reply after
-    → Appended a b reply → WritesTold b c → WritesAnswer P line J a c after
-answer_told P line J after a b c reply answers wrote told =
-    (reply, told.0, answers, told.1, appended_then a b c reply told.0 wrote told.2)
+-- what is told was handed on
+pub told_handed : (a b c : Seen) → WritesTold a b → Appended b c [] → WritesTold a c
+told_handed a b c told handed =
+    (told.0, told.1, subst (λ (t : List ℕ). Appended a c t) (append-nil told.0) (appended_then a b c told.0 [] told.2 handed))
+
+-- the line was written
+pub echoed : (a b c : Seen) (line : List ℕ) → Appended a b line → Appended b c (10 ∷ []) → WritesEcho line a c
+echoed a b c line h k = (as_line line, inr refl, appended_then a b c line (10 ∷ []) h k)
 
 -- nothing was asked for, and nothing is told
 pub answer_none : (P : Program) (line : List ℕ) (J : Journal) (a : Seen) → AnswersLine P line J [] J → WritesAnswer P line J a a J
 answer_none P line J a answers = ([], [], answers, ([], tt, refl), appended_none a)
+
+-- a line with a seat
+pub seated_first : (line seated : List ℕ) → needs_seat line ≡ true → seated ≡ codes "1 " ++ line → seated ≡ with_seat line
+seated_first line seated needs is = is ∙ sym (ap (λ b. if b then codes "1 " ++ line else line) needs)
+
+pub seated_already : (line : List ℕ) → needs_seat line ≡ false → line ≡ with_seat line
+seated_already line needs = sym (ap (λ b. if b then codes "1 " ++ line else line) needs)
+
+-- a call of the line was made
+pub call_answers : (P : Program) (bytes : List ℕ) (line : Line) (J after : Journal) (a b : Seen)
+    → IsParsed P bytes (Ok (Some line)) → WritesCall P line.seat (call_of line.call) J a b after → WritesAnswer P bytes J a b after
+call_answers P bytes line J after a b parsed wrote = (
+  as_line (reply_text P (call_of line.call) wrote.0),
+  wrote.1,
+  (Ok (Some (requested line)), parsed, (wrote.0, wrote.2, refl)),
+  wrote.3,
+  wrote.4,
+)
+
+-- the line was refused
+pub refusal_answers : (P : Program) (bytes : List ℕ) (refusal : Refusal) (J : Journal) (a b : Seen)
+    → IsParsed P bytes (Err refusal) → WritesRefusal P refusal a b → WritesAnswer P bytes J a b J
+refusal_answers P bytes refusal J a b parsed wrote =
+    (as_line (refusal_text P refusal), wrote.0, (Err refusal, parsed, (refl, refl)), wrote.1, wrote.2)

@@ -59,7 +59,7 @@ Replies P line J reply J' =
 -- what is written for a line: the line, where it was not typed, the reply, and what is told beside it
 abbrev pub TalksLine : Program → List ℕ → Journal → List ℕ → Journal → Type 0
 TalksLine P line J out J' =
-    (echo reply told : List ℕ) × IsEcho line echo × Replies P line J reply J' × IsTold told × (out ≡ echo ++ reply ++ told)
+    (echo reply told : List ℕ) × IsEcho line echo × Replies P line J reply J' × IsTold told × (out ≡ echo ++ (reply ++ told))
 
 -- the same, one line after the other
 abbrev pub TalksLines : Program → List (List ℕ) → Journal → List ℕ → Journal → Type 0

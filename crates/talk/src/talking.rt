@@ -4,31 +4,85 @@ ghost use Rattle.std.specs.Prelude.{◌≡◌, OnOk, IfOk, IfErr};
 ghost use Rattle.devices.specs.Seen.{Appended};
 ghost use Rattle.reply_lines.specs.declared.outcome.ServeFault.TheVariants.{Write};
 ghost use Rattle.line_runs.specs.Answering.{IsMaker, AreAllSeats};
-ghost use Rattle.talk.specs.Writing.{WritesTold, WritesLine, WritesAnswer};
+ghost use Rattle.talk.specs.Writing.{WritesTold, WritesCall, WritesRefusal, WritesLine, WritesAnswer};
+ghost use Rattle.dbg_base.specs.Calls.{call_of};
+ghost use Rattle.dbg_base.specs.Fits.{FitsRefusal};
+ghost use Rattle.command_line.specs.Lines.{IsGivable};
+ghost use Rattle.proc_lang.specs.Programs.{program_of};
 
 use crate::own::{Room, first_word, is_own, needs_seat};
 use crate::sentences::{Asked, call_notes, line_notes, own_notes, view};
 use crate::written::{write_echo, write_told};
 use command_line::parse_line;
-use dbg_base::Refusal;
+use dbg_base::{Call, Refusal};
 use dbg_command::{Command, Givable};
 use dbg_desk::{Locked, Run, Seat};
 use devices::Sink;
 use line_runs::answer;
+use proc_lang::Program;
 use reply_lines::{ServeFault, hand_on, print_refusal, print_reply};
 use std::alloc::Global;
-use telling::{Notes, Source};
+use telling::{Notes, Source, View};
 
-/// Writes what is told, and hands it on.
+//// Writes what is told, and hands it on.
 pub(crate) fn tell<W: Sink>(notes: &Notes, writer: &mut W) -> Result<(), ServeFault>
     ensures told { OnOk result (WritesTold (W.seen writer.old) (W.seen writer.new)) }
     ensures fault { IfErr result (λ fault. fault ≡ Write) }
 {
-    let written = write_told(notes.lines(), writer);
-    hand_on(written, writer)
+    write_told(notes.lines(), writer)?;
+    hand_on(Ok(()), writer)
 }
 
-// Answers a command line, which has its seat, and tells what happened. The reply is handed on before that.
+// Makes a call of a seat, and tells what happened. The reply is handed on before that.
+fn answer_call<L: Run, C: Command, M: Fn(Givable) -> Result<C, Refusal>, W: Sink>(
+    alloc: Global,
+    make: &M,
+    source: &Source,
+    locked: &mut Locked<L, C>,
+    seat: &mut Seat<L>,
+    call: Call,
+    writer: &mut W,
+) -> Result<(), ServeFault>
+    requires givable { IsGivable call }
+    requires may { M.IsAlwaysCallable make.now }
+    requires makes { IsMaker (M.post make.now) C.IsFresh C.order }
+    ensures number { seat.new.number ≡ seat.old.number }
+    ensures answers { OnOk result (WritesCall L.program seat.old.number (call_of call) locked.old.journal (W.seen writer.old)
+        (W.seen writer.new) locked.new.journal) }
+    ensures fault { IfErr result (λ fault. fault ≡ Write) }
+{
+    let asked = Asked::new(alloc, view(locked.program(), source, locked.table()), &call);
+    let (call, said) = answer(locked, alloc, make, seat, call);
+    let written = print_reply(locked.program(), &call, &said, writer);
+    hand_on(written, writer)?;
+    let notes = call_notes(
+        alloc,
+        view(locked.program(), source, locked.table()),
+        &asked,
+        &said,
+    );
+    tell(&notes, writer)
+}
+
+// Refuses a line, and tells why.
+fn refuse_line<W: Sink>(
+    alloc: Global,
+    program: &Program,
+    view: View<'_>,
+    line: &[u8],
+    refusal: &Refusal,
+    writer: &mut W,
+) -> Result<(), ServeFault>
+    requires { FitsRefusal (program_of program.now) refusal.now }
+    ensures refuses { OnOk result (WritesRefusal (program_of program.now) refusal.now (W.seen writer.old) (W.seen writer.new)) }
+    ensures fault { IfErr result (λ fault. fault ≡ Write) }
+{
+    let written = print_refusal(program, refusal, writer);
+    hand_on(written, writer)?;
+    tell(&line_notes(alloc, view, line, refusal), writer)
+}
+
+// Answers a command line, which has its seat.
 fn answer_line<L: Run, C: Command, M: Fn(Givable) -> Result<C, Refusal>, W: Sink>(
     alloc: Global,
     make: &M,
@@ -48,34 +102,13 @@ fn answer_line<L: Run, C: Command, M: Fn(Givable) -> Result<C, Refusal>, W: Sink
 {
     match parse_line(alloc, locked.program(), line) {
         Ok(Some(line)) => {
-            let asked = Asked::new(
-                alloc,
-                view(locked.program(), source, locked.table()),
-                &line.call,
-            );
             let seat = &mut seats[line.seat as usize - 1];
-            let (call, said) = answer(locked, alloc, make, seat, line.call);
-            let written = print_reply(locked.program(), &call, &said, writer);
-            hand_on(written, writer)?;
-            let notes = call_notes(
-                alloc,
-                view(locked.program(), source, locked.table()),
-                &asked,
-                &said,
-            );
-            tell(&notes, writer)
+            answer_call(alloc, make, source, locked, seat, line.call, writer)
         }
         Ok(None) => Ok(()),
         Err(refusal) => {
-            let written = print_refusal(locked.program(), &refusal, writer);
-            hand_on(written, writer)?;
-            let notes = line_notes(
-                alloc,
-                view(locked.program(), source, locked.table()),
-                line,
-                &refusal,
-            );
-            tell(&notes, writer)
+            let view = view(locked.program(), source, locked.table());
+            refuse_line(alloc, locked.program(), view, line, &refusal, writer)
         }
     }
 }

@@ -32,9 +32,10 @@ pub(crate) fn write_told<W: Sink>(lines: &[Vec<u8>], writer: &mut W) -> Result<(
     ensures fault { IfErr result (λ fault. fault ≡ Write) }
 {
     for line in lines {
+        let line = line.as_slice();
         // No line that is told has a line end.
-        if is_unended(line.as_slice()) {
-            write_line(line.as_slice(), writer)?;
+        if is_unended(line) {
+            write_line(line, writer)?;
         }
     }
     Ok(())

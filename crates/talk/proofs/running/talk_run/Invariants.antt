@@ -5,8 +5,8 @@ use Rattle.line_runs.specs.Answering.{AreAllSeats}
 use Rattle.talk.proofs.Lines.{Talked}
 use Rattle.talk.proofs.running.talk_run.Given as goal
 
-abbrev pub invariant-loop-seats : goal.invariant-loop-seats
-invariant-loop-seats g l = record {
+abbrev pub invariant-loop-room : goal.invariant-loop-room
+invariant-loop-room g l = record {
   reads : ReadsOn l.fn.input.bytes.items l.fn.input.ended (g.R.Source.remaining l.fn.reader) l.input.bytes.items l.input.ended
       (g.R.Source.remaining l.reader);
   seats : AreAllSeats l.seats.items;
@@ -15,5 +15,5 @@ invariant-loop-seats g l = record {
 }
 
 -- the bytes that no line was made of yet
-abbrev pub decreases-loop-seats : goal.decreases-loop-seats
-decreases-loop-seats g l = INPUT_BYTES - l.input.at
+abbrev pub decreases-loop-room : goal.decreases-loop-room
+decreases-loop-room g l = INPUT_BYTES - l.input.at
