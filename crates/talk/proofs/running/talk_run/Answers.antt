@@ -24,7 +24,7 @@ loop-room-preserved g c = record {
 
 pub returns-then-not-goes_on : goal.returns-then-not-goes_on
 returns-then-not-goes_on g c =
-    let talked = talked_on _ _ _ _ _ _ _ _ _ _ _ _ c.loop-room.invariant.talked c.next_line.ensures.reads.narrows c.line-line.result.now
+    let talked = talked_on _ _ _ _ _ _ _ c.next_line.new.self.at _ _ _ _ c.loop-room.invariant.talked c.next_line.ensures.reads.narrows c.line-line.result.now
     c.in-Line.span _ _ c.in_ok-span.ensures.tells c.in-Line.is c.line-line.ensures c.in_ok-goes_on-in-Line.ensures.talks in
     record { talks = talk_ends _ _ _ _ _ _ _ _ _ _ _ [] talked (λ input may. may) (inl refl) (appended_none _) }
 
