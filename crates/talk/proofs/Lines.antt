@@ -1,9 +1,8 @@
 -- Lines that a talk answers, one behind the other.
-use Rattle.std.proofs.Common.{◌≡◌, ◌⊎◌, ℕ, ◌≤◌, Bool, true, false, List, [], ◌∷◌, ◌++◌, length, refl, sym, ap, ◌∙◌, subst, inl, inr}
+use Rattle.std.proofs.Common.{◌≡◌, ◌⊎◌, ℕ, ◌≤◌, Bool, true, false, List, [], ◌∷◌, ◌++◌, length, refl, sym, ap, ◌∙◌, subst, inr}
 use Rattle.std.proofs.Common.{append_assoc}
-use Rattle.std.specs.Prelude.{slice_range, codes, IfOk, Result, Ok, Err, Option, Some, None, if◌then◌else◌}
-use Rattle.std.specs.List.{AllByRecursion, flat_map}
-use Rattle.std.specs.Bool.{MatchBool}
+use Rattle.std.specs.Prelude.{slice_range, codes, IfOk, Result, Ok, Err, Some, if◌then◌else◌}
+use Rattle.std.specs.List.{AllByRecursion}
 use Rattle.std.proofs.lemmas.List.{append-nil}
 use Rattle.std.proofs.lemmas.List.Concat.{flat_map-append}
 use Rattle.devices.specs.Seen.{Seen, Appended}
@@ -16,10 +15,7 @@ use Rattle.shell_input.specs.declared.framing.Next.{Next}
 use Rattle.shell_input.specs.declared.framing.Next.TheVariants as nexts
 use Rattle.shell_input.specs.Spans.{is_unended, lines_from, Tells, TellsAny, MayBe, Narrows}
 use Rattle.shell_input.proofs.Splits.{told_of}
-use Rattle.reply_lines.specs.declared.outcome.Served.{Served}
-use Rattle.reply_lines.specs.declared.outcome.ServeFault.{ServeFault}
-use Rattle.reply_lines.specs.Writing.{Writes}
-use Rattle.talk.specs.Talking.{is_own, needs_seat, with_seat, told_text, IsTold, IsEcho, Replies, TalksLine, TalksLines, Talks}
+use Rattle.talk.specs.Talking.{is_own, needs_seat, with_seat, told_text, Replies, TalksLine, TalksLines, Talks}
 use Rattle.talk.specs.Writing.{told_line, WritesTold, WritesEcho, WritesCall, WritesRefusal, WritesAnswer, WritesLine}
 use Rattle.dbg_base.specs.Calls.{call_of}
 use Rattle.dbg_base.specs.Replies.{reply_text, refusal_text}

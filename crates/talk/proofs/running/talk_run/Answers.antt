@@ -2,7 +2,6 @@ use Rattle.std.proofs.Common.{[], refl, arith, inl, inr}
 use Rattle.dbg_base.specs.Shell.{too_long_text}
 use Rattle.shell_input.proofs.Reading.{reads_nothing, reads_then}
 use Rattle.devices.proofs.Appending.{appended_none}
-use Rattle.reply_lines.specs.Writing.{Writes}
 use Rattle.line_runs.proofs.Seats.{all_back}
 use Rattle.talk.proofs.Lines.{where_ok, talked_begins, talked_on, talk_ends}
 use Rattle.talk.proofs.running.talk_run.Goals as goal

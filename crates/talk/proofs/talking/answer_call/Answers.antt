@@ -1,4 +1,4 @@
-use Rattle.std.proofs.Common.{List, ℕ, Ok, ap, ◌∙◌, subst}
+use Rattle.std.proofs.Common.{List, ℕ, ap, ◌∙◌, subst}
 use Rattle.dbg_base.specs.Trees.{Program}
 use Rattle.dbg_base.specs.Calls.{call_of}
 use Rattle.dbg_base.specs.Replies.{reply_text}
@@ -6,7 +6,6 @@ use Rattle.dbg_base.specs.Shell.{as_line}
 use Rattle.devices.specs.Seen.{Appended}
 use Rattle.devices.proofs.Appending.{appended_then}
 use Rattle.proc_lang.specs.Programs.{program_of}
-use Rattle.reply_lines.specs.Writing.{Writes}
 use Rattle.talk.proofs.Lines.{where_ok}
 use Rattle.talk.proofs.talking.answer_call.Goals as goal
 

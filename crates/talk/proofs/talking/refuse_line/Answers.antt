@@ -2,7 +2,6 @@ use Rattle.dbg_base.specs.Replies.{refusal_text}
 use Rattle.dbg_base.specs.Shell.{as_line}
 use Rattle.devices.proofs.Appending.{appended_then}
 use Rattle.proc_lang.specs.Programs.{program_of}
-use Rattle.reply_lines.specs.Writing.{Writes}
 use Rattle.talk.proofs.Lines.{where_ok}
 use Rattle.talk.proofs.talking.refuse_line.Goals as goal
 

@@ -1,5 +1,4 @@
 use Rattle.std.proofs.Common.{[]}
-use Rattle.reply_lines.specs.Writing.{Writes}
 use Rattle.devices.proofs.Appending.{appended_none}
 use Rattle.talk.proofs.Lines.{where_ok, told_handed}
 use Rattle.talk.proofs.talking.tell.Goals as goal

@@ -1,4 +1,3 @@
-use Rattle.reply_lines.specs.Writing.{Writes}
 use Rattle.talk.proofs.Lines.{where_ok, echoed}
 use Rattle.talk.proofs.written.write_echo.Goals as goal
 
