@@ -19,9 +19,9 @@ const TURNS: u32 = 100_000;
 const _: () = prove!(TURNS as usize == CALLS);
 
 static GUIDE: &str =
-    "The text is a program, a line `%%`, and for `run` command lines behind it. Where no line is `%%`, all of it is the
-program of `check` and `crew`. It comes from FILE, where one is named, and for `run` goes on with standard input; else
-it all comes from standard input.
+    "The text is a program, a line `%%`, and for `talk` and `run` command lines behind it. Where no line is `%%`, all of it is
+the program of `check` and `crew`. It comes from FILE, where one is named, and for `talk` and `run` goes on with standard
+input; else it all comes from standard input. A talk answers `help`, too.
 
 Command lines, each behind a seat from 1 to 16:
   step P K, next P, redo P       make an event of the process P
