@@ -74,29 +74,70 @@ fn file<'a>(alloc: Global) -> Arg<'a> {
     Arg::new(alloc, "file").value_name("FILE")
 }
 
-fn command<'a>(alloc: Global) -> Result<Command<'a>, AllocError> {
-    let run = Command::new(alloc, "run")
-        .about("Reads a program, a line `%%` and command lines, and answers each line")
-        .arg(file(alloc).help(
-            "The program and command lines; those of standard input come behind them",
-        ))?;
-    let check = Command::new(alloc, "check")
-        .about("Reads a program and says how many processes and commands it has, or what is wrong")
-        .arg(file(alloc).help("The program, in place of standard input"))?
-        .arg(
-            Arg::new(alloc, "explain")
-                .long("explain")
-                .action(ArgAction::SetTrue)
-                .help("Tells the line, the place and the likely mend of what is wrong"),
-        )?;
-    let talk = Command::new(alloc, "talk")
-        .about(
-            "A session for a person: tells behind each reply what happened, or what stands in the way",
-        )
-        .arg(file(alloc).help(
-            "The program and first lines; those of standard input come behind them",
-        ))?;
-    let test = Command::new(alloc, "test")
+// The subcommand of this name, to which a file may be given.
+fn with_file<'a>(
+    alloc: Global,
+    name: &'a str,
+    about: &'a str,
+    help: &'a str,
+) -> Result<Command<'a>, AllocError> {
+    Command::new(alloc, name)
+        .about(about)
+        .arg(file(alloc).help(help))
+}
+
+fn talk<'a>(alloc: Global) -> Result<Command<'a>, AllocError> {
+    with_file(
+        alloc,
+        "talk",
+        "Is `run` for a person: tells behind each reply what happened, or what stands in the way",
+        "The program and the first lines; those of standard input come behind them",
+    )
+}
+
+fn run<'a>(alloc: Global) -> Result<Command<'a>, AllocError> {
+    with_file(
+        alloc,
+        "run",
+        "Reads a program, a line `%%` and command lines, and answers each line",
+        "The program and the first lines; those of standard input come behind them",
+    )
+}
+
+fn check<'a>(alloc: Global) -> Result<Command<'a>, AllocError> {
+    with_file(
+        alloc,
+        "check",
+        "Reads a program and says how many processes and commands it has, or what is wrong",
+        "The program, in place of standard input",
+    )?
+    .arg(
+        Arg::new(alloc, "explain")
+            .long("explain")
+            .action(ArgAction::SetTrue)
+            .help("Tells the line, the place and the likely mend of what is wrong"),
+    )
+}
+
+fn crew<'a>(alloc: Global) -> Result<Command<'a>, AllocError> {
+    with_file(
+        alloc,
+        "crew",
+        "Reads a program, gives `next` for each process so many times, from threads, and says how many calls there were",
+        "The program, in place of standard input",
+    )?
+    .arg(
+        Arg::new(alloc, "turns")
+            .long("turns")
+            .value_name("N")
+            .required(true)
+            .value_parser(clap::value_parser!(u32).range(1..=i64::from(TURNS)))
+            .help("How often each process is given `next`, from 1 to 100000"),
+    )
+}
+
+fn test<'a>(alloc: Global) -> Result<Command<'a>, AllocError> {
+    Command::new(alloc, "test")
         .about(
             "Plays sessions, and looks whether each command line is answered as a line `> REPLY` behind it says",
         )
@@ -105,28 +146,19 @@ fn command<'a>(alloc: Global) -> Result<Command<'a>, AllocError> {
                 .required(true)
                 .num_args(1..)
                 .help("The sessions"),
-        )?;
-    let turns = Arg::new(alloc, "turns")
-        .long("turns")
-        .value_name("N")
-        .required(true)
-        .value_parser(clap::value_parser!(u32).range(1..=i64::from(TURNS)))
-        .help("How often each process is given `next`, from 1 to 100000");
-    let crew = Command::new(alloc, "crew")
-        .about(
-            "Reads a program, gives `next` for each process so many times, from threads, and says how many calls there were",
         )
-        .arg(turns)?
-        .arg(file(alloc).help("The program, in place of standard input"))?;
+}
+
+fn command<'a>(alloc: Global) -> Result<Command<'a>, AllocError> {
     Command::new(alloc, "rdbg")
         .about(ABOUT)
         .after_help(GUIDE)
         .subcommand_required(true)
-        .subcommand(talk)?
-        .subcommand(run)?
-        .subcommand(check)?
-        .subcommand(crew)?
-        .subcommand(test)
+        .subcommand(talk(alloc)?)?
+        .subcommand(run(alloc)?)?
+        .subcommand(check(alloc)?)?
+        .subcommand(crew(alloc)?)?
+        .subcommand(test(alloc)?)
 }
 
 // The job of the subcommand of this name.

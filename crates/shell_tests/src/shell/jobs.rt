@@ -31,10 +31,11 @@ fn expect_refused(rt: &impl Abort, alloc: Global, rows: &[Row]) {
     }
 }
 
-const OTHER_WORDS: [Row; 5] = [
+const OTHER_WORDS: [Row; 6] = [
     (&["rdbg"], ErrorKind::MissingSubcommand, 2),
     (&["rdbg", "jump"], ErrorKind::InvalidSubcommand, 2),
     (&["rdbg", "run", "--now"], ErrorKind::UnknownArgument, 2),
+    (&["rdbg", "test"], ErrorKind::MissingRequiredArgument, 2),
     (
         &["rdbg", "run", "one", "two"],
         ErrorKind::UnknownArgument,
@@ -43,16 +44,16 @@ const OTHER_WORDS: [Row; 5] = [
     (&["rdbg", "--help"], ErrorKind::DisplayHelp, 0),
 ];
 
-// The file that the words name.
+// The first file that the words name.
 fn file_of(alloc: Global, words: &'static [&'static str]) -> Option<&'static str> {
     match asked(alloc, words) {
-        Ok(asked) => asked.file,
+        Ok(asked) => asked.files.first().copied(),
         Err(_) => None,
     }
 }
 
 #[test]
-fn words_name_a_file(rt: HostRuntime) {
+fn words_name_files(rt: HostRuntime) {
     let alloc = rt.alloc();
     expect_true(
         &rt,
@@ -64,11 +65,22 @@ fn words_name_a_file(rt: HostRuntime) {
     );
     let crew = ["rdbg", "crew", "--turns", "2", "one"].as_slice();
     expect_true(&rt, file_of(alloc, crew) == Some("one"));
-    expect_true(
-        &rt,
-        file_of(alloc, ["rdbg", "run", "--", "--now"].as_slice()) == Some("--now"),
-    );
+    let dashes = ["rdbg", "talk", "--", "--now"].as_slice();
+    expect_true(&rt, file_of(alloc, dashes) == Some("--now"));
+    let tests = ["rdbg", "test", "one", "two"].as_slice();
+    expect_true(&rt, file_of(alloc, tests) == Some("one"));
     expect_true(&rt, file_of(alloc, ["rdbg", "run"].as_slice()).is_none());
+}
+
+#[test]
+fn words_ask_for_talks(rt: HostRuntime) {
+    let alloc = rt.alloc();
+    let talk = job(alloc, ["rdbg", "talk"].as_slice());
+    expect_true(&rt, matches!(talk, Ok(Job::Talk)));
+    let test = job(alloc, ["rdbg", "test", "one"].as_slice());
+    expect_true(&rt, matches!(test, Ok(Job::Test)));
+    let explain = job(alloc, ["rdbg", "check", "--explain"].as_slice());
+    expect_true(&rt, matches!(explain, Ok(Job::Explain)));
 }
 
 #[test]
