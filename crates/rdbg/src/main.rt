@@ -45,15 +45,21 @@ fn run<R: Threads + Wait + Sync, I: Source + Typed, W: Sink>(
 }
 
 // Does a job whose input begins with a file: a run and a talk go on with standard input behind it.
-fn run_with_file<W: Sink>(rt: &HostRuntime, job: Job, file: File, writer: &mut W) -> u8 {
+fn run_with_file<R: Threads + Wait + Sync, W: Sink>(
+    rt: &HostRuntime,
+    threads: &R,
+    job: Job,
+    file: File,
+    writer: &mut W,
+) -> u8 {
     match job {
         Job::Run | Job::Talk => {
             let mut reader = Noted::new(one_behind_the_other(file, Typing::new(rt, job)));
-            run(rt, rt.alloc(), job, &mut reader, writer)
+            run(threads, rt.alloc(), job, &mut reader, writer)
         }
         Job::Check | Job::Explain | Job::Crew(_) | Job::Test => {
             let mut reader = Noted::new(Shown { file });
-            run(rt, rt.alloc(), job, &mut reader, writer)
+            run(threads, rt.alloc(), job, &mut reader, writer)
         }
     }
 }
@@ -84,7 +90,7 @@ fn test<W: Sink>(rt: &HostRuntime, files: &[&str], writer: &mut W) -> u8 {
 }
 
 // Does what the words ask for, and says the status with which the program ends.
-fn do_job(rt: &HostRuntime, asked: &Asked<'_>) -> u8 {
+fn do_job<R: Threads + Wait + Sync>(rt: &HostRuntime, threads: &R, asked: &Asked<'_>) -> u8 {
     let mut writer = Output::new(rt.stdout());
     if asked.job == Job::Test {
         return test(rt, asked.files.as_slice(), &mut writer);
@@ -92,12 +98,12 @@ fn do_job(rt: &HostRuntime, asked: &Asked<'_>) -> u8 {
     match asked.files.first() {
         // `-` stands for standard input.
         Some(name) if *name != "-" => match open(rt, name) {
-            Ok(file) => run_with_file(rt, asked.job, file, &mut writer),
+            Ok(file) => run_with_file(rt, threads, asked.job, file, &mut writer),
             Err(error) => tell_unreadable(rt, name, &error),
         },
         _ => {
             let mut reader = Noted::new(Typing::new(rt, asked.job));
-            run(rt, rt.alloc(), asked.job, &mut reader, &mut writer)
+            run(threads, rt.alloc(), asked.job, &mut reader, &mut writer)
         }
     }
 }
@@ -115,7 +121,7 @@ fn main(rt: HostRuntime) -> ExitCode {
         }
     };
     match asked(rt.alloc(), words.as_slice()) {
-        Ok(asked) => ExitCode::from(do_job(&rt, &asked)),
+        Ok(asked) => ExitCode::from(do_job(&rt, &rt, &asked)),
         Err(error) => {
             if error.kind() == ErrorKind::OutOfMemory {
                 return ExitCode::from(WordsFault::Memory.status());
