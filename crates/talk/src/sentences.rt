@@ -1,7 +1,7 @@
 //! What is told beside the replies.
 
 use crate::own::first_word;
-use command_line::next_word;
+use command_line::{next_word, without_return};
 use dbg_base::{Call, Refusal, Said};
 use dbg_command::Table;
 use proc_lang::{ProgFault, Program};
@@ -21,7 +21,7 @@ pub(crate) fn view<'a>(program: &'a Program, source: &'a Source, table: &'a Tabl
 /// What a line of the talk's own is answered with.
 pub(crate) fn own_notes(alloc: Global, view: View<'_>, line: &[u8]) -> Notes {
     let mut notes = Notes::new(alloc);
-    let (word, rest) = next_word(line);
+    let (word, rest) = next_word(without_return(line));
     let argument = first_word(rest);
     let told = match word {
         b"help" => tell_help(&mut notes, argument).map_err(Refusal::from),

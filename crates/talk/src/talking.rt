@@ -24,7 +24,7 @@ use reply_lines::{ServeFault, hand_on, print_refusal, print_reply};
 use std::alloc::Global;
 use telling::{Notes, Source, View};
 
-//// Writes what is told, and hands it on.
+/// Writes what is told, and hands it on.
 pub(crate) fn tell<W: Sink>(notes: &Notes, writer: &mut W) -> Result<(), ServeFault>
     ensures told { OnOk result (WritesTold (W.seen writer.old) (W.seen writer.new)) }
     ensures fault { IfErr result (λ fault. fault ≡ Write) }

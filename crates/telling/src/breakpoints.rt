@@ -29,7 +29,7 @@ fn put_conjuncts(
 
 // Tells how many events of each process a cut has.
 fn tell_cut(notes: &mut Notes, program: &Program, cut: &Cut) -> Result<(), AllocError> {
-    notes.say(&[Part::Text("first in the state behind")])?;
+    notes.say(&[Part::Text("it holds first behind these events:")])?;
     let mut word = " ";
     for p in 0..program.processes() {
         let scope = Scope {
@@ -58,9 +58,8 @@ fn tell_past(
                 pid: Pid(p),
             };
             notes.say(&[
-                Part::Text("no event of "),
                 scope.name(),
-                Part::Text(" so far leads to a state that satisfies its part"),
+                Part::Text(" has no state so far in which its part holds"),
             ])?;
         }
     }

@@ -64,6 +64,11 @@ fn mend(before: &[u8], at: &[u8]) -> Option<&'static str> {
             "an operator with its two operands stands in parentheses: `(x + 1)`, `((a and b) and c)`",
         );
     }
+    if is_before_name(before) {
+        return Some(
+            "a name is due: a small letter, and then small letters, digits and `_`; words of the language are none",
+        );
+    }
     for word in [
         b"when".as_slice(),
         b"var".as_slice(),
@@ -75,6 +80,14 @@ fn mend(before: &[u8], at: &[u8]) -> Option<&'static str> {
         }
     }
     None
+}
+
+// Whether a name is due behind these bytes.
+fn is_before_name(before: &[u8]) -> bool {
+    before.ends_with(b"var")
+        || before.ends_with(b"process")
+        || before.ends_with(b"send")
+        || before.ends_with(b"recv")
 }
 
 // The number of the line in which the byte stands, and the place of the line's first byte.

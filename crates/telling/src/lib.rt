@@ -22,7 +22,6 @@ mod view;
 pub use accepted::Before;
 pub use faults::tell_program_fault;
 pub use forms::tell_help;
-pub use lines::next_word;
 pub use notes::Notes;
 pub use source::Source;
 pub use view::View;

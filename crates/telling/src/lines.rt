@@ -5,6 +5,7 @@ use crate::forms::{tell_near_word, tell_word};
 use crate::notes::{Notes, Part};
 use crate::numbers::meaning;
 use crate::view::View;
+use dbg_base::limits::PROCESSES;
 use dbg_base::{Name, Pid, Refusal};
 use proc_lang::{ProgError, ProgFault, Program, parse_predicate};
 use std::alloc::{AllocError, Global};
@@ -14,7 +15,7 @@ fn is_blank(byte: u8) -> bool {
 }
 
 /// The first word, which is empty where there are blanks alone, and the bytes behind it.
-pub fn next_word(bytes: &[u8]) -> (&[u8], &[u8]) {
+pub(crate) fn next_word(bytes: &[u8]) -> (&[u8], &[u8]) {
     let blanks = bytes.iter().take_while(|byte| is_blank(**byte)).count();
     let begun = bytes.get(blanks..).unwrap_or(&[]);
     let length = begun.iter().take_while(|byte| !is_blank(**byte)).count();
@@ -94,6 +95,7 @@ impl View<'_> {
         parts: &[u8],
     ) -> Result<(), Refusal> {
         let mut rest = parts;
+        let mut has_part = [false; PROCESSES];
         // A line has no more parts than this.
         for _ in 0..512 {
             let (word, behind) = next_word(rest);
@@ -103,6 +105,17 @@ impl View<'_> {
             };
             if self.tell_predicate(alloc, notes, pid, text)? {
                 return Ok(());
+            }
+            if let Some(has) = has_part.get_mut(pid.0 as usize) {
+                if *has {
+                    return Ok(notes.say(&[
+                        Part::Bytes(word),
+                        Part::Text(
+                            " has a part already: put both into one, as `((x = 1) and (y = 2))`",
+                        ),
+                    ])?);
+                }
+                *has = true;
             }
             rest = others;
         }

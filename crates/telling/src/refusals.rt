@@ -98,12 +98,11 @@ impl View<'_> {
         notes.say(&[
             Part::Text("`undo "),
             scope.process(receiver),
-            Part::Text("` "),
+            Part::Text("`"),
         ])?;
-        notes.add(&[
-            Part::Count(undone),
-            Part::Text(if undone == 1 { " time" } else { " times" }),
-        ])?;
+        if undone > 1 {
+            notes.add(&[Part::Text(" "), Part::Count(undone), Part::Text(" times")])?;
+        }
         notes.add(&[
             Part::Text(" first, or `rollback "),
             scope.name(),
