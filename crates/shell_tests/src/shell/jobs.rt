@@ -144,17 +144,19 @@ const HELP: &str =
 Usage: rdbg <COMMAND>
 
 Commands:
+  talk   Is `run` for a person: tells behind each reply what happened, or what stands in the way
   run    Reads a program, a line `%%` and command lines, and answers each line
   check  Reads a program and says how many processes and commands it has, or what is wrong
   crew   Reads a program, gives `next` for each process so many times, from threads, and says how many calls there were
+  test   Plays sessions, and looks whether each command line is answered as a line `> REPLY` behind it says
   help   Print this message or the help of the given subcommand(s)
 
 Options:
   -h, --help  Print help
 
-The text is a program, a line `%%`, and for `run` command lines behind it. Where no line is `%%`, all of it is the
-program of `check` and `crew`. It comes from FILE, where one is named, and for `run` goes on with standard input; else
-it all comes from standard input.
+The text is a program, a line `%%`, and for `talk` and `run` command lines behind it. Where no line is `%%`, all of it is
+the program of `check` and `crew`. It comes from FILE, where one is named, and for `talk` and `run` goes on with standard
+input; else it all comes from standard input. A talk answers `help`, too.
 
 Command lines, each behind a seat from 1 to 16:
   step P K, next P, redo P       make an event of the process P
