@@ -9,6 +9,6 @@ mod testing;
 mod typed;
 mod written;
 
-pub use running::{explain, talk};
+pub use running::{explain, talk, talk_lines};
 pub use testing::{Tested, test_session};
 pub use typed::Typed;

@@ -136,8 +136,10 @@ fn begin_talk<L: Run, C: Command, M: Fn(Givable) -> Result<C, Refusal>, R: Sourc
     }
 }
 
-// Answers the lines behind this program, whose text this is.
-fn talk_lines<C: Command, M: Fn(Givable) -> Result<C, Refusal>, R: Source + Typed, W: Sink>(
+/// Answers the lines behind this program, whose text this is, as `talk` does, by commands that are made so. Where it ends well, all lines
+/// were answered, or those up to one that ends the talk: each command line by the reply that a run gives to it, and the talk's own lines
+/// without a call. Beside that it writes lines that begin with two blanks alone, and the lines themselves.
+pub fn talk_lines<C: Command, M: Fn(Givable) -> Result<C, Refusal>, R: Source + Typed, W: Sink>(
     alloc: Global,
     make: &M,
     text: &Text,
