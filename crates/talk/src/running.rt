@@ -11,7 +11,7 @@ ghost use Rattle.line_runs.specs.Answering.{IsMaker, AreAllSeats};
 ghost use Rattle.talk.specs.Talking.{Talks};
 
 use crate::own::Room;
-use crate::sentences::{fault_notes, no_end_notes};
+use crate::sentences::fault_notes;
 use crate::talking::{talk_line, tell};
 use crate::typed::Typed;
 use dbg_base::limits::SEATS;
@@ -252,11 +252,7 @@ pub fn talk<R: Source + Typed, W: Sink>(
                 Err(ProgError::Memory) => Err(ServeFault::Memory),
             }
         }
-        TextEnd::End => {
-            let served = tell_no_end_line(writer)?;
-            tell(&no_end_notes(alloc), writer)?;
-            Ok(served)
-        }
+        TextEnd::End => tell_no_end_line(writer),
         TextEnd::TooLong => tell_too_long(writer),
     }
 }

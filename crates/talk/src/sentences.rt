@@ -6,7 +6,7 @@ use dbg_base::{Call, Refusal, Said};
 use dbg_command::Table;
 use proc_lang::{ProgFault, Program};
 use std::alloc::Global;
-use telling::{Before, Notes, Source, View, tell_help, tell_no_end, tell_program_fault};
+use telling::{Before, Notes, Source, View, tell_help, tell_program_fault};
 
 /// A session as it stands.
 pub(crate) fn view<'a>(program: &'a Program, source: &'a Source, table: &'a Table) -> View<'a> {
@@ -90,12 +90,5 @@ pub(crate) fn line_notes(alloc: Global, view: View<'_>, line: &[u8], refusal: &R
 pub(crate) fn fault_notes(alloc: Global, text: &[u8], fault: &ProgFault) -> Notes {
     let mut notes = Notes::new(alloc);
     let _ended = tell_program_fault(&mut notes, text, fault);
-    notes
-}
-
-/// What is told where no line ends the program.
-pub(crate) fn no_end_notes(alloc: Global) -> Notes {
-    let mut notes = Notes::new(alloc);
-    let _ended = tell_no_end(&mut notes);
     notes
 }

@@ -170,14 +170,6 @@ fn tell_difference(
     Ok(text)
 }
 
-// Tells that a session was not played to its end, and what the talk told of it.
-fn tell_refused(alloc: Global, name: &str, page: &[u8]) -> Result<Vec<u8>, AllocError> {
-    let mut text = Vec::from_slice(alloc, name.as_bytes())?;
-    text.extend_from_slice(b": ")?;
-    text.extend_from_slice(page)?;
-    Ok(text)
-}
-
 // Tells that all replies were as they have to be.
 fn tell_passed(alloc: Global, name: &str) -> Result<Vec<u8>, AllocError> {
     let mut text = Vec::from_slice(alloc, name.as_bytes())?;
@@ -207,10 +199,7 @@ pub fn test_session<W: Sink>(
     };
     let page = page.into_inner();
     if served != Served::Done {
-        write_text(
-            tell_refused(alloc, name, page.as_slice())?.as_slice(),
-            writer,
-        )?;
+        write_text(page.as_slice(), writer)?;
         return Ok(Tested::Failed);
     }
     match first_difference(session, page.as_slice()) {

@@ -139,10 +139,3 @@ pub fn tell_program_fault(
         _ => Ok(()),
     }
 }
-
-/// Tells that no line ends a program text.
-pub fn tell_no_end(notes: &mut Notes) -> Result<(), AllocError> {
-    notes.say(&[Part::Text(
-        "a line `%%` stands between the program and the command lines; here all lines were the program's",
-    )])
-}

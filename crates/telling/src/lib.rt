@@ -20,7 +20,7 @@ mod values;
 mod view;
 
 pub use accepted::Before;
-pub use faults::{tell_no_end, tell_program_fault};
+pub use faults::tell_program_fault;
 pub use forms::tell_help;
 pub use notes::Notes;
 pub use source::Source;
