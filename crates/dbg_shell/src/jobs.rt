@@ -15,6 +15,21 @@ pub enum Job {
     Talk,
     /// Play sessions, and look whether each reply is as it has to be.
     Test,
+    /// Play a session, and draw it.
+    Draw(Picture),
+}
+
+/// How a session is drawn.
+#[derive(Clone, Copy, Debug, PartialEq, Eq)]
+pub enum Picture {
+    /// A diagram of characters.
+    Text,
+    /// A drawing.
+    Svg,
+    /// A page to go through the session.
+    Html,
+    /// A log that ShiViz reads.
+    Shiviz,
 }
 
 /// What the program is to do, and with what its input begins.

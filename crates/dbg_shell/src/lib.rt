@@ -12,7 +12,7 @@ pub use checking::check;
 pub use command_line::{Line, parse_line};
 pub use crew_runs::{Closing, Crewed, Mismatch, crew_status, fits_turns, print_closing, run_crew};
 pub use devices::{Health, Noted, Sink, Source};
-pub use jobs::{Asked, Job};
+pub use jobs::{Asked, Job, Picture};
 pub use line_runs::serve;
 pub use reply_lines::{ServeFault, Served, print_reply, status};
 pub use usage::{asked, job};

@@ -3,7 +3,8 @@
 ghost use Rattle.std.specs.Prelude.{IfOk};
 ghost use Rattle.dbg_shell.specs.Jobs.{MayBeAsked};
 
-use crate::jobs::{Asked, Job};
+use crate::jobs::{Asked, Job, Picture};
+use clap::builder::ValueParser;
 use clap::error::ErrorKind;
 use clap::{Arg, ArgAction, ArgMatches, Command, Error};
 use dbg_base::limits::CALLS;
@@ -19,8 +20,8 @@ const TURNS: u32 = 100_000;
 const _: () = prove!(TURNS as usize == CALLS);
 
 static GUIDE: &str =
-    "The text is a program, a line `%%`, and for `talk` and `run` command lines behind it. Where no line is `%%`, all of it is
-the program of `check` and `crew`. It comes from FILE, where one is named, and for `talk` and `run` goes on with standard
+    "The text is a program, a line `%%`, and for `talk`, `run` and `draw` command lines behind it. Where no line is `%%`, all of it is
+the program of `check` and `crew`. It comes from FILE, where one is named, and for these three goes on with standard
 input; else it all comes from standard input. A talk answers `help`, too.
 
 Command lines, each behind a seat from 1 to 16:
@@ -149,6 +150,35 @@ fn test<'a>(alloc: Global) -> Result<Command<'a>, AllocError> {
         )
 }
 
+static PICTURES: [&str; 4] = ["text", "svg", "html", "shiviz"];
+
+fn draw<'a>(alloc: Global) -> Result<Command<'a>, AllocError> {
+    with_file(
+        alloc,
+        "draw",
+        "Plays a session, and draws where it ends; or, as html, a page to go through it",
+        "The program and the first lines; those of standard input come behind them",
+    )?
+    .arg(
+        Arg::new(alloc, "as")
+            .long("as")
+            .value_name("FORM")
+            .default_value("text")
+            .value_parser(ValueParser::Names(&PICTURES))
+            .help("How it is drawn"),
+    )
+}
+
+// The picture of this name.
+fn named_picture(name: Option<&str>) -> Picture {
+    match name {
+        Some("svg") => Picture::Svg,
+        Some("html") => Picture::Html,
+        Some("shiviz") => Picture::Shiviz,
+        _ => Picture::Text,
+    }
+}
+
 fn command<'a>(alloc: Global) -> Result<Command<'a>, AllocError> {
     Command::new(alloc, "rdbg")
         .about(ABOUT)
@@ -158,7 +188,8 @@ fn command<'a>(alloc: Global) -> Result<Command<'a>, AllocError> {
         .subcommand(run(alloc)?)?
         .subcommand(check(alloc)?)?
         .subcommand(crew(alloc)?)?
-        .subcommand(test(alloc)?)
+        .subcommand(test(alloc)?)?
+        .subcommand(draw(alloc)?)
 }
 
 // The job of the subcommand of this name.
@@ -168,6 +199,7 @@ fn named_job(command: &mut Command<'_>, name: &str, matches: &ArgMatches<'_>) ->
     match name {
         "talk" => Ok(Job::Talk),
         "test" => Ok(Job::Test),
+        "draw" => Ok(Job::Draw(named_picture(matches.get_str("as")))),
         "check" if matches.get_flag("explain") => Ok(Job::Explain),
         "check" => Ok(Job::Check),
         "crew" => match matches.get_one::<u32>("turns") {

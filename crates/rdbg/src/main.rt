@@ -9,8 +9,9 @@ mod typing;
 mod words;
 
 use clap::error::ErrorKind;
-use dbg_shell::{Asked, Job, asked, check, crew_status, run_crew, serve, status};
+use dbg_shell::{Asked, Job, Picture, asked, check, crew_status, run_crew, serve, status};
 use devices::{Noted, Sink, Source, one_behind_the_other};
+use draw::{Form, draw};
 use output::Output;
 use std::alloc::Global;
 use std::fs;
@@ -26,6 +27,16 @@ use words::{WordsFault, words};
 // The status where a session was not answered as it has to be.
 const DIFFERS: u8 = 1;
 
+// The form of a picture.
+fn form(picture: Picture) -> Form {
+    match picture {
+        Picture::Text => Form::Text,
+        Picture::Svg => Form::Drawing,
+        Picture::Html => Form::Page,
+        Picture::Shiviz => Form::Log,
+    }
+}
+
 // Does the job from this reader to this writer, and says the status with which the program ends.
 fn run<R: Threads + Wait + Sync, I: Source + Typed, W: Sink>(
     rt: &R,
@@ -39,12 +50,13 @@ fn run<R: Threads + Wait + Sync, I: Source + Typed, W: Sink>(
         Job::Check => status(&check(alloc, reader, writer)),
         Job::Explain => status(&explain(alloc, reader, writer)),
         Job::Crew(turns) => crew_status(&run_crew(rt, alloc, turns, reader, writer)),
+        Job::Draw(picture) => status(&draw(alloc, form(picture), reader, writer)),
         // A test has files, and reads them itself.
         Job::Talk | Job::Test => status(&talk(alloc, reader, writer)),
     }
 }
 
-// Does a job whose input begins with a file: a run and a talk go on with standard input behind it.
+// Does a job whose input begins with a file: a run, a talk and a drawing go on with standard input behind it.
 fn run_with_file<R: Threads + Wait + Sync, W: Sink>(
     rt: &HostRuntime,
     threads: &R,
@@ -53,7 +65,7 @@ fn run_with_file<R: Threads + Wait + Sync, W: Sink>(
     writer: &mut W,
 ) -> u8 {
     match job {
-        Job::Run | Job::Talk => {
+        Job::Run | Job::Talk | Job::Draw(_) => {
             let mut reader = Noted::new(one_behind_the_other(file, Typing::new(rt, job)));
             run(threads, rt.alloc(), job, &mut reader, writer)
         }

@@ -1,21 +1,30 @@
 -- Lines that a talk answers, one behind the other.
-use Rattle.std.proofs.Common.{◌≡◌, ◌⊎◌, ℕ, ◌≤◌, Bool, true, false, List, [], ◌∷◌, ◌++◌, length, refl, sym, ap, ◌∙◌, subst, inr}
+use Rattle.std.proofs.Common.{◌≡◌, ℕ, ◌≤◌, Bool, true, false, List, [], ◌∷◌, ◌++◌, length, refl, sym, ap, ◌∙◌, subst, inr}
 use Rattle.std.proofs.Common.{append_assoc}
-use Rattle.std.specs.Prelude.{slice_range, codes, IfOk, Result, Ok, Err, Some, if◌then◌else◌}
-use Rattle.std.specs.List.{AllByRecursion}
+use Rattle.std.specs.Prelude.{slice_range, codes, IfOk, Result, Ok, Err, Some, if◌then◌else◌, ◌||◌}
+use Rattle.std.specs.List.{AllByRecursion, list_any}
+use Rattle.std.specs.Bool.{MatchBool}
 use Rattle.std.proofs.lemmas.List.{append-nil}
 use Rattle.std.proofs.lemmas.List.Concat.{flat_map-append}
 use Rattle.devices.specs.Seen.{Seen, Appended}
 use Rattle.devices.proofs.Appending.{appended_none, appended_then}
 use Rattle.dbg_base.specs.Trees.{Program}
-use Rattle.dbg_base.specs.Journals.{Journal}
-use Rattle.dbg_base.specs.Shell.{as_line, AnswersLine, too_long_text}
+use Rattle.dbg_base.specs.Journals.{Journal, IsLegal}
+use Rattle.dbg_base.specs.Shell.{as_line, AnswersLine, is_too_long, end_text, too_long_text}
+use Rattle.reply_lines.specs.declared.outcome.Served.{Served}
+use Rattle.reply_lines.specs.declared.outcome.Served.TheVariants.{Done, TooLong}
+use Rattle.reply_lines.specs.declared.outcome.ServeFault.{ServeFault}
+use Rattle.reply_lines.specs.Writing.{Writes}
+use Rattle.shell_input.specs.Written.{WritesSome}
+use Rattle.line_runs.specs.Serving.{end_of}
+use Rattle.line_runs.proofs.SomeAnswers.{line_legal, opens_legal}
 use Rattle.shell_input.specs.declared.framing.Span.{Span}
 use Rattle.shell_input.specs.declared.framing.Next.{Next}
 use Rattle.shell_input.specs.declared.framing.Next.TheVariants as nexts
 use Rattle.shell_input.specs.Spans.{is_unended, lines_from, Tells, TellsAny, MayBe, Narrows}
 use Rattle.shell_input.proofs.Splits.{told_of}
-use Rattle.talk.specs.Talking.{is_own, needs_seat, with_seat, told_text, Replies, TalksLine, TalksLines, Talks}
+use Rattle.talk.specs.Talking.{is_own, is_quit, needs_seat, with_seat, told_text, heard, talk_end, talk_end_text, Replies, TalksLine}
+use Rattle.talk.specs.Talking.{TalksLines, TalksAll, TalksOn}
 use Rattle.talk.specs.Writing.{told_line, WritesTold, WritesEcho, WritesCall, WritesRefusal, WritesAnswer, WritesLine}
 use Rattle.dbg_base.specs.Calls.{call_of}
 use Rattle.dbg_base.specs.Replies.{reply_text, refusal_text}
@@ -63,84 +72,150 @@ command_line P line seated J after a b c own is echo answer =
       appended_then a b c echo.0 (answer.0 ++ answer.1) echo.2 answer.4,
     )
 
--- a line more was answered
-lines_more : (P : Program) (lines : List (List ℕ)) (line : List ℕ) (J mid after : Journal) (text more : List ℕ)
-    → TalksLines P lines J text mid → TalksLine P line mid more after → TalksLines P (lines ++ line ∷ []) J (text ++ more) after
-lines_more P [] line J mid after text more h k = (
-  more,
-  [],
-  after,
-  subst (λ (K : Journal). TalksLine P line K more after) h.1 k,
-  (refl, refl),
-  ap (λ (t : List ℕ). t ++ more) h.0 ∙ sym (append-nil more),
-)
-lines_more P (first ∷ lines) line J mid after text more h k = (
-  h.0,
-  h.1 ++ more,
-  h.2,
-  h.3,
-  lines_more P lines line h.2 mid after h.1 more h.4 k,
-  ap (λ (t : List ℕ). t ++ more) h.5 ∙ append_assoc h.0 h.1 more,
-)
+-- a line leaves a legal journal legal
+talk_legal : (P : Program) (line : List ℕ) (J : Journal) (out : List ℕ) (after : Journal) → TalksLine P line J out after → IsLegal P J
+    → IsLegal P after
+talk_legal P line J out after talks legal = by_own (is_own line) talks.4
+  where
+    by_own : (own : Bool) → MatchBool own ((talks.1 ≡ []) × (after ≡ J)) (AnswersLine P (with_seat line) J talks.1 after) → IsLegal P after
+    by_own true replies = subst (IsLegal P) (sym replies.1) legal
+    by_own false replies = line_legal P (with_seat line) J talks.1 after replies legal
 
--- Some lines from a place on were answered, whatever the input may be.
-pub record Talked (P : Program) (bytes : List ℕ) (ended : Bool) (from at : ℕ) (J : Journal) (old new : Seen) : Type 0 where
-  pub lines : List (List ℕ)
+-- Some lines were answered, none of which ends the talk, and what answers the lines from here on completes the answers to all of them.
+pub record Talked (P : Program) (whole : List ℕ) (from at : ℕ) (J : Journal) (old new : Seen) : Type 0 where
+  pub legal : IsLegal P J
   pub text : List ℕ
-  pub among : (input : List ℕ) → MayBe bytes ended input → lines_from from input ≡ lines ++ lines_from at input
-  pub talks : TalksLines P lines [] text J
   pub written : Appended old new text
+  pub goes_on : (others : List ℕ) (last : Journal) → TalksLines P (heard (lines_from at whole)) J others last
+      → TalksLines P (heard (lines_from from whole)) [] (text ++ others) last
+  pub quits : list_any is_quit (lines_from from whole) ≡ list_any is_quit (lines_from at whole)
+
+-- the same, whatever the input may be
+abbrev pub TalkedAny : Program → List ℕ → Bool → ℕ → ℕ → Journal → Seen → Seen → Type 0
+TalkedAny P bytes ended from at J old new = (input : List ℕ) → MayBe bytes ended input → Talked P input from at J old new
 
 pub talked_begins : (P : Program) (bytes : List ℕ) (ended : Bool) (from : ℕ) (J : Journal) (a : Seen) → J ≡ []
-    → Talked P bytes ended from from J a a
-talked_begins P bytes ended from J a none = record {
-  lines = [];
+    → TalkedAny P bytes ended from from J a a
+talked_begins P bytes ended from J a none input may = record {
+  legal = subst (IsLegal P) (sym none) (opens_legal P);
   text = [];
-  among = λ input may. refl;
-  talks = (refl, none);
   written = appended_none a;
+  goes_on = λ others last talks. subst (λ (K : Journal). TalksLines P (heard (lines_from from input)) K others last) none talks;
+  quits = refl;
 }
+
+-- the lines that are answered from a line on
+heard_on : (line : List ℕ) (lines : List (List ℕ)) → is_quit line ≡ false → heard (line ∷ lines) ≡ line ∷ heard lines
+heard_on line lines on = ap (λ (b : Bool). line ∷ (if b then [] else heard lines)) on
+
+heard_last : (line : List ℕ) (lines : List (List ℕ)) → is_quit line ≡ true → heard (line ∷ lines) ≡ line ∷ []
+heard_last line lines ends = ap (λ (b : Bool). line ∷ (if b then [] else heard lines)) ends
+
+-- a line was answered that does not end the talk
+line_talked : (P : Program) (whole line : List ℕ) (from at new : ℕ) (J next : Journal) (a b c : Seen) (text : List ℕ)
+    → Talked P whole from at J a b → lines_from at whole ≡ line ∷ lines_from new whole → is_quit line ≡ false
+    → TalksLine P line J text next → Appended b c text → Talked P whole from new next a c
+line_talked P whole line from at new J next a b c text talked here on talks written = record {
+  legal = talk_legal P line J text next talks talked.legal;
+  text = talked.text ++ text;
+  written = appended_then a b c talked.text text talked.written written;
+  goes_on = λ others last more.
+      let is : heard (lines_from at whole) ≡ line ∷ heard (lines_from new whole) = ap heard here ∙ heard_on line (lines_from new whole) on in
+      subst (λ (t : List ℕ). TalksLines P (heard (lines_from from whole)) [] t last) (sym (append_assoc talked.text text others))
+      (talked.goes_on (text ++ others) last (subst (λ (lines : List (List ℕ)). TalksLines P lines J (text ++ others) last) (sym is)
+      (text, others, next, talks, more, refl)));
+  quits = talked.quits ∙ ap (list_any is_quit) here ∙ ap (λ (b : Bool). b || list_any is_quit (lines_from new whole)) on;
+}
+
+-- a line was answered that ends the talk
+line_ends : (P : Program) (whole line : List ℕ) (from at new : ℕ) (J next : Journal) (a b c : Seen) (text : List ℕ)
+    → Talked P whole from at J a b → lines_from at whole ≡ line ∷ lines_from new whole → is_quit line ≡ true
+    → TalksLine P line J text next → Appended b c text
+    → (Done ≡ talk_end (lines_from from whole) whole) × WritesSome a c (TalksAll P (lines_from from whole) whole)
+line_ends P whole line from at new J next a b c text talked here ends talks written =
+    let is : heard (lines_from at whole) ≡ line ∷ [] = ap heard here ∙ heard_last line (lines_from new whole) ends in
+    let quits : list_any is_quit (lines_from from whole) ≡ true =
+    talked.quits ∙ ap (list_any is_quit) here ∙ ap (λ (b : Bool). b || list_any is_quit (lines_from new whole)) ends in
+    let all : TalksLines P (heard (lines_from from whole)) [] (talked.text ++ (text ++ [])) next =
+    talked.goes_on (text ++ []) next (subst (λ (lines : List (List ℕ)). TalksLines P lines J (text ++ []) next) (sym is)
+    (text, [], next, talks, (refl, refl), refl)) in (
+      sym (ap (λ (b : Bool). if b then Done else end_of whole) quits),
+      (
+        talked.text ++ (text ++ []) ++ [],
+        (
+          talked.text ++ (text ++ []),
+          next,
+          all,
+          talk_legal P line J text next talks talked.legal,
+          ap (λ (t : List ℕ). talked.text ++ (text ++ []) ++ t) (sym (ap (λ (b : Bool). if b then [] else end_text whole) quits)),
+        ),
+        subst (λ (t : List ℕ). Appended a c t)
+            (ap (λ (t : List ℕ). talked.text ++ t) (sym (append-nil text)) ∙ sym (append-nil (talked.text ++ (text ++ []))))
+            (appended_then a b c talked.text text talked.written written),
+      ),
+    )
+
+-- no line is left, and this is told at the end
+none_left : (P : Program) (whole : List ℕ) (from at : ℕ) (J : Journal) (a b c : Seen) (text : List ℕ) (served : Served)
+    → Talked P whole from at J a b → lines_from at whole ≡ [] → served ≡ end_of whole → text ≡ end_text whole → Appended b c text
+    → (served ≡ talk_end (lines_from from whole) whole) × WritesSome a c (TalksAll P (lines_from from whole) whole)
+none_left P whole from at J a b c text served talked none same is written =
+    let quits : list_any is_quit (lines_from from whole) ≡ false = talked.quits ∙ ap (list_any is_quit) none in
+    let all : TalksLines P (heard (lines_from from whole)) [] (talked.text ++ []) J =
+    talked.goes_on [] J (subst (λ (lines : List (List ℕ)). TalksLines P (heard lines) J [] J) (sym none) (refl, refl)) in (
+      same ∙ sym (ap (λ (b : Bool). if b then Done else end_of whole) quits),
+      (
+        talked.text ++ text,
+        (
+          talked.text ++ [],
+          J,
+          all,
+          talked.legal,
+          ap (λ (t : List ℕ). talked.text ++ t) (is ∙ sym (ap (λ (b : Bool). if b then [] else end_text whole) quits))
+              ∙ ap (λ (t : List ℕ). t ++ talk_end_text (lines_from from whole) whole) (sym (append-nil talked.text)),
+        ),
+        appended_then a b c talked.text text talked.written written,
+      ),
+    )
 
 module _ (P : Program) (before : List ℕ) (was : Bool) (bytes : List ℕ) (ended : Bool) (from at new : ℕ) (next : Next) (J : Journal)
     (old mid : Seen)
-    (talked : Talked P before was from at J old mid) (narrows : Narrows before was bytes ended) where
-  pub talked_on : (line : List ℕ) (span : Span) (out : Seen) (after : Journal) → TellsAny bytes ended at new next
-      → next ≡ nexts.Line span
-      → (span.from ≤ span.to → span.to ≤ length bytes → line ≡ slice_range bytes span.from span.to)
-      → WritesLine P line J mid out after → Talked P bytes ended from new after old out
-  talked_on line span out after told is seen wrote = record {
-    lines = talked.lines ++ line ∷ [];
-    text = talked.text ++ wrote.0;
-    among = λ input may.
+    (talked : TalkedAny P before was from at J old mid) (narrows : Narrows before was bytes ended)
+    (told : TellsAny bytes ended at new next) where
+  here_of : (input : List ℕ) → MayBe bytes ended input → Talked P input from at J old mid
+  here_of input may = talked input (narrows input may)
+
+  module _ (line : List ℕ) (span : Span) (out : Seen) (after : Journal) (is : next ≡ nexts.Line span)
+      (seen : span.from ≤ span.to → span.to ≤ length bytes → line ≡ slice_range bytes span.from span.to)
+      (wrote : WritesLine P line J mid out after) where
+    line_here : (input : List ℕ) → MayBe bytes ended input → lines_from at input ≡ line ∷ lines_from new input
+    line_here input may =
         let here : Tells input bytes at new (nexts.Line span) = told_of bytes ended at new next (nexts.Line span) told is input may in
         let same : line ≡ slice_range bytes span.from span.to = seen here.2 here.3 in
-        let begins : lines_from at input ≡ line ∷ lines_from new input =
-        here.0 ∙ ap (λ (l : List ℕ). l ∷ lines_from new input) (sym same) in
-        talked.among input (narrows input may) ∙ ap (λ (ls : List (List ℕ)). talked.lines ++ ls) begins
-        ∙ sym (append_assoc talked.lines (line ∷ []) (lines_from new input));
-    talks = lines_more P talked.lines line [] J after talked.text wrote.0 talked.talks wrote.1;
-    written = appended_then old mid out talked.text wrote.0 talked.written wrote.2;
-  }
+        here.0 ∙ ap (λ (l : List ℕ). l ∷ lines_from new input) (sym same)
 
--- the talk ends here, and this may be told at its end
-pub talk_ends : (P : Program) (before : List ℕ) (was : Bool) (bytes : List ℕ) (ended : Bool) (from at : ℕ) (J : Journal)
-    (old mid out : Seen) (last : List ℕ) → Talked P before was from at J old mid → Narrows before was bytes ended
-    → (last ≡ []) ⊎ (last ≡ too_long_text) → Appended mid out last → Talks P bytes ended from old out
-talk_ends P before was bytes ended from at J old mid out last talked narrows ends wrote = record {
-  lines = talked.lines;
-  text = talked.text;
-  last = last;
-  journal = J;
-  among = λ input may. (lines_from at input, talked.among input (narrows input may));
-  talks = talked.talks;
-  ends = ends;
-  written = appended_then old mid out talked.text last talked.written wrote;
-}
+    pub talked_on : is_quit line ≡ false → TalkedAny P bytes ended from new after old out
+    talked_on on input may =
+        line_talked P input line from at new J after old mid out wrote.0 (here_of input may) (line_here input may) on wrote.1 wrote.2
 
--- what follows where a call ends well
-pub where_ok : {A E X Y : Type 0} (r : Result A E) → (X → Y) → IfOk r (λ _. X) → IfOk r (λ _. Y)
-where_ok (Ok value) f x = f x
-where_ok (Err error) f x = tt
+    pub talk_quits : is_quit line ≡ true → TalksOn P bytes ended from Done old out
+    talk_quits ends input may =
+        line_ends P input line from at new J after old mid out wrote.0 (here_of input may) (line_here input may) ends wrote.1 wrote.2
+
+  pub talk_ends : next ≡ nexts.End → TalksOn P bytes ended from Done old mid
+  talk_ends is input may =
+      let here : Tells input bytes at new nexts.End = told_of bytes ended at new next nexts.End told is input may in
+      let no : is_too_long input ≡ false = here.1 in
+      none_left P input from at J old mid mid [] Done (here_of input may) here.0 (rw no refl) (rw no refl) (appended_none mid)
+
+  pub talk_too_long : (r : Result Served ServeFault) (out : Seen) → next ≡ nexts.TooLong → Writes mid out r too_long_text
+      → IfOk r (λ served. served ≡ TooLong) → IfOk r (λ served. TalksOn P bytes ended from served old out)
+  talk_too_long (Err fault) out is wrote same = tt
+  talk_too_long (Ok served) out is wrote same =
+      λ input may.
+      let here : Tells input bytes at new nexts.TooLong = told_of bytes ended at new next nexts.TooLong told is input may in
+      let long : is_too_long input ≡ true = here.1 in
+      none_left P input from at J old mid out too_long_text served (here_of input may) here.0 (same ∙ rw long refl) (rw long refl) wrote.whole
 
 -- what is told was handed on
 pub told_handed : (a b c : Seen) → WritesTold a b → Appended b c [] → WritesTold a c

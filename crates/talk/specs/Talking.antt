@@ -1,20 +1,26 @@
 -- What a session for a person writes for its lines.
-use Rattle.std.specs.Prelude.{◌≡◌, ◌⊎◌, ◌==◌, ◌&&◌, ◌||◌, ℕ, Bool, true, false, nat_le, not, List, [], ◌∷◌, ◌++◌, length, codes, if◌then◌else◌}
+use Rattle.std.specs.Prelude.{◌≡◌, ◌⊎◌, ◌==◌, ◌&&◌, ◌||◌, ℕ, Bool, true, false, nat_le, not, List, [], ◌∷◌, ◌++◌, length, codes, if◌then◌else◌, Option, None, Some}
 use Rattle.std.specs.List.{AllByRecursion, list_any, flat_map}
 use Rattle.std.specs.Bool.{MatchBool}
 use Rattle.std.specs.Str.{bytes_eq}
-use Rattle.devices.specs.Seen.{Seen, Appended}
+use Rattle.devices.specs.Seen.{Seen}
 use Rattle.dbg_base.specs.declared.limits.TheConstants.{LINE_BYTES}
 use Rattle.dbg_base.specs.Tokens.{is_digit}
 use Rattle.dbg_base.specs.CommandLines.{next_word, without_return}
 use Rattle.dbg_base.specs.Trees.{Program}
-use Rattle.dbg_base.specs.Journals.{Journal}
-use Rattle.dbg_base.specs.Shell.{as_line, AnswersLine, too_long_text}
+use Rattle.dbg_base.specs.Journals.{Journal, IsLegal}
+use Rattle.dbg_base.specs.Checks.{Reads, IsFault}
+use Rattle.dbg_base.specs.declared.fault.ProgFault.{ProgFault}
+use Rattle.dbg_base.specs.Shell.{Parts, parts_of, read_lines, as_line, AnswersLine, end_text, no_end_text, fault_text}
+use Rattle.reply_lines.specs.declared.outcome.Served.{Served}
+use Rattle.reply_lines.specs.declared.outcome.Served.TheVariants.{Done, Refused}
 use Rattle.shell_input.specs.Spans.{is_unended, lines_from, MayBe}
+use Rattle.shell_input.specs.Written.{WritesSome}
+use Rattle.line_runs.specs.Serving.{end_of, unended}
 
 -- the words of a talk's own
 abbrev pub own_words : List (List ℕ)
-own_words = codes "help" ∷ codes "on" ∷ codes "state" ∷ codes "line" ∷ codes "quit" ∷ []
+own_words = codes "help" ∷ codes "on" ∷ codes "state" ∷ codes "line" ∷ codes "draw" ∷ codes "quit" ∷ []
 
 -- there is no word, or it begins a comment or an expectation
 abbrev pub is_remark : List ℕ → Bool
@@ -67,14 +73,47 @@ TalksLines P [] J out J' = (out ≡ []) × (J' ≡ J)
 TalksLines P (line ∷ lines) J out J' =
     (first rest : List ℕ) × (next : Journal) × TalksLine P line J first next × TalksLines P lines next rest J' × (out ≡ first ++ rest)
 
--- The lines from this place on were answered in turn, all of them or up to one behind which the talk ended, and at the end it may be told
--- that the input is too long.
-pub record Talks (P : Program) (bytes : List ℕ) (ended : Bool) (from : ℕ) (old new : Seen) : Type 0 where
-  pub lines : List (List ℕ)
-  pub text : List ℕ
-  pub last : List ℕ
-  pub journal : Journal
-  pub among : (input : List ℕ) → MayBe bytes ended input → (others : List (List ℕ)) × (lines_from from input ≡ lines ++ others)
-  pub talks : TalksLines P lines [] text journal
-  pub ends : (last ≡ []) ⊎ (last ≡ too_long_text)
-  pub written : Appended old new (text ++ last)
+-- the line ends the talk
+abbrev pub is_quit : List ℕ → Bool
+is_quit line = bytes_eq (first_word line) (codes "quit")
+
+-- the lines that are answered: all of them, or those up to the first that ends the talk
+abbrev pub heard : List (List ℕ) → List (List ℕ)
+heard [] = []
+heard (line ∷ lines) = line ∷ (if is_quit line then [] else heard lines)
+
+-- how a talk ends whose program was read, and what is then written: where a line ends it, what comes behind it is not looked at
+abbrev pub talk_end : List (List ℕ) → List ℕ → Served
+talk_end lines input = if list_any is_quit lines then Done else end_of input
+
+abbrev pub talk_end_text : List (List ℕ) → List ℕ → List ℕ
+talk_end_text lines input = if list_any is_quit lines then [] else end_text input
+
+-- what is written for these lines from the opening on, and at the end: the calls that they make are a legal journal
+abbrev pub TalksAll : Program → List (List ℕ) → List ℕ → List ℕ → Type 0
+TalksAll P lines input out =
+    (text : List ℕ) × (J : Journal) × TalksLines P (heard lines) [] text J × IsLegal P J × (out ≡ text ++ talk_end_text lines input)
+
+-- The lines from a place on were answered, whatever the input may be.
+abbrev pub TalksOn : Program → List ℕ → Bool → ℕ → Served → Seen → Seen → Type 0
+TalksOn P bytes ended from served old new =
+    (input : List ℕ) → MayBe bytes ended input
+    → (served ≡ talk_end (lines_from from input) input) × WritesSome old new (TalksAll P (lines_from from input) input)
+
+-- a text, and what is told beside it
+abbrev pub IsWithTold : List ℕ → List ℕ → Type 0
+IsWithTold text out = (told : List ℕ) × IsTold told × (out ≡ text ++ told)
+
+-- the program is refused by this text
+abbrev pub Refuses : List ℕ → Served → List ℕ → Type 0
+Refuses text served out = (served ≡ Refused) × IsWithTold text out
+
+-- How a talk over the input ends, and what it writes: as the program text in front is a program or has a fault.
+abbrev pub TalksParts : List ℕ → Option Parts → Served → List ℕ → Type 0
+TalksParts input None served out = (served ≡ unended input) × IsWithTold (no_end_text input) out
+TalksParts input (Some parts) served out =
+    ((P : Program) × Reads parts.program P × (served ≡ talk_end parts.commands input) × TalksAll P parts.commands input out)
+    ⊎ ((fault : ProgFault) × IsFault parts.program fault × Refuses (fault_text fault) served out)
+
+abbrev pub TalksInput : List ℕ → Served → List ℕ → Type 0
+TalksInput input served out = TalksParts input (parts_of (read_lines input)) served out

@@ -5,10 +5,12 @@ mod own;
 mod running;
 mod sentences;
 mod talking;
+mod teller;
 mod testing;
 mod typed;
 mod written;
 
-pub use running::{explain, talk, talk_lines};
+pub use running::{explain, play, talk};
+pub use teller::{Stand, Teller};
 pub use testing::{Tested, test_session};
 pub use typed::Typed;

@@ -4,7 +4,7 @@ ghost use Rattle.std.specs.Prelude.{◌≡◌, ◌≤◌, ◌++◌, length, code
 ghost use Rattle.dbg_base.specs.declared.limits.TheConstants.{LINE_BYTES};
 ghost use Rattle.std.specs.Vec.{vec_capacity};
 ghost use Rattle.talk.specs.declared.own.TheConstants.{ROOM};
-ghost use Rattle.talk.specs.Talking.{is_remark, first_word, is_own, is_seat, needs_seat};
+ghost use Rattle.talk.specs.Talking.{is_remark, first_word, is_own, is_quit, is_seat, needs_seat};
 
 use command_line::{next_word, without_return};
 use dbg_base::limits::LINE_BYTES;
@@ -42,7 +42,15 @@ pub(crate) fn is_own(line: &[u8]) -> bool
         || word == b"on".as_slice()
         || word == b"state".as_slice()
         || word == b"line".as_slice()
+        || word == b"draw".as_slice()
         || word == b"quit".as_slice()
+}
+
+/// Whether the line ends the talk.
+pub(crate) fn is_quit(line: &[u8]) -> bool
+    ensures { result ≡ is_quit line.now }
+{
+    first_word(line) == b"quit".as_slice()
 }
 
 fn is_seat(word: &[u8]) -> bool

@@ -1,18 +1,21 @@
 //! A talk: a program text, and the lines of a person behind it.
 
-ghost use Rattle.std.specs.Prelude.{◌≡◌, [], replicate, IfOk, IfErr};
+ghost use Rattle.std.specs.Prelude.{◌≡◌, [], replicate, IfOk, IfErr, IfSome};
 ghost use Rattle.dbg_base.specs.declared.refusal.Refusal.TheVariants as refusals;
 ghost use Rattle.dbg_base.specs.Calls.{order_of};
 ghost use Rattle.dbg_base.specs.declared.limits.TheConstants.{SEATS};
 ghost use Rattle.dbg_board.specs.Boards.{listing};
 ghost use Rattle.proc_lang.specs.Programs.{program_of};
-ghost use Rattle.shell_input.specs.Spans.{EndsWith};
+ghost use Rattle.dbg_base.specs.Shell.{fault_text, no_end_line_text};
+ghost use Rattle.shell_input.specs.Spans.{EndsWith, ReadsOn};
+ghost use Rattle.shell_input.specs.Written.{WritesSome};
 ghost use Rattle.line_runs.specs.Answering.{IsMaker, AreAllSeats};
-ghost use Rattle.talk.specs.Talking.{Talks};
+ghost use Rattle.talk.specs.Talking.{TalksOn, TalksInput, Refuses};
 
 use crate::own::Room;
-use crate::sentences::fault_notes;
-use crate::talking::{talk_line, tell};
+use crate::sentences::Sentences;
+use crate::talking::{stand, talk_line, tell};
+use crate::teller::Teller;
 use crate::typed::Typed;
 use dbg_base::limits::SEATS;
 use dbg_base::{Pid, Plan, Refusal};
@@ -30,19 +33,31 @@ use std::alloc::Global;
 use std::marker::Brand;
 use std::mem;
 use std::sync::ledger::Blank;
-use telling::Source as Text;
 
-// Leaves a talk that is over, whose memory goes with the process.
-fn leave<L: Run, C: Command>(locked: Locked<L, C>, seats: Vec<Seat<L>>) {
+// Ends a talk, whose memory goes with the process.
+fn end<L: Run, C: Command, T: Teller>(
+    alloc: Global,
+    teller: &mut T,
+    locked: Locked<L, C>,
+    seats: Vec<Seat<L>>,
+) {
+    teller.end(alloc, stand(&locked));
     mem::forget(locked);
     mem::forget(seats);
 }
 
 // Answers the lines of a talk in which no call was made yet.
-fn talk_run<L: Run, C: Command, M: Fn(Givable) -> Result<C, Refusal>, R: Source + Typed, W: Sink>(
+fn talk_run<
+    L: Run,
+    C: Command,
+    M: Fn(Givable) -> Result<C, Refusal>,
+    T: Teller,
+    R: Source + Typed,
+    W: Sink,
+>(
     alloc: Global,
     make: &M,
-    text: &Text,
+    teller: &mut T,
     locked: Locked<L, C>,
     seats: Vec<Seat<L>>,
     input: &mut Input,
@@ -54,8 +69,10 @@ fn talk_run<L: Run, C: Command, M: Fn(Givable) -> Result<C, Refusal>, R: Source 
     requires journal { locked.journal ≡ [] }
     requires seats { AreAllSeats seats.items }
     requires ends { EndsWith input.old.ended (R.remaining reader.old) }
-    ensures talks { IfOk result (λ _. Talks L.program input.new.bytes.items input.new.ended input.old.at (W.seen writer.old)
-        (W.seen writer.new)) }
+    ensures reads { ReadsOn input.old.bytes.items input.old.ended (R.remaining reader.old) input.new.bytes.items input.new.ended
+        (R.remaining reader.new) }
+    ensures talks { IfOk result (λ served. TalksOn L.program input.new.bytes.items input.new.ended input.old.at served
+        (W.seen writer.old) (W.seen writer.new)) }
 {
     let mut locked = locked;
     let mut seats = seats;
@@ -64,29 +81,29 @@ fn talk_run<L: Run, C: Command, M: Fn(Givable) -> Result<C, Refusal>, R: Source 
         match input.next_line(reader)? {
             Next::Line(span) => {
                 let line = input.line(span);
-                let echoes = !reader.is_typed();
+                let is_typed = reader.is_typed();
                 let goes_on = talk_line(
                     alloc,
                     make,
-                    text,
+                    teller,
                     &mut locked,
                     &mut seats,
                     &mut room,
                     line,
-                    echoes,
+                    is_typed,
                     writer,
                 )?;
                 if !goes_on {
-                    leave(locked, seats);
+                    end(alloc, teller, locked, seats);
                     return Ok(Served::Done);
                 }
             },
             Next::End => {
-                leave(locked, seats);
+                end(alloc, teller, locked, seats);
                 return Ok(Served::Done);
             },
             Next::TooLong => {
-                leave(locked, seats);
+                end(alloc, teller, locked, seats);
                 return tell_too_long(writer);
             },
         }
@@ -103,10 +120,17 @@ struct Beginning {
 }
 
 // Begins a talk, and answers its lines.
-fn begin_talk<L: Run, C: Command, M: Fn(Givable) -> Result<C, Refusal>, R: Source + Typed, W: Sink>(
+fn begin_talk<
+    L: Run,
+    C: Command,
+    M: Fn(Givable) -> Result<C, Refusal>,
+    T: Teller,
+    R: Source + Typed,
+    W: Sink,
+>(
     alloc: Global,
     make: &M,
-    text: &Text,
+    teller: &mut T,
     beginning: Beginning,
     input: &mut Input,
     reader: &mut R,
@@ -121,8 +145,10 @@ fn begin_talk<L: Run, C: Command, M: Fn(Givable) -> Result<C, Refusal>, R: Sourc
     requires views { beginning.views.items ≡ replicate L.seats (listing L.board []) }
     requires seats { L.seats ≡ SEATS }
     requires ends { EndsWith input.old.ended (R.remaining reader.old) }
-    ensures talks { IfOk result (λ _. Talks L.program input.new.bytes.items input.new.ended input.old.at (W.seen writer.old)
-        (W.seen writer.new)) }
+    ensures reads { ReadsOn input.old.bytes.items input.old.ended (R.remaining reader.old) input.new.bytes.items input.new.ended
+        (R.remaining reader.new) }
+    ensures talks { IfOk result (λ served. TalksOn L.program input.new.bytes.items input.new.ended input.old.at served
+        (W.seen writer.old) (W.seen writer.new)) }
 {
     let Beginning {
         program,
@@ -131,18 +157,22 @@ fn begin_talk<L: Run, C: Command, M: Fn(Givable) -> Result<C, Refusal>, R: Sourc
         views,
     } = beginning;
     match Locked::<L, C>::new(alloc, blank, publisher, views, program) {
-        Ok((locked, seats)) => talk_run(alloc, make, text, locked, seats, input, reader, writer),
+        Ok((locked, seats)) => talk_run(alloc, make, teller, locked, seats, input, reader, writer),
         Err(_) => Err(ServeFault::Memory),
     }
 }
 
-/// Answers the lines behind this program, whose text this is, as `talk` does, by commands that are made so. Where it ends well, all lines
-/// were answered, or those up to one that ends the talk: each command line by the reply that a run gives to it, and the talk's own lines
-/// without a call. Beside that it writes lines that begin with two blanks alone, and the lines themselves.
-pub fn talk_lines<C: Command, M: Fn(Givable) -> Result<C, Refusal>, R: Source + Typed, W: Sink>(
+// Answers the lines behind this program, by commands that are made so.
+fn talk_lines<
+    C: Command,
+    M: Fn(Givable) -> Result<C, Refusal>,
+    T: Teller,
+    R: Source + Typed,
+    W: Sink,
+>(
     alloc: Global,
     make: &M,
-    text: &Text,
+    teller: &mut T,
     program: Program,
     input: &mut Input,
     reader: &mut R,
@@ -151,7 +181,9 @@ pub fn talk_lines<C: Command, M: Fn(Givable) -> Result<C, Refusal>, R: Source + 
     requires may { M.IsAlwaysCallable make.now }
     requires makes { IsMaker (M.post make.now) C.IsFresh C.order }
     requires ends { EndsWith input.old.ended (R.remaining reader.old) }
-    ensures talks { IfOk result (λ _. Talks (program_of program) input.new.bytes.items input.new.ended input.old.at
+    ensures reads { ReadsOn input.old.bytes.items input.old.ended (R.remaining reader.old) input.new.bytes.items input.new.ended
+        (R.remaining reader.new) }
+    ensures talks { IfOk result (λ served. TalksOn (program_of program) input.new.bytes.items input.new.ended input.old.at served
         (W.seen writer.old) (W.seen writer.new)) }
 {
     match Board::new(alloc, SEATS) {
@@ -162,7 +194,9 @@ pub fn talk_lines<C: Command, M: Fn(Givable) -> Result<C, Refusal>, R: Source + 
                 publisher,
                 views,
             };
-            begin_talk::<Brand, C, M, R, W>(alloc, make, text, beginning, input, reader, writer)
+            begin_talk::<Brand, C, M, T, R, W>(
+                alloc, make, teller, beginning, input, reader, writer,
+            )
         }
         Err(_) => Err(ServeFault::Memory),
     }
@@ -191,32 +225,56 @@ pub fn explain<R: Source, W: Sink>(
     };
     match parse_program(alloc, text) {
         Ok(program) => tell_size(program.processes(), command_count(&program), writer),
-        Err(ProgError::Bad(fault)) => tell_program_refused(alloc, text, &fault, writer),
+        Err(ProgError::Bad(fault)) => {
+            let mut teller = Sentences::new(alloc)?;
+            refuse_program(alloc, &mut teller, text, &fault, writer)
+        }
         Err(ProgError::Memory) => Err(ServeFault::Memory),
     }
 }
 
 // Tells that the program is refused, and why.
-fn tell_program_refused<W: Sink>(
+fn refuse_program<T: Teller, W: Sink>(
     alloc: Global,
+    teller: &mut T,
     text: &[u8],
     fault: &ProgFault,
     writer: &mut W,
-) -> Result<Served, ServeFault> {
+) -> Result<Served, ServeFault>
+    ensures refuses { IfOk result (λ served. WritesSome (W.seen writer.old) (W.seen writer.new) (Refuses (fault_text fault.now) served)) }
+{
     let served = tell_fault(fault, writer)?;
-    tell(&fault_notes(alloc, text, fault), writer)?;
+    tell(&teller.tell_fault(alloc, text, fault), writer)?;
     Ok(served)
 }
 
-/// Reads a program text up to a line `%%`, and then answers each line behind it: a command line, without a seat that of seat 1, by its
-/// reply and by sentences that say what happened, each behind two blanks; and the lines of the talk's own (`help`, `on`, `state`, `line P`,
-/// `quit`, comments) by such sentences alone. A line that was not typed is written before its reply. A text that is no program is
-/// refused, and it is told why.
-pub fn talk<R: Source + Typed, W: Sink>(
+// Tells that no line ends the program, and what that means.
+fn refuse_text<T: Teller, W: Sink>(
     alloc: Global,
+    teller: &mut T,
+    writer: &mut W,
+) -> Result<Served, ServeFault>
+    ensures refuses { IfOk result (λ served. WritesSome (W.seen writer.old) (W.seen writer.new) (Refuses no_end_line_text served)) }
+{
+    let served = tell_no_end_line(writer)?;
+    tell(&teller.tell_no_end(alloc), writer)?;
+    Ok(served)
+}
+
+/// Reads a program text up to a line `%%`, and then answers each line behind it up to `quit`: a command line, without a seat that of seat 1,
+/// by the reply that a run gives to it, and the talk's own lines (`help`, `on`, `state`, `line P`, `draw`, `quit`, comments) without a call.
+/// The teller is lent the session at each line. Beside the replies it has the lines themselves written, and lines that begin with two blanks.
+/// A text that is no program is refused.
+pub fn play<T: Teller, R: Source + Typed, W: Sink>(
+    alloc: Global,
+    teller: &mut T,
     reader: &mut R,
     writer: &mut W,
-) -> Result<Served, ServeFault> {
+) -> Result<Served, ServeFault>
+    // Where the reader tells its bytes, and the talk ends well: what is written is a talk over the input, and it ends as that does.
+    ensures talks { IfOk result (λ served. IfSome (R.remaining reader.old)
+        (λ input. WritesSome (W.seen writer.old) (W.seen writer.new) (TalksInput input served))) }
+{
     let make = |given: Givable| -> Result<Box<dyn Command>, Refusal>
         ensures makes { IfOk result (λ command. IsFresh command × (order command ≡ order_of given.plan)) }
         ensures refuses { IfErr result (λ refusal. refusal ≡ refusals.Memory) }
@@ -243,16 +301,31 @@ pub fn talk<R: Source + Typed, W: Sink>(
             let text = input.before(span);
             match parse_program(alloc, text) {
                 Ok(program) => {
-                    let source = Text::new(alloc, text)?;
-                    talk_lines::<Box<dyn Command>, _, _, _>(
-                        alloc, &make, &source, program, &mut input, reader, writer,
+                    teller.begin(alloc, &program, text)?;
+                    talk_lines::<Box<dyn Command>, _, _, _, _>(
+                        alloc, &make, teller, program, &mut input, reader, writer,
                     )
                 }
-                Err(ProgError::Bad(fault)) => tell_program_refused(alloc, text, &fault, writer),
+                Err(ProgError::Bad(fault)) => refuse_program(alloc, teller, text, &fault, writer),
                 Err(ProgError::Memory) => Err(ServeFault::Memory),
             }
         }
-        TextEnd::End => tell_no_end_line(writer),
+        TextEnd::End => refuse_text(alloc, teller, writer),
         TextEnd::TooLong => tell_too_long(writer),
     }
+}
+
+/// Plays a session as `play` does, and tells in words what happened: a line that was not typed is written before its reply, and behind it
+/// stand sentences that say what the command did, or why the line is refused and what can be done. A text that is no program is refused, and
+/// it is told why.
+pub fn talk<R: Source + Typed, W: Sink>(
+    alloc: Global,
+    reader: &mut R,
+    writer: &mut W,
+) -> Result<Served, ServeFault>
+    ensures talks { IfOk result (λ served. IfSome (R.remaining reader.old)
+        (λ input. WritesSome (W.seen writer.old) (W.seen writer.new) (TalksInput input served))) }
+{
+    let mut teller = Sentences::new(alloc)?;
+    play(alloc, &mut teller, reader, writer)
 }

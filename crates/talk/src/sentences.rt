@@ -1,94 +1,133 @@
-//! What is told beside the replies.
+//! What a talk tells beside the replies.
 
 use crate::own::first_word;
+use crate::teller::{Stand, Teller};
 use command_line::{next_word, without_return};
 use dbg_base::{Call, Refusal, Said};
-use dbg_command::Table;
+use pictures::draw_text;
 use proc_lang::{ProgFault, Program};
-use std::alloc::Global;
-use telling::{Before, Notes, Source, View, tell_help, tell_program_fault};
+use std::alloc::{AllocError, Global};
+use telling::{Before, Notes, Source, View, tell_help, tell_no_end_line, tell_program_fault};
 
-/// A session as it stands.
-pub(crate) fn view<'a>(program: &'a Program, source: &'a Source, table: &'a Table) -> View<'a> {
-    View {
-        program,
-        source,
-        world: table.world(),
-        book: table.book(),
-    }
-}
-
-/// What a line of the talk's own is answered with.
-pub(crate) fn own_notes(alloc: Global, view: View<'_>, line: &[u8]) -> Notes {
-    let mut notes = Notes::new(alloc);
-    let (word, rest) = next_word(without_return(line));
-    let argument = first_word(rest);
-    let told = match word {
-        b"help" => tell_help(&mut notes, argument).map_err(Refusal::from),
-        b"on" => view.tell_on(alloc, &mut notes),
-        b"state" => view.tell_state(alloc, &mut notes),
-        b"line" => view.tell_line(&mut notes, argument).map_err(Refusal::from),
-        _ => Ok(()),
-    };
-    // Where memory runs out the sentences end.
-    let _ended = told;
-    notes
-}
-
-/// What is known before a call, and the call once more: nothing, where memory runs out, and then nothing is told.
+/// Tells in words what happened, or what stands in the way. Where memory runs out the sentences end.
 #[derive(Debug, Drop)]
-pub(crate) struct Asked {
-    call: Call,
-    before: Before,
+pub(crate) struct Sentences {
+    source: Source,
+    // What was known before the call that is made.
+    before: Option<Before>,
 }
 
-impl Asked {
-    pub(crate) fn new(alloc: Global, view: View<'_>, call: &Call) -> Option<Asked> {
-        let before = view.before(alloc, call).ok()?;
-        let call = call.copy().ok()?;
-        Some(Asked { call, before })
+impl Sentences {
+    pub(crate) fn new(alloc: Global) -> Result<Sentences, AllocError> {
+        Ok(Sentences {
+            source: Source::new(alloc, &[])?,
+            before: None,
+        })
     }
 
-    fn tell(
+    fn view<'a>(&'a self, stand: Stand<'a>) -> View<'a> {
+        View {
+            program: stand.program,
+            source: &self.source,
+            world: stand.table.world(),
+            book: stand.table.book(),
+        }
+    }
+
+    fn tell_said(
         &self,
         alloc: Global,
-        view: View<'_>,
-        said: &Said,
         notes: &mut Notes,
+        stand: Stand<'_>,
+        call: &Call,
+        said: &Said,
     ) -> Result<(), Refusal> {
-        match said {
-            Said::Accepted(reply) => view.tell_reply(alloc, notes, &self.before, &self.call, reply),
-            Said::Refused(refusal) => view.tell_refusal(alloc, notes, &self.call, refusal),
-            Said::Answered(_) => view.tell_answer(alloc, notes, &self.call),
+        let view = self.view(stand);
+        match (said, &self.before) {
+            (Said::Accepted(reply), Some(before)) => {
+                view.tell_reply(alloc, notes, before, call, reply)
+            }
+            // What was before it is not known, where memory ran out.
+            (Said::Accepted(_), None) => Ok(()),
+            (Said::Refused(refusal), _) => view.tell_refusal(alloc, notes, call, refusal),
+            (Said::Answered(_), _) => view.tell_answer(alloc, notes, call),
+        }
+    }
+
+    fn tell_word(
+        &self,
+        alloc: Global,
+        notes: &mut Notes,
+        stand: Stand<'_>,
+        line: &[u8],
+    ) -> Result<(), Refusal> {
+        let view = self.view(stand);
+        let (word, rest) = next_word(without_return(line));
+        let argument = first_word(rest);
+        match word {
+            b"help" => Ok(tell_help(notes, argument)?),
+            b"on" => view.tell_on(alloc, notes),
+            b"state" => view.tell_state(alloc, notes),
+            b"line" => Ok(view.tell_line(notes, argument)?),
+            b"draw" => draw_text(alloc, notes, &view),
+            _ => Ok(()),
         }
     }
 }
 
-/// What is told beside the reply to a call.
-pub(crate) fn call_notes(
-    alloc: Global,
-    view: View<'_>,
-    asked: &Option<Asked>,
-    said: &Said,
-) -> Notes {
-    let mut notes = Notes::new(alloc);
-    if let Some(asked) = asked {
-        // Where memory runs out the sentences end.
-        let _ended = asked.tell(alloc, view, said, &mut notes);
+impl Teller for Sentences {
+    fn begin(&mut self, alloc: Global, _program: &Program, text: &[u8]) -> Result<(), AllocError> {
+        self.source = Source::new(alloc, text)?;
+        Ok(())
     }
-    notes
-}
 
-/// What is told beside the refusal of a line.
-pub(crate) fn line_notes(alloc: Global, view: View<'_>, line: &[u8], refusal: &Refusal) -> Notes {
-    let mut notes = Notes::new(alloc);
-    let _ended = view.tell_bad_line(alloc, &mut notes, line, refusal);
-    notes
-}
+    // What was typed stands on the screen already.
+    fn hear(&mut self, _alloc: Global, _line: &[u8], is_typed: bool) -> bool {
+        !is_typed
+    }
 
-/// What is told of a program that is refused.
-pub(crate) fn fault_notes(alloc: Global, text: &[u8], fault: &ProgFault) -> Notes {
-    let mut notes = Notes::new(alloc);
-    let _ended = tell_program_fault(&mut notes, text, fault);
-    notes
+    fn prepare(&mut self, alloc: Global, stand: Stand<'_>, call: &Call) {
+        let before = self.view(stand).before(alloc, call).ok();
+        self.before = before;
+    }
+
+    fn tell_call(&mut self, alloc: Global, stand: Stand<'_>, call: &Call, said: &Said) -> Notes {
+        let mut notes = Notes::new(alloc);
+        let _ended = self.tell_said(alloc, &mut notes, stand, call, said);
+        notes
+    }
+
+    fn tell_line(
+        &mut self,
+        alloc: Global,
+        stand: Stand<'_>,
+        line: &[u8],
+        refusal: &Refusal,
+    ) -> Notes {
+        let mut notes = Notes::new(alloc);
+        let _ended = self
+            .view(stand)
+            .tell_bad_line(alloc, &mut notes, line, refusal);
+        notes
+    }
+
+    fn tell_own(&mut self, alloc: Global, stand: Stand<'_>, line: &[u8]) -> Notes {
+        let mut notes = Notes::new(alloc);
+        let _ended = self.tell_word(alloc, &mut notes, stand, line);
+        notes
+    }
+
+    fn tell_fault(&mut self, alloc: Global, text: &[u8], fault: &ProgFault) -> Notes {
+        let mut notes = Notes::new(alloc);
+        let _ended = tell_program_fault(&mut notes, text, fault);
+        notes
+    }
+
+    fn tell_no_end(&mut self, alloc: Global) -> Notes {
+        let mut notes = Notes::new(alloc);
+        let _ended = tell_no_end_line(&mut notes);
+        notes
+    }
+
+    fn end(&mut self, _alloc: Global, _stand: Stand<'_>) {}
 }

@@ -13,8 +13,8 @@ pub struct Before {
     undone: Notes,
 }
 
-// Puts a count of events behind the last line.
-fn put_events(notes: &mut Notes, count: u32) -> Result<(), AllocError> {
+/// Puts a count of events behind the last line.
+pub(crate) fn put_events(notes: &mut Notes, count: u32) -> Result<(), AllocError> {
     let word = if count == 1 { " event" } else { " events" };
     notes.add(&[Part::Number(i64::from(count)), Part::Text(word)])
 }

@@ -1,8 +1,9 @@
 //! What is told beside the answer to a question.
 
+use crate::accepted::put_events;
 use crate::notes::{Notes, Part};
 use crate::view::View;
-use dbg_base::{Call, Cause, Choice, Elimination, Head, Pid, Query, Refusal};
+use dbg_base::{Call, Cause, Choice, Elimination, Head, Name, Pid, Query, Refusal};
 use least_cut::Detector;
 use std::alloc::{AllocError, Global};
 
@@ -16,28 +17,22 @@ impl View<'_> {
         elimination: &Elimination,
     ) -> Result<(), AllocError> {
         let scope = self.scope(elimination.pid);
-        let from = Part::Number(i64::from(elimination.from));
         match elimination.cause {
-            Cause::FalseAt => notes.say(&[
-                scope.name(),
-                Part::Text(" behind "),
-                from,
-                Part::Text(" events: its part is false"),
-            ]),
+            Cause::FalseAt => {
+                notes.say(&[scope.name(), Part::Text(" behind ")])?;
+                put_events(notes, elimination.from)?;
+                notes.add(&[Part::Text(": its part is false")])
+            }
             Cause::Passed(pid, count) => {
                 let count = Part::Number(i64::from(count));
-                let to = Part::Number(i64::from(elimination.to));
-                notes.say(&[
-                    scope.name(),
-                    Part::Text(" needs "),
-                    to,
-                    Part::Text(" events: event "),
-                ])?;
+                notes.say(&[scope.name(), Part::Text(" needs ")])?;
+                put_events(notes, elimination.to)?;
                 notes.add(&[
+                    Part::Text(": event "),
                     count,
                     Part::Text(" of "),
                     scope.process(pid),
-                    Part::Text(" depends on them"),
+                    Part::Text(" depends on that"),
                 ])
             }
         }
@@ -49,7 +44,7 @@ impl View<'_> {
         let mut word = " can fire command ";
         notes.say(&[
             scope.name(),
-            Part::Text(" has no state so far in which its part holds, and"),
+            Part::Text(" has no state left in which its part holds, and"),
         ])?;
         for number in 0..self.program.commands(pid) {
             if scope.fires(alloc, self.world, Choice(number))? {
@@ -79,18 +74,31 @@ impl View<'_> {
         Ok(())
     }
 
-    /// Tells beside the answer to `why` how the search for the cut went, and whether the processes that have too few events can make
-    /// one now.
+    /// Tells beside the answer to `why` how the search for the cut went, and whether the processes that have no state left can make an
+    /// event now; and beside that to `can`, what stands in the way.
     pub fn tell_answer(
         &self,
         alloc: Global,
         notes: &mut Notes,
         call: &Call,
     ) -> Result<(), Refusal> {
-        let Call::Ask(Query::Why(name)) = call else {
-            return Ok(());
-        };
-        let Some((_, breakpoint)) = self.book.find(*name) else {
+        match call {
+            Call::Ask(Query::Why(name)) => self.tell_search(alloc, notes, *name),
+            Call::Ask(Query::Can(pid)) if pid.0 < self.program.processes() => {
+                match self.world.can_undo(*pid) {
+                    Err(Refusal::Consequence(receiver)) => {
+                        Ok(self.tell_consequence(notes, *pid, receiver)?)
+                    }
+                    _ => Ok(()),
+                }
+            }
+            _ => Ok(()),
+        }
+    }
+
+    // Tells how the search for a breakpoint's cut went.
+    fn tell_search(&self, alloc: Global, notes: &mut Notes, name: Name) -> Result<(), Refusal> {
+        let Some((_, breakpoint)) = self.book.find(name) else {
             return Ok(());
         };
         let trail = breakpoint.detector().why();

@@ -59,7 +59,7 @@ fn tell_past(
             };
             notes.say(&[
                 scope.name(),
-                Part::Text(" has no state so far in which its part holds"),
+                Part::Text(" has no state left in which its part holds"),
             ])?;
         }
     }

@@ -54,14 +54,11 @@ impl Scope<'_> {
     ) -> Result<(), AllocError> {
         let old = Part::Number(setting.old);
         let new = Part::Number(setting.new);
-        notes.add(&[
-            Part::Text(word),
-            self.variable(setting.variable),
-            Part::Text(" "),
-            old,
-            Part::Text(" -> "),
-            new,
-        ])
+        notes.add(&[Part::Text(word), self.variable(setting.variable)])?;
+        if setting.old == setting.new {
+            return notes.add(&[Part::Text(" stays "), new]);
+        }
+        notes.add(&[Part::Text(" "), old, Part::Text(" -> "), new])
     }
 
     // Puts the message and where it came from, or went, behind the last line.
@@ -110,7 +107,7 @@ impl Scope<'_> {
     }
 
     /// Puts what an event did behind the last line.
-    pub(crate) fn put_event(
+    pub fn put_event(
         &self,
         notes: &mut Notes,
         rows: &Rows,

@@ -8,9 +8,9 @@ use std::alloc::AllocError;
 
 /// A process of a program, whose expressions are told.
 #[derive(Clone, Copy)]
-pub(crate) struct Scope<'a> {
-    pub(crate) program: &'a Program,
-    pub(crate) pid: Pid,
+pub struct Scope<'a> {
+    pub program: &'a Program,
+    pub pid: Pid,
 }
 
 fn operator_text(operator: Operator) -> &'static str {
@@ -48,17 +48,17 @@ fn named(name: Option<Name>) -> Part<'static> {
 
 impl<'a> Scope<'a> {
     /// The name of the process.
-    pub(crate) fn name(&self) -> Part<'static> {
+    pub fn name(&self) -> Part<'static> {
         self.process(self.pid)
     }
 
     /// The name of a process.
-    pub(crate) fn process(&self, pid: Pid) -> Part<'static> {
+    pub fn process(&self, pid: Pid) -> Part<'static> {
         named(self.program.process_name(pid))
     }
 
     /// The name of a variable.
-    pub(crate) fn variable(&self, variable: u32) -> Part<'static> {
+    pub fn variable(&self, variable: u32) -> Part<'static> {
         named(self.program.variable_name(self.pid, variable))
     }
 
@@ -74,7 +74,7 @@ impl<'a> Scope<'a> {
 
     /// Puts an expression behind the last line.
     #[cycle(expression)]
-    pub(crate) fn put_expression(&self, notes: &mut Notes, expr: &Expr) -> Result<(), AllocError> {
+    pub fn put_expression(&self, notes: &mut Notes, expr: &Expr) -> Result<(), AllocError> {
         match expr {
             Expr::Number(number) => notes.add(&[Part::Number(*number)]),
             Expr::Variable(variable) => notes.add(&[self.variable(*variable)]),

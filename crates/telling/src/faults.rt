@@ -1,6 +1,8 @@
 //! What is wrong with a program text.
 
+use crate::forms::are_near;
 use crate::notes::{Notes, Part};
+use crate::source::is_word_byte;
 use dbg_base::{FaultKind, ProgFault};
 use std::alloc::AllocError;
 
@@ -50,6 +52,15 @@ fn mend(before: &[u8], at: &[u8]) -> Option<&'static str> {
     if begins(at, b"=") && before.last() == Some(&b'=') {
         return Some("two values are compared by `=`, and not by `==`");
     }
+    if begins(at, b"#") {
+        return Some("a program has no comments; they stand behind the line `%%`");
+    }
+    if begins(at, b"-") && (before.ends_with(b":=") || before.ends_with(b"(")) {
+        return Some("a number below 0 stands in parentheses: `(- 1)`");
+    }
+    if before.last() == Some(&b',') && (begins(at, b"send") || begins(at, b"recv")) {
+        return Some("a command sends or receives once at most, and first: before all `X := E`");
+    }
     if begins(at, b"=") {
         return Some("a command sets a variable by `:=`; `=` compares, in parentheses: `(x = 1)`");
     }
@@ -80,6 +91,68 @@ fn mend(before: &[u8], at: &[u8]) -> Option<&'static str> {
         }
     }
     None
+}
+
+// What is due behind these bytes.
+fn due(before: &[u8]) -> &'static str {
+    let before = before.trim_ascii_end();
+    if before.ends_with(b":=") || before.ends_with(b"when") {
+        return "an expression is due: a number, a name, `true`, or an operation in parentheses, as `(x + 1)`";
+    }
+    match before.last() {
+        None => "a program begins with `process`, a name and `{`",
+        Some(b'{' | b';') => "`var X = 0;`, `when E : ..;` or `}` is due",
+        Some(b'}') => "a further `process`, or the end of the program is due",
+        Some(b':') =>
+            "what the command does is due: `send P E`, `recv P X` or `X := E`, and further `X := E` behind commas",
+        Some(b',') => "`X := E` is due: a send or a receive stands first, and there is one at most",
+        Some(b')') => "`:` is due behind a guard, and `,` or `;` behind what is sent or assigned",
+        Some(b'(' | b'=' | b'+' | b'-' | b'*' | b'/' | b'%' | b'<' | b'>') => {
+            "a number, a name, or an operation in parentheses is due"
+        }
+        Some(_) => "a sign is missing here, or a word is one too many",
+    }
+}
+
+// The words of a text that stand behind `var` or `process`: names that it gives. The first that is nearly this one.
+fn near_name<'a>(text: &'a [u8], name: &[u8]) -> Option<&'a [u8]> {
+    let mut is_given = false;
+    for word in text.split(|byte| !is_word_byte(*byte)) {
+        if is_given && are_near(word, name) {
+            return Some(word);
+        }
+        if !word.is_empty() {
+            is_given = word == b"var".as_slice() || word == b"process".as_slice();
+        }
+    }
+    None
+}
+
+// The word in front.
+fn front_word(bytes: &[u8]) -> &[u8] {
+    let length = bytes.iter().take_while(|byte| is_word_byte(**byte)).count();
+    bytes.get(..length).unwrap_or(bytes)
+}
+
+// Tells which name is meant, perhaps.
+fn tell_near_name(notes: &mut Notes, text: &[u8], at: &[u8]) -> Result<(), AllocError> {
+    match near_name(text, front_word(at)) {
+        Some(name) => notes.say(&[
+            Part::Text("meant is perhaps `"),
+            Part::Bytes(name),
+            Part::Text("`"),
+        ]),
+        None => notes.say(&[Part::Text(
+            "a process names its own variables, behind `var`, and other processes of the program",
+        )]),
+    }
+}
+
+/// Tells that no line ends the program.
+pub fn tell_no_end_line(notes: &mut Notes) -> Result<(), AllocError> {
+    notes.say(&[Part::Text(
+        "no line is `%%`: it ends the program, and command lines stand behind it",
+    )])
 }
 
 // Whether a name is due behind these bytes.
@@ -133,9 +206,11 @@ pub fn tell_program_fault(
     tell_mark(notes, line.get(..column).unwrap_or(line), fault.kind)?;
     let before = text.get(..fault.at).unwrap_or(text);
     let at = text.get(fault.at..).unwrap_or(&[]);
-    match mend(before, at) {
-        Some(mend) if fault.kind == FaultKind::Grammar || fault.kind == FaultKind::Byte =>
-            notes.say(&[Part::Text(mend)]),
+    match fault.kind {
+        FaultKind::Grammar | FaultKind::Byte => {
+            notes.say(&[Part::Text(mend(before, at).unwrap_or(due(before)))])
+        }
+        FaultKind::NameUnknown => tell_near_name(notes, text, at),
         _ => Ok(()),
     }
 }

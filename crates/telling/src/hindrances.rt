@@ -4,6 +4,7 @@ use crate::expressions::Scope;
 use crate::notes::{Notes, Part};
 use crate::source::Source;
 use causal_world::World;
+use dbg_base::limits::OPEN_PARENTHESES;
 use dbg_base::{Choice, Expr, Pid, Refusal};
 use local_eval::{Env, EvalError, effect, eval, guard};
 use proc_lang::{Action, Guarded};
@@ -17,7 +18,8 @@ enum Hindrance {
     GuardFaults,
     /// No message from this process is on its way.
     NoMessage(Pid),
-    Faults,
+    /// An expression behind the guard faults, where a command that receives has this message.
+    Faults(Option<i64>),
 }
 
 // The first message on the way from one process to another.
@@ -54,7 +56,7 @@ fn hindrance_behind_guard(
         }
     }
     if faults(alloc, command, env, message)? {
-        return Ok(Hindrance::Faults);
+        return Ok(Hindrance::Faults(message));
     }
     Ok(Hindrance::Nothing)
 }
@@ -73,6 +75,30 @@ fn find_hindrance(
     }
 }
 
+// The operand of an expression that faults, whose fault is that of the expression.
+fn faulting_operand<'e>(expr: &'e Expr, env: &Env) -> Option<&'e Expr> {
+    match expr {
+        Expr::Not(operand) | Expr::Negate(operand) if eval(operand, env).is_err() => Some(operand),
+        Expr::Binary(_, left, _) if eval(left, env).is_err() => Some(left),
+        // Where the left side decides, the right one is not evaluated, and then the expression does not fault.
+        Expr::Binary(_, _, right) if eval(right, env).is_err() => Some(right),
+        _ => None,
+    }
+}
+
+// The smallest part of an expression that faults, where that is not all of it.
+fn faulting_part<'e>(expr: &'e Expr, env: &Env) -> Option<&'e Expr> {
+    let mut part = None;
+    // No deeper do expressions go.
+    for _ in 0..=OPEN_PARENTHESES {
+        match faulting_operand(part.unwrap_or(expr), env) {
+            Some(operand) => part = Some(operand),
+            None => break,
+        }
+    }
+    part
+}
+
 impl Scope<'_> {
     // Puts an expression and the values of what it names behind the last line.
     fn put_evaluated(
@@ -87,7 +113,18 @@ impl Scope<'_> {
         self.put_values(notes, env, expr)
     }
 
-    // Puts the first part of a command that faults behind the last line.
+    // Puts an expression that faults, the part of it that does, and the values of what it names behind the last line.
+    fn put_fault(&self, notes: &mut Notes, env: &Env, expr: &Expr) -> Result<(), AllocError> {
+        self.put_expression(notes, expr)?;
+        notes.add(&[Part::Text(" faults")])?;
+        if let Some(part) = faulting_part(expr, env) {
+            notes.add(&[Part::Text(" at ")])?;
+            self.put_expression(notes, part)?;
+        }
+        self.put_values(notes, env, expr)
+    }
+
+    // Puts the first expression of a command that faults, where the process stands so, behind the last line.
     fn put_faulting(
         &self,
         notes: &mut Notes,
@@ -96,15 +133,37 @@ impl Scope<'_> {
     ) -> Result<(), AllocError> {
         if let Action::Send { value, .. } = &command.action {
             if eval(value, env).is_err() {
-                return self.put_evaluated(notes, env, value, " faults");
+                return self.put_fault(notes, env, value);
             }
         }
         for assignment in command.assignments.items() {
             if eval(&assignment.value, env).is_err() {
-                return self.put_evaluated(notes, env, &assignment.value, " faults");
+                return self.put_fault(notes, env, &assignment.value);
             }
         }
-        notes.add(&[Part::Text("an expression faults")])
+        Ok(())
+    }
+
+    // The same, where the command receives this message.
+    fn put_faulting_behind(
+        &self,
+        notes: &mut Notes,
+        env: &Env,
+        command: &Guarded,
+        message: i64,
+    ) -> Result<(), AllocError> {
+        let mut behind = env.copy()?;
+        if let Action::Receive { variable, .. } = &command.action {
+            if (*variable as usize) < behind.len() {
+                behind.set(*variable, message);
+            }
+        }
+        notes.add(&[
+            Part::Text("with the message "),
+            Part::Number(message),
+            Part::Text(" "),
+        ])?;
+        self.put_faulting(notes, &behind, command)
     }
 
     fn put_hindrance(
@@ -117,7 +176,7 @@ impl Scope<'_> {
         match hindrance {
             Hindrance::Nothing => notes.add(&[Part::Text("it can fire")]),
             Hindrance::GuardFalse => self.put_evaluated(notes, env, &command.guard, " is false"),
-            Hindrance::GuardFaults => self.put_evaluated(notes, env, &command.guard, " faults"),
+            Hindrance::GuardFaults => self.put_fault(notes, env, &command.guard),
             Hindrance::NoMessage(source) => {
                 notes.add(&[
                     Part::Text("no message from "),
@@ -125,7 +184,10 @@ impl Scope<'_> {
                     Part::Text(" is on its way"),
                 ])
             }
-            Hindrance::Faults => self.put_faulting(notes, env, command),
+            Hindrance::Faults(None) => self.put_faulting(notes, env, command),
+            Hindrance::Faults(Some(message)) => {
+                self.put_faulting_behind(notes, env, command, message)
+            }
         }
     }
 

@@ -20,8 +20,9 @@ mod values;
 mod view;
 
 pub use accepted::Before;
-pub use faults::tell_program_fault;
+pub use expressions::Scope;
+pub use faults::{tell_no_end_line, tell_program_fault};
 pub use forms::tell_help;
-pub use notes::Notes;
-pub use source::Source;
+pub use notes::{Notes, Part};
+pub use source::{Place, Source};
 pub use view::View;

@@ -4,9 +4,9 @@ use dbg_base::Name;
 use itoa::Buffer;
 use std::alloc::{AllocError, Global};
 
-/// A part of a line.
+/// A part of a line: words, bytes, a name or a number.
 #[derive(Clone, Copy)]
-pub(crate) enum Part<'a> {
+pub enum Part<'a> {
     Text(&'a str),
     Bytes(&'a [u8]),
     Name(Name),
@@ -46,13 +46,13 @@ impl Notes {
     }
 
     /// Begins a line with these parts.
-    pub(crate) fn say(&mut self, parts: &[Part<'_>]) -> Result<(), AllocError> {
+    pub fn say(&mut self, parts: &[Part<'_>]) -> Result<(), AllocError> {
         self.lines.push(Vec::new(*self.lines.allocator()))?;
         self.add(parts)
     }
 
     /// Puts these parts behind the last line.
-    pub(crate) fn add(&mut self, parts: &[Part<'_>]) -> Result<(), AllocError> {
+    pub fn add(&mut self, parts: &[Part<'_>]) -> Result<(), AllocError> {
         if let Some(line) = self.lines.last_mut() {
             for part in parts {
                 put_part(line, part)?;

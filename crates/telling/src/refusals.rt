@@ -71,8 +71,8 @@ impl View<'_> {
         }
     }
 
-    // Tells which events stand in the way of taking back the last one of a process, and what takes them back.
-    fn tell_consequence(
+    /// Tells which events stand in the way of taking back the last one of a process, and what takes them back.
+    pub(crate) fn tell_consequence(
         &self,
         notes: &mut Notes,
         pid: Pid,
@@ -153,7 +153,9 @@ impl View<'_> {
             Refusal::Consequence(receiver) => self.tell_consequence(notes, pid, *receiver)?,
             Refusal::NothingToRedo => notes.say(&[
                 scope.name(),
-                Part::Text(" has made all commands of its line"),
+                Part::Text(
+                    " has made all commands of its line; `next` and `step` make further ones",
+                ),
             ])?,
             Refusal::BadPlace => {
                 let events = Part::Number(i64::from(self.world.place(pid)));
@@ -232,6 +234,19 @@ impl View<'_> {
                 let seat = Part::Number(i64::from(*seat));
                 notes.say(&[Part::Text("`"), seat, Part::Text(" back` takes it back")])?;
             }
+            Refusal::NothingBack => notes.say(&[Part::Text(
+                "each command that was accepted is taken back; questions and refused lines leave none",
+            )])?,
+            Refusal::ProcessFull => notes.say(&[Part::Text(
+                "`undo`, `rollback` and `goto` make room for others",
+            )])?,
+            Refusal::BreaksFull => notes.say(&[Part::Text("`clear B` removes one of them")])?,
+            Refusal::JournalFull => notes.say(&[Part::Text(
+                "a new session can begin with the lines that lead here, without those that were taken back",
+            )])?,
+            Refusal::Memory => notes.say(&[Part::Text(
+                "the session is as it was before the line; `clear` and `back` may give memory back",
+            )])?,
             _ => {}
         }
         if let Some(pid) = process_of(call) {

@@ -5,8 +5,8 @@ use std::alloc::{AllocError, Global};
 
 /// A line of a text: its number, from 1, and its bytes, without blanks at its ends.
 #[derive(Clone, Copy, Debug)]
-pub(crate) struct Place {
-    pub(crate) number: usize,
+pub struct Place {
+    pub number: usize,
     from: usize,
     to: usize,
 }
@@ -19,7 +19,8 @@ pub struct Source {
     commands: Vec<Vec<Place>>,
 }
 
-fn is_word_byte(byte: u8) -> bool {
+/// Whether a word may have this byte.
+pub(crate) fn is_word_byte(byte: u8) -> bool {
     byte.is_ascii_lowercase() || byte.is_ascii_digit() || byte == b'_'
 }
 
@@ -67,13 +68,13 @@ impl Source {
     }
 
     /// The line at which a command begins.
-    pub(crate) fn place(&self, pid: Pid, choice: Choice) -> Option<Place> {
+    pub fn place(&self, pid: Pid, choice: Choice) -> Option<Place> {
         let process = self.commands.get(pid.0 as usize)?;
         process.get(choice.0 as usize).copied()
     }
 
     /// The bytes of a line, without blanks at its ends.
-    pub(crate) fn line(&self, place: Place) -> &[u8] {
+    pub fn line(&self, place: Place) -> &[u8] {
         self.text
             .get(place.from..place.to)
             .unwrap_or(&[])

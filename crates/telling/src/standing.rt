@@ -1,8 +1,9 @@
 //! Where a session stands.
 
+use crate::expressions::direction_text;
 use crate::notes::{Notes, Part};
 use crate::view::View;
-use dbg_base::{Choice, Name, Pid, Refusal};
+use dbg_base::{Choice, Direction, Name, Pid, Refusal};
 use std::alloc::{AllocError, Global};
 
 impl View<'_> {
@@ -60,6 +61,41 @@ impl View<'_> {
             if let Some(value) = env.values().get(variable as usize) {
                 notes.add(&[Part::Text(word), scope.variable(variable)])?;
                 notes.add(&[Part::Text(" = "), Part::Number(*value)])?;
+                word = ", ";
+            }
+        }
+        self.tell_counts(notes, pid, word, Direction::Sent)?;
+        self.tell_counts(notes, pid, ", ", Direction::Got)
+    }
+
+    // Tells how many messages a process has sent to others, or received from them, where there are some.
+    fn tell_counts(
+        &self,
+        notes: &mut Notes,
+        pid: Pid,
+        first: &'static str,
+        direction: Direction,
+    ) -> Result<(), AllocError> {
+        let Some(env) = self.world.local_state(pid) else {
+            return Ok(());
+        };
+        let scope = self.scope(pid);
+        let mut word = first;
+        for other in 0..self.program.processes() {
+            let count = env
+                .counts(direction)
+                .get(other as usize)
+                .copied()
+                .unwrap_or(0);
+            if count > 0 {
+                let open = Part::Text(direction_text(direction));
+                notes.add(&[
+                    Part::Text(word),
+                    open,
+                    scope.process(Pid(other)),
+                    Part::Text(") = "),
+                ])?;
+                notes.add(&[Part::Number(i64::from(count))])?;
                 word = ", ";
             }
         }

@@ -18,7 +18,7 @@ pub struct View<'a> {
 
 impl<'a> View<'a> {
     /// A process of it.
-    pub(crate) fn scope(&self, pid: Pid) -> Scope<'a> {
+    pub fn scope(&self, pid: Pid) -> Scope<'a> {
         Scope {
             program: self.program,
             pid,

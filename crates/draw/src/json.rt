@@ -1,0 +1,81 @@
+//! Values of JSON, written one behind the other.
+
+use dbg_base::Name;
+use itoa::Buffer;
+use std::alloc::{AllocError, Global};
+
+/// A text of JSON that is put together.
+#[derive(Debug, Drop)]
+pub(crate) struct Json {
+    bytes: Vec<u8>,
+}
+
+const DIGITS: &[u8; 16] = b"0123456789abcdef";
+
+impl Json {
+    pub(crate) fn new(alloc: Global) -> Json {
+        Json {
+            bytes: Vec::new(alloc),
+        }
+    }
+
+    pub(crate) fn bytes(&self) -> &[u8] {
+        self.bytes.as_slice()
+    }
+
+    pub(crate) fn len(&self) -> usize {
+        self.bytes.len()
+    }
+
+    /// Signs, as they are.
+    pub(crate) fn put(&mut self, text: &str) -> Result<(), AllocError> {
+        self.bytes.extend_from_slice(text.as_bytes())
+    }
+
+    /// What is JSON already.
+    pub(crate) fn put_json(&mut self, json: &[u8]) -> Result<(), AllocError> {
+        self.bytes.extend_from_slice(json)
+    }
+
+    pub(crate) fn number(&mut self, number: i64) -> Result<(), AllocError> {
+        let mut buffer = Buffer::new();
+        self.bytes
+            .extend_from_slice(buffer.format(number).as_bytes())
+    }
+
+    /// A value of the language, which may be more than a number of JSON holds: a string of digits.
+    pub(crate) fn value(&mut self, value: i64) -> Result<(), AllocError> {
+        self.put("\"")?;
+        self.number(value)?;
+        self.put("\"")
+    }
+
+    pub(crate) fn name(&mut self, name: Option<Name>) -> Result<(), AllocError> {
+        match name {
+            Some(name) => self.string(name.bytes()),
+            None => self.put("null"),
+        }
+    }
+
+    // A byte of a string. What might end a script is written by its number.
+    fn byte(&mut self, byte: u8) -> Result<(), AllocError> {
+        match byte {
+            b'"' => self.put("\\\""),
+            b'\\' => self.put("\\\\"),
+            0..=0x1f | b'<' | 0x7f => {
+                self.put("\\u00")?;
+                self.bytes.push(DIGITS[(byte / 16) as usize])?;
+                Ok(self.bytes.push(DIGITS[(byte % 16) as usize])?)
+            }
+            _ => Ok(self.bytes.push(byte)?),
+        }
+    }
+
+    pub(crate) fn string(&mut self, text: &[u8]) -> Result<(), AllocError> {
+        self.put("\"")?;
+        for byte in text {
+            self.byte(*byte)?;
+        }
+        self.put("\"")
+    }
+}

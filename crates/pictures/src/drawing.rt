@@ -1,0 +1,390 @@
+//! A space-time diagram as a drawing (SVG): a line downward for each process.
+
+use crate::timeline::{
+    NamedCut, Shown, Timeline, event_of, exchange_of, named_cuts, sending_event, size,
+};
+use dbg_base::{Pid, Refusal};
+use event_rows::Exchange;
+use std::alloc::{AllocError, Global};
+use telling::{Notes, Part, View};
+
+// Distances, in pixels.
+const LEFT: i64 = 60;
+
+const TOP: i64 = 64;
+
+const COLUMN: i64 = 190;
+
+const ROW: i64 = 30;
+
+// The most choices of a process that are drawn as what can be made again.
+const AGAIN: u32 = 4;
+
+static STYLE: &str = "  <style>
+    text { font: 13px ui-monospace, monospace; fill: #1b1b1b; }
+    .name { font-weight: bold; text-anchor: middle; }
+    .line { stroke: #8a8a8a; }
+    .event { fill: #1b1b1b; }
+    .again { fill: none; stroke: #8a8a8a; stroke-dasharray: 2 2; }
+    .faint { fill: #6a6a6a; }
+    .message, .waiting { stroke: #2b5fb4; fill: none; }
+    .waiting { stroke-dasharray: 5 4; }
+    .head { fill: #2b5fb4; }
+    .value { fill: #2b5fb4; paint-order: stroke; stroke: #ffffff; stroke-width: 4px; }
+    .cut { fill: none; stroke-width: 2; stroke-dasharray: 8 4; }
+    .halts { stroke-width: 4; stroke-dasharray: none; }
+    .cut0 { stroke: #c03030; } .cut1 { stroke: #9a6b00; } .cut2 { stroke: #7a3fa8; } .cut3 { stroke: #00786b; }
+    .of0 { fill: #c03030; } .of1 { fill: #9a6b00; } .of2 { fill: #7a3fa8; } .of3 { fill: #00786b; }
+    .ground { fill: #ffffff; }
+    @media (prefers-color-scheme: dark) {
+      text, .event { fill: #ececec; }
+      .ground { fill: #161616; }
+      .line, .again { stroke: #8f8f8f; }
+      .faint { fill: #a8a8a8; }
+      .message, .waiting { stroke: #8ab4ff; }
+      .head { fill: #8ab4ff; }
+      .value { fill: #8ab4ff; stroke: #161616; }
+      .cut0 { stroke: #ff7b72; } .cut1 { stroke: #e3b341; } .cut2 { stroke: #d2a8ff; } .cut3 { stroke: #56d4bc; }
+      .of0 { fill: #ff7b72; } .of1 { fill: #e3b341; } .of2 { fill: #d2a8ff; } .of3 { fill: #56d4bc; }
+    }
+  </style>";
+
+// The place of a process's line.
+fn across(pid: Pid) -> i64 {
+    LEFT.saturating_add(i64::from(pid.0).saturating_mul(COLUMN))
+}
+
+// The height of the row of this number, from 0.
+fn down(row: i64) -> i64 {
+    TOP.saturating_add(row.saturating_add(1).saturating_mul(ROW))
+}
+
+/// A drawing that is put together.
+#[derive(Clone, Copy)]
+struct Sheet<'a> {
+    view: &'a View<'a>,
+    timeline: &'a Timeline,
+}
+
+// Puts an attribute that is a number behind the last line.
+fn put_number(notes: &mut Notes, name: &'static str, number: i64) -> Result<(), AllocError> {
+    notes.add(&[
+        Part::Text(" "),
+        Part::Text(name),
+        Part::Text("=\""),
+        Part::Number(number),
+        Part::Text("\""),
+    ])
+}
+
+// Puts a line between two points.
+fn put_line(notes: &mut Notes, from: (i64, i64), to: (i64, i64)) -> Result<(), AllocError> {
+    put_number(notes, "x1", from.0)?;
+    put_number(notes, "y1", from.1)?;
+    put_number(notes, "x2", to.0)?;
+    put_number(notes, "y2", to.1)
+}
+
+// Begins a text at a point.
+fn say_text(notes: &mut Notes, class: &'static str, at: (i64, i64)) -> Result<(), AllocError> {
+    notes.say(&[Part::Text("  <text")])?;
+    if !class.is_empty() {
+        notes.add(&[Part::Text(" class=\""), Part::Text(class), Part::Text("\"")])?;
+    }
+    put_number(notes, "x", at.0)?;
+    put_number(notes, "y", at.1)?;
+    notes.add(&[Part::Text(">")])
+}
+
+fn end_text(notes: &mut Notes) -> Result<(), AllocError> {
+    notes.add(&[Part::Text("</text>")])
+}
+
+impl Sheet<'_> {
+    fn processes(&self) -> u32 {
+        self.view.program.processes()
+    }
+
+    fn count(&self) -> i64 {
+        self.timeline.events().len() as i64
+    }
+
+    fn width(&self) -> i64 {
+        across(Pid(self.processes()))
+    }
+
+    fn height(&self) -> i64 {
+        down(
+            self.count()
+                .saturating_add(i64::from(AGAIN))
+                .saturating_add(3),
+        )
+    }
+
+    // The height of an event.
+    fn level(&self, pid: Pid, number: u32) -> i64 {
+        match self.timeline.row(pid, number) {
+            Some(row) => down(i64::from(row)),
+            None => TOP,
+        }
+    }
+
+    fn say_head(&self, notes: &mut Notes) -> Result<(), AllocError> {
+        notes.say(&[Part::Text(
+            "<svg xmlns=\"http://www.w3.org/2000/svg\" role=\"img\" aria-labelledby=\"title description\"",
+        )])?;
+        put_number(notes, "width", self.width())?;
+        put_number(notes, "height", self.height())?;
+        notes.add(&[Part::Text(">")])?;
+        notes.say(&[Part::Text("  <title id=\"title\">A session of")])?;
+        let mut word = " ";
+        for p in 0..self.processes() {
+            notes.add(&[Part::Text(word), self.view.scope(Pid(p)).name()])?;
+            word = ", ";
+        }
+        notes.add(&[Part::Text("</title>")])?;
+        notes.say(&[
+            Part::Text("  <desc id=\"description\">"),
+            Part::Count(self.timeline.events().len()),
+            Part::Text(
+                " events, downward in an order in which they can have happened; arrows are messages, with their values; dashed arrows are on their way; pale marks can be made again; lines across are the cuts of breakpoints</desc>",
+            ),
+        ])?;
+        notes.say(&[Part::Text(STYLE)])?;
+        notes.say(&[Part::Text(
+            "  <marker id=\"head\" viewBox=\"0 0 8 8\" refX=\"8\" refY=\"4\" markerWidth=\"8\" markerHeight=\"8\" orient=\"auto\"><path class=\"head\" d=\"M0 0L8 4L0 8z\"/></marker>",
+        )])?;
+        notes.say(&[Part::Text("  <rect class=\"ground\" width=\"100%\" height=\"100%\"/>")])
+    }
+
+    fn say_processes(&self, notes: &mut Notes) -> Result<(), AllocError> {
+        for p in 0..self.processes() {
+            let x = across(Pid(p));
+            say_text(notes, "name", (x, TOP.saturating_sub(16)))?;
+            notes.add(&[self.view.scope(Pid(p)).name()])?;
+            end_text(notes)?;
+            notes.say(&[Part::Text("  <line class=\"line\"")])?;
+            put_line(
+                notes,
+                (x, TOP.saturating_sub(8)),
+                (x, self.height().saturating_sub(ROW)),
+            )?;
+            notes.add(&[Part::Text("/>")])?;
+        }
+        Ok(())
+    }
+
+    // An arrow with a value in its middle.
+    fn say_arrow(
+        &self,
+        notes: &mut Notes,
+        class: &'static str,
+        from: (i64, i64),
+        to: (i64, i64),
+        value: i64,
+    ) -> Result<(), AllocError> {
+        notes.say(&[
+            Part::Text("  <line class=\""),
+            Part::Text(class),
+            Part::Text("\""),
+        ])?;
+        put_line(notes, from, to)?;
+        notes.add(&[Part::Text(" marker-end=\"url(#head)\"/>")])?;
+        let x = from.0.saturating_add(to.0) / 2;
+        let y = from.1.saturating_add(to.1) / 2;
+        say_text(notes, "value", (x, y.saturating_sub(4)))?;
+        notes.add(&[Part::Number(value)])?;
+        end_text(notes)
+    }
+
+    fn say_message(&self, notes: &mut Notes, shown: Shown) -> Result<(), AllocError> {
+        let Exchange::Took {
+            source,
+            message,
+            count,
+        } = exchange_of(self.view.world, shown)
+        else {
+            return Ok(());
+        };
+        let number = sending_event(self.view.world, source, shown.pid, count).unwrap_or(0);
+        let from = (across(source), self.level(source, number));
+        let to = (across(shown.pid), self.level(shown.pid, shown.number));
+        let aside = if to.0 > from.0 { -5 } else { 5 };
+        self.say_arrow(
+            notes,
+            "message",
+            from,
+            (to.0.saturating_add(aside), to.1),
+            message,
+        )
+    }
+
+    // A message that is on its way: an arrow that does not arrive.
+    fn say_waiting(&self, notes: &mut Notes, shown: Shown) -> Result<(), AllocError> {
+        let Exchange::Sent {
+            target,
+            value,
+            count,
+        } = exchange_of(self.view.world, shown)
+        else {
+            return Ok(());
+        };
+        let tally = self.view.world.tally();
+        if count <= tally.got(target, shown.pid, tally.len(target)) {
+            return Ok(());
+        }
+        let from = (across(shown.pid), self.level(shown.pid, shown.number));
+        let far = across(target).saturating_sub(from.0) / 2;
+        let to = (from.0.saturating_add(far), from.1.saturating_add(ROW));
+        self.say_arrow(notes, "waiting", from, to, value)
+    }
+
+    fn say_event(&self, notes: &mut Notes, shown: Shown) -> Result<(), AllocError> {
+        let Some(event) = event_of(self.view.world, shown) else {
+            return Ok(());
+        };
+        let scope = self.view.scope(shown.pid);
+        let (x, y) = (across(shown.pid), self.level(shown.pid, shown.number));
+        notes.say(&[Part::Text("  <circle class=\"event\"")])?;
+        put_number(notes, "cx", x)?;
+        put_number(notes, "cy", y)?;
+        notes.add(&[Part::Text(" r=\"5\"><title>event ")])?;
+        let number = i64::from(shown.number);
+        notes.add(&[
+            Part::Number(number),
+            Part::Text(" of "),
+            scope.name(),
+            Part::Text(": "),
+        ])?;
+        notes.add(&[Part::Text("command ")])?;
+        let choice = i64::from(event.choice().0);
+        notes.add(&[Part::Number(choice), Part::Text("</title></circle>")])?;
+        say_text(notes, "", (x.saturating_add(9), y.saturating_add(4)))?;
+        notes.add(&[Part::Number(number), Part::Text(":"), Part::Number(choice)])?;
+        for setting in event.settings() {
+            let variable = scope.variable(setting.variable);
+            let value = Part::Number(setting.new);
+            notes.add(&[Part::Text(" "), variable, Part::Text("="), value])?;
+        }
+        end_text(notes)
+    }
+
+    // What a process can make again, below its line's events.
+    fn say_again(&self, notes: &mut Notes, pid: Pid) -> Result<(), AllocError> {
+        let world = self.view.world;
+        let (place, length) = (world.place(pid), world.line_len(pid));
+        let last = length.min(place.saturating_add(AGAIN));
+        let mut row = self.count();
+        for at in place..last {
+            let (x, y) = (across(pid), down(row));
+            notes.say(&[Part::Text("  <circle class=\"again\"")])?;
+            put_number(notes, "cx", x)?;
+            put_number(notes, "cy", y)?;
+            notes.add(&[Part::Text(" r=\"5\"/>")])?;
+            say_text(notes, "faint", (x.saturating_add(9), y.saturating_add(4)))?;
+            if let Some(choice) = world.choice(pid, at) {
+                notes.add(&[Part::Number(i64::from(choice.0))])?;
+            }
+            if at.saturating_add(1) == last && length > last {
+                let more = Part::Number(i64::from(length.saturating_sub(last)));
+                notes.add(&[Part::Text(" and "), more, Part::Text(" more")])?;
+            }
+            end_text(notes)?;
+            row = row.saturating_add(1);
+        }
+        Ok(())
+    }
+
+    // The height of a cut on a process's line: behind its last event in the cut.
+    fn cut_level(&self, cut: &NamedCut, pid: Pid, across: Option<i64>) -> i64 {
+        let half = ROW / 2;
+        match across {
+            Some(rows) => down(rows).saturating_sub(half),
+            None => self.level(pid, cut.cut.count(pid)).saturating_add(half),
+        }
+    }
+
+    // How many events a cut has, where these come first.
+    fn rows_of(&self, cut: &NamedCut) -> Option<i64> {
+        if cut.is_front {
+            Some(i64::try_from(size(&cut.cut, self.processes())).unwrap_or(i64::MAX))
+        } else {
+            None
+        }
+    }
+
+    fn say_cut(&self, notes: &mut Notes, cut: &NamedCut, at: usize) -> Result<(), AllocError> {
+        let color = at % 4;
+        let rows = self.rows_of(cut);
+        let halts = if cut.halts { " halts" } else { "" };
+        notes.say(&[
+            Part::Text("  <polyline class=\"cut cut"),
+            Part::Count(color),
+            Part::Text(halts),
+            Part::Text("\" points=\"8,"),
+        ])?;
+        let mut y = self.cut_level(cut, Pid(0), rows);
+        notes.add(&[Part::Number(y)])?;
+        for p in 0..self.processes() {
+            y = self.cut_level(cut, Pid(p), rows);
+            notes.add(&[
+                Part::Text(" "),
+                Part::Number(across(Pid(p))),
+                Part::Text(","),
+                Part::Number(y),
+            ])?;
+        }
+        let end = self.width().saturating_sub(60);
+        notes.add(&[
+            Part::Text(" "),
+            Part::Number(end),
+            Part::Text(","),
+            Part::Number(y),
+            Part::Text("\"><title>the cut of "),
+            Part::Name(cut.name),
+            Part::Text("</title></polyline>"),
+        ])?;
+        notes.say(&[
+            Part::Text("  <text class=\"of"),
+            Part::Count(color),
+            Part::Text("\""),
+        ])?;
+        put_number(notes, "x", end.saturating_sub(90))?;
+        put_number(notes, "y", y.saturating_sub(5))?;
+        let halts = if cut.halts { " halts" } else { "" };
+        notes.add(&[Part::Text(">"), Part::Name(cut.name), Part::Text(halts)])?;
+        end_text(notes)
+    }
+
+    fn say_all(&self, notes: &mut Notes, cuts: &[NamedCut]) -> Result<(), AllocError> {
+        self.say_head(notes)?;
+        self.say_processes(notes)?;
+        let mut at = 0usize;
+        for cut in cuts {
+            self.say_cut(notes, cut, at)?;
+            at = at.saturating_add(1);
+        }
+        for shown in self.timeline.events() {
+            self.say_message(notes, *shown)?;
+            self.say_waiting(notes, *shown)?;
+        }
+        for shown in self.timeline.events() {
+            self.say_event(notes, *shown)?;
+        }
+        for p in 0..self.processes() {
+            self.say_again(notes, Pid(p))?;
+        }
+        notes.say(&[Part::Text("</svg>")])
+    }
+}
+
+/// Draws a session as it stands, as `draw_text` does, as a drawing (SVG): its lines.
+pub fn draw_drawing(alloc: Global, notes: &mut Notes, view: &View<'_>) -> Result<(), Refusal> {
+    let mut cuts = named_cuts(alloc, view.book)?;
+    let timeline = Timeline::of(alloc, view.world, cuts.as_mut_slice())?;
+    let sheet = Sheet {
+        view,
+        timeline: &timeline,
+    };
+    Ok(sheet.say_all(notes, cuts.as_slice())?)
+}

@@ -1,0 +1,50 @@
+//! Who is told of a session, and tells of it.
+
+use dbg_base::{Call, Refusal, Said};
+use dbg_command::Table;
+use proc_lang::{ProgFault, Program};
+use std::alloc::{AllocError, Global};
+use telling::Notes;
+
+/// A session as it stands: its program, and its world with its breakpoints.
+#[derive(Clone, Copy)]
+pub struct Stand<'a> {
+    pub program: &'a Program,
+    pub table: &'a Table,
+}
+
+/// Who is told of each line of a session, and tells of it beside the replies. The session is lent, so nothing of it is changed.
+pub trait Teller {
+    /// A program was read, whose text this is. It is refused only where memory runs out.
+    fn begin(&mut self, alloc: Global, program: &Program, text: &[u8]) -> Result<(), AllocError>;
+
+    /// A line is to be answered, which was typed at a terminal or not: whether it is written before its reply.
+    fn hear(&mut self, alloc: Global, line: &[u8], is_typed: bool) -> bool;
+
+    /// A call is to be made.
+    fn prepare(&mut self, alloc: Global, stand: Stand<'_>, call: &Call);
+
+    /// What is told of a call that was made, where this was said to it.
+    fn tell_call(&mut self, alloc: Global, stand: Stand<'_>, call: &Call, said: &Said) -> Notes;
+
+    /// What is told of a line that is refused without a call.
+    fn tell_line(
+        &mut self,
+        alloc: Global,
+        stand: Stand<'_>,
+        line: &[u8],
+        refusal: &Refusal,
+    ) -> Notes;
+
+    /// What is told of a line that makes no call.
+    fn tell_own(&mut self, alloc: Global, stand: Stand<'_>, line: &[u8]) -> Notes;
+
+    /// What is told of a program text that is refused.
+    fn tell_fault(&mut self, alloc: Global, text: &[u8], fault: &ProgFault) -> Notes;
+
+    /// What is told of a text in which no line ends the program.
+    fn tell_no_end(&mut self, alloc: Global) -> Notes;
+
+    /// The session is over.
+    fn end(&mut self, alloc: Global, stand: Stand<'_>);
+}
