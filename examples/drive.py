@@ -13,7 +13,7 @@ import sys
 from pathlib import Path
 
 RDBG = Path(__file__).resolve().parent.parent / "rdbg"
-CALLS, EVENTS = 90_000, 60  # of one session (it takes 100,000), and of one schedule
+CALLS, BYTES, EVENTS = 90_000, 1_000_000, 60  # of one session (it takes 100,000 and 1,048,576), and of one schedule
 
 
 class Session:
@@ -22,10 +22,10 @@ class Session:
     def __init__(self, program):
         self.run = subprocess.Popen([RDBG, "run"], stdin=subprocess.PIPE, stdout=subprocess.PIPE, text=True)
         self.run.stdin.write(program + "%%\n")
-        self.calls = 0
+        self.calls, self.bytes = 0, len(program) + 3
 
     def ask(self, command):
-        self.run.stdin.write(f"1 {command}\n")
+        self.bytes += self.run.stdin.write(f"1 {command}\n")
         self.run.stdin.flush()
         reply = self.run.stdout.readline().split()
         if not reply or reply[:2] == ["program", "refused"]:
@@ -76,7 +76,7 @@ def main(file, seed="1"):
     choices = [(process, number) for process, count in processes for number in range(count)]
     session, schedules, halted = Session(program), 0, False
     print(*session.ask(command[1]), file=sys.stderr)
-    while not halted and session.calls < CALLS:
+    while not halted and session.calls < CALLS and session.bytes < BYTES:
         for process, _ in processes:
             session.ask(f"rollback {process} 0")
         events, halted = play(session, choices)
