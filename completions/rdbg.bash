@@ -1,0 +1,34 @@
+# Completion of rdbg for bash.
+_rdbg() {
+  local current=${COMP_WORDS[COMP_CWORD]} before=${COMP_WORDS[COMP_CWORD - 1]}
+  local word=${COMP_WORDS[1]-} choices=
+  # (bash makes words of their own of `--as`, `=` and what follows)
+  if [ "$current" = = ]; then current=; elif [ "$before" = = ]; then before=${COMP_WORDS[COMP_CWORD - 2]}; fi
+  COMPREPLY=()
+  if [ "$COMP_CWORD" -eq 1 ]; then
+    choices='talk run check crew test draw help --help'
+  elif [ "$word" = help ]; then
+    choices='talk run check crew test draw help'
+  elif [ "$before" = --as ]; then
+    choices='text svg html shiviz'
+  elif [ "$before" = --turns ]; then
+    return
+  elif [[ $current == -* ]]; then
+    case $word in
+      check) choices='--explain --help' ;;
+      crew) choices='--turns --help' ;;
+      draw) choices='--as --help' ;;
+      *) choices='--help' ;;
+    esac
+  fi
+  local found
+  if [ -n "$choices" ]; then
+    while IFS= read -r found; do COMPREPLY+=("$found"); done < <(compgen -W "$choices" -- "$current")
+  else
+    compopt -o filenames 2>/dev/null
+    while IFS= read -r found; do
+      if [ -d "$found" ] || [[ $found == *.rdbg ]]; then COMPREPLY+=("$found"); fi
+    done < <(compgen -f -- "$current")
+  fi
+}
+complete -F _rdbg rdbg
