@@ -170,10 +170,11 @@ fn tell_difference(
     Ok(text)
 }
 
-// Tells that all replies were as they have to be.
-fn tell_passed(alloc: Global, name: &str) -> Result<Vec<u8>, AllocError> {
+// Tells something of the session of this name.
+fn tell_named(alloc: Global, name: &str, what: &[u8]) -> Result<Vec<u8>, AllocError> {
     let mut text = Vec::from_slice(alloc, name.as_bytes())?;
-    text.extend_from_slice(b": ok\n")?;
+    text.extend_from_slice(b": ")?;
+    text.extend_from_slice(what)?;
     Ok(text)
 }
 
@@ -198,9 +199,18 @@ pub fn test_session<W: Sink>(
         return Err(ServeFault::Memory);
     };
     let page = page.into_inner();
-    if served != Served::Done {
-        write_text(page.as_slice(), writer)?;
-        return Ok(Tested::Failed);
+    match served {
+        Served::Done => {}
+        Served::Refused => {
+            let text = tell_named(alloc, name, page.as_slice())?;
+            write_text(text.as_slice(), writer)?;
+            return Ok(Tested::Failed);
+        }
+        Served::TooLong => {
+            let text = tell_named(alloc, name, b"input too long\n")?;
+            write_text(text.as_slice(), writer)?;
+            return Ok(Tested::Failed);
+        }
     }
     match first_difference(session, page.as_slice()) {
         Some(difference) => {
@@ -209,7 +219,8 @@ pub fn test_session<W: Sink>(
             Ok(Tested::Failed)
         }
         None => {
-            write_text(tell_passed(alloc, name)?.as_slice(), writer)?;
+            let text = tell_named(alloc, name, b"ok\n")?;
+            write_text(text.as_slice(), writer)?;
             Ok(Tested::Passed)
         }
     }

@@ -12,7 +12,7 @@ struct Form {
     does: &'static str,
 }
 
-const FORMS: [Form; 24] = [
+const FORMS: [Form; 25] = [
     Form {
         word: "next",
         form: "next P",
@@ -121,12 +121,17 @@ const FORMS: [Form; 24] = [
     Form {
         word: "state",
         form: "state",
-        does: "all variables, and the messages on their way",
+        does: "all variables and counts, and the messages on their way",
     },
     Form {
         word: "line",
         form: "line P",
         does: "the events of P, and what it can make again",
+    },
+    Form {
+        word: "draw",
+        form: "draw",
+        does: "a picture: a column for each process, events downward",
     },
     Form {
         word: "quit",

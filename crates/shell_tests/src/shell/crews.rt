@@ -131,7 +131,7 @@ fn sixteen_seats_serve_all_processes(rt: HostRuntime) -> Result<(), Fail> {
     Ok(())
 }
 
-// The text of examples/transfers.rdbg: two accounts, and a third process that counts for itself.
+// The program of examples/transfers.rdbg: two accounts, and a third process that counts for itself.
 const TRANSFERS: &str = "process alice {
   var money = 10;
   var sum = 0;
