@@ -63,7 +63,7 @@ impl Teller for Artist {
 
     fn prepare(&mut self, _alloc: Global, _stand: Stand<'_>, _call: &Call) {}
 
-    fn tell_call(&mut self, alloc: Global, _stand: Stand<'_>, _call: &Call, _said: &Said) -> Notes {
+    fn tell_call(&mut self, alloc: Global, _stand: Stand<'_>, _said: &Said) -> Notes {
         Notes::new(alloc)
     }
 

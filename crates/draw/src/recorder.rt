@@ -19,6 +19,30 @@ struct Ends {
     is_answered: bool,
 }
 
+// What a call is, as far as a page has to know.
+#[derive(Clone, Copy, Debug)]
+enum Kind {
+    // The process makes a further event.
+    Further(Pid),
+    // The process makes an event of its line again.
+    Again(Pid),
+    Undo(Pid),
+    Batch,
+    Back,
+    Other,
+}
+
+fn kind_of(call: &Call) -> Kind {
+    match call {
+        Call::Give(Plan::Step(pid, _) | Plan::Next(pid)) => Kind::Further(*pid),
+        Call::Give(Plan::Redo(pid)) => Kind::Again(*pid),
+        Call::Give(Plan::Undo(pid)) => Kind::Undo(*pid),
+        Call::Give(Plan::Batch(_)) => Kind::Batch,
+        Call::Give(_) | Call::Ask(_) => Kind::Other,
+        Call::Back => Kind::Back,
+    }
+}
+
 // What was told last of a breakpoint.
 #[derive(Debug, Drop)]
 struct Told {
@@ -39,6 +63,8 @@ pub(crate) struct Recorder {
     ends: Vec<Ends>,
     told: Vec<Told>,
     halted: Option<Name>,
+    // The call that is to be made.
+    kind: Kind,
     // The world before a batch.
     before: Option<World>,
     eliminations: Json,
@@ -276,6 +302,7 @@ impl Recorder {
             ends: Vec::new(alloc),
             told: Vec::new(alloc),
             halted: None,
+            kind: Kind::Other,
             before: None,
             eliminations: Json::new(alloc),
             is_out_of_memory: false,
@@ -364,28 +391,19 @@ impl Recorder {
     }
 
     // What an accepted command did to the processes.
-    fn put_command(
-        &mut self,
-        stand: Stand<'_>,
-        call: &Call,
-        reply: &Reply,
-    ) -> Result<(), AllocError> {
+    fn put_command(&mut self, stand: Stand<'_>, reply: &Reply) -> Result<(), AllocError> {
         let world = stand.table.world();
-        match call {
-            Call::Give(Plan::Step(pid, _) | Plan::Next(pid)) => {
-                self.done.put_made(",[\"e\",", stand.program, world, *pid)
-            }
-            Call::Give(Plan::Redo(pid)) => {
-                self.done.put_made(",[\"r\",", stand.program, world, *pid)
-            }
-            Call::Give(Plan::Undo(pid)) => {
+        match self.kind {
+            Kind::Further(pid) => self.done.put_made(",[\"e\",", stand.program, world, pid),
+            Kind::Again(pid) => self.done.put_made(",[\"r\",", stand.program, world, pid),
+            Kind::Undo(pid) => {
                 self.done.put(",[\"u\",")?;
                 self.done.number(i64::from(pid.0))?;
                 self.done.put("]")
             }
-            Call::Give(Plan::Batch(_)) => self.put_batch(stand),
-            Call::Back => self.done.put(",[\"b\"]"),
-            _ => match &reply.done {
+            Kind::Batch => self.put_batch(stand),
+            Kind::Back => self.done.put(",[\"b\"]"),
+            Kind::Other => match &reply.done {
                 Done::Places(cut) => {
                     self.done.put(",[\"p\",")?;
                     put_counts(&mut self.done, cut.counts())?;
@@ -460,8 +478,8 @@ impl Recorder {
         self.done.put("]")
     }
 
-    fn put_all(&mut self, stand: Stand<'_>, call: &Call, reply: &Reply) -> Result<(), Refusal> {
-        self.put_command(stand, call, reply)?;
+    fn put_all(&mut self, stand: Stand<'_>, reply: &Reply) -> Result<(), Refusal> {
+        self.put_command(stand, reply)?;
         let book = stand.table.book();
         let marks = book.list(self.alloc)?;
         if !self.are_told(marks.items()) {
@@ -512,6 +530,11 @@ fn next_line(page: &[u8]) -> (&[u8], &[u8]) {
     (line, page.get(length.saturating_add(1)..).unwrap_or(&[]))
 }
 
+// Whether a line is shown: one that is blank, and one that says what the reply before it has to be, are not.
+fn is_shown(line: &[u8]) -> bool {
+    !matches!(line.trim_ascii(), [] | [b'>', ..])
+}
+
 impl Recorder {
     // The lines with their replies, which stand in this text, one behind the other, and with what they did.
     fn put_lines(&self, json: &mut Json, replies: &[u8]) -> Result<(), AllocError> {
@@ -524,7 +547,7 @@ impl Recorder {
             }
             let line = self.lines.get(line_from..ends.line).unwrap_or(&[]);
             let done = self.done.bytes().get(done_from..ends.done).unwrap_or(&[]);
-            if !line.trim_ascii().is_empty() {
+            if is_shown(line) {
                 json.put("[")?;
                 json.string(line)?;
                 json.put(",")?;
@@ -565,15 +588,16 @@ impl Teller for Recorder {
     }
 
     fn prepare(&mut self, _alloc: Global, stand: Stand<'_>, call: &Call) {
-        if let Call::Give(Plan::Batch(_)) = call {
+        self.kind = kind_of(call);
+        if let Kind::Batch = self.kind {
             let before = stand.table.world().copy().ok();
             self.before = before;
         }
     }
 
-    fn tell_call(&mut self, alloc: Global, stand: Stand<'_>, call: &Call, said: &Said) -> Notes {
+    fn tell_call(&mut self, alloc: Global, stand: Stand<'_>, said: &Said) -> Notes {
         if let Said::Accepted(reply) = said {
-            let told = self.put_all(stand, call, reply);
+            let told = self.put_all(stand, reply);
             self.note(told);
         }
         self.before = None;

@@ -1,6 +1,9 @@
-//! An order in which the events of a world can be told: each once, and none before one that it depends on.
+//! How the events of a world can be told: in an order in which each stands once, and none before one that it depends on; and the clock of
+//! each.
 #![tactic(auto)]
 
+mod clock;
 mod order;
 
+pub use clock::clock_behind;
 pub use order::event_order;

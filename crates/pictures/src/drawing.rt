@@ -22,6 +22,7 @@ const AGAIN: u32 = 4;
 
 static STYLE: &str = "  <style>
     text { font: 13px ui-monospace, monospace; fill: #1b1b1b; }
+    .words { paint-order: stroke; stroke: #ffffff; stroke-width: 3px; }
     .name { font-weight: bold; text-anchor: middle; }
     .line { stroke: #8a8a8a; }
     .event { fill: #1b1b1b; }
@@ -44,6 +45,7 @@ static STYLE: &str = "  <style>
       .message, .waiting { stroke: #8ab4ff; }
       .head { fill: #8ab4ff; }
       .value { fill: #8ab4ff; stroke: #161616; }
+      .words { stroke: #161616; }
       .cut0 { stroke: #ff7b72; } .cut1 { stroke: #e3b341; } .cut2 { stroke: #d2a8ff; } .cut3 { stroke: #56d4bc; }
       .of0 { fill: #ff7b72; } .of1 { fill: #e3b341; } .of2 { fill: #d2a8ff; } .of3 { fill: #56d4bc; }
     }
@@ -113,12 +115,29 @@ impl Sheet<'_> {
         across(Pid(self.processes()))
     }
 
+    // The most choices that are drawn as what a process can make again.
+    fn again(&self) -> u32 {
+        let world = self.view.world;
+        let mut again = 0u32;
+        for p in 0..self.processes() {
+            let own = world.line_len(Pid(p)).saturating_sub(world.place(Pid(p)));
+            again = again.max(own.min(AGAIN));
+        }
+        again
+    }
+
     fn height(&self) -> i64 {
-        down(
-            self.count()
-                .saturating_add(i64::from(AGAIN))
-                .saturating_add(3),
-        )
+        let again = i64::from(self.again());
+        down(self.count().saturating_add(again).saturating_add(1))
+    }
+
+    // How far below the middle of an event its words stand, so that the arrow that it sends or receives does not cross them.
+    fn words_below(&self, shown: Shown) -> i64 {
+        match exchange_of(self.view.world, shown) {
+            Exchange::Sent { target, .. } if target.0 > shown.pid.0 => -7,
+            Exchange::Took { source, .. } if source.0 > shown.pid.0 => 16,
+            _ => 4,
+        }
     }
 
     // The height of an event.
@@ -259,7 +278,12 @@ impl Sheet<'_> {
         notes.add(&[Part::Text("command ")])?;
         let choice = i64::from(event.choice().0);
         notes.add(&[Part::Number(choice), Part::Text("</title></circle>")])?;
-        say_text(notes, "", (x.saturating_add(9), y.saturating_add(4)))?;
+        let below = self.words_below(shown);
+        say_text(
+            notes,
+            "words",
+            (x.saturating_add(9), y.saturating_add(below)),
+        )?;
         notes.add(&[Part::Number(number), Part::Text(":"), Part::Number(choice)])?;
         for setting in event.settings() {
             let variable = scope.variable(setting.variable);

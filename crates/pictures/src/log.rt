@@ -2,6 +2,7 @@
 
 use crate::timeline::{Timeline, event_of};
 use dbg_base::{Cut, Pid, Refusal};
+use event_orders::clock_behind;
 use std::alloc::{AllocError, Global};
 use telling::{Notes, Part, View};
 
@@ -26,20 +27,13 @@ fn say_clock(notes: &mut Notes, view: &View<'_>, pid: Pid, clock: &Cut) -> Resul
 pub fn write_log(alloc: Global, notes: &mut Notes, view: &View<'_>) -> Result<(), Refusal> {
     let timeline = Timeline::of(alloc, view.world, &mut [])?;
     for shown in timeline.events() {
-        if shown.pid.0 >= view.world.tally().processes()
-            || shown.number > view.world.place(shown.pid)
-        {
-            continue;
+        if let Some(clock) = clock_behind(alloc, view.world, shown.pid, shown.number)? {
+            say_clock(notes, view, shown.pid, &clock)?;
         }
-        let clock = view.world.clock(alloc, shown.pid, shown.number)?;
-        say_clock(notes, view, shown.pid, &clock)?;
         if let Some(event) = event_of(view.world, *shown) {
             let scope = view.scope(shown.pid);
-            notes.say(&[
-                Part::Text("command "),
-                Part::Number(i64::from(event.choice().0)),
-                Part::Text(": "),
-            ])?;
+            let choice = Part::Number(i64::from(event.choice().0));
+            notes.say(&[Part::Text("command "), choice, Part::Text(": ")])?;
             scope.put_event(notes, view.world.rows(), event)?;
         }
     }

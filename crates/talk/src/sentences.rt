@@ -9,19 +9,26 @@ use proc_lang::{ProgFault, Program};
 use std::alloc::{AllocError, Global};
 use telling::{Before, Notes, Source, View, tell_help, tell_no_end_line, tell_program_fault};
 
+// A call that is to be made, and what was known before it.
+#[derive(Debug, Drop)]
+struct Asked {
+    call: Call,
+    before: Before,
+}
+
 /// Tells in words what happened, or what stands in the way. Where memory runs out the sentences end.
 #[derive(Debug, Drop)]
 pub(crate) struct Sentences {
     source: Source,
-    // What was known before the call that is made.
-    before: Option<Before>,
+    // None where memory ran out, and then nothing is told.
+    asked: Option<Asked>,
 }
 
 impl Sentences {
     pub(crate) fn new(alloc: Global) -> Result<Sentences, AllocError> {
         Ok(Sentences {
             source: Source::new(alloc, &[])?,
-            before: None,
+            asked: None,
         })
     }
 
@@ -34,23 +41,29 @@ impl Sentences {
         }
     }
 
+    fn ask(&self, alloc: Global, stand: Stand<'_>, call: &Call) -> Option<Asked> {
+        let before = self.view(stand).before(alloc, call).ok()?;
+        let call = call.copy().ok()?;
+        Some(Asked { call, before })
+    }
+
     fn tell_said(
         &self,
         alloc: Global,
         notes: &mut Notes,
         stand: Stand<'_>,
-        call: &Call,
         said: &Said,
     ) -> Result<(), Refusal> {
+        let Some(asked) = &self.asked else {
+            return Ok(());
+        };
         let view = self.view(stand);
-        match (said, &self.before) {
-            (Said::Accepted(reply), Some(before)) => {
-                view.tell_reply(alloc, notes, before, call, reply)
+        match said {
+            Said::Accepted(reply) => {
+                view.tell_reply(alloc, notes, &asked.before, &asked.call, reply)
             }
-            // What was before it is not known, where memory ran out.
-            (Said::Accepted(_), None) => Ok(()),
-            (Said::Refused(refusal), _) => view.tell_refusal(alloc, notes, call, refusal),
-            (Said::Answered(_), _) => view.tell_answer(alloc, notes, call),
+            Said::Refused(refusal) => view.tell_refusal(alloc, notes, &asked.call, refusal),
+            Said::Answered(_) => view.tell_answer(alloc, notes, &asked.call),
         }
     }
 
@@ -87,13 +100,13 @@ impl Teller for Sentences {
     }
 
     fn prepare(&mut self, alloc: Global, stand: Stand<'_>, call: &Call) {
-        let before = self.view(stand).before(alloc, call).ok();
-        self.before = before;
+        let asked = self.ask(alloc, stand, call);
+        self.asked = asked;
     }
 
-    fn tell_call(&mut self, alloc: Global, stand: Stand<'_>, call: &Call, said: &Said) -> Notes {
+    fn tell_call(&mut self, alloc: Global, stand: Stand<'_>, said: &Said) -> Notes {
         let mut notes = Notes::new(alloc);
-        let _ended = self.tell_said(alloc, &mut notes, stand, call, said);
+        let _ended = self.tell_said(alloc, &mut notes, stand, said);
         notes
     }
 

@@ -16,10 +16,11 @@ use crate::teller::{Stand, Teller};
 use crate::written::{write_echo, write_told};
 use command_line::parse_line;
 use dbg_base::{Call, Refusal};
-use dbg_command::{Command, Givable};
+use dbg_command::{Command, Givable, Table};
 use dbg_desk::{Locked, Run, Seat};
 use devices::Sink;
 use line_runs::answer;
+use proc_lang::Program;
 use reply_lines::{ServeFault, hand_on, print_refusal, print_reply};
 use std::alloc::Global;
 use telling::Notes;
@@ -63,7 +64,7 @@ fn answer_call<L: Run, C: Command, M: Fn(Givable) -> Result<C, Refusal>, T: Tell
     let (call, said) = answer(locked, alloc, make, seat, call);
     let written = print_reply(locked.program(), &call, &said, writer);
     hand_on(written, writer)?;
-    let notes = teller.tell_call(alloc, stand(locked), &call, &said);
+    let notes = teller.tell_call(alloc, stand(locked), &said);
     tell(&notes, writer)
 }
 
@@ -71,18 +72,20 @@ fn answer_call<L: Run, C: Command, M: Fn(Givable) -> Result<C, Refusal>, T: Tell
 fn refuse_line<T: Teller, W: Sink>(
     alloc: Global,
     teller: &mut T,
-    stand: Stand<'_>,
+    program: &Program,
+    table: &Table,
     line: &[u8],
     refusal: &Refusal,
     writer: &mut W,
 ) -> Result<(), ServeFault>
-    requires { FitsRefusal (program_of stand.program.now) refusal.now }
-    ensures refuses { OnOk result (WritesRefusal (program_of stand.program.now) refusal.now (W.seen writer.old) (W.seen writer.new)) }
+    requires { FitsRefusal (program_of program.now) refusal.now }
+    ensures refuses { OnOk result (WritesRefusal (program_of program.now) refusal.now (W.seen writer.old) (W.seen writer.new)) }
     ensures fault { IfErr result (λ fault. fault ≡ Write) }
 {
-    let written = print_refusal(stand.program, refusal, writer);
+    let written = print_refusal(program, refusal, writer);
     hand_on(written, writer)?;
-    tell(&teller.tell_line(alloc, stand, line, refusal), writer)
+    let notes = teller.tell_line(alloc, Stand { program, table }, line, refusal);
+    tell(&notes, writer)
 }
 
 // Answers a command line, which has its seat.
@@ -109,7 +112,15 @@ fn answer_line<L: Run, C: Command, M: Fn(Givable) -> Result<C, Refusal>, T: Tell
             answer_call(alloc, make, teller, locked, seat, line.call, writer)
         }
         Ok(None) => Ok(()),
-        Err(refusal) => refuse_line(alloc, teller, stand(locked), line, &refusal, writer),
+        Err(refusal) => refuse_line(
+            alloc,
+            teller,
+            locked.program(),
+            locked.table(),
+            line,
+            &refusal,
+            writer,
+        ),
     }
 }
 

@@ -24,8 +24,8 @@ pub trait Teller {
     /// A call is to be made.
     fn prepare(&mut self, alloc: Global, stand: Stand<'_>, call: &Call);
 
-    /// What is told of a call that was made, where this was said to it.
-    fn tell_call(&mut self, alloc: Global, stand: Stand<'_>, call: &Call, said: &Said) -> Notes;
+    /// What is told of the call that was to be made, where this was said to it.
+    fn tell_call(&mut self, alloc: Global, stand: Stand<'_>, said: &Said) -> Notes;
 
     /// What is told of a line that is refused without a call.
     fn tell_line(
