@@ -1,5 +1,5 @@
 mod Requests
-mod SomeAnswers
+pub mod SomeAnswers
 mod LineReplies
 mod InputTexts
 pub mod Seats

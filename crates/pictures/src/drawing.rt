@@ -4,9 +4,9 @@ use crate::timeline::{
     NamedCut, Shown, Timeline, event_of, exchange_of, named_cuts, sending_event, size,
 };
 use dbg_base::{Pid, Refusal};
-use event_rows::Exchange;
+use event_rows::{Exchange, Setting};
 use std::alloc::{AllocError, Global};
-use telling::{Notes, Part, View};
+use telling::{Notes, Part, Scope, View};
 
 // Distances, in pixels.
 const LEFT: i64 = 60;
@@ -16,6 +16,12 @@ const TOP: i64 = 64;
 const COLUMN: i64 = 190;
 
 const ROW: i64 = 30;
+
+// Room behind the words of the last process.
+const MARGIN: i64 = 60;
+
+// The most variables that stand at an event.
+const WORDS: usize = 2;
 
 // The most choices of a process that are drawn as what can be made again.
 const AGAIN: u32 = 4;
@@ -87,6 +93,20 @@ fn put_line(notes: &mut Notes, from: (i64, i64), to: (i64, i64)) -> Result<(), A
     put_number(notes, "y2", to.1)
 }
 
+// Puts the variables that were set behind the last line.
+fn put_settings(
+    notes: &mut Notes,
+    scope: Scope<'_>,
+    settings: &[Setting],
+) -> Result<(), AllocError> {
+    for setting in settings {
+        let variable = scope.variable(setting.variable);
+        let value = Part::Number(setting.new);
+        notes.add(&[Part::Text(" "), variable, Part::Text("="), value])?;
+    }
+    Ok(())
+}
+
 // Begins a text at a point.
 fn say_text(notes: &mut Notes, class: &'static str, at: (i64, i64)) -> Result<(), AllocError> {
     notes.say(&[Part::Text("  <text")])?;
@@ -112,7 +132,7 @@ impl Sheet<'_> {
     }
 
     fn width(&self) -> i64 {
-        across(Pid(self.processes()))
+        across(Pid(self.processes())).saturating_add(MARGIN)
     }
 
     // The most choices that are drawn as what a process can make again.
@@ -277,7 +297,9 @@ impl Sheet<'_> {
         ])?;
         notes.add(&[Part::Text("command ")])?;
         let choice = i64::from(event.choice().0);
-        notes.add(&[Part::Number(choice), Part::Text("</title></circle>")])?;
+        notes.add(&[Part::Number(choice)])?;
+        put_settings(notes, scope, event.settings())?;
+        notes.add(&[Part::Text("</title></circle>")])?;
         let below = self.words_below(shown);
         say_text(
             notes,
@@ -285,10 +307,12 @@ impl Sheet<'_> {
             (x.saturating_add(9), y.saturating_add(below)),
         )?;
         notes.add(&[Part::Number(number), Part::Text(":"), Part::Number(choice)])?;
-        for setting in event.settings() {
-            let variable = scope.variable(setting.variable);
-            let value = Part::Number(setting.new);
-            notes.add(&[Part::Text(" "), variable, Part::Text("="), value])?;
+        match event.settings().get(..WORDS) {
+            Some(first) if first.len() < event.settings().len() => {
+                put_settings(notes, scope, first)?;
+                notes.add(&[Part::Text(" ..")])?;
+            }
+            _ => put_settings(notes, scope, event.settings())?,
         }
         end_text(notes)
     }
@@ -358,7 +382,7 @@ impl Sheet<'_> {
                 Part::Number(y),
             ])?;
         }
-        let end = self.width().saturating_sub(60);
+        let end = self.width().saturating_sub(MARGIN);
         notes.add(&[
             Part::Text(" "),
             Part::Number(end),

@@ -1,12 +1,15 @@
 -- What a talk over the input writes.
-use Rattle.std.proofs.Common.{◌≡◌, ℕ, ◌≤◌, Bool, false, true, List, [], length, take, Option, Some, None, refl, sym, ap, ◌∙◌, subst, inl, inr}
-use Rattle.std.specs.Prelude.{slice_range, IfSome, IfOk, Result, Ok, Err}
+use Rattle.std.proofs.Common.{◌≡◌, ℕ, ◌≤◌, Bool, false, true, List, [], ◌++◌, length, take, Option, Some, None, refl, sym, ap, ◌∙◌, subst, inl, inr}
+use Rattle.std.specs.Prelude.{slice_range, IfSome, IfOk, Result, Ok, Err, if◌then◌else◌}
 use Rattle.std.proofs.lemmas.List.{append-nil}
-use Rattle.devices.specs.Seen.{Seen}
+use Rattle.devices.specs.Seen.{Seen, Appended}
+use Rattle.devices.proofs.Appending.{appended_then}
+use Rattle.shell_input.specs.Written.{WritesSome}
+use Rattle.talk.specs.Writing.{WritesTold}
 use Rattle.dbg_base.specs.declared.fault.ProgFault.{ProgFault}
 use Rattle.dbg_base.specs.Trees.{Program}
 use Rattle.dbg_base.specs.Checks.{Reads, IsFault}
-use Rattle.dbg_base.specs.Shell.{Parts, parts_of, is_too_long, fault_text, too_long_text, no_end_line_text}
+use Rattle.dbg_base.specs.Shell.{Parts, parts_of, is_too_long, fault_text, too_long_text, no_end_line_text, no_end_text}
 use Rattle.shell_input.specs.declared.framing.Span.{Span}
 use Rattle.reply_lines.specs.declared.outcome.Served.{Served}
 use Rattle.reply_lines.specs.declared.outcome.ServeFault.{ServeFault}
@@ -24,6 +27,12 @@ by_parts : (input : List ℕ) (parts : Option Parts) (served : Served) (out : Li
     → TalksParts input parts served out → TalksInput input served out
 by_parts input parts served out is talks =
     subst (λ (o : Option Parts). TalksParts input o served out) (sym (all_from_start input ∙ is)) talks
+
+-- a program was refused, and told beside that
+pub refuses_told : (text : List ℕ) (a b c : Seen) (served : Served) → served ≡ outcomes.Refused → Appended a b text → WritesTold b c
+    → WritesSome a c (Refuses text served)
+refuses_told text a b c served is wrote told =
+    (text ++ told.0, (is, (told.0, told.1, refl)), appended_then a b c text told.0 wrote told.2)
 
 module _ (bytes : List ℕ) (ended : Bool) (begin new : ℕ) (end : TextEnd) (begun : begin ≡ 0) (splits : SplitsAny bytes ended begin new end)
   where
@@ -59,7 +68,7 @@ module _ (bytes : List ℕ) (ended : Bool) (begin new : ℕ) (end : TextEnd) (be
           let split = here (ends.Before span) is input may in
           let found : IsFault (slice_range bytes 0 span.from) fault =
           subst (λ (t : List ℕ). IsFault t fault) (text_from_start bytes text span.from (seen split.1)) faulty in
-          by_parts input _ served out split.0 (inr (fault, found, refuses.0, refuses.1))
+          by_parts input _ served out split.0 (inr (fault, found, refuses))
 
     -- no line ends the program text
     pub end_here : end ≡ ends.End → (input : List ℕ) → MayBe bytes ended input → (served : Served) (out : List ℕ)
@@ -67,11 +76,18 @@ module _ (bytes : List ℕ) (ended : Bool) (begin new : ℕ) (end : TextEnd) (be
     end_here is input may served out refuses =
         let split = here ends.End is input may in
         let no : is_too_long input ≡ false = split.1 in
-        by_parts input None served out split.0 (refuses.0 ∙ rw no refl, subst (λ (t : List ℕ). IsWithTold t out) (rw no refl) refuses.1)
+        let text : no_end_line_text ≡ no_end_text input = sym (ap (λ (b : Bool). if b then too_long_text else no_end_line_text) no) in
+        by_parts input None served out split.0 (
+          refuses.0 ∙ sym (ap (λ (b : Bool). if b then outcomes.TooLong else outcomes.Refused) no),
+          subst (λ (t : List ℕ). IsWithTold t out) text refuses.1,
+        )
 
     pub too_long_here : end ≡ ends.TooLong → (input : List ℕ) → MayBe bytes ended input → TalksInput input outcomes.TooLong too_long_text
     too_long_here is input may =
         let split = here ends.TooLong is input may in
         let long : is_too_long input ≡ true = split.1 in
-        by_parts input None outcomes.TooLong too_long_text split.0
-        (rw long refl, subst (λ (t : List ℕ). IsWithTold t too_long_text) (rw long refl) ([], ([], tt, refl), sym (append-nil too_long_text)))
+        let text : too_long_text ≡ no_end_text input = sym (ap (λ (b : Bool). if b then too_long_text else no_end_line_text) long) in
+        by_parts input None outcomes.TooLong too_long_text split.0 (
+          sym (ap (λ (b : Bool). if b then outcomes.TooLong else outcomes.Refused) long),
+          subst (λ (t : List ℕ). IsWithTold t too_long_text) text ([], ([], tt, refl), sym (append-nil too_long_text)),
+        )

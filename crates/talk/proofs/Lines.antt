@@ -1,7 +1,7 @@
 -- Lines that a talk answers, one behind the other.
 use Rattle.std.proofs.Common.{◌≡◌, ℕ, ◌≤◌, Bool, true, false, List, [], ◌∷◌, ◌++◌, length, refl, sym, ap, ◌∙◌, subst, inr}
 use Rattle.std.proofs.Common.{append_assoc}
-use Rattle.std.specs.Prelude.{slice_range, codes, IfOk, Result, Ok, Err, Some, if◌then◌else◌, ◌||◌}
+use Rattle.std.specs.Prelude.{slice_range, codes, IfOk, Result, Ok, Err, Some, if◌then◌else◌, ◌||◌, not}
 use Rattle.std.specs.List.{AllByRecursion, list_any}
 use Rattle.std.specs.Bool.{MatchBool}
 use Rattle.std.proofs.lemmas.List.{append-nil}
@@ -216,6 +216,20 @@ module _ (P : Program) (before : List ℕ) (was : Bool) (bytes : List ℕ) (ende
       let here : Tells input bytes at new nexts.TooLong = told_of bytes ended at new next nexts.TooLong told is input may in
       let long : is_too_long input ≡ true = here.1 in
       none_left P input from at J old mid out too_long_text served (here_of input may) here.0 (same ∙ rw long refl) (rw long refl) wrote.whole
+
+-- a talk goes on exactly behind a line that does not end it
+pub goes_on_behind : (quits goes_on : Bool) → goes_on ≡ not quits → goes_on ≡ true → quits ≡ false
+goes_on_behind true goes_on is on = cc
+goes_on_behind false goes_on is on = refl
+
+pub ends_behind : (quits goes_on : Bool) → goes_on ≡ not quits → goes_on ≡ false → quits ≡ true
+ends_behind true goes_on is off = refl
+ends_behind false goes_on is off = cc
+
+-- what follows where a call ends well
+pub where_ok : {A E X Y : Type 0} (r : Result A E) → (X → Y) → IfOk r (λ _. X) → IfOk r (λ _. Y)
+where_ok (Ok value) f x = f x
+where_ok (Err error) f x = tt
 
 -- what is told was handed on
 pub told_handed : (a b c : Seen) → WritesTold a b → Appended b c [] → WritesTold a c

@@ -14,9 +14,9 @@ returns-clause-answers g c =
     let P = g.L.Run.program in
     let said = c.answer-call.result.1 in
     let old = g.W.Sink.seen c.args.writer.now in
-    let wrote = c.in_ok-hand_on.ensures old (as_line (reply_text (program_of c.program-2.result.now) (call_of c.answer-call.result.0) said))
+    let wrote = c.in_ok-hand_on.ensures old (as_line (reply_text (program_of c.program.result.now) (call_of c.answer-call.result.0) said))
     c.print_reply-written.ensures in
-    let same = ap (λ (Q : Program). reply_text Q (call_of c.answer-call.result.0) said) c.program-2.ensures ∙ c.answer-call.ensures.text P in
+    let same = ap (λ (Q : Program). reply_text Q (call_of c.answer-call.result.0) said) c.program.ensures ∙ c.answer-call.ensures.text P in
     let reply : Appended old (g.W.Sink.seen c.hand_on.new.writer) (as_line (reply_text P (call_of c.args.call) said)) =
     subst (λ (t : List ℕ). Appended old (g.W.Sink.seen c.hand_on.new.writer) (as_line t)) same wrote.whole in
     where_ok c.tell.result

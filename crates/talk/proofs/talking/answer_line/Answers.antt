@@ -47,4 +47,4 @@ returns-in-Err-clause-answers g c =
     where_ok c.refuse_line.result
     (λ wrote. refusal_answers P c.args.line.now c.in-Err.refusal c.args.locked.now.journal _ _ parsed
     (subst (λ (Q : Program). WritesRefusal Q c.in-Err.refusal (g.W.Sink.seen c.args.writer.now) (g.W.Sink.seen c.refuse_line.new.writer))
-    c.program-in-Err-2.ensures wrote)) c.refuse_line.ensures.refuses
+    c.program-in-Err.ensures wrote)) c.refuse_line.ensures.refuses

@@ -2,7 +2,7 @@
 use denote.Param.Send.{sendable}
 use denote.Param.Sent.{Sends}
 use Rattle.dbg_command.proofs.Sending.{undo_send, rollback_send, goto_send, clear_send, batch_send}
-use Rattle.talk.proofs.running.fn.talk.make.Hides.{part-1-3, part-1-5, part-1-6, part-1-8, part-1-11}
+use Rattle.talk.proofs.running.fn.play.make.Hides.{part-1-3, part-1-5, part-1-6, part-1-8, part-1-11}
 
 pub sends-part-1-3 : Sends part-1-3
 sends-part-1-3 = search (undo_send, sendable)
