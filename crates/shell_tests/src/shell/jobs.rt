@@ -1,6 +1,6 @@
 use crate::expecting::{expect_same, expect_true};
 use clap::error::ErrorKind;
-use dbg_shell::{Job, asked, job};
+use dbg_shell::{Job, Picture, asked, job};
 use std::alloc::Global;
 use std::process::Abort;
 use std::test::Fail;
@@ -31,7 +31,8 @@ fn expect_refused(rt: &impl Abort, alloc: Global, rows: &[Row]) {
     }
 }
 
-const OTHER_WORDS: [Row; 6] = [
+const OTHER_WORDS: [Row; 7] = [
+    (&["rdbg", "draw", "--as", "png"], ErrorKind::InvalidValue, 2),
     (&["rdbg"], ErrorKind::MissingSubcommand, 2),
     (&["rdbg", "jump"], ErrorKind::InvalidSubcommand, 2),
     (&["rdbg", "run", "--now"], ErrorKind::UnknownArgument, 2),
@@ -81,6 +82,19 @@ fn words_ask_for_talks(rt: HostRuntime) {
     expect_true(&rt, matches!(test, Ok(Job::Test)));
     let explain = job(alloc, ["rdbg", "check", "--explain"].as_slice());
     expect_true(&rt, matches!(explain, Ok(Job::Explain)));
+}
+
+#[test]
+fn words_ask_for_pictures(rt: HostRuntime) {
+    let alloc = rt.alloc();
+    let text = job(alloc, ["rdbg", "draw"].as_slice());
+    expect_true(&rt, matches!(text, Ok(Job::Draw(Picture::Text))));
+    let svg = job(alloc, ["rdbg", "draw", "--as", "svg"].as_slice());
+    expect_true(&rt, matches!(svg, Ok(Job::Draw(Picture::Svg))));
+    let html = job(alloc, ["rdbg", "draw", "--as=html"].as_slice());
+    expect_true(&rt, matches!(html, Ok(Job::Draw(Picture::Html))));
+    let log = job(alloc, ["rdbg", "draw", "--as", "shiviz"].as_slice());
+    expect_true(&rt, matches!(log, Ok(Job::Draw(Picture::Shiviz))));
 }
 
 #[test]
@@ -149,13 +163,14 @@ Commands:
   check  Reads a program and says how many processes and commands it has, or what is wrong
   crew   Reads a program, gives `next` for each process so many times, from threads, and says how many calls there were
   test   Plays sessions, and looks whether each command line is answered as a line `> REPLY` behind it says
+  draw   Plays a session, and draws where it ends; or, as html, a page to go through it
   help   Print this message or the help of the given subcommand(s)
 
 Options:
   -h, --help  Print help
 
-The text is a program, a line `%%`, and for `talk` and `run` command lines behind it. Where no line is `%%`, all of it is
-the program of `check` and `crew`. It comes from FILE, where one is named, and for `talk` and `run` goes on with standard
+The text is a program, a line `%%`, and for `talk`, `run` and `draw` command lines behind it. Where no line is `%%`, all of it is
+the program of `check` and `crew`. It comes from FILE, where one is named, and for these three goes on with standard
 input; else it all comes from standard input. A talk answers `help`, too.
 
 Command lines, each behind a seat from 1 to 16:
