@@ -8,6 +8,7 @@ mod broken;
 mod crews;
 mod deep_back;
 mod faults;
+mod files;
 mod fits;
 mod full_journal;
 mod jobs;
