@@ -4,7 +4,7 @@ use crate::json::Json;
 use break_book::{Book, Breakpoint};
 use causal_world::World;
 use command_line::without_return;
-use dbg_base::{Call, Cut, Done, Head, Name, Pid, Plan, Query, Refusal, Reply, Said};
+use dbg_base::{Call, Cut, Done, Expr, Head, Name, Pid, Plan, Query, Refusal, Reply, Said};
 use event_rows::{Event, Exchange};
 use proc_lang::{ProgFault, Program};
 use std::alloc::{AllocError, Global};
@@ -213,6 +213,26 @@ impl Json {
         self.put("]")
     }
 
+    // A conjunct of a breakpoint: its process, and its expression as text.
+    fn put_conjunct(
+        &mut self,
+        alloc: Global,
+        scope: Scope<'_>,
+        expr: &Expr,
+    ) -> Result<(), AllocError> {
+        let mut words = Notes::new(alloc);
+        words.say(&[])?;
+        scope.put_expression(&mut words, expr)?;
+        self.put("[")?;
+        self.number(i64::from(scope.pid.0))?;
+        self.put(",")?;
+        match words.lines().first() {
+            Some(line) => self.string(line.as_slice())?,
+            None => self.string(&[])?,
+        }
+        self.put("]")
+    }
+
     // The breakpoint's name, mark and conjuncts.
     fn put_breakpoint(
         &mut self,
@@ -228,18 +248,12 @@ impl Json {
         } else {
             ",0,["
         })?;
-        let mut between = "[";
         for at in 0..program.processes() {
             if let Some((pid, expr)) = breakpoint.detector().conjunct(at as usize) {
-                let mut words = Notes::new(alloc);
-                words.say(&[])?;
-                Scope { program, pid }.put_expression(&mut words, expr)?;
-                self.put(between)?;
-                self.number(i64::from(pid.0))?;
-                self.put(",")?;
-                self.string(words.lines().first().map_or(&[], |line| line.as_slice()))?;
-                self.put("]")?;
-                between = ",[";
+                if at > 0 {
+                    self.put(",")?;
+                }
+                self.put_conjunct(alloc, Scope { program, pid }, expr)?;
             }
         }
         self.put("]]")
@@ -340,7 +354,7 @@ impl Recorder {
         for number in 0..program.commands(pid) {
             if let Some(place) = self.source.place(pid, dbg_base::Choice(number)) {
                 json.put(between)?;
-                json.number(place.number as i64)?;
+                json.number(i64::try_from(place.number).unwrap_or(i64::MAX))?;
                 json.put(",")?;
                 json.string(self.source.line(place))?;
                 json.put("]")?;
