@@ -57,8 +57,10 @@ button:hover { border-color: var(--text); }
 #told table { border-collapse: collapse; }
 #told th { text-align: left; font-weight: normal; color: var(--weak); padding: 0 14px 0 0; vertical-align: top; }
 #told td { padding: 0 14px 0 0; font-family: ui-monospace, "DejaVu Sans Mono", Menlo, Consolas, monospace; font-size: 12px; overflow-wrap: anywhere; }
-#told caption, #told .caption { text-align: left; font-weight: 600; white-space: nowrap; margin: 0; }
+#told caption, #told .caption { text-align: left; font-weight: 600; margin: 0; }
+#told caption { white-space: nowrap; }
 #told ol { margin: 0; padding-left: 2.4em; }
+#told .search { flex: 1; min-width: 18rem; }
 text { fill: var(--text); }
 .line line { stroke: var(--edge); stroke-width: 2; }
 .names .chosen text { font-weight: bold; }

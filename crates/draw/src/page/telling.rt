@@ -60,7 +60,7 @@ function tellSearch(name, last) {
   }
   const more = last.n - items.length, heading = last.n === 0 ? 'nothing was left out' : last.n === 1 ? 'what was left out' :
     'what was left out, step by step' + (more > 0 ? ' (the last ' + items.length + ' of ' + last.n + ' steps)' : '');
-  return node('div', [node('p', heading, {class: 'caption'}), node('ol', items.reverse())]);
+  return node('div', [node('p', heading, {class: 'caption'}), node('ol', items.reverse())], {class: 'search'});
 }
 function tellPoint(name) {
   const point = points.find(point => point.name === name), told = [node('h2', 'breakpoint ' + name)];
