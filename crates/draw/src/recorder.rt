@@ -3,6 +3,7 @@
 mod breakpoints;
 mod events;
 mod lines;
+mod trail;
 
 use crate::json::Json;
 use breakpoints::{Breakpoints, Change};
@@ -22,17 +23,19 @@ enum Kind {
     // The process makes an event of its line again.
     Again(Pid),
     Undo(Pid),
-    // Whether it sets or clears breakpoints.
-    Batch(bool),
+    Batch(Change),
     Back,
     Other,
 }
 
-// Whether one of these commands sets or clears a breakpoint.
-fn sets_breakpoints(plans: &[Plan]) -> bool {
-    plans
-        .iter()
-        .any(|plan| matches!(plan, Plan::Break(_, _) | Plan::Clear(_)))
+// What these commands may do to breakpoints, one behind the other.
+fn change_by(plans: &[Plan]) -> Change {
+    let sets = |plan: &Plan| matches!(plan, Plan::Break(_, _) | Plan::Clear(_));
+    if plans.iter().any(sets) {
+        Change::Replaced
+    } else {
+        Change::Batch
+    }
 }
 
 fn kind_of(call: &Call) -> Kind {
@@ -40,7 +43,7 @@ fn kind_of(call: &Call) -> Kind {
         Call::Give(Plan::Step(pid, _) | Plan::Next(pid)) => Kind::Further(*pid),
         Call::Give(Plan::Redo(pid)) => Kind::Again(*pid),
         Call::Give(Plan::Undo(pid)) => Kind::Undo(*pid),
-        Call::Give(Plan::Batch(plans)) => Kind::Batch(sets_breakpoints(plans.as_slice())),
+        Call::Give(Plan::Batch(plans)) => Kind::Batch(change_by(plans.as_slice())),
         Call::Give(_) | Call::Ask(_) => Kind::Other,
         Call::Back => Kind::Back,
     }
@@ -57,8 +60,8 @@ pub(crate) struct Recorder {
     kind: Kind,
     // The world before a batch.
     before: Option<World>,
-    // Of each command that counts, whether it may have replaced breakpoints.
-    replacing: Vec<bool>,
+    // What each command that counts may have done to breakpoints.
+    changes: Vec<Change>,
     is_out_of_memory: bool,
 }
 
@@ -109,7 +112,7 @@ impl Recorder {
             breakpoints: Breakpoints::new(alloc),
             kind: Kind::Other,
             before: None,
-            replacing: Vec::new(alloc),
+            changes: Vec::new(alloc),
             is_out_of_memory: false,
         }
     }
@@ -162,21 +165,15 @@ impl Recorder {
         }
     }
 
-    // What may have become of the breakpoints. A command that is taken back may have replaced them, and so may its being taken back.
+    // What an accepted command may have done to breakpoints: one that takes another back what that may have done.
     fn change(&mut self) -> Result<Change, AllocError> {
-        let replaces = match self.kind {
-            Kind::Back => self.replacing.pop() == Some(true),
-            kind => {
-                let replaces = matches!(kind, Kind::Batch(true));
-                self.replacing.push(replaces)?;
-                replaces
-            }
+        let change = match self.kind {
+            Kind::Back => return Ok(self.changes.pop().unwrap_or(Change::Replaced)),
+            Kind::Batch(change) => change,
+            _ => Change::Followed,
         };
-        Ok(match self.kind {
-            _ if replaces => Change::Replaced,
-            Kind::Further(_) | Kind::Again(_) => Change::Longer,
-            _ => Change::Any,
-        })
+        self.changes.push(change)?;
+        Ok(change)
     }
 
     fn put_all(&mut self, stand: Stand<'_>, reply: &Reply) -> Result<(), Refusal> {
@@ -184,7 +181,7 @@ impl Recorder {
         let change = self.change()?;
         let json = self.lines.done();
         self.breakpoints
-            .put_changes(json, stand.program, stand.table.book(), change)
+            .put_changes(json, stand.program, stand.table, change)
     }
 
     /// What was recorded, as JSON: the processes, and the lines with their replies, which stand in this text, one behind the other.

@@ -1,36 +1,42 @@
 //! Breakpoints, their searches, and which of them halts, as JSON: what has changed of them.
 
 use crate::json::Json;
+use crate::recorder::trail::Trail;
 use break_book::{Book, Breakpoint};
-use dbg_base::{Cause, Elimination, Expr, Name, Refusal};
+use causal_world::World;
+use dbg_base::{Cause, Elimination, Expr, Name, Pid, Refusal};
+use dbg_command::Table;
 use proc_lang::Program;
 use std::alloc::{AllocError, Global};
 use telling::{Notes, Scope};
 
-// What was told last of a breakpoint: its mark, and the eliminations of its search.
+// What was told last of a breakpoint: its mark, the eliminations of its search that are still so, and how many the page knows.
 #[derive(Debug, Drop)]
 struct Told {
     name: Name,
     is_armed: bool,
-    trail: Vec<Elimination>,
+    trail: Trail,
+    known: usize,
 }
 
-/// What may have become of the breakpoints and their searches since they were told.
+/// What a command, or its being taken back, may have done to breakpoints and their searches.
 #[derive(Clone, Copy, Debug, PartialEq, Eq)]
 pub(super) enum Change {
-    /// A process has made an event, so eliminations have come behind those that there were.
-    Longer,
-    /// Events were made or taken back, marks set, breakpoints set or cleared.
-    Any,
+    /// Events were made, or some were taken back, so a search has dropped what needs an event that is gone, from the end, and has gone on;
+    /// or a mark was set, or a breakpoint set or cleared.
+    Followed,
+    /// Several of these, or a table of before, so a search may be another one.
+    Batch,
     /// A breakpoint may be another one of the same name, too.
     Replaced,
 }
 
-/// What was told last of the breakpoints of a session, in their order.
+/// What was told last of the breakpoints of a session, in their order, and of the places of its processes.
 #[derive(Debug, Drop)]
 pub(super) struct Breakpoints {
     alloc: Global,
     told: Vec<Told>,
+    places: Vec<u32>,
     halted: Option<Name>,
 }
 
@@ -100,33 +106,30 @@ impl Json {
     }
 }
 
-// Whether the eliminations that were told are the first ones, where others have only come behind them: the last one tells.
-fn are_first(told: &[Elimination], trail: &[Elimination]) -> bool {
-    match told.len().checked_sub(1) {
-        Some(last) => told.get(last) == trail.get(last),
-        None => true,
-    }
-}
-
-// How many eliminations are those that were told, from the first one on.
-fn kept_of(told: &[Elimination], trail: &[Elimination], change: Change) -> usize {
-    if change == Change::Longer && are_first(told, trail) {
-        return told.len();
-    }
-    told.iter()
-        .zip(trail)
-        .take_while(|(one, other)| one == other)
-        .count()
-}
-
 impl Told {
-    // The eliminations are these now, of which so many are as before.
-    fn follow(&mut self, kept: usize, more: &[Elimination]) -> Result<(), AllocError> {
-        self.trail.truncate(kept);
-        for elimination in more {
-            self.trail.push(*elimination)?;
+    // Tells how the search has changed, as that of the breakpoint at this place, and says whether it has.
+    fn put_search(
+        &mut self,
+        json: &mut Json,
+        between: &str,
+        at: usize,
+        steps: &[Elimination],
+        change: Change,
+    ) -> Result<bool, AllocError> {
+        if change != Change::Followed || !self.trail.is_first_of(steps) {
+            let common = self.trail.common(steps);
+            self.trail.truncate(common);
         }
-        Ok(())
+        let kept = self.trail.len();
+        let more = steps.get(kept..).unwrap_or(&[]);
+        if kept == self.known && more.is_empty() {
+            return Ok(false);
+        }
+        json.put(between)?;
+        json.search(at, kept, more)?;
+        self.trail.extend(more)?;
+        self.known = self.trail.len();
+        Ok(true)
     }
 }
 
@@ -135,6 +138,7 @@ impl Breakpoints {
         Breakpoints {
             alloc,
             told: Vec::new(alloc),
+            places: Vec::new(alloc),
             halted: None,
         }
     }
@@ -163,19 +167,20 @@ impl Breakpoints {
         json.put("[")?;
         json.string(name.bytes())?;
         json.put(if is_armed { ",1" } else { ",0" })?;
-        let trail = match self.take(name) {
-            Some(told) => told.trail,
+        let told = match self.take(name) {
+            Some(told) => Told { is_armed, ..told },
             None => {
                 json.conjuncts(self.alloc, program, breakpoint)?;
-                Vec::new(self.alloc)
+                Told {
+                    name,
+                    is_armed,
+                    trail: Trail::new(self.alloc, program.processes())?,
+                    known: 0,
+                }
             }
         };
         json.put("]")?;
-        Ok(Told {
-            name,
-            is_armed,
-            trail,
-        })
+        Ok(told)
     }
 
     // Tells which breakpoints there are, with their marks.
@@ -200,6 +205,30 @@ impl Breakpoints {
         json.put("]]")
     }
 
+    // Notes the place of a process. What was told of the searches and needs an event that is gone is dropped.
+    fn note_place(&mut self, world: &World, pid: Pid) -> Result<(), AllocError> {
+        let place = world.place(pid);
+        match self.places.get_mut(pid.0 as usize) {
+            Some(noted) => {
+                if place < *noted {
+                    for told in &mut self.told {
+                        told.trail.drop_to(pid, place);
+                    }
+                }
+                *noted = place;
+                Ok(())
+            }
+            None => Ok(self.places.push(place)?),
+        }
+    }
+
+    fn note_places(&mut self, program: &Program, world: &World) -> Result<(), AllocError> {
+        for p in 0..program.processes() {
+            self.note_place(world, Pid(p))?;
+        }
+        Ok(())
+    }
+
     // Tells how the searches have changed.
     fn put_searches(
         &mut self,
@@ -210,13 +239,8 @@ impl Breakpoints {
         let mut between = ",[\"c\",[";
         for (at, told) in self.told.iter_mut().enumerate() {
             if let Some((_, breakpoint)) = book.find(told.name) {
-                let trail = breakpoint.detector().why();
-                let kept = kept_of(told.trail.as_slice(), trail, change);
-                let more = trail.get(kept..).unwrap_or(&[]);
-                if kept < told.trail.len() || !more.is_empty() {
-                    json.put(between)?;
-                    json.search(at, kept, more)?;
-                    told.follow(kept, more)?;
+                let steps = breakpoint.detector().why();
+                if told.put_search(json, between, at, steps, change)? {
                     between = ",";
                 }
             }
@@ -240,9 +264,11 @@ impl Breakpoints {
         &mut self,
         json: &mut Json,
         program: &Program,
-        book: &Book,
+        table: &Table,
         change: Change,
     ) -> Result<(), Refusal> {
+        let book = table.book();
+        self.note_places(program, table.world())?;
         let marks = book.list(self.alloc)?;
         let are_new = change == Change::Replaced && !self.told.is_empty();
         if are_new {
