@@ -91,7 +91,10 @@ function tell() {
 }
 function tellPoints() {
   const area = find('points');
-  while (area.children.length > points.length) area.lastChild.remove();
+  while (area.children.length > points.length) {
+    if (area.lastChild === document.activeElement) listArea.focus();
+    area.lastChild.remove();
+  }
   points.forEach(({name, armed, cut}, i) => {
     const button = area.children[i] || area.appendChild(node('button', ''));
     const isHalting = state.halting === name;
