@@ -97,13 +97,13 @@ class Rows {
   }
 }
 
-// The search for a breakpoint's cut is a line of eliminations. In front of them, each process has a candidate, no event; an elimination says
-// that no cut has less than `to` events of process p: since its part is false behind one event less, or since event `n` of process `by`
-// depends on that many, where `by` is there.
-const noElimination = {n: 0, p: 0, to: 0, by: undefined, of: 0, heads: processes.map(() => 0)};
+// The search for a breakpoint's cut is a line of eliminations. Before the first one the candidate of each process is its start; an elimination
+// says that no cut has less than `to` events of process p: since its part is false behind one event less, or, where `by` is there, since the
+// `event` of that process depends on so many.
+const noElimination = {n: 0, p: 0, to: 0, by: undefined, event: 0, heads: processes.map(() => 0)};
 noElimination.before = noElimination.far = noElimination;
-function eliminated(before, [p, to, by, of]) {
-  return {n: before.n + 1, p, to, by, of, before, far: farBehind(before), heads: null};
+function eliminated(before, [p, to, by, event]) {
+  return {n: before.n + 1, p, to, by, event, before, far: farBehind(before), heads: null};
 }
 // How many items two lines have in common, from the first one on.
 function common(one, other) {
@@ -118,7 +118,7 @@ function common(one, other) {
 function headsAt(last) {
   const path = [];
   for (; !last.heads; last = last.before) path.push(last);
-  let heads = last.heads.slice();
+  const heads = last.heads.slice();
   while (path.length > 0) {
     const next = path.pop();
     heads[next.p] = next.to;

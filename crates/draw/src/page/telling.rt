@@ -45,10 +45,10 @@ function tellEvent({p, n}) {
 }
 function events(n) { return n === 0 ? 'its start' : n === 1 ? '1 event' : n + ' events'; }
 // Why a process's candidate went on.
-function reason({p, to, by, of}) {
+function reason({p, to, by, event}) {
   const {name} = processes[p];
   if (by === undefined) return name + ' behind ' + events(to - 1) + ': its part is false';
-  return name + ' needs ' + events(to) + ': event ' + of + ' of ' + processes[by].name + ' depends on that';
+  return name + ' needs ' + events(to) + ': event ' + event + ' of ' + processes[by].name + ' depends on that';
 }
 // The last eliminations of a search; those that the line has brought are strong.
 const TOLD = 200;
