@@ -8,12 +8,33 @@ use std::alloc::{AllocError, Global};
 use talk::{Stand, Teller};
 use telling::{Notes, Source, View};
 
+// Lines, each with a line end.
+fn with_line_ends(alloc: Global, lines: &[Vec<u8>]) -> Result<Vec<u8>, AllocError> {
+    let mut text = Vec::new(alloc);
+    for line in lines {
+        text.extend_from_slice(line.as_slice())?;
+        text.push(b'\n')?;
+    }
+    Ok(text)
+}
+
+// A picture in this form.
+fn picture_of(alloc: Global, form: Form, view: &View<'_>) -> Result<Vec<u8>, Refusal> {
+    let mut notes = Notes::new(alloc);
+    match form {
+        Form::Text => draw_text(alloc, &mut notes, view)?,
+        Form::Drawing => draw_drawing(alloc, &mut notes, view)?,
+        Form::Log | Form::Page => return write_log(alloc, view),
+    }
+    Ok(with_line_ends(alloc, notes.lines())?)
+}
+
 /// Draws where a session ends.
 #[derive(Debug, Drop)]
 pub(crate) struct Artist {
     form: Form,
     source: Source,
-    picture: Notes,
+    picture: Vec<u8>,
     is_out_of_memory: bool,
 }
 
@@ -22,7 +43,7 @@ impl Artist {
         Ok(Artist {
             form,
             source: Source::new(alloc, &[])?,
-            picture: Notes::new(alloc),
+            picture: Vec::new(alloc),
             is_out_of_memory: false,
         })
     }
@@ -31,9 +52,9 @@ impl Artist {
         self.is_out_of_memory
     }
 
-    /// The lines of the picture.
-    pub(crate) fn picture(&self) -> &[Vec<u8>] {
-        self.picture.lines()
+    /// The picture.
+    pub(crate) fn picture(&self) -> &[u8] {
+        self.picture.as_slice()
     }
 
     fn draw(&mut self, alloc: Global, stand: Stand<'_>) -> Result<(), Refusal> {
@@ -43,11 +64,8 @@ impl Artist {
             world: stand.table.world(),
             book: stand.table.book(),
         };
-        match self.form {
-            Form::Text => draw_text(alloc, &mut self.picture, &view),
-            Form::Drawing => draw_drawing(alloc, &mut self.picture, &view),
-            Form::Log | Form::Page => write_log(alloc, &mut self.picture, &view),
-        }
+        self.picture = picture_of(alloc, self.form, &view)?;
+        Ok(())
     }
 }
 

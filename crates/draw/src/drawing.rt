@@ -26,15 +26,6 @@ fn is_played(served: Served) -> bool {
     served != Served::Refused
 }
 
-// Writes lines.
-fn write_lines<W: Sink>(lines: &[Vec<u8>], writer: &mut W) -> Result<(), ServeFault> {
-    for line in lines {
-        write_whole(writer, line.as_slice())?;
-        write_whole(writer, b"\n")?;
-    }
-    hand_on(Ok(()), writer)
-}
-
 fn draw_page<R: Source + Typed, W: Sink>(
     alloc: Global,
     reader: &mut R,
@@ -69,7 +60,8 @@ fn draw_end<R: Source + Typed, W: Sink>(
         return Err(ServeFault::Memory);
     }
     if is_played(served) {
-        write_lines(artist.picture(), writer)?;
+        let written = write_whole(writer, artist.picture());
+        hand_on(written, writer)?;
     } else {
         let written = write_whole(writer, replies.into_inner().as_slice());
         hand_on(written, writer)?;
