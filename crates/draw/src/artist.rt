@@ -3,10 +3,10 @@
 use crate::drawing::Form;
 use dbg_base::{Call, Refusal, Said};
 use pictures::{draw_drawing, draw_text, write_log};
-use proc_lang::{ProgFault, Program};
+use proc_lang::Program;
 use std::alloc::{AllocError, Global};
 use talk::{Stand, Teller};
-use telling::{Notes, Source, View, tell_no_end_line, tell_program_fault};
+use telling::{Notes, Source, View};
 
 /// Draws where a session ends.
 #[derive(Debug, Drop)]
@@ -79,18 +79,6 @@ impl Teller for Artist {
 
     fn tell_own(&mut self, alloc: Global, _stand: Stand<'_>, _line: &[u8]) -> Notes {
         Notes::new(alloc)
-    }
-
-    fn tell_fault(&mut self, alloc: Global, text: &[u8], fault: &ProgFault) -> Notes {
-        let mut notes = Notes::new(alloc);
-        let _ended = tell_program_fault(&mut notes, text, fault);
-        notes
-    }
-
-    fn tell_no_end(&mut self, alloc: Global) -> Notes {
-        let mut notes = Notes::new(alloc);
-        let _ended = tell_no_end_line(&mut notes);
-        notes
     }
 
     fn end(&mut self, alloc: Global, stand: Stand<'_>) {

@@ -1,8 +1,8 @@
 //! A session is played, and drawn.
 
 use crate::artist::Artist;
+use crate::page::write_page;
 use crate::recorder::Recorder;
-use crate::viewer::{HEAD, TAIL};
 use devices::{Noted, Sink, Source};
 use reply_lines::{ServeFault, Served, hand_on, write_whole};
 use std::alloc::Global;
@@ -35,25 +35,12 @@ fn write_lines<W: Sink>(lines: &[Vec<u8>], writer: &mut W) -> Result<(), ServeFa
     hand_on(Ok(()), writer)
 }
 
-// Writes the page of a session.
-fn write_page<W: Sink>(
-    recorder: &Recorder,
-    replies: &[u8],
-    writer: &mut W,
-) -> Result<(), ServeFault> {
-    let session = recorder.session(replies)?;
-    write_whole(writer, HEAD.as_bytes())?;
-    write_whole(writer, session.bytes())?;
-    let written = write_whole(writer, TAIL.as_bytes());
-    hand_on(written, writer)
-}
-
 fn draw_page<R: Source + Typed, W: Sink>(
     alloc: Global,
     reader: &mut R,
     writer: &mut W,
 ) -> Result<Served, ServeFault> {
-    let mut recorder = Recorder::new(alloc)?;
+    let mut recorder = Recorder::new(alloc);
     let mut replies = Noted::new(Vec::new(alloc));
     let served = play(alloc, &mut recorder, reader, &mut replies)?;
     if recorder.is_out_of_memory() {
@@ -61,7 +48,7 @@ fn draw_page<R: Source + Typed, W: Sink>(
     }
     let replies = replies.into_inner();
     if is_played(served) {
-        write_page(&recorder, replies.as_slice(), writer)?;
+        write_page(&recorder.session(replies.as_slice())?, writer)?;
     } else {
         let written = write_whole(writer, replies.as_slice());
         hand_on(written, writer)?;

@@ -43,6 +43,23 @@ impl Json {
             .extend_from_slice(buffer.format(number).as_bytes())
     }
 
+    pub(crate) fn count(&mut self, count: usize) -> Result<(), AllocError> {
+        let mut buffer = Buffer::new();
+        self.bytes
+            .extend_from_slice(buffer.format(count).as_bytes())
+    }
+
+    /// How many events of each process there are.
+    pub(crate) fn counts(&mut self, counts: &[u32]) -> Result<(), AllocError> {
+        let mut between = "[";
+        for count in counts {
+            self.put(between)?;
+            self.number(i64::from(*count))?;
+            between = ",";
+        }
+        self.put(if counts.is_empty() { "[]" } else { "]" })
+    }
+
     /// A value of the language, which may be more than a number of JSON holds: a string of digits.
     pub(crate) fn value(&mut self, value: i64) -> Result<(), AllocError> {
         self.put("\"")?;

@@ -4,7 +4,7 @@
 mod artist;
 mod drawing;
 mod json;
+mod page;
 mod recorder;
-mod viewer;
 
 pub use drawing::{Form, draw};

@@ -1,1 +1,3 @@
 pub mod Undoing
+pub mod Numbering
+pub mod Timing

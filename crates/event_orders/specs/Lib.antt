@@ -1,1 +1,2 @@
 pub mod EventOrders
+pub mod TimedEvents

@@ -4,6 +4,8 @@
 
 mod clock;
 mod order;
+mod timed;
 
 pub use clock::clock_behind;
 pub use order::event_order;
+pub use timed::{TimedEvent, timed_events};

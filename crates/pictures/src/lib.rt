@@ -10,4 +10,3 @@ mod timeline;
 pub use drawing::draw_drawing;
 pub use log::write_log;
 pub use text::draw_text;
-pub use timeline::sending_event;

@@ -1,9 +1,7 @@
 //! A space-time diagram for a terminal: a column for each process, time downward.
 
 use crate::canvas::{Grid, Row};
-use crate::timeline::{
-    NamedCut, Shown, Timeline, event_of, exchange_of, named_cuts, sending_event, size,
-};
+use crate::timeline::{NamedCut, Shown, Timeline, event_of, named_cuts, received_by, size};
 use dbg_base::{Pid, Refusal};
 use event_rows::Exchange;
 use std::alloc::{AllocError, Global};
@@ -84,20 +82,20 @@ impl Sheet<'_> {
 
     // The arrow of a message that an event received.
     fn say_message(&self, notes: &mut Notes, shown: Shown) -> Result<(), AllocError> {
-        let Exchange::Took {
-            source,
-            message,
-            count,
-        } = exchange_of(self.view.world, shown)
-        else {
+        let Some(received) = received_by(self.view.world, shown) else {
             return Ok(());
         };
-        let mut label = words(self.alloc, &[Part::Text(" "), Part::Number(message)])?;
-        if let Some(number) = sending_event(self.view.world, source, shown.pid, count) {
-            label.add(&[Part::Text(" of "), Part::Number(i64::from(number))])?;
-        }
-        label.add(&[Part::Text(" ")])?;
-        self.say_arrow(notes, source, shown.pid, b'-', &label)
+        let label = words(
+            self.alloc,
+            &[
+                Part::Text(" "),
+                Part::Number(received.value),
+                Part::Text(" of "),
+                Part::Number(i64::from(received.sender)),
+                Part::Text(" "),
+            ],
+        )?;
+        self.say_arrow(notes, received.source, shown.pid, b'-', &label)
     }
 
     // What an event did, in few words.

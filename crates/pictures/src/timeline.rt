@@ -7,16 +7,6 @@ use event_orders::event_order;
 use event_rows::{Event, Exchange};
 use std::alloc::{AllocError, Global};
 
-/// The number, from 1, of the event by which one process sent the message of this count to another.
-pub fn sending_event(world: &World, source: Pid, target: Pid, count: u32) -> Option<u32> {
-    let tally = world.tally();
-    if count >= 1 && count <= tally.sent(source, target, tally.len(source)) {
-        Some(tally.send_event(source, target, count))
-    } else {
-        None
-    }
-}
-
 /// An event that is shown: the n-th of its process, from 1.
 #[derive(Clone, Copy, Debug)]
 pub(crate) struct Shown {
@@ -157,6 +147,35 @@ pub(crate) fn exchange_of(world: &World, shown: Shown) -> Exchange {
         Some(event) => event.exchange(),
         None => Exchange::Nothing,
     }
+}
+
+/// A message that an event received: who sent it, its value, and the number, from 1, of the event that sent it.
+#[derive(Clone, Copy, Debug)]
+pub(crate) struct Received {
+    pub(crate) source: Pid,
+    pub(crate) value: i64,
+    pub(crate) sender: u32,
+}
+
+/// The message that an event received, if it did.
+pub(crate) fn received_by(world: &World, shown: Shown) -> Option<Received> {
+    let Exchange::Took {
+        source,
+        message,
+        count,
+    } = exchange_of(world, shown)
+    else {
+        return None;
+    };
+    let tally = world.tally();
+    if count < 1 || count > tally.sent(source, shown.pid, tally.len(source)) {
+        return None;
+    }
+    Some(Received {
+        source,
+        value: message,
+        sender: tally.send_event(source, shown.pid, count),
+    })
 }
 
 /// The event that is shown.

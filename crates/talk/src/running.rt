@@ -33,6 +33,7 @@ use std::alloc::Global;
 use std::marker::Brand;
 use std::mem;
 use std::sync::ledger::Blank;
+use telling::{Notes, tell_program_fault};
 
 // Ends a talk, whose memory goes with the process.
 fn end<L: Run, C: Command, T: Teller>(
@@ -225,18 +226,14 @@ pub fn explain<R: Source, W: Sink>(
     };
     match parse_program(alloc, text) {
         Ok(program) => tell_size(program.processes(), command_count(&program), writer),
-        Err(ProgError::Bad(fault)) => {
-            let mut teller = Sentences::new(alloc)?;
-            refuse_program(alloc, &mut teller, text, &fault, writer)
-        }
+        Err(ProgError::Bad(fault)) => refuse_program(alloc, text, &fault, writer),
         Err(ProgError::Memory) => Err(ServeFault::Memory),
     }
 }
 
 // Tells that the program is refused, and why.
-fn refuse_program<T: Teller, W: Sink>(
+fn refuse_program<W: Sink>(
     alloc: Global,
-    teller: &mut T,
     text: &[u8],
     fault: &ProgFault,
     writer: &mut W,
@@ -244,20 +241,20 @@ fn refuse_program<T: Teller, W: Sink>(
     ensures refuses { IfOk result (λ served. WritesSome (W.seen writer.old) (W.seen writer.new) (Refuses (fault_text fault.now) served)) }
 {
     let served = tell_fault(fault, writer)?;
-    tell(&teller.tell_fault(alloc, text, fault), writer)?;
+    let mut notes = Notes::new(alloc);
+    let _ended = tell_program_fault(&mut notes, text, fault);
+    tell(&notes, writer)?;
     Ok(served)
 }
 
 // Tells that no line ends the program, and what that means.
-fn refuse_text<T: Teller, W: Sink>(
-    alloc: Global,
-    teller: &mut T,
-    writer: &mut W,
-) -> Result<Served, ServeFault>
+fn refuse_text<W: Sink>(alloc: Global, writer: &mut W) -> Result<Served, ServeFault>
     ensures refuses { IfOk result (λ served. WritesSome (W.seen writer.old) (W.seen writer.new) (Refuses no_end_line_text served)) }
 {
     let served = tell_no_end_line(writer)?;
-    tell(&teller.tell_no_end(alloc), writer)?;
+    let mut notes = Notes::new(alloc);
+    let _ended = telling::tell_no_end_line(&mut notes);
+    tell(&notes, writer)?;
     Ok(served)
 }
 
@@ -306,11 +303,11 @@ pub fn play<T: Teller, R: Source + Typed, W: Sink>(
                         alloc, &make, teller, program, &mut input, reader, writer,
                     )
                 }
-                Err(ProgError::Bad(fault)) => refuse_program(alloc, teller, text, &fault, writer),
+                Err(ProgError::Bad(fault)) => refuse_program(alloc, text, &fault, writer),
                 Err(ProgError::Memory) => Err(ServeFault::Memory),
             }
         }
-        TextEnd::End => refuse_text(alloc, teller, writer),
+        TextEnd::End => refuse_text(alloc, writer),
         TextEnd::TooLong => tell_too_long(writer),
     }
 }

@@ -5,9 +5,9 @@ use crate::teller::{Stand, Teller};
 use command_line::{next_word, without_return};
 use dbg_base::{Call, Refusal, Said};
 use pictures::draw_text;
-use proc_lang::{ProgFault, Program};
+use proc_lang::Program;
 use std::alloc::{AllocError, Global};
-use telling::{Before, Notes, Source, View, tell_help, tell_no_end_line, tell_program_fault};
+use telling::{Before, Notes, Source, View, tell_help};
 
 // A call that is to be made, and what was known before it.
 #[derive(Debug, Drop)]
@@ -127,18 +127,6 @@ impl Teller for Sentences {
     fn tell_own(&mut self, alloc: Global, stand: Stand<'_>, line: &[u8]) -> Notes {
         let mut notes = Notes::new(alloc);
         let _ended = self.tell_word(alloc, &mut notes, stand, line);
-        notes
-    }
-
-    fn tell_fault(&mut self, alloc: Global, text: &[u8], fault: &ProgFault) -> Notes {
-        let mut notes = Notes::new(alloc);
-        let _ended = tell_program_fault(&mut notes, text, fault);
-        notes
-    }
-
-    fn tell_no_end(&mut self, alloc: Global) -> Notes {
-        let mut notes = Notes::new(alloc);
-        let _ended = tell_no_end_line(&mut notes);
         notes
     }
 

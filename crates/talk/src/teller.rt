@@ -2,7 +2,7 @@
 
 use dbg_base::{Call, Refusal, Said};
 use dbg_command::Table;
-use proc_lang::{ProgFault, Program};
+use proc_lang::Program;
 use std::alloc::{AllocError, Global};
 use telling::Notes;
 
@@ -38,12 +38,6 @@ pub trait Teller {
 
     /// What is told of a line that makes no call.
     fn tell_own(&mut self, alloc: Global, stand: Stand<'_>, line: &[u8]) -> Notes;
-
-    /// What is told of a program text that is refused.
-    fn tell_fault(&mut self, alloc: Global, text: &[u8], fault: &ProgFault) -> Notes;
-
-    /// What is told of a text in which no line ends the program.
-    fn tell_no_end(&mut self, alloc: Global) -> Notes;
 
     /// The session is over.
     fn end(&mut self, alloc: Global, stand: Stand<'_>);

@@ -1,4 +1,4 @@
-use Rattle.std.proofs.Common.{ℕ, ◌<◌, ◌≤◌, List, length, ap, arith}
+use Rattle.std.proofs.Common.{ℕ, List, length, ap, arith}
 use Rattle.cut_core.specs.declared.kind.Kind.{Kind}
 use Rattle.event_orders.proofs.Undoing.{sizes}
 use Rattle.event_orders.proofs.clock.clock_behind.Goals as goal
