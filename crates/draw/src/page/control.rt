@@ -51,7 +51,7 @@ function show(what) {
       if (made.length > 0) reveal(...made.reduce((one, other) => depthAt(...other) > depthAt(...one) ? other : one));
       told = place;
     }
-    if (isChosen && chosen && chosen.n <= sizeOf(chosen.p)) reveal(chosen.p, chosen.n);
+    if (isChosen && chosen && chosen.n <= sizeOf(chosen.p)) reveal(chosen.p, chosen.n, true);
     paintLines();
     paint(isMoved || isChosen);
   });

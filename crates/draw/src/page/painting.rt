@@ -12,10 +12,12 @@ function measure() {
   across.resize(Math.max(wide, margin + (deepest + 1.2) * width));
   down.resize(Math.max(high, TOP + height * count));
 }
-// Scrolls the drawing so that event n of process p is seen.
-function reveal(p, n) {
-  const right = (depthAt(p, n) - .4) * width, top = p * height;
-  if (right < across.offset + 30 || right > across.offset + wide - margin - 80) across.offset = right - .6 * (wide - margin);
+// Scrolls the drawing so that event n of process p is seen, with room for what follows; one that is chosen only as far as needed.
+function reveal(p, n, isChosen) {
+  const right = (depthAt(p, n) - .4) * width, top = p * height, least = isChosen ? 4 : 30, most = wide - margin - 80;
+  if (n > 0 && (right < across.offset + least || right > across.offset + most)) {
+    across.offset = right - (!isChosen ? .6 * (wide - margin) : right < across.offset + least ? 30 : most);
+  }
   if (top < down.offset || TOP + top + height > down.offset + high) down.offset = top - (high - height) / 2;
 }
 function shape(tag, parent, attributes = {}) {
@@ -101,6 +103,8 @@ function paint(fades) {
   for (const {group} of [arrows, marks, cuts]) set(group, {transform: 'translate(' + -seen + ' ' + -top + ')'});
   for (const {group} of [rails, names]) set(group, {transform: 'translate(0 ' + -top + ')'});
   const isChosen = (p, n) => chosen !== null && chosen.p === p && chosen.n === n, isSeen = p => y(p) > top - height && y(p) < top + high + height;
+  // Whether an event there is seen with its ring. What is not is no stop of Tab, since a browser scrolls to what has the focus.
+  const isWithin = (x, y) => x > margin + 12 && x < wide - Math.max(15, width / 2) && y > 24 && y < high - 25;
   const numbers = latest(place), now = [left, top, wide, high, width].join();
   fades = fades && now === drawnAt;
   drawnAt = now;
@@ -114,6 +118,7 @@ function paint(fades) {
     const [ground, text, title] = names.item(p, isChosen(p, 0) ? 'chosen' : '', ['rect', 'text', 'title'], {p, n: 0});
     set(ground, {y: y(p) - .45 * height, width: margin, height: height + 1});
     set(text, {x: 8, y: y(p) + 4});
+    set(ground.parentNode, {tabindex: y(p) - top > .45 * height - 1 && y(p) - top < high - .55 * height + 1 ? 0 : -1});
     text.textContent = short(name, 21);
     title.textContent = summary(p, 0);
   });
@@ -148,7 +153,7 @@ function paint(fades) {
       set(disc, {r: 8.5});
       set(number, {y: 3.5, class: 'number'});
       set(sets, {y: event.exchange && event.exchange[1] > p ? -14 : 23, class: 'sets'});
-      set(ring.parentNode, {transform: 'translate(' + x(depth) + ' ' + y(p) + ')'});
+      set(ring.parentNode, {transform: 'translate(' + x(depth) + ' ' + y(p) + ')', tabindex: isWithin(x(depth) - seen, y(p) - top) ? 0 : -1});
       number.textContent = event.k;
       sets.textContent = settings(event, Math.floor(width / 6.7));
       title.textContent = summary(p, n) + ': ' + deeds(event);
@@ -161,17 +166,18 @@ function paint(fades) {
 
   points.forEach(({name, cut}, i) => {
     if (!cut) return;
-    const near = value => Math.max(-3000, Math.min(wide + 5000, value)), offset = 4 * (i % 5);
-    const places = cut.map((n, p) => [near(x(depthAt(p, n)) + (n === 0 ? 0 : 13) + offset), y(p)]);
+    const near = value => Math.max(-3000, Math.min(wide + 5000, value)), offset = 4 * (i % 5), gap = Math.min(13 + offset, width / 2);
+    const places = cut.map((n, p) => [near(x(depthAt(p, n)) + (n === 0 ? Math.min(offset, width / 2) : gap)), y(p)]);
     if (places.every(([x]) => x < seen + margin) || places.every(([x]) => x > seen + wide)) return;
     const [line, text] = cuts.item(name, 'cut ' + colours.get(name) + (state.halting === name ? ' halting' : '') + (chosen && chosen.point === name ? ' chosen' : ''),
       ['path', 'text'], {point: name});
-    const first = places[0][0], ends = [places[count - 1][0], y(count - 1) + height / 2];
-    const path = [[first, top], ...places.flatMap(([x, y]) => [[x, y - 10], [x, y + 10]]), ends];
+    const first = places[0][0];
+    const path = [[first, top], ...places.flatMap(([x, y]) => [[x, y - .45 * height], [x, y + .55 * height]])];
     set(line, {d: 'M' + path.map(place => place.join()).join(' L')});
     set(text, {x: seen + Math.max(margin + 4, Math.min(wide - 8 * name.length - 8, first + 5 - seen)), y: top + 12 + 14 * (i % 2)});
     text.textContent = short(name, 20);
   });
   for (const layer of [rails, arrows, marks, cuts, names]) layer.end();
+  if (svg.contains(document.activeElement) && document.activeElement.tabIndex < 0) area.focus();
 }
 "#;

@@ -59,6 +59,8 @@ button:hover { border-color: var(--text); }
 #told td { padding: 0 14px 0 0; font-family: ui-monospace, "DejaVu Sans Mono", Menlo, Consolas, monospace; font-size: 12px; overflow-wrap: anywhere; }
 #told caption, #told .caption { text-align: left; font-weight: 600; margin: 0; }
 #told caption { white-space: nowrap; }
+#told .counts { display: flex; flex-wrap: wrap; max-width: 13rem; }
+#told .counts caption { flex-basis: 100%; }
 #told ol { margin: 0; padding-left: 2.4em; }
 #told .search { flex: 1; min-width: 18rem; }
 text { fill: var(--text); }

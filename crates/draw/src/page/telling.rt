@@ -65,10 +65,14 @@ function tellSearch(name, last) {
 function tellPoint(name) {
   const point = points.find(point => point.name === name), told = [node('h2', 'breakpoint ' + name)];
   if (!point) return [...told, node('p', 'not set here')];
-  const {cut, frontier, armed, parts, search} = point, counts = list => list.map((n, p) => [processes[p].name, n < 0 ? 'past' : String(n)]);
+  const {cut, frontier, armed, parts, search} = point, counted = (caption, list) => {
+    const made = table(caption, list.map((n, p) => [processes[p].name, n < 0 ? 'past' : String(n)]));
+    made.className = 'counts';
+    return made;
+  };
   told.push(node('p', (armed ? 'armed' : 'not armed') + (state.halting === name ? ', halts the session' : cut ? ', has a cut' : ', has no cut')));
   told.push(node('div', [table('asks for', parts.map(([p, text]) => [processes[p].name, text])),
-    cut ? table('cut: events of', counts(cut)) : '', table('frontier: events of', counts(frontier)), tellSearch(name, search)], {class: 'parts'}));
+    cut ? counted('cut: events of', cut) : '', counted('frontier: events of', frontier), tellSearch(name, search)], {class: 'parts'}));
   return told;
 }
 function tellState() {
