@@ -17,7 +17,7 @@ const TOP: i64 = 64;
 
 const COLUMN: i64 = 190;
 
-const ROW: i64 = 30;
+const ROW: i64 = 36;
 
 // Room behind the words of the last process.
 const MARGIN: i64 = 60;

@@ -3,9 +3,9 @@
 use crate::canvas::{Grid, Row};
 use crate::timeline::{NamedCut, Shown, Timeline, event_of, named_cuts, received_by, size};
 use dbg_base::{Pid, Refusal};
-use event_rows::Exchange;
+use event_rows::{Exchange, Setting};
 use std::alloc::{AllocError, Global};
-use telling::{Notes, Part, View};
+use telling::{Notes, Part, Scope, View};
 
 // The most events that are shown.
 const SHOWN: usize = 60;
@@ -29,6 +29,17 @@ fn bytes_of(words: &Notes) -> &[u8] {
     match words.lines().first() {
         Some(line) => line.as_slice(),
         None => &[],
+    }
+}
+
+// As much of a name as stands in so much room, at least a character, and dots where some is left out and there is room for them.
+fn shortened(name: &[u8], room: usize) -> (&[u8], &'static str) {
+    if name.len() <= room {
+        (name, "")
+    } else if room < 4 {
+        (name.get(..room.max(1)).unwrap_or(name), "")
+    } else {
+        (name.get(..room.saturating_sub(2)).unwrap_or(name), "..")
     }
 }
 
@@ -98,8 +109,25 @@ impl Sheet<'_> {
         self.say_arrow(notes, received.source, shown.pid, b'-', &label)
     }
 
-    // What an event did, in few words.
-    fn event_words(&self, shown: Shown) -> Result<Notes, AllocError> {
+    // Puts a variable that an event set behind the words, so that they stand in so much room: its name is cut before its value is.
+    fn put_setting(
+        &self,
+        line: &mut Notes,
+        scope: Scope<'_>,
+        setting: &Setting,
+        room: usize,
+    ) -> Result<(), AllocError> {
+        line.add(&[Part::Text(" ")])?;
+        let name = words(self.alloc, &[scope.variable(setting.variable)])?;
+        let value = words(self.alloc, &[Part::Text("="), Part::Number(setting.new)])?;
+        let value = bytes_of(&value);
+        let used = bytes_of(line).len().saturating_add(value.len());
+        let (kept, dots) = shortened(bytes_of(&name), room.saturating_sub(used));
+        line.add(&[Part::Bytes(kept), Part::Text(dots), Part::Bytes(value)])
+    }
+
+    // What an event did, in few words, for so much room.
+    fn event_words(&self, shown: Shown, room: usize) -> Result<Notes, AllocError> {
         let scope = self.view.scope(shown.pid);
         let number = Part::Number(i64::from(shown.number));
         let mut words = words(self.alloc, &[Part::Text("o "), number])?;
@@ -108,10 +136,16 @@ impl Sheet<'_> {
         };
         let choice = Part::Number(i64::from(event.choice().0));
         words.add(&[Part::Text(":"), choice])?;
-        for setting in event.settings() {
-            let variable = scope.variable(setting.variable);
-            let value = Part::Number(setting.new);
-            words.add(&[Part::Text(" "), variable, Part::Text("="), value])?;
+        if let [first, others @ ..] = event.settings() {
+            // (two dots stand where others are cut off)
+            let is_alone = others.is_empty() && !matches!(event.exchange(), Exchange::Sent { .. });
+            let dots = if is_alone { 0 } else { 2 };
+            self.put_setting(&mut words, scope, first, room.saturating_sub(dots))?;
+            for setting in others {
+                let variable = scope.variable(setting.variable);
+                let value = Part::Number(setting.new);
+                words.add(&[Part::Text(" "), variable, Part::Text("="), value])?;
+            }
         }
         if let Exchange::Sent { target, value, .. } = event.exchange() {
             let value = Part::Number(value);
@@ -128,8 +162,8 @@ impl Sheet<'_> {
     fn say_event(&self, notes: &mut Notes, shown: Shown) -> Result<(), AllocError> {
         self.say_message(notes, shown)?;
         let mut row = self.grid.lines(self.alloc)?;
-        let words = self.event_words(shown)?;
         let room = self.grid.width().saturating_sub(1);
+        let words = self.event_words(shown, room)?;
         row.put_cut(self.grid.place(shown.pid), bytes_of(&words), room);
         say_row(notes, &row)
     }
