@@ -32,15 +32,13 @@ fn bytes_of(words: &Notes) -> &[u8] {
     }
 }
 
-// As much of a name as stands in so much room, at least a character, and dots where some is left out and there is room for them.
-fn shortened(name: &[u8], room: usize) -> (&[u8], &'static str) {
-    if name.len() <= room {
-        (name, "")
-    } else if room < 4 {
-        (name.get(..room.max(1)).unwrap_or(name), "")
-    } else {
-        (name.get(..room.saturating_sub(2)).unwrap_or(name), "..")
-    }
+// Puts as much of a name behind the words as stands in so much room, at least a character, and dots where some is left out and there is
+// room for them.
+fn put_shortened(line: &mut Notes, name: &[u8], room: usize) -> Result<(), AllocError> {
+    let dots = if name.len() > room && room >= 4 { 2 } else { 0 };
+    let kept = room.saturating_sub(dots).max(1);
+    line.add(&[Part::Bytes(name.get(..kept).unwrap_or(name))])?;
+    line.add(&[Part::Text(if dots > 0 { ".." } else { "" })])
 }
 
 fn say_row(notes: &mut Notes, row: &Row) -> Result<(), AllocError> {
@@ -120,10 +118,9 @@ impl Sheet<'_> {
         line.add(&[Part::Text(" ")])?;
         let name = words(self.alloc, &[scope.variable(setting.variable)])?;
         let value = words(self.alloc, &[Part::Text("="), Part::Number(setting.new)])?;
-        let value = bytes_of(&value);
-        let used = bytes_of(line).len().saturating_add(value.len());
-        let (kept, dots) = shortened(bytes_of(&name), room.saturating_sub(used));
-        line.add(&[Part::Bytes(kept), Part::Text(dots), Part::Bytes(value)])
+        let used = bytes_of(line).len().saturating_add(bytes_of(&value).len());
+        put_shortened(line, bytes_of(&name), room.saturating_sub(used))?;
+        line.add(&[Part::Bytes(bytes_of(&value))])
     }
 
     // What an event did, in few words, for so much room.
