@@ -1,12 +1,12 @@
 //! The page in which a session is gone through.
 
+mod below;
 mod control;
 mod frame;
 mod painting;
 mod shown;
 mod states;
 mod style;
-mod telling;
 
 use crate::json::Json;
 use devices::Sink;
@@ -25,7 +25,7 @@ fn write_script<W: Sink>(writer: &mut W) -> Result<(), ServeFault> {
         states::STATES,
         shown::SHOWN,
         painting::PAINTING,
-        telling::TELLING,
+        below::BELOW,
         control::CONTROL,
     ];
     write_parts(&parts, writer)

@@ -1,6 +1,6 @@
 //! The script: what is told below the drawing.
 
-pub(super) static TELLING: &str = r#"
+pub(super) static BELOW: &str = r#"
 // What is told below the drawing.
 function node(tag, parts, attributes = {}) {
   const made = document.createElement(tag);
