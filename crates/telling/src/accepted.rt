@@ -1,5 +1,6 @@
 //! What an accepted command did.
 
+use crate::batches::made_from;
 use crate::breakpoints::tell_breakpoint;
 use crate::notes::{Notes, Part};
 use crate::view::View;
@@ -51,13 +52,9 @@ impl View<'_> {
         Ok(Before { places, undone })
     }
 
-    // Tells how a process's number of events, or its line, has changed.
-    fn tell_move(&self, notes: &mut Notes, pid: Pid, before: (u32, u32)) -> Result<(), AllocError> {
+    // Tells how many events a process has now, and how many it can make again.
+    fn tell_place(&self, notes: &mut Notes, pid: Pid, old_place: u32) -> Result<(), AllocError> {
         let (place, line) = self.place_of(pid);
-        let (old_place, old_line) = before;
-        if place == old_place && line == old_line {
-            return Ok(());
-        }
         notes.say(&[self.scope(pid).name(), Part::Text(": ")])?;
         if place < old_place {
             notes.add(&[
@@ -84,16 +81,47 @@ impl View<'_> {
         Ok(())
     }
 
-    fn tell_moves(&self, notes: &mut Notes, before: &Before) -> Result<(), AllocError> {
+    // Tells how a process's number of events, or its line, has changed, and what the events did that a batch made of it.
+    fn tell_move(
+        &self,
+        notes: &mut Notes,
+        pid: Pid,
+        before: (u32, u32),
+        call: &Call,
+    ) -> Result<(), AllocError> {
+        let (place, line) = self.place_of(pid);
+        let first = made_from(call, pid, place);
+        if first == place && (place, line) == before {
+            return Ok(());
+        }
+        self.tell_place(notes, pid, before.0)?;
+        for at in first..place {
+            self.tell_made(notes, "  ", pid, at)?;
+        }
+        Ok(())
+    }
+
+    fn tell_moves(
+        &self,
+        notes: &mut Notes,
+        before: &Before,
+        call: &Call,
+    ) -> Result<(), AllocError> {
         for p in 0..self.program.processes() {
             if let Some(place) = before.places.get(p as usize) {
-                self.tell_move(notes, Pid(p), *place)?;
+                self.tell_move(notes, Pid(p), *place, call)?;
             }
         }
         Ok(())
     }
 
-    fn tell_done(&self, notes: &mut Notes, before: &Before, done: &Done) -> Result<(), AllocError> {
+    fn tell_done(
+        &self,
+        notes: &mut Notes,
+        before: &Before,
+        call: &Call,
+        done: &Done,
+    ) -> Result<(), AllocError> {
         match done {
             Done::Played(pid, _) => match self.world.rows().last(*pid) {
                 Some(event) => self
@@ -102,7 +130,7 @@ impl View<'_> {
                 None => Ok(()),
             },
             Done::Undone(_, _) => notes.append(&before.undone),
-            Done::Places(_) | Done::Plain => self.tell_moves(notes, before),
+            Done::Places(_) | Done::Plain => self.tell_moves(notes, before, call),
         }
     }
 
@@ -115,7 +143,7 @@ impl View<'_> {
         call: &Call,
         reply: &Reply,
     ) -> Result<(), Refusal> {
-        self.tell_done(notes, before, &reply.done)?;
+        self.tell_done(notes, before, call, &reply.done)?;
         if let Some(name) = reply.halted {
             notes.say(&[Part::Text("halted by")])?;
             return tell_breakpoint(alloc, notes, self.program, self.book, name);

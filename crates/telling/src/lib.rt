@@ -3,6 +3,7 @@
 
 mod accepted;
 mod answers;
+mod batches;
 mod breakpoints;
 mod commands;
 mod events;

@@ -139,12 +139,20 @@ impl View<'_> {
         Ok(())
     }
 
-    fn tell_made(&self, notes: &mut Notes, pid: Pid, at: u32) -> Result<(), AllocError> {
+    /// Tells what an event of a process did, the one at this place from 0, in a line that begins so.
+    pub(crate) fn tell_made(
+        &self,
+        notes: &mut Notes,
+        begin: &'static str,
+        pid: Pid,
+        at: u32,
+    ) -> Result<(), AllocError> {
         let Some(event) = self.world.rows().event(pid, at as usize) else {
             return Ok(());
         };
         let scope = self.scope(pid);
         notes.say(&[
+            Part::Text(begin),
             Part::Count((at as usize).saturating_add(1)),
             Part::Text(": "),
         ])?;
@@ -171,7 +179,7 @@ impl View<'_> {
         };
         let place = self.world.place(pid);
         for at in 0..place {
-            self.tell_made(notes, pid, at)?;
+            self.tell_made(notes, "", pid, at)?;
         }
         notes.say(&[
             self.scope(pid).name(),
