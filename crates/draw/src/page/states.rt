@@ -102,8 +102,15 @@ class Rows {
 // `event` of that process depends on so many.
 const noElimination = {n: 0, p: 0, to: 0, by: undefined, event: 0, heads: processes.map(() => 0)};
 noElimination.before = noElimination.far = noElimination;
-function eliminated(before, [p, to, by, event]) {
-  return {n: before.n + 1, p, to, by, event, before, far: farBehind(before), heads: null};
+// The search behind further eliminations, which stand in a row of numbers from place 2 on: each is p and to, or -1 - p, to, by and event.
+function eliminated(last, row) {
+  for (let i = 2; i < row.length; i += 2) {
+    const isPassed = row[i] < 0, p = isPassed ? -1 - row[i] : row[i], to = row[i + 1];
+    const by = isPassed ? row[i + 2] : undefined, event = isPassed ? row[i + 3] : 0;
+    last = {n: last.n + 1, p, to, by, event, before: last, far: farBehind(last), heads: null};
+    if (isPassed) i += 2;
+  }
+  return last;
 }
 // How many items two lines have in common, from the first one on.
 function common(one, other) {
@@ -155,8 +162,8 @@ function act(operation, fresh, given) {
   } else if (kind === 'p') {
     state = {...state, lines: state.lines.map((line, q) => undone(line, p[q]))};
   } else if (kind === 'b') {
-    // (what that changes of the breakpoints is told by itself)
-    if (given.length > 0) state = {...state, lines: given.pop().lines};
+    // All is as it was before the command that is taken back.
+    if (given.length > 0) state = given.pop();
   } else if (kind === 'l') {
     let done = at(line.done, operation[2]), choice = null;
     const events = operation[3].map(parts => done = behind(done, ...parts));
@@ -173,9 +180,12 @@ function act(operation, fresh, given) {
     });
     state = {...state, points};
   } else if (kind === 'c') {
-    // Of a search so many eliminations stay, and these come behind them.
+    // Of the search for breakpoint i so many eliminations stay, and others come behind them.
     const points = state.points.slice();
-    for (const [i, kept, more] of p) points[i] = {...points[i], search: more.reduce(eliminated, at(points[i].search, kept))};
+    for (const row of p) {
+      const [i, kept] = row, point = points[i];
+      points[i] = {...point, search: eliminated(at(point.search, kept), row)};
+    }
     state = {...state, points};
   } else if (kind === 'h') {
     state = {...state, halting: p};

@@ -74,19 +74,29 @@ impl Json {
         self.put("]")
     }
 
-    // An elimination: its process and the candidate to which that goes on, and where a clock has passed it, whose, and behind which event.
-    fn elimination(&mut self, elimination: &Elimination) -> Result<(), AllocError> {
-        self.put("[")?;
-        self.number(i64::from(elimination.pid.0))?;
+    // A further number of a list.
+    fn further(&mut self, number: i64) -> Result<(), AllocError> {
         self.put(",")?;
-        self.number(i64::from(elimination.to))?;
-        if let Cause::Passed(by, event) = elimination.cause {
-            self.put(",")?;
-            self.number(i64::from(by.0))?;
-            self.put(",")?;
-            self.number(i64::from(event))?;
+        self.number(number)
+    }
+
+    // An elimination, as further numbers: its process p, and the count to which the candidate goes on. Where a clock has passed the candidate,
+    // -1 - p stands for p, and the process of that clock and its event stand behind.
+    fn elimination(&mut self, elimination: &Elimination) -> Result<(), AllocError> {
+        let pid = i64::from(elimination.pid.0);
+        let to = i64::from(elimination.to);
+        match elimination.cause {
+            Cause::FalseAt => {
+                self.further(pid)?;
+                self.further(to)
+            }
+            Cause::Passed(by, event) => {
+                self.further((-1i64).saturating_sub(pid))?;
+                self.further(to)?;
+                self.further(i64::from(by.0))?;
+                self.further(i64::from(event))
+            }
         }
-        self.put("]")
     }
 
     // How many eliminations of a breakpoint's search stay, and which come behind them.
@@ -95,14 +105,10 @@ impl Json {
         self.count(at)?;
         self.put(",")?;
         self.count(kept)?;
-        self.put(",[")?;
-        let mut between = "";
         for elimination in more {
-            self.put(between)?;
             self.elimination(elimination)?;
-            between = ",";
         }
-        self.put("]]")
+        self.put("]")
     }
 }
 
