@@ -179,13 +179,6 @@ impl Recorder {
     fn put_all(&mut self, stand: Stand<'_>, reply: &Reply) -> Result<(), Refusal> {
         self.put_command(stand, reply)?;
         let change = self.change()?;
-        if matches!(self.kind, Kind::Back) {
-            // (the page goes back to the breakpoints and searches that it had)
-            let mut untold = Json::new(self.alloc);
-            return self
-                .breakpoints
-                .put_changes(&mut untold, stand.program, stand.table, change);
-        }
         let json = self.lines.done();
         self.breakpoints
             .put_changes(json, stand.program, stand.table, change)

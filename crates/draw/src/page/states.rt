@@ -162,8 +162,9 @@ function act(operation, fresh, given) {
   } else if (kind === 'p') {
     state = {...state, lines: state.lines.map((line, q) => undone(line, p[q]))};
   } else if (kind === 'b') {
-    // All is as it was before the command that is taken back.
-    if (given.length > 0) state = given.pop();
+    // What that changes of the breakpoints and their searches is told by itself: behind `back` a search may have come to the same candidates by
+    // other eliminations.
+    if (given.length > 0) state = {...state, lines: given.pop().lines};
   } else if (kind === 'l') {
     let done = at(line.done, operation[2]), choice = null;
     const events = operation[3].map(parts => done = behind(done, ...parts));
