@@ -27,7 +27,7 @@ header { grid-column: 1 / 3; display: flex; flex-wrap: wrap; gap: 4px 8px; align
 header, #points, #told { border: 0 solid var(--edge); border-bottom-width: 1px; }
 header h1 { font-size: 14px; margin: 0 6px 0 0; }
 header input { flex: 1; min-width: 8rem; accent-color: var(--event); }
-#said { flex-basis: 100%; overflow-wrap: anywhere; height: 2.8em; overflow: auto; }
+#said { flex-basis: 100%; overflow-wrap: anywhere; max-height: 4.2em; overflow: auto; }
 button {
   font: inherit; color: inherit; background: var(--ground); border: 1px solid var(--edge); border-radius: 4px; padding: 2px 9px; cursor: pointer;
 }
