@@ -30,7 +30,7 @@ fn picture_of(alloc: Global, form: Form, view: &View<'_>) -> Result<Vec<u8>, Ref
 }
 
 /// Draws where a session ends.
-#[derive(Debug, Drop)]
+#[derive(Drop)]
 pub(crate) struct Artist {
     form: Form,
     source: Source,

@@ -5,7 +5,7 @@ use itoa::Buffer;
 use std::alloc::{AllocError, Global};
 
 /// A text of JSON that is put together.
-#[derive(Debug, Drop)]
+#[derive(Drop)]
 pub(crate) struct Json {
     bytes: Vec<u8>,
 }

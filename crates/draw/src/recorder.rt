@@ -16,7 +16,7 @@ use talk::{Stand, Teller};
 use telling::{Notes, Source};
 
 // What a call is, as far as a page has to know.
-#[derive(Clone, Copy, Debug)]
+#[derive(Clone, Copy)]
 enum Kind {
     // The process makes a further event.
     Further(Pid),
@@ -50,7 +50,7 @@ fn kind_of(call: &Call) -> Kind {
 }
 
 /// Records what each line did.
-#[derive(Debug, Drop)]
+#[derive(Drop)]
 pub(crate) struct Recorder {
     alloc: Global,
     processes: Json,

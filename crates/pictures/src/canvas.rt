@@ -11,14 +11,14 @@ const NARROWEST: usize = 8;
 const WIDEST: usize = 26;
 
 /// How many columns there are, and how wide each is.
-#[derive(Clone, Copy, Debug)]
+#[derive(Clone, Copy)]
 pub(crate) struct Grid {
     processes: usize,
     width: usize,
 }
 
 /// A row of characters.
-#[derive(Debug, Drop)]
+#[derive(Drop)]
 pub(crate) struct Row {
     bytes: Vec<u8>,
 }

@@ -8,14 +8,14 @@ use event_rows::{Event, Exchange};
 use std::alloc::{AllocError, Global};
 
 /// An event that is shown: the n-th of its process, from 1.
-#[derive(Clone, Copy, Debug)]
+#[derive(Clone, Copy)]
 pub(crate) struct Shown {
     pub(crate) pid: Pid,
     pub(crate) number: u32,
 }
 
 /// A cut that is shown, with the name of its breakpoint, and whether that halts the session.
-#[derive(Debug, Drop)]
+#[derive(Drop)]
 pub(crate) struct NamedCut {
     pub(crate) name: Name,
     pub(crate) cut: Cut,
@@ -69,7 +69,7 @@ pub(crate) fn size(cut: &Cut, processes: u32) -> usize {
 }
 
 /// All events of a world, in an order in which they can have happened, and for each process where its events stand in it.
-#[derive(Debug, Drop)]
+#[derive(Drop)]
 pub(crate) struct Timeline {
     events: Vec<Shown>,
     rows: Vec<Vec<u32>>,
@@ -150,7 +150,7 @@ pub(crate) fn exchange_of(world: &World, shown: Shown) -> Exchange {
 }
 
 /// A message that an event received: who sent it, its value, and the number, from 1, of the event that sent it.
-#[derive(Clone, Copy, Debug)]
+#[derive(Clone, Copy)]
 pub(crate) struct Received {
     pub(crate) source: Pid,
     pub(crate) value: i64,

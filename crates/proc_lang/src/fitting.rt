@@ -14,7 +14,7 @@ use dbg_base::{Expr, Pid, Sort};
 
 /// What there is for a process to name: so many processes, of which it is one, and so many variables of its own. `bounds_of` is what
 /// contracts see.
-#[derive(Clone, Copy, Debug)]
+#[derive(Clone, Copy)]
 pub(crate) struct Bounds {
     pub(crate) processes: u32,
     pub(crate) own: Pid,

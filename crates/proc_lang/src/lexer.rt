@@ -14,7 +14,7 @@ use dbg_base::{FaultKind, ProgFault, Sign};
 use std::alloc::Global;
 
 /// Reads the tokens of a text, one at a time.
-#[derive(Clone, Copy, Debug)]
+#[derive(Clone, Copy)]
 struct Lexer<'a> {
     rest: &'a [u8],
     /// The offset of `rest`.

@@ -48,7 +48,7 @@ fn index<'a>(
 
 /// The names of all processes that are written. A text that is refused may write many thousands, and ask for them as often: where they
 /// are more than the processes that a program may have, they are found by an index.
-#[derive(Debug, Drop)]
+#[derive(Drop)]
 pub(crate) struct ProcessNames<'a> {
     pub(crate) all: &'a [Name],
     index: Option<BTreeMap<&'a [u8], u32>>,

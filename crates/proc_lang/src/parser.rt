@@ -21,7 +21,7 @@ pub(crate) use grammar::{predicate, program};
 use std::alloc::{AllocError, AllocFailed, Global};
 
 /// Why tokens were not read.
-#[derive(Clone, Copy, Debug, PartialEq, Eq)]
+#[derive(Clone, Copy, PartialEq, Eq)]
 pub(crate) enum Stop {
     Memory,
     /// A token cannot stand where it stands: so many tokens are left from it on, none where the text ends too early.

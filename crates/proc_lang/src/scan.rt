@@ -11,13 +11,13 @@ use crate::token::{Magnitude, Token};
 use dbg_base::{FaultKind, Name, Sign};
 
 /// The longest token at the front of some bytes: its kind, and how many bytes it takes.
-#[derive(Clone, Copy, Debug)]
+#[derive(Clone, Copy)]
 pub(crate) struct Piece {
     pub(crate) kind: Kind,
     pub(crate) length: usize,
 }
 
-#[derive(Clone, Copy, Debug)]
+#[derive(Clone, Copy)]
 pub(crate) enum Kind {
     Word,
     Number,

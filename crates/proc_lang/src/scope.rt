@@ -7,7 +7,7 @@ use crate::names::ProcessNames;
 use dbg_base::Name;
 
 /// The names that a process can use: those of all processes, its own, and those of its variables. `scope_of` is what contracts see.
-#[derive(Clone, Copy, Debug)]
+#[derive(Clone, Copy)]
 pub(crate) struct Scope<'a, 'n> {
     pub(crate) processes: &'a ProcessNames<'n>,
     pub(crate) own: Name,

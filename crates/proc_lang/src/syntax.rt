@@ -4,14 +4,14 @@ use crate::token::Magnitude;
 use dbg_base::{Direction, Name, Operator};
 
 /// A name where it stands.
-#[derive(Clone, Copy, Debug)]
+#[derive(Clone, Copy)]
 pub(crate) struct Named {
     pub(crate) at: usize,
     pub(crate) name: Name,
 }
 
 /// An expression, each part with the offset of its first byte.
-#[derive(Debug, Drop)]
+#[derive(Drop)]
 pub(crate) enum Phrase {
     Number(usize, Magnitude),
     Name(usize, Name),
@@ -22,27 +22,27 @@ pub(crate) enum Phrase {
     Binary(usize, Operator, Box<Phrase>, Box<Phrase>),
 }
 
-#[derive(Clone, Copy, Debug)]
+#[derive(Clone, Copy)]
 pub(crate) struct WrittenVariable {
     pub(crate) name: Named,
     pub(crate) start: i64,
 }
 
-#[derive(Debug, Drop)]
+#[derive(Drop)]
 pub(crate) enum WrittenAction {
     Local,
     Send(Named, Phrase),
     Receive(Named, Named),
 }
 
-#[derive(Debug, Drop)]
+#[derive(Drop)]
 pub(crate) struct WrittenAssignment {
     pub(crate) variable: Named,
     pub(crate) value: Phrase,
 }
 
 /// A command, with the offset of its word `when`.
-#[derive(Debug, Drop)]
+#[derive(Drop)]
 pub(crate) struct WrittenCommand {
     pub(crate) at: usize,
     pub(crate) guard: Phrase,
@@ -50,7 +50,7 @@ pub(crate) struct WrittenCommand {
     pub(crate) assignments: Vec<WrittenAssignment>,
 }
 
-#[derive(Debug, Drop)]
+#[derive(Drop)]
 pub(crate) struct WrittenProcess {
     pub(crate) name: Named,
     pub(crate) variables: Vec<WrittenVariable>,

@@ -70,7 +70,7 @@ pub(crate) fn needs_seat(line: &[u8]) -> bool
 }
 
 /// Room for a line with a seat.
-#[derive(Debug, Drop)]
+#[derive(Drop)]
 pub(crate) struct Room {
     bytes: Vec<u8>,
     ghost room: { ROOM ≤ vec_capacity bytes },

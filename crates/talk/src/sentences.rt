@@ -10,14 +10,14 @@ use std::alloc::{AllocError, Global};
 use telling::{Before, Notes, Source, View, tell_help};
 
 // A call that is to be made, and what was known before it.
-#[derive(Debug, Drop)]
+#[derive(Drop)]
 struct Asked {
     call: Call,
     before: Before,
 }
 
 /// Tells in words what happened, or what stands in the way. Where memory runs out the sentences end.
-#[derive(Debug, Drop)]
+#[derive(Drop)]
 pub(crate) struct Sentences {
     source: Source,
     // None where memory ran out, and then nothing is told.

@@ -42,7 +42,7 @@ pub enum Tested {
 }
 
 // A line whose reply is another than it has to be.
-#[derive(Clone, Copy, Debug)]
+#[derive(Clone, Copy)]
 struct Difference<'a> {
     // The line's number in the session, from 1.
     number: usize,

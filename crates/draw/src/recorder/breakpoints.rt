@@ -11,7 +11,7 @@ use std::alloc::{AllocError, Global};
 use telling::{Notes, Scope};
 
 // What was told last of a breakpoint: its mark, the eliminations of its search that are still so, and how many the page knows.
-#[derive(Debug, Drop)]
+#[derive(Drop)]
 struct Told {
     name: Name,
     is_armed: bool,
@@ -20,7 +20,7 @@ struct Told {
 }
 
 /// What a command, or its being taken back, may have done to breakpoints and their searches.
-#[derive(Clone, Copy, Debug, PartialEq, Eq)]
+#[derive(Clone, Copy, PartialEq, Eq)]
 pub(super) enum Change {
     /// Events were made, or some were taken back, so a search has dropped what needs an event that is gone, from the end, and has gone on;
     /// or a mark was set, or a breakpoint set or cleared.
@@ -32,7 +32,7 @@ pub(super) enum Change {
 }
 
 /// What was told last of the breakpoints of a session, in their order, and of the places of its processes.
-#[derive(Debug, Drop)]
+#[derive(Drop)]
 pub(super) struct Breakpoints {
     alloc: Global,
     told: Vec<Told>,

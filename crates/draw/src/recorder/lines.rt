@@ -5,7 +5,7 @@ use command_line::without_return;
 use std::alloc::{AllocError, Global};
 
 // Where a line's text and what it did end, in the texts of all lines, and whether it has a reply.
-#[derive(Clone, Copy, Debug)]
+#[derive(Clone, Copy)]
 struct Ends {
     line: usize,
     done: usize,
@@ -13,7 +13,7 @@ struct Ends {
 }
 
 /// The lines, one behind the other, and what each did, as JSON.
-#[derive(Debug, Drop)]
+#[derive(Drop)]
 pub(super) struct Lines {
     text: Vec<u8>,
     done: Json,

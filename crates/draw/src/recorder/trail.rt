@@ -4,7 +4,7 @@ use dbg_base::{Elimination, Pid};
 use std::alloc::{AllocError, Global};
 
 /// Eliminations, and the candidates to which they lead.
-#[derive(Debug, Drop)]
+#[derive(Drop)]
 pub(super) struct Trail {
     steps: Vec<Elimination>,
     candidates: Vec<u32>,
