@@ -43,6 +43,7 @@ class Suite:
     def __init__(self, name, options):
         self.name, self.options = name, options
         self.passed = self.failed = self.skipped = 0
+        self.golden_files = set()  # those that were compared
         self._program = None
 
     @property
@@ -76,6 +77,7 @@ class Suite:
     def golden(self, path, shown):
         """A test that a text is what a golden file has, or, with --update, writes the file anew."""
         shown = shown.encode() if isinstance(shown, str) else shown
+        self.golden_files.add(path)
         if self.options.update:
             path.parent.mkdir(parents=True, exist_ok=True)
             path.write_bytes(shown)
@@ -83,6 +85,11 @@ class Suite:
         if not path.exists():
             return self.case(name, "there is no such golden file (--update writes it)")
         return self.same(name, shown, path.read_bytes())
+
+    def compared(self, *golden_files):
+        """A test that each of these golden files was compared, so that none is left over."""
+        for path in sorted(set(golden_files) - self.golden_files):
+            self.case(str(path.relative_to(TOP)), "no test compares this golden file")
 
     def skip(self, name, why):
         self.skipped += 1

@@ -1,0 +1,54 @@
+"""What a person sees at the command line: sessions, refused programs, `test`, and the limits of a session.
+
+A golden page in tests/cli/ has the output of a run, with what it reports as an error, and a last line with its status.
+"""
+from harness import TESTS, sessions
+
+CLI = TESTS / "cli"
+COUNTER = "process c { var n = 0; when (n < 30000) : n := (n + 1); }\n%%\n"
+LAST_LINES = 6  # of a session that reaches a limit, in its page
+
+# Files for `talk`. Each has a page of the same name.
+TALKS = ["own_words", "refusals", "more_refusals", "batches", "refused"]
+
+# The name of a page, the arguments of the run, and its input.
+RUNS = [
+    ("talk_from_input", "talk", "process a { var x = 0; when true : x := 1; }\n%%\nnext a\n3 vars a\n"),
+    ("talk_without_end_line", "talk", "process a { }\n"),
+    ("run_with_program_file", "run program.rdbg", "1 vars a\n2 next b"),
+    ("run_with_dash", "run -", "1 vars a"),
+    ("run_missing_file", "run nothing.rdbg", ""),
+    ("check_program_file", "check program.rdbg", "1 vars a"),
+    ("check_folder", "check faults", ""),
+    ("crew_with_program_file", "crew --turns 3 program.rdbg", ""),
+    ("test_passes", "test expected.rdbg own_words.rdbg", ""),
+    ("test_fails", "test expected.rdbg unexpected.rdbg refused.rdbg", ""),
+]
+
+# Interactive sessions that reach a limit with their last line.
+LIMITS = [
+    ("too_many_events", 20_001 * "next c\n"),
+    ("too_many_breakpoints", "".join(f"break b{number} c (n < 0)\n" for number in range(1, 66))),
+    ("too_many_calls", 100_001 * "place c\n"),
+]
+
+
+def check_page(suite, name, words, given="", last_lines=None):
+    """Compares a run in tests/cli/ with its page, which may have its last lines only."""
+    ran = suite.rdbg(*words, given=given, folder=CLI, merge=True)
+    output = ran.output if last_lines is None else b"".join(ran.output.splitlines(keepends=True)[-last_lines:])
+    suite.golden(CLI / f"{name}.page", output + b"status %d\n" % ran.status)
+
+
+def run(suite):
+    for name in TALKS:
+        check_page(suite, name, ["talk", f"{name}.rdbg"])
+    for name, words, given in RUNS:
+        check_page(suite, name, words.split(), given)
+    for example in sessions("examples"):
+        check_page(suite, f"examples/{example.stem}", ["talk", example])
+    for fault in sorted((CLI / "faults").glob("*.rdbg")):
+        check_page(suite, f"faults/{fault.stem}", ["check", "--explain", f"faults/{fault.name}"])
+    for name, lines in LIMITS:
+        check_page(suite, name, ["talk"], COUNTER + lines, LAST_LINES)
+    suite.compared(*CLI.rglob("*.page"))
