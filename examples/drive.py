@@ -6,13 +6,14 @@
 FILE has a program, a line `%%`, and behind it a line `1 break NAME ..`. The session that leads to the breakpoint's cut is printed,
 without the events that do not matter for it, so that `rdbg run` halts at its last line.
 """
+import os
 import random
 import re
 import subprocess
 import sys
 from pathlib import Path
 
-RDBG = Path(__file__).resolve().parent.parent / "rdbg"
+RDBG = os.environ.get("RDBG") or Path(__file__).resolve().parent.parent / "rdbg"
 CALLS, BYTES, EVENTS = 90_000, 1_000_000, 60  # of one session (it takes 100,000 and 1,048,576), and of one schedule
 
 
