@@ -29,7 +29,8 @@ def build(suite, program):
         return True
     # Its run ends with status 0 if no allocation fails, so any other status is one of `rt`.
     made = subprocess.run(["rt", "run"], cwd=CRATE, stdin=subprocess.DEVNULL, stdout=subprocess.DEVNULL, stderr=subprocess.PIPE)
-    problem = "" if made.returncode == 0 else f"`rt run` in crates/refusals ended with status {made.returncode}\n{made.stderr.decode(errors='replace')}"
+    errors = made.stderr.decode(errors="backslashreplace")
+    problem = f"`rt run` in crates/refusals ended with status {made.returncode}\n{errors}" if made.returncode != 0 else ""
     return suite.case("the program of crates/refusals is proved and built", problem)
 
 
