@@ -1,93 +1,252 @@
 #!/usr/bin/env python3
-"""Drives `rdbg` from a program: plays random schedules of a protocol until a breakpoint halts.
+"""Searches for a bad state: plays schedules of a protocol until a breakpoint halts, and prints the least session that leads there.
 
-    examples/drive.py FILE [SEED]
+FILE is a session: a program, a line `%%`, and after it a line `break NAME ..`, with or without a seat. rdbg itself searches nothing; this
+script chooses each step by one of three strategies:
 
-FILE has a program, a line `%%`, and behind it a line `1 break NAME ..`. The session that leads to the breakpoint's cut is printed,
-without the events that do not matter for it, so that `rdbg run` halts at its last line.
+  random      any command that can fire, each as likely as the next (or by --weight)
+  priorities  processes have random priorities, and the first that can fire moves; at a few random places the priority of one drops below all
+              others (Burckhardt, Kothari, Musuvathi, Nagarakatte: A randomized scheduler with probabilistic guarantees of finding bugs,
+              ASPLOS 2010)
+  swarm       each schedule leaves out a random half of the commands as long as others can fire, and gives the rest random weights
+              (Groce, Zhang, Eide, Chen, Regehr: Swarm testing, ISSTA 2012)
 """
+import argparse
 import os
 import random
 import re
+import statistics
 import subprocess
 import sys
+import time
 from pathlib import Path
 
-RDBG = os.environ.get("RDBG") or Path(__file__).resolve().parent.parent / "rdbg"
-CALLS, BYTES, EVENTS = 90_000, 1_000_000, 60  # of one session (it takes 100,000 and 1,048,576), and of one schedule
+CALLS, BYTES = 90_000, 1_000_000  # of one session, which may have 100,000 calls and 1,048,576 bytes
+MOVE = re.compile(r"  (\w+): command (\d+) ")
+
+
+def program_path():
+    """The program that RDBG names, or the proved one of this repository."""
+    if "RDBG" in os.environ:
+        return os.environ["RDBG"]
+    asked = subprocess.run([Path(__file__).resolve().parent.parent / "rdbg", "--where"], stdout=subprocess.PIPE, text=True)
+    return asked.stdout.strip() if asked.returncode == 0 else sys.exit("drive.py: build the program first (./rdbg --prove), or name one by RDBG")
 
 
 class Session:
-    """A run of `rdbg` at the other end of a pipe. To each line of a command there is one line of reply, at once."""
+    """An interactive session at the other end of a pipe."""
 
-    def __init__(self, program):
-        self.run = subprocess.Popen([RDBG, "run"], stdin=subprocess.PIPE, stdout=subprocess.PIPE, text=True)
-        self.run.stdin.write(program + "%%\n")
+    def __init__(self, rdbg, program):
+        self.run = subprocess.Popen([rdbg, "talk"], stdin=subprocess.PIPE, stdout=subprocess.PIPE, text=True)
         self.calls, self.bytes = 0, len(program) + 3
+        self.run.stdin.write(f"{program}%%\n")
 
-    def ask(self, command):
-        self.bytes += self.run.stdin.write(f"1 {command}\n")
+    def ask(self, line):
+        """What the session writes for a line: the line itself, the reply to a command, and explanations, which begin with two blanks."""
+        # (the comment after the line is written once all of that was)
+        self.bytes += self.run.stdin.write(f"{line}\n#\n")
         self.run.stdin.flush()
-        reply = self.run.stdout.readline().split()
-        if not reply or reply[:2] == ["program", "refused"]:
-            sys.exit(f"rdbg has ended: {' '.join(reply)}")
+        written = []
+        for text in self.run.stdout:
+            if text == "#\n":
+                return written[1:]
+            written.append(text.rstrip("\n"))
+        return sys.exit("drive.py: rdbg has ended: " + " ".join(written[:2]))
+
+    def give(self, command):
+        """The reply to a command."""
         self.calls += 1
-        return reply
+        return self.ask(command)[0]
+
+    def moves(self):
+        """The commands that can fire now, as pairs of a process and a number."""
+        found = [MOVE.match(line) for line in self.ask("on")]
+        return [(move[1], int(move[2])) for move in found if move]
+
+    def is_nearly_full(self):
+        return self.calls > CALLS or self.bytes > BYTES
+
+    def close(self):
+        self.run.stdin.close()
+        self.run.stdout.close()
+        self.run.wait()
 
 
-def play(session, choices):
-    """Plays one schedule. The events, and whether the breakpoint halts."""
-    events = []
-    while len(events) < EVENTS:
-        for process, number in random.sample(choices, len(choices)):
-            reply = session.ask(f"step {process} {number}")
-            if reply[0] == "ok":
-                break
-        else:
-            return events, False  # no command of any process fires
+class Random:
+    """Any command, by the weight of its process."""
+
+    def __init__(self, chance, options, _moves):
+        self.chance, self.weights = chance, options.weight
+
+    def choose(self, moves):
+        return self.chance.choices(moves, [self.weights.get(process, 1) for process, _ in moves])[0]
+
+
+class Priorities:
+    """The process of the highest priority, which drops at random places."""
+
+    def __init__(self, chance, options, commands):
+        self.chance, self.number = chance, 0
+        processes = sorted({process for process, _ in commands})
+        chance.shuffle(processes)
+        self.priority = {process: place for place, process in enumerate(processes, 1)}
+        self.drops = sorted(chance.sample(range(options.length), min(options.changes, options.length)))
+
+    def choose(self, moves):
+        process = max((process for process, _ in moves), key=self.priority.get)
+        if self.number in self.drops:
+            self.priority[process] = -self.drops.index(self.number)
+            process = max((process for process, _ in moves), key=self.priority.get)
+        self.number += 1
+        return self.chance.choice([move for move in moves if move[0] == process])
+
+
+class Swarm:
+    """Some of the commands, by random weights. The others fire only if none of these can."""
+
+    def __init__(self, chance, _options, commands):
+        self.chance = chance
+        self.weights = {move: 2 ** chance.randrange(5) for move in commands if chance.random() < 0.5}
+
+    def choose(self, moves):
+        chosen = [move for move in moves if move in self.weights] or moves
+        return self.chance.choices(chosen, [self.weights.get(move, 1) for move in chosen])[0]
+
+
+STRATEGIES = {"random": Random, "priorities": Priorities, "swarm": Swarm}
+
+
+def play(session, strategy, options):
+    """Plays one schedule. Its events, and whether the breakpoint halts."""
+    events, counts = [], {}
+    while len(events) < options.length:
+        moves = [move for move in session.moves() if counts.get(move[0], 0) < options.at_most.get(move[0], options.length)]
+        if not moves:
+            break
+        process, number = strategy.choose(moves)
+        reply = session.give(f"step {process} {number}").split()
         events.append((process, number))
+        counts[process] = counts.get(process, 0) + 1
         if "halted" in reply[3:]:
             return events, True
     return events, False
 
 
-def reduce(session, name, events):
-    """Leaves out the last event of each process, again and again, as long as the breakpoint keeps its cut."""
-    cut, left, needed = session.ask(f"cut {name}"), list(events), set()
-    for place in reversed(range(len(events))):
-        process, _ = events[place]
-        if process in needed or session.ask(f"undo {process}")[0] == "no":
-            needed.add(process)  # an event behind it matters, or a message that it sent
-        elif session.ask(f"cut {name}") == cut:
-            del left[place]
+class Found:
+    """What a search found: the events that lead to the breakpoint's cut, or None; and how many schedules, events and seconds it took."""
+
+    def __init__(self):
+        self.events, self.played, self.schedules, self.seconds = None, 0, 0, 0.0
+
+
+def least(session, name, events):
+    """The events of the breakpoint's cut, which is the least global state that satisfies it. No other event is needed to get there."""
+    counts = {process: int(count) for process, count in re.findall(r"(\w+)=(\d+)", session.give(f"cut {name}"))}
+    made, kept = {}, []
+    for process, number in events:
+        made[process] = made.get(process, 0) + 1
+        if made[process] <= counts[process]:
+            kept.append((process, number))
+    return kept
+
+
+def search(rdbg, model, seed, options):
+    """Plays schedules until the breakpoint halts."""
+    chance, found, begun, session = random.Random(seed), Found(), time.monotonic(), None
+    while found.events is None and found.schedules < options.schedules:
+        if session is None:
+            session = Session(rdbg, model.program)
+            session.give(model.command)
+        strategy = STRATEGIES[options.strategy](chance, options, model.commands)
+        events, has_halted = play(session, strategy, options)
+        found.schedules, found.played = found.schedules + 1, found.played + len(events)
+        if has_halted:
+            found.events = least(session, model.name, events)
+        elif session.is_nearly_full():
+            session.close()
+            session = None
         else:
-            session.ask(f"redo {process}")
-            needed.add(process)
-    return left
+            for process in model.processes:
+                session.give(f"rollback {process} 0")
+    found.seconds = time.monotonic() - begun
+    if session:
+        session.close()
+    return found
 
 
-def main(file, seed="1"):
-    random.seed(int(seed))
-    program, _, lines = Path(file).read_text().partition("%%\n")
-    command = re.search(r"^\d+ (break (\w+) .*)$", lines, re.MULTILINE)
-    if not command:
-        sys.exit(f"{file}: behind the line %% there is no line `1 break NAME ..`")
-    parts = re.split(r"\bprocess\b", program)[1:]
-    processes = [(part.split()[0], len(re.findall(r"\bwhen\b", part))) for part in parts]
-    choices = [(process, number) for process, count in processes for number in range(count)]
-    session, schedules, halted = Session(program), 0, False
-    print(*session.ask(command[1]), file=sys.stderr)
-    while not halted and session.calls < CALLS and session.bytes < BYTES:
-        for process, _ in processes:
-            session.ask(f"rollback {process} 0")
-        events, halted = play(session, choices)
-        schedules += 1
-    print(f"{schedules} schedules, {session.calls} commands", file=sys.stderr)
-    if not halted:
-        sys.exit(f"no schedule of {EVENTS} events halted")
-    left = reduce(session, command[2], events)
-    print(f"{len(events)} events, of which {len(left)} matter", file=sys.stderr)
-    print(program + "%%\n1 " + command[1], *(f"1 step {process} {number}" for process, number in left), sep="\n")
+class Model:
+    """The program of a session, the command that sets the breakpoint, and what can be chosen."""
+
+    def __init__(self, file, name):
+        self.program, end, lines = Path(file).read_text(encoding="utf-8").partition("%%\n")
+        breaks = re.findall(r"^(?:\d+ )?(break (\w+) .*)$", lines, re.MULTILINE)
+        found = [(command, it) for command, it in breaks if name in (None, it)]
+        if not end or not found:
+            sys.exit(f"{file}: after a line %% there is no line `break {name or 'NAME'} ..`")
+        self.command, self.name = found[0]
+        parts = [(part.split()[0], len(re.findall(r"\bwhen\b", part))) for part in re.split(r"\bprocess\b", self.program)[1:]]
+        self.processes = [process for process, _ in parts]
+        self.commands = [(process, number) for process, count in parts for number in range(count)]
+
+    def session(self, events):
+        """The session that makes these events after the breakpoint is set."""
+        lines = [self.command, *(f"step {process} {number}" for process, number in events)]
+        return f"{self.program}%%\n" + "".join(f"1 {line}\n" for line in lines)
 
 
-main(*sys.argv[1:])
+def table_row(rdbg, file, options):
+    """A row of a table: how many of the seeds found the breakpoint, and the median of schedules and of seconds that this took."""
+    model = Model(file, options.breakpoint)
+    found = [search(rdbg, model, seed, options) for seed in range(options.seed, options.seed + options.seeds)]
+    halted = [it for it in found if it.events is not None]
+    rate = sum(it.schedules for it in found) / max(sum(it.seconds for it in found), 0.001)
+    medians = [f"{statistics.median(it.schedules for it in halted):.0f}", f"{statistics.median(it.seconds for it in halted):.2f}"] if halted else ["", ""]
+    return f"| {Path(file).stem} | {options.strategy} | {len(halted)} of {len(found)} | {medians[0]} | {medians[1]} | {rate:.0f} |"
+
+
+def pair(word):
+    name, _, number = word.partition("=")
+    if not name or not number.isdigit():
+        raise argparse.ArgumentTypeError(f"{word} is not of the form PROCESS=NUMBER")
+    return name, int(number)
+
+
+def arguments():
+    parser = argparse.ArgumentParser(description=__doc__, formatter_class=argparse.RawDescriptionHelpFormatter)
+    parser.add_argument("files", nargs="+", metavar="FILE")
+    parser.add_argument("--breakpoint", metavar="NAME", help="the breakpoint to look for (the first one)")
+    parser.add_argument("--strategy", choices=STRATEGIES, default="random")
+    parser.add_argument("--seed", type=int, default=1, help="of the random choices; the same seed plays the same schedules (1)")
+    parser.add_argument("--schedules", type=int, default=100_000, metavar="N", help="schedules to play at most (100,000)")
+    parser.add_argument("--length", type=int, default=100, metavar="N", help="events of a schedule at most (100)")
+    parser.add_argument("--changes", type=int, default=3, metavar="N", help="priorities: how often a priority drops (3)")
+    parser.add_argument("--weight", action="append", type=pair, default=[], metavar="P=N", help="random: choose P N times as often")
+    parser.add_argument("--at-most", action="append", type=pair, default=[], metavar="P=N", help="P makes at most N events")
+    parser.add_argument("--table", action="store_true", help="print a row for each FILE and strategy, with the medians over --seeds seeds")
+    parser.add_argument("--seeds", type=int, default=10, metavar="N", help="with --table (10)")
+    options = parser.parse_args()
+    options.weight, options.at_most = dict(options.weight), dict(options.at_most)
+    if len(options.files) > 1 and not options.table:
+        parser.error("several files need --table")
+    return options
+
+
+def main():
+    options, rdbg = arguments(), program_path()
+    if options.table:
+        print("| Example | Strategy | Found | Schedules | Seconds | Schedules a second |\n|---|---|---|---|---|---|")
+        for file in options.files:
+            for options.strategy in STRATEGIES:
+                print(table_row(rdbg, file, options), flush=True)
+        return
+    model = Model(options.files[0], options.breakpoint)
+    found = search(rdbg, model, options.seed, options)
+    rate = found.schedules / max(found.seconds, 0.001)
+    print(f"{found.schedules} schedules, {found.played} events, {rate:.0f} schedules a second", file=sys.stderr)
+    if found.events is None:
+        sys.exit(f"no schedule of at most {options.length} events halted")
+    print(f"{len(found.events)} events lead to the bad state", file=sys.stderr)
+    print(model.session(found.events), end="")
+
+
+main()

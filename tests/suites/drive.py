@@ -5,8 +5,15 @@ import sys
 
 from harness import TOP
 
+DRIVE = TOP / "examples/drive.py"
 EXAMPLES = ["lost_update", "token_duplicated", "two_phase_commit", "leader_election", "two_hands"]
-SEEDS = [1, 2]
+SEARCHES = [["--seed", "1"], ["--seed", "2"], ["--strategy", "priorities"], ["--strategy", "swarm"]]
+SECONDS = 600  # for one search
+
+
+def drive(suite, *words):
+    return subprocess.run([sys.executable, DRIVE, *words], stdin=subprocess.DEVNULL, stdout=subprocess.PIPE, stderr=subprocess.PIPE, text=True,
+                          env={**os.environ, "RDBG": suite.program}, cwd=TOP, timeout=SECONDS)
 
 
 def replies_problem(replies):
@@ -18,16 +25,28 @@ def replies_problem(replies):
     return f"refused: {refused[0]}" if refused else ""
 
 
-def drive(suite, example, seed):
+def search_problem(suite, example, words):
     """Lets drive.py find a bad state, and runs the session that it prints. Returns what is wrong, or an empty text."""
-    found = subprocess.run([sys.executable, TOP / "examples/drive.py", TOP / "examples" / f"{example}.rdbg", str(seed)], stdin=subprocess.DEVNULL,
-                           stdout=subprocess.PIPE, stderr=subprocess.PIPE, env={**os.environ, "RDBG": suite.program}, timeout=600)
+    found = drive(suite, f"examples/{example}.rdbg", *words)
     if found.returncode != 0:
-        return f"drive.py ended with status {found.returncode}\n{found.stderr.decode(errors='backslashreplace')}"
+        return f"drive.py ended with status {found.returncode}\n{found.stderr}"
     return replies_problem(suite.rdbg("run", given=found.stdout).output.decode().splitlines())
+
+
+def check_options(suite):
+    """A search that cannot succeed, a breakpoint that is chosen by name, weights and bounds."""
+    ran = drive(suite, "examples/two_phase_commit.rdbg", "--at-most", "coordinator=1", "--schedules", "20")
+    suite.case("a bounded search ends without a bad state", "" if ran.returncode == 1 and "20 schedules" in ran.stderr else ran.stderr)
+    ran = drive(suite, "examples/two_phase_commit.rdbg", "--breakpoint", "torn", "--weight", "left=3")
+    suite.case("a breakpoint is chosen by its name", "" if ran.returncode == 0 and "\n1 break torn " in ran.stdout else ran.stderr)
+    ran = drive(suite, "examples/two_phase_commit.rdbg", "--breakpoint", "missing")
+    suite.case("a breakpoint is missing", "" if ran.returncode == 1 and "there is no line `break missing .." in ran.stderr else ran.stderr)
+    ran = drive(suite, "--table", "--seeds", "2", "examples/lost_update.rdbg")
+    suite.case("a table has a row for each strategy", "" if ran.returncode == 0 and ran.stdout.count("| 2 of 2 |") == 3 else ran.stdout + ran.stderr)
 
 
 def run(suite):
     for example in EXAMPLES:
-        for seed in SEEDS:
-            suite.case(f"{example}, seed {seed}", drive(suite, example, seed))
+        for words in SEARCHES:
+            suite.case(" ".join([example, *words]), search_problem(suite, example, words))
+    check_options(suite)
