@@ -30,6 +30,10 @@ def program():
     return asked.stdout.strip() if asked.returncode == 0 else stop("build the program first: ./rdbg --prove")
 
 
+class Fault(Exception):
+    """What is wrong in a test that cannot continue."""
+
+
 class Ran(NamedTuple):
     """How a run of the program ended, and what it wrote."""
     status: int
@@ -69,6 +73,13 @@ class Suite:
         self.failed += 1
         print(f"FAILED {self.name}: {name}:", *str(problem).splitlines(), sep="\n  ", flush=True)
         return False
+
+    def attempt(self, name, find_problem, *given):
+        """A test that this function returns no problem and meets none."""
+        try:
+            return self.case(name, find_problem(*given))
+        except (Fault, OSError, subprocess.SubprocessError) as fault:
+            return self.case(name, f"{type(fault).__name__}: {fault}")
 
     def same(self, name, shown, wanted):
         """A test that two texts are the same. `shown` is what the program wrote."""

@@ -1,0 +1,56 @@
+"""The pictures of sessions: golden files, and pages that must know what the program answers.
+
+The pages of tests/pictures/, of examples/ and of 20 random sessions are replayed from what they know of each line. The state to which this
+leads, and the replies on the way, must be those of the program.
+"""
+from harness import TOP, Fault, sessions, temporary_folder
+from harness.page_data import FinalState, read_page
+from harness.random_sessions import random_session
+from harness.session import Session, draw, short_name
+
+RANDOM_SESSIONS = 20
+GOLDEN_PAGE = TOP / "docs" / "two_phase_commit.html"
+
+
+def shown_reasons(session, name):
+    """What an interactive session says after the last line of the eliminations of a breakpoint."""
+    question = f"1 why {name}"
+    lines = session.run([*session.calls.values(), question], "talk")
+    asked = max(number for number, line in enumerate(lines) if line == question)
+    return [line.strip() for line in lines[asked + 2:] if " has no state left " not in line]
+
+
+def wrong_answers(wanted, shown):
+    """One line for each question to which the page and the program have different answers."""
+    questions = [question for question in {**wanted, **shown} if wanted.get(question) != shown.get(question)]
+    return [f"{question}: the page has {shown.get(question)!r}, and the program {wanted.get(question)!r}" for question in questions]
+
+
+def page_problem(suite, file):
+    """What the page of a session knows wrongly."""
+    page, session = FinalState(read_page(draw(suite, "html", file).decode())), Session(suite, file)
+    end = len(session.lines)
+    replies = session.replies({end: list(page.answers)})
+    problems = wrong_answers(replies, {**page.replies, **{(end, question): answer for question, answer in page.answers.items()}})
+    problems += wrong_answers({name: shown_reasons(session, name) for name in page.reasons}, page.reasons)
+    return "\n".join(problems)
+
+
+def check_golden(suite, golden, form, file):
+    try:
+        suite.golden(golden, draw(suite, form, file))
+    except Fault as fault:
+        suite.case(short_name(golden), fault)
+
+
+def run(suite):
+    for file in sessions("tests/pictures"):
+        for form in ("text", "svg", "shiviz"):
+            check_golden(suite, file.with_suffix(f".{form}"), form, file)
+    check_golden(suite, GOLDEN_PAGE, "html", TOP / "examples" / "two_phase_commit.rdbg")
+    with temporary_folder() as room:
+        random_files = [room / f"random_{number}.rdbg" for number in range(RANDOM_SESSIONS)]
+        for number, file in enumerate(random_files):
+            file.write_text(random_session(number))
+        for file in [*sessions("tests/pictures", "examples"), *random_files]:
+            suite.attempt(f"the page of {short_name(file)}", page_problem, suite, file)
