@@ -1,0 +1,269 @@
+"""dist/install, and the man page, completions and editor files that it installs.
+
+It must install into an empty folder and beside other files, and remove no more than it installed. The words in these files must be those of
+the language and of the program's help. Tools that read the files are used if they are installed.
+"""
+import json
+import os
+import re
+import shutil
+import subprocess
+
+from harness import TOP, temporary_folder
+
+DIST = TOP / "dist"
+COMPLETIONS = DIST / "completions"
+# Files that are installed, and where.
+INSTALLED = {
+    "dist/rdbg.1": "share/man/man1/rdbg.1",
+    "dist/completions/rdbg.bash": "share/bash-completion/completions/rdbg",
+    "dist/completions/_rdbg": "share/zsh/site-functions/_rdbg",
+    "dist/completions/rdbg.fish": "share/fish/vendor_completions.d/rdbg.fish",
+    "dist/editors/README.md": "share/rdbg/editors/README.md",
+    "dist/editors/vim/syntax/rdbg.vim": "share/rdbg/editors/vim/syntax/rdbg.vim",
+    "dist/editors/vim/ftdetect/rdbg.vim": "share/rdbg/editors/vim/ftdetect/rdbg.vim",
+    "dist/editors/textmate/rdbg.tmLanguage.json": "share/rdbg/editors/textmate/rdbg.tmLanguage.json",
+    "examples/README.md": "share/rdbg/examples/README.md",
+    "examples/two_phase_commit.rdbg": "share/rdbg/examples/two_phase_commit.rdbg",
+}
+# A launcher whose program has yet to be proved.
+LAUNCHER = """#!/bin/sh
+folder=$(dirname "$0")
+case $1 in
+  --where) [ -e "$folder/proved" ] && echo "$folder/proved" || exit 2 ;;
+  --prove) cp '{program}' "$folder/proved" ;;
+esac
+"""
+# Words that languages often reserve, and names that programs often have.
+OTHER_WORDS = """as assert async bool box break case channel chan class const continue def do done else end enum event false fi fn for from func
+    function got goto guard if implies in init int invariant is let local loop match max message min mod nat new next nil none null of on or
+    out own private proc proof prove pub queue read receive recv ref repeat return run select self send sent set skip start state static
+    step then to true try type undo use value wait when where while with write x xor yield""".split()
+# A session, and what Vim shows at the first byte of each of its words.
+HIGHLIGHTED = """process a { when (sent(b) < 1) : send b 1; }
+process b { }
+%%
+# next
+1 break k a (sent(b) = 1)
+next a
+> ok a 0
+why k
+"""
+PLACES = [[1, 1], [1, 9], [1, 13], [1, 19], [1, 27], [1, 29], [1, 34], [1, 41], [3, 1], [4, 3], [5, 1], [5, 3], [5, 14], [6, 1], [7, 3], [8, 1]]
+GROUPS = """Keyword ProcessName Keyword Count Operator Number Action Number End Comment Seat Command Count Command Reply Question"""
+VIM_SCRIPT = """set nocompatible runtimepath^={editors}/vim
+filetype on
+syntax on
+edit {file}
+call writefile(map({places}, 'strpart(synIDattr(synID(v:val[0], v:val[1], 1), "name"), 4)'), '{groups}')
+qa!
+"""
+
+
+def output_of(*words, **environment):
+    """The status of a run, and what it wrote."""
+    ran = subprocess.run(
+        [str(word) for word in words], stdin=subprocess.DEVNULL, stdout=subprocess.PIPE, stderr=subprocess.STDOUT, text=True, cwd=TOP,
+        env={**os.environ, **environment})
+    return ran.returncode, ran.stdout
+
+
+def check_status(suite, name, due, *words, **environment):
+    """A test that a run ends with this status."""
+    status, output = output_of(*words, **environment)
+    return suite.case(name, "" if status == due else f"status {status}, not {due}\n{output[:1000]}")
+
+
+def check_words(suite, name, shown, wanted):
+    """A test that two lists have the same words."""
+    wanted = "\n".join(sorted(set(wanted))) or "(no words were found to compare with)"
+    return suite.same(name, "\n".join(sorted(set(shown))), wanted)
+
+
+def contents(folder):
+    """The files below a folder, and the folders without one."""
+    paths = sorted(folder.rglob("*"))
+    return "\n".join(str(path.relative_to(folder)) for path in paths if not path.is_dir() or not any(path.iterdir()))
+
+
+def check_installation(suite, prefix):
+    """Installs into an empty folder, again, and removes what was installed."""
+    install, named = DIST / "install", {"RDBG": suite.program}
+    record = prefix / "share" / "rdbg" / "installed"
+    if not check_status(suite, "install", 0, install, prefix, **named):
+        return
+    for source, path in {suite.program: "bin/rdbg", **INSTALLED}.items():
+        is_same = (TOP / source).read_bytes() == (prefix / path).read_bytes()
+        suite.case(f"the installed {path}", "" if is_same else f"it is not as {source}")
+    first = record.read_bytes()
+    check_status(suite, "install again", 0, install, prefix, **named)
+    suite.same("the record of a second install", record.read_bytes(), first)
+    check_status(suite, "remove", 0, install, "--remove", prefix)
+    suite.case("after a removal nothing is left", contents(prefix) if prefix.exists() else "")
+    check_status(suite, "a second removal", 1, install, "--remove", prefix)
+
+
+def check_other_files(suite, prefix):
+    """Files that dist/install did not install stay as they are."""
+    install, named = DIST / "install", {"RDBG": suite.program}
+    (prefix / "lib").mkdir(parents=True)
+    (prefix / "share" / "man" / "man1").mkdir(parents=True)
+    (prefix / "share" / "man" / "man1" / "other.1").write_text("other\n")
+    before = contents(prefix)
+    check_status(suite, "install beside other files", 0, install, prefix, **named)
+    check_status(suite, "remove beside other files", 0, install, "--remove", prefix)
+    suite.same("what a removal leaves beside other files", contents(prefix), before)
+    (prefix / "bin").mkdir()
+    (prefix / "bin" / "rdbg").write_text("other\n")
+    before = contents(prefix)
+    check_status(suite, "install over another file", 1, install, prefix, **named)
+    suite.same("what is there after a refused install", contents(prefix), before)
+    suite.same("the other file after a refused install", (prefix / "bin" / "rdbg").read_text(), "other\n")
+
+
+def check_usage(suite, room):
+    """Arguments that dist/install refuses, and the folder that it takes without one."""
+    install, named = DIST / "install", {"RDBG": suite.program}
+    check_status(suite, "install with an unknown option", 2, install, "--all", **named)
+    check_status(suite, "install with two folders", 2, install, room / "one", room / "two", **named)
+    check_status(suite, "install with an empty name", 2, install, "", **named)
+    check_status(suite, "remove with two folders", 2, install, "--remove", room / "one", room / "two", **named)
+    check_status(suite, "install without a folder", 0, install, HOME=str(room / "home"), **named)
+    suite.case("the default folder", "" if (room / "home" / ".local" / "bin" / "rdbg").exists() else contents(room / "home") or "it is empty")
+
+
+def check_launcher(suite, room):
+    """Where RDBG names no program, dist/install asks the launcher, and has it prove the program first."""
+    copy, prefix = room / "copy", room / "proved"
+    shutil.copytree(DIST, copy / "dist")
+    shutil.copytree(TOP / "examples", copy / "examples")
+    (copy / "rdbg").write_text(LAUNCHER.format(program=suite.program))
+    (copy / "rdbg").chmod(0o755)
+    for name in ("the program has yet to be proved", "the program is proved"):
+        check_status(suite, f"install where {name}", 0, copy / "dist" / "install", prefix, RDBG="")
+        output = output_of(prefix / "bin" / "rdbg", "--help")[1]
+        suite.case(f"the program installed where {name}", "" if "Command lines" in output else output or "it wrote nothing")
+
+
+def is_reserved(suite, word):
+    """Whether no variable can have this name."""
+    return suite.rdbg("check", given=f"process the_only_one {{ var {word} = 0; when true : {word} := ({word} + 1); }}").status == 3
+
+
+def check_reserved_words(suite):
+    """The reserved words, found by trying many words as the name of a variable."""
+    language = (TOP / "docs" / "language.md").read_text()
+    vim = (DIST / "editors" / "vim" / "syntax" / "rdbg.vim").read_text()
+    grammar = (DIST / "editors" / "textmate" / "rdbg.tmLanguage.json").read_text()
+    tried = set(re.findall(r"\b[a-z][a-z0-9_]{0,31}\b", language + vim + grammar)) | set(OTHER_WORDS)
+    reserved = [word for word in tried if is_reserved(suite, word)]
+    patterns = json.loads(grammar)["repository"]["words"]["patterns"]
+    check_words(suite, "the reserved words in docs/language.md", re.search(r"words are reserved: `([a-z ]+)`", language)[1].split(), reserved)
+    check_words(suite, "the reserved words in the Vim file", " ".join(re.findall(r"^syntax keyword \w+ (.*)", vim, re.M)).split(), reserved)
+    in_grammar = [word for pattern in patterns for word in re.search(r"\(([a-z|]+)\)", pattern["match"])[1].split("|")]
+    check_words(suite, "the reserved words in the TextMate grammar", in_grammar, reserved)
+
+
+def paragraph(text, title):
+    """The lines after the one that begins with this title, up to a blank one."""
+    lines = iter(text.splitlines())
+    for line in lines:
+        if line.startswith(title):
+            break
+    return list(iter(lambda: next(lines, ""), ""))
+
+
+def first_words(lines):
+    """The first words of the forms in the left column of the help."""
+    columns = [re.split(r" {2,}", line.strip())[0] for line in lines if re.match(r"  [a-z]", line)]
+    return [form.split()[0] for column in columns for form in column.split(",")]
+
+
+def manual_section(title):
+    """The source lines of a section of the man page."""
+    return (DIST / "rdbg.1").read_text().partition(f"\n.Sh {title}\n")[2].partition("\n.Sh ")[0]
+
+
+def check_command_lines(suite, help_text):
+    """The commands, questions and directives, and the numbers of refusals."""
+    shown = suite.rdbg("talk", given="process a { }\n%%\nhelp\n").output.decode()
+    words = first_words(paragraph(help_text, "Command lines")) + re.findall(r"`([a-z]+)", shown)
+    vim = (DIST / "editors" / "vim" / "syntax" / "rdbg.vim").read_text()
+    in_vim = re.findall(r"^syntax match rdbg(?:Command|Question|OwnWord) .*@<=\\%\(([a-z\\|]+)\\\)", vim, re.M)
+    check_words(suite, "the words of command lines in the Vim file", [word for words in in_vim for word in words.split("\\|")], words)
+    grammar = json.loads((DIST / "editors" / "textmate" / "rdbg.tmLanguage.json").read_text())
+    matches = " ".join(pattern["match"] for pattern in grammar["repository"]["commands"]["patterns"])
+    in_grammar = [word for words in re.findall(r"\(([a-z|]+)\)", matches) for word in words.split("|")]
+    check_words(suite, "the words of command lines in the TextMate grammar", in_grammar, words)
+    in_manual = re.findall(r"^\.It Ic ([a-z]+)", manual_section("COMMAND LINES"), re.M)
+    check_words(suite, "the words of command lines in the man page", in_manual, words)
+    numbers = [line.split()[0] for line in paragraph(help_text, "Refusals")]
+    check_words(suite, "the refusals in the man page", re.findall(r"^\.It (\d+)$", manual_section("REFUSALS"), re.M), numbers)
+
+
+def complete_in_bash(*words):
+    script = f'source {COMPLETIONS}/rdbg.bash; COMP_WORDS=("$@"); COMP_CWORD=$(($# - 1)); _rdbg 2>/dev/null; echo "${{COMPREPLY[*]}}"'
+    return output_of("bash", "-c", script, "-", *words)[1].split()
+
+
+def complete_in_fish(*words):
+    script = f"source {COMPLETIONS}/rdbg.fish; complete -C '{' '.join(words)}'"
+    return [line.split("\t")[0] for line in output_of("fish", "--no-config", "-c", script)[1].splitlines()]
+
+
+def complete_in_zsh(word):
+    """The options of a command in the file. (Without a terminal zsh completes nothing.)"""
+    line = re.search(rf"^ +\S*\b{word}\b\S*\) _arguments .*", (COMPLETIONS / "_rdbg").read_text(), re.M)
+    return re.findall(r"--[a-z]+", line[0]) if line else []
+
+
+def check_completions(suite, words):
+    """The program's commands in the man page and the completions, and the options of each command."""
+    check_words(suite, "the commands in the man page", re.findall(r"^\.Cm ([a-z]+)$", manual_section("SYNOPSIS"), re.M), words)
+    check_words(suite, "the commands in bash", complete_in_bash("rdbg", ""), [*words, "--help"])
+    check_words(suite, "the commands in zsh", re.findall(r"^    '([a-z]+):", (COMPLETIONS / "_rdbg").read_text(), re.M), words)
+    check_words(suite, "the commands in fish", re.search(r"^set -l words (.*)", (COMPLETIONS / "rdbg.fish").read_text(), re.M)[1].split(), words)
+    options = {word: re.findall(r"--[a-z]+", suite.rdbg(word, "--help").output.decode()) for word in words if word != "help"}
+    for word, wanted in options.items():
+        check_words(suite, f"the options of {word} in bash", complete_in_bash("rdbg", word, "--"), wanted)
+        check_words(suite, f"the options of {word} in zsh", complete_in_zsh(word), wanted)
+    if suite.needs("fish", "the options of commands in fish"):
+        for word, wanted in options.items():
+            check_words(suite, f"the options of {word} in fish", complete_in_fish("rdbg", word, "--"), wanted)
+
+
+def check_examples(suite, room):
+    """The first two examples in the man page are a session and its replies. Each form of a picture that bash offers can be drawn."""
+    session, replies = re.findall(r"^\.Bd -literal.*\n((?:.*\n)*?)\.Ed", manual_section("EXAMPLES"), re.M)[:2]
+    (room / "session.rdbg").write_text(session)
+    suite.same("the example in the man page", suite.rdbg("run", room / "session.rdbg").output.decode(), replies)
+    for form in complete_in_bash("rdbg", "draw", "--as", "") or ["(none)"]:
+        check_status(suite, f"the form {form} of a picture", 0, suite.program, "draw", "--as", form, room / "session.rdbg")
+
+
+def check_highlighting(suite, room):
+    (room / "shown.rdbg").write_text(HIGHLIGHTED)
+    script = VIM_SCRIPT.format(editors=DIST / "editors", file=room / "shown.rdbg", places=PLACES, groups=room / "groups")
+    (room / "script.vim").write_text(script)
+    output_of("vim", "-u", "NONE", "-i", "NONE", "-es", "-S", room / "script.vim")
+    shown = (room / "groups").read_text() if (room / "groups").exists() else "(nothing)"
+    suite.same("the highlighting in Vim", shown.strip(), "\n".join(GROUPS.split()))
+
+
+def run(suite):
+    help_text = suite.rdbg("--help").output.decode()
+    with temporary_folder() as room:
+        check_installation(suite, room / "empty")
+        check_other_files(suite, room / "other")
+        check_usage(suite, room)
+        check_launcher(suite, room)
+        check_examples(suite, room)
+        check_reserved_words(suite)
+        check_command_lines(suite, help_text)
+        check_completions(suite, first_words(paragraph(help_text, "Commands:")))
+        if suite.needs("mandoc", "the man page"):
+            check_status(suite, "the man page", 0, "mandoc", "-T", "lint", DIST / "rdbg.1")
+        if suite.needs("zsh", "the syntax of the completion for zsh"):
+            check_status(suite, "the syntax of the completion for zsh", 0, "zsh", "-n", COMPLETIONS / "_rdbg")
+        if suite.needs("vim", "the highlighting in Vim"):
+            check_highlighting(suite, room)
