@@ -5,6 +5,7 @@ import shutil
 import subprocess
 import sys
 import tempfile
+import traceback
 from contextlib import contextmanager
 from pathlib import Path
 from typing import NamedTuple
@@ -75,11 +76,14 @@ class Suite:
         return False
 
     def attempt(self, name, find_problem, *given):
-        """A test that this function returns no problem and meets none."""
+        """A test that this function returns no problem and raises no exception."""
         try:
-            return self.case(name, find_problem(*given))
-        except (Fault, OSError, subprocess.SubprocessError) as fault:
-            return self.case(name, f"{type(fault).__name__}: {fault}")
+            problem = find_problem(*given)
+        except Fault as fault:
+            problem = fault
+        except Exception:
+            problem = traceback.format_exc()
+        return self.case(name, problem)
 
     def same(self, name, shown, wanted):
         """A test that two texts are the same. `shown` is what the program wrote."""
