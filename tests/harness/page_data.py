@@ -32,6 +32,7 @@ class Replay:
         self.processes = [([], []) for _ in data["processes"]]  # of each its events, and the choices that it can make again
         self.kept = []  # `processes` before each accepted command, for `back`
         self.breakpoints = []  # of each its name, whether it is armed, and its eliminations
+        self.halting = None  # the breakpoint that halts the session
         self.replies = {}
         for number, (line, reply, *operations) in enumerate(data["lines"][:-1], 1):
             if not line.strip().startswith("#"):
@@ -44,6 +45,8 @@ class Replay:
             self.kept.append(list(self.processes))
         for kind, *given in operations:
             self.OPERATIONS[kind](self, *given)
+        if reply.startswith("ok"):
+            require(self.halting == (reply.partition(" halted ")[2] or None), self.halting, "halts after line", number, "and not", reply)
 
     def make(self, p, *event):
         self.processes[p] = (self.processes[p][0] + [event], [])
@@ -79,9 +82,11 @@ class Replay:
             require(count <= len(trail) and (count or numbers), "the search of", name)
             self.breakpoints[i] = (name, armed, trail[:count] + eliminations(numbers))
 
+    def halt(self, name):
+        self.halting = name
+
     OPERATIONS = {
-        "e": make, "r": make_again, "u": undo, "p": undo_all_to, "b": go_back, "l": batch, "m": set_breakpoints, "c": search,
-        "h": lambda self, name: None}
+        "e": make, "r": make_again, "u": undo, "p": undo_all_to, "b": go_back, "l": batch, "m": set_breakpoints, "c": search, "h": halt}
 
 
 class FinalState:
