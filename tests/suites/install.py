@@ -1,6 +1,6 @@
 """dist/install, and the man page, completions and editor files that it installs.
 
-It must install into an empty folder and beside other files, and remove no more than it installed. The words in these files must be those of
+It must install into an empty folder and next to other files, and remove no more than it installed. The words in these files must be those of
 the language and of the program's help. Tools that read the files are used if they are installed.
 """
 import json
@@ -110,9 +110,9 @@ def check_other_files(suite, prefix):
     (prefix / "share" / "man" / "man1").mkdir(parents=True)
     (prefix / "share" / "man" / "man1" / "other.1").write_text("other\n")
     before = contents(prefix)
-    check_status(suite, "install beside other files", 0, install, prefix, **named)
-    check_status(suite, "remove beside other files", 0, install, "--remove", prefix)
-    suite.same("what a removal leaves beside other files", contents(prefix), before)
+    check_status(suite, "install next to other files", 0, install, prefix, **named)
+    check_status(suite, "remove next to other files", 0, install, "--remove", prefix)
+    suite.same("what a removal leaves next to other files", contents(prefix), before)
     (prefix / "bin").mkdir()
     (prefix / "bin" / "rdbg").write_text("other\n")
     before = contents(prefix)

@@ -375,7 +375,9 @@ def large_problem(suite, browser, room):
     replies = suite.rdbg("run", file).output.decode().splitlines()
     if len(replies) != LARGE or any(reply.startswith("no ") for reply in replies) or sum(reply.endswith(" halted k") for reply in replies) != 1:
         return "the program does not answer its session as the test expects"
+    begun = time.monotonic()
     page_file.write_bytes(draw(suite, "html", file))
+    print(f"rdbg draws a page of {LARGE} lines in {milliseconds(begun)} ms; it has {page_file.stat().st_size} bytes")
     begun = time.monotonic()
     page = Page(browser, page_file, *PASSES[0][:3])
     opening = milliseconds(begun)
@@ -383,8 +385,7 @@ def large_problem(suite, browser, room):
     steps = large_steps(page)
     longest, what = max(steps)
     middle = sorted(steps)[len(steps) // 2][0]
-    print(f"a page of {LARGE} lines ({page_file.stat().st_size} bytes) opens in {opening} ms;")
-    print(f"of {len(steps)} steps the longest takes {longest} ms ({what}), and half take at most {middle} ms", flush=True)
+    print(f"the page opens in {opening} ms; of {len(steps)} steps the longest takes {longest} ms ({what}), and half take at most {middle} ms", flush=True)
     faults = page.faults + browser.complaints() + [f"{what} takes {taken} ms" for taken, what in steps if taken > LARGEST_STEP]
     return shortened(faults + ([f"opening takes {opening} ms"] if opening > LARGEST_OPENING else []))
 
