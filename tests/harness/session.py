@@ -19,9 +19,9 @@ def short_name(file):
     return str(file.relative_to(TOP)) if TOP in file.parents else str(file)
 
 
-def draw(suite, form, file):
+def draw(suite, form, file, **options):
     """A session as a picture. The program runs at the top of the repository."""
-    ran = suite.rdbg("draw", "--as", form, short_name(file))
+    ran = suite.rdbg("draw", "--as", form, short_name(file), **options)
     if ran.status != 0:
         raise Fault(f"rdbg draw --as {form}: status {ran.status} {ran.errors.decode(errors='replace')}")
     return ran.output

@@ -348,6 +348,7 @@ def page_problem(suite, browser, file, page_file):
 LARGE, HALTING = 100_000, 6_000  # lines, and the turn in which the breakpoint halts
 RING = "abcdef"
 LARGEST_OPENING, LARGEST_STEP = 5000, 200  # milliseconds
+LARGE_TIMEOUT = 1200  # seconds of a run; a program that is built with checks is slow
 
 
 def large_session():
@@ -372,11 +373,11 @@ def large_problem(suite, browser, room):
     """What is wrong with a page of 100,000 lines, and how long its opening and its steps take."""
     file, page_file = room / "large.rdbg", room / "large.html"
     file.write_text(large_session())
-    replies = suite.rdbg("run", file).output.decode().splitlines()
+    replies = suite.rdbg("run", file, timeout=LARGE_TIMEOUT).output.decode().splitlines()
     if len(replies) != LARGE or any(reply.startswith("no ") for reply in replies) or sum(reply.endswith(" halted k") for reply in replies) != 1:
         return "the program does not answer its session as the test expects"
     begun = time.monotonic()
-    page_file.write_bytes(draw(suite, "html", file))
+    page_file.write_bytes(draw(suite, "html", file, timeout=LARGE_TIMEOUT))
     print(f"rdbg draws a page of {LARGE} lines in {milliseconds(begun)} ms; it has {page_file.stat().st_size} bytes")
     begun = time.monotonic()
     page = Page(browser, page_file, *PASSES[0][:3])
