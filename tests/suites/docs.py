@@ -10,10 +10,10 @@ from harness import TOP, temporary_folder
 
 # The documents with blocks, and those that have links alone.
 WITH_BLOCKS = ["README.md", "docs/*.md", "examples/README.md"]
-LINKED = ["CONTRIBUTING.md", "crates/*/README.md", "editors/README.md", "dist/editors/README.md"]
+LINKED = ["CONTRIBUTING.md", "crates/*/README.md", "dist/editors/README.md"]
 # A document of these folders is installed with the files of its folder that have these endings (or all files) and no others.
 INSTALLED = {"examples": (".rdbg", ".md"), "editors": ("",)}
-MAN_PAGE = ["docs/rdbg.1", "dist/rdbg.1"]  # where it may be
+MAN_PAGE = TOP / "dist/rdbg.1"
 ERROR_LINES = 8  # at most, of a block that is wrong
 
 LINK = re.compile(r"""\]\(<?([^)\s>]+)>?(?:\s+"[^"]*")?\)|^\[[^\]]+\]:\s+(\S+)|\b(?:href|src)="([^"]+)\"""", re.MULTILINE)
@@ -94,10 +94,10 @@ def dead_links(document):
             yield f"line {prose.count(chr(10), 0, link.start()) + 1}: {target}: {problem}"
 
 
-def dead_paths(man_page):
-    """The paths of a man page below PREFIX/share/rdbg/ that are not installed from a folder of the repository."""
+def dead_paths():
+    """The paths of the man page below PREFIX/share/rdbg/ that are not installed from a folder of the repository."""
     begin = "PREFIX/share/rdbg/"
-    for path in re.findall(r"\.Pa (PREFIX\S*)", man_page.read_text(encoding="utf-8")):
+    for path in re.findall(r"\.Pa (PREFIX\S*)", MAN_PAGE.read_text(encoding="utf-8")):
         below = path[len(begin):]
         if not path.startswith(begin) or not any((TOP / folder / below).exists() for folder in (".", "dist")):
             yield f"{path}: nothing is installed there"
@@ -112,5 +112,4 @@ def run(suite):
                     check_block(suite, document, block, room)
     for document in documents(WITH_BLOCKS + LINKED):
         suite.case(f"links of {document.relative_to(TOP)}", "\n".join(dead_links(document)))
-    for man_page in documents(MAN_PAGE):
-        suite.case(f"paths of {man_page.relative_to(TOP)}", "\n".join(dead_paths(man_page)))
+    suite.case(f"paths of {MAN_PAGE.relative_to(TOP)}", "\n".join(dead_paths()))
