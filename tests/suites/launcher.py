@@ -11,7 +11,8 @@ from pathlib import Path
 from harness import TOP, temporary_folder
 
 CRATES = "low:\nhigh: low\nrdbg: high low\n"
-UNPROVED = "rdbg: not proved yet: running the same sources without a proof takes about a minute; `./rdbg --prove` proves and builds the program\n"
+UNPROVED = ("rdbg: not proved yet: once all input is read, the same sources run without a proof, in about a minute; "
+            "./rdbg --prove proves the program\n")
 
 
 class Repository:
@@ -30,10 +31,12 @@ class Repository:
             source.write_text(f"// {name}\n")
         shutil.copy(Path(__file__).with_name("fake_rt.py"), self.bin / "rt")
 
+    def environment(self, **variables):
+        return {**os.environ, "PATH": f"{self.bin}:{os.environ['PATH']}", "FAKE_KEPT": str(self.kept), **variables}
+
     def start(self, *words, given=subprocess.DEVNULL, **variables):
-        environment = {**os.environ, "PATH": f"{self.bin}:{os.environ['PATH']}", "FAKE_KEPT": str(self.kept), **variables}
-        return subprocess.Popen([self.top / "rdbg", *words], stdin=given, stdout=subprocess.PIPE, stderr=subprocess.PIPE, env=environment,
-                                cwd=self.top.parent, text=True)
+        return subprocess.Popen([self.top / "rdbg", *words], stdin=given, stdout=subprocess.PIPE, stderr=subprocess.PIPE,
+                                env=self.environment(**variables), cwd=self.top.parent, text=True)
 
     def rdbg(self, *words, given="", **variables):
         """The status of a run, its output and its errors."""
@@ -44,7 +47,8 @@ class Repository:
     def at_terminal(self, *words):
         """The status of a run at a terminal, and what the terminal shows."""
         master, terminal = pty.openpty()
-        started = subprocess.Popen([self.top / "rdbg", *words], stdin=terminal, stdout=terminal, stderr=terminal)
+        started = subprocess.Popen([self.top / "rdbg", *words], stdin=terminal, stdout=terminal, stderr=terminal, env=self.environment(),
+                                   cwd=self.top.parent)
         os.close(terminal)
         shown = b""
         while True:
@@ -74,6 +78,8 @@ def try_unproved(suite, repository):
     status, shown = repository.at_terminal("talk")
     problem = "" if status == 2 and len(shown.splitlines()) == 2 and "--prove" in shown and "without a proof" in shown else f"status {status}\n{shown}"
     suite.case("no program: a terminal gets two lines, and nothing begins", problem)
+    status, shown = repository.at_terminal("test", "session.rdbg")
+    suite.case("no program: what does not read the terminal runs there", "" if status == 3 and "session.rdbg: a session" in shown else shown)
     suite.same("no program: a missing toolchain", repr(without_toolchain(repository)),
                repr((2, "", "rdbg: the toolchain is missing: put its bin/ on the PATH (README.md)\n")))
 
