@@ -10,6 +10,9 @@ from harness import temporary_folder
 PROGRAM = "process a { var x = 0; when true : x := (x + 1); }\n"
 # Its replies are more than a pipe holds.
 SESSION = PROGRAM + "%%\n" + 20_000 * "1 next a\n"
+# What reads a program alone, and what reads a session.
+READ_PROGRAM = ["check", "check --explain", "crew --turns 3"]
+READ_SESSION = ["run", "talk", *(f"draw --as {form}" for form in ("text", "svg", "html", "shiviz"))]
 
 
 def start(suite, words, source, sink):
@@ -30,16 +33,18 @@ def run(suite):
     with temporary_folder() as room:
         (room / "program").write_text(PROGRAM)
         (room / "session").write_text(SESSION)
-        for words in (["run"], ["check"], ["crew", "--turns", "3"]):
-            name, given = " ".join(words), room / ("session" if words == ["run"] else "program")
-            with open(given, "rb") as source, open("/dev/full", "wb") as full:
-                check_end(suite, f"{name}, where the output is full", start(suite, words, source, full))
+        for words in READ_PROGRAM + READ_SESSION:
+            with open(room / ("session" if words in READ_SESSION else "program"), "rb") as source, open("/dev/full", "wb") as full:
+                check_end(suite, f"{words}, where the output is full", start(suite, words.split(), source, full))
             folder = os.open(room, os.O_RDONLY)  # (opens, but cannot be read)
-            check_end(suite, f"{name}, where the input cannot be read", start(suite, words, folder, subprocess.PIPE))
+            check_end(suite, f"{words}, where the input cannot be read", start(suite, words.split(), folder, subprocess.PIPE))
             os.close(folder)
-        with open(room / "session", "rb") as source:
-            ran = start(suite, ["run"], source, subprocess.PIPE)
-            first = ran.stdout.readline()
-            ran.stdout.close()
-            ran.stdout = None
-            check_end(suite, "run, where the reader of the output has gone", ran, b"ok a 0\n", first)
+        with open("/dev/full", "wb") as full:
+            check_end(suite, "test, where the output is full", start(suite, ["test", room / "session"], subprocess.DEVNULL, full))
+        for words, first_line in (("run", b"ok a 0\n"), ("talk", b"1 next a\n")):
+            with open(room / "session", "rb") as source:
+                ran = start(suite, [words], source, subprocess.PIPE)
+                first = ran.stdout.readline()
+                ran.stdout.close()
+                ran.stdout = None
+                check_end(suite, f"{words}, where the reader of the output has gone", ran, first_line, first)
