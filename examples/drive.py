@@ -1,8 +1,10 @@
 #!/usr/bin/env python3
 """Searches for a bad state: plays schedules of a protocol until a breakpoint halts, and prints the least session that leads there.
 
-FILE is a session: a program, a line `%%`, and after it a line `break NAME ..`, with or without a seat. rdbg itself searches nothing; this
-script chooses each step by one of three strategies:
+  drive.py FILE > found && rdbg talk < found
+
+FILE is a session: a program, a line `%%`, and after it a line `break NAME ..`, with or without a seat. The script sets this breakpoint and
+ignores all other lines after the program. rdbg itself searches nothing; this script chooses each step by one of three strategies:
 
   random      any command that can fire, each as likely as the next (or by --weight)
   priorities  processes have random priorities, and the first that can fire moves; at a few random places the priority of one drops below all
@@ -10,8 +12,11 @@ script chooses each step by one of three strategies:
               ASPLOS 2010)
   swarm       each schedule leaves out a random half of the commands as long as others can fire, and gives the rest random weights
               (Groce, Zhang, Eide, Chen, Regehr: Swarm testing, ISSTA 2012)
+
+The status is 0 if a schedule halted, 1 if none did or the search could not run, and 2 for a usage error. Ctrl-C ends a search early.
 """
 import argparse
+import math
 import os
 import random
 import re
@@ -37,26 +42,44 @@ class Session:
     """An interactive session at the other end of a pipe."""
 
     def __init__(self, rdbg, program):
-        self.run = subprocess.Popen([rdbg, "talk"], stdin=subprocess.PIPE, stdout=subprocess.PIPE, text=True)
-        self.calls, self.bytes = 0, len(program) + 3
-        self.run.stdin.write(f"{program}%%\n")
+        try:
+            # (in a session of its own, so that Ctrl-C reaches this script alone)
+            self.run = subprocess.Popen([rdbg, "talk"], stdin=subprocess.PIPE, stdout=subprocess.PIPE, text=True, start_new_session=True)
+        except OSError as error:
+            sys.exit(f"drive.py: {rdbg} cannot be run: {error.strerror}")
+        self.calls, self.bytes = 0, 0
+        self.send(f"{program}%%\n")
+
+    def send(self, text):
+        self.bytes += len(text)
+        try:
+            self.run.stdin.write(text)
+            self.run.stdin.flush()
+        except BrokenPipeError:
+            pass  # (rdbg has ended; what it wrote before says why)
 
     def ask(self, line):
-        """What the session writes for a line: the line itself, the reply to a command, and explanations, which begin with two blanks."""
-        # (the comment after the line is written once all of that was)
-        self.bytes += self.run.stdin.write(f"{line}\n#\n")
-        self.run.stdin.flush()
+        """What the session writes for a line after the line itself: the reply to a command, and explanations, which begin with two blanks."""
+        self.send(f"{line}\n#\n")  # (rdbg writes the comment once it has written all of that)
         written = []
         for text in self.run.stdout:
             if text == "#\n":
                 return written[1:]
             written.append(text.rstrip("\n"))
-        return sys.exit("drive.py: rdbg has ended: " + " ".join(written[:2]))
+        return sys.exit("\n".join(["drive.py: rdbg has ended", *written]))
 
     def give(self, command):
         """The reply to a command."""
         self.calls += 1
         return self.ask(command)[0]
+
+    def set_breakpoint(self, command):
+        """Whether the session halts at once, because the breakpoint holds before any event. Ends the script if the breakpoint is refused."""
+        self.calls += 1
+        reply, *explanation = self.ask(command)
+        if not reply.startswith("ok"):
+            sys.exit("\n".join([f"drive.py: {command}", reply, *explanation]))
+        return "halted" in reply
 
     def moves(self):
         """The commands that can fire now, as pairs of a process and a number."""
@@ -136,7 +159,10 @@ class Found:
     """What a search found: the events that lead to the breakpoint's cut, or None; and how many schedules, events and seconds it took."""
 
     def __init__(self):
-        self.events, self.played, self.schedules, self.seconds = None, 0, 0, 0.0
+        self.events, self.played, self.schedules, self.begun, self.seconds = None, 0, 0, time.monotonic(), 0.0
+
+    def summary(self):
+        return f"{self.schedules:,} schedules, {self.played:,} events, {self.schedules / max(self.seconds, 0.001):.0f} schedules a second"
 
 
 def least(session, name, events):
@@ -150,16 +176,48 @@ def least(session, name, events):
     return kept
 
 
+class Progress:
+    """Shows at a terminal, once a second, how far a search is."""
+
+    def __init__(self):
+        self.is_terminal, self.shown = sys.stderr.isatty(), 0.0
+
+    def show(self, found):
+        if self.is_terminal and found.seconds >= self.shown + 1:
+            self.shown = found.seconds
+            print(f"\r\033[K{found.summary()}", end="", file=sys.stderr, flush=True)
+
+    def clear(self):
+        if self.is_terminal and self.shown:
+            print("\r\033[K", end="", file=sys.stderr, flush=True)
+
+
 def search(rdbg, model, seed, options):
-    """Plays schedules until the breakpoint halts."""
-    chance, found, begun, session = random.Random(seed), Found(), time.monotonic(), None
-    while found.events is None and found.schedules < options.schedules:
+    """Plays schedules until the breakpoint halts, the time is over, or Ctrl-C is pressed."""
+    found, progress = Found(), Progress()
+    try:
+        play_schedules(rdbg, model, random.Random(seed), options, found, progress)
+    except KeyboardInterrupt:
+        if options.table:
+            raise
+    found.seconds = time.monotonic() - found.begun
+    progress.clear()
+    return found
+
+
+def play_schedules(rdbg, model, chance, options, found, progress):
+    """The work of `search`. It keeps in `found` what was done so far."""
+    session = None
+    while found.events is None and found.schedules < options.schedules and found.seconds < options.seconds:
         if session is None:
             session = Session(rdbg, model.program)
-            session.give(model.command)
+            if session.set_breakpoint(model.command):
+                found.events = []
+                break
         strategy = STRATEGIES[options.strategy](chance, options, model.commands)
         events, has_halted = play(session, strategy, options)
-        found.schedules, found.played = found.schedules + 1, found.played + len(events)
+        found.schedules, found.played, found.seconds = found.schedules + 1, found.played + len(events), time.monotonic() - found.begun
+        progress.show(found)
         if has_halted:
             found.events = least(session, model.name, events)
         elif session.is_nearly_full():
@@ -168,21 +226,24 @@ def search(rdbg, model, seed, options):
         else:
             for process in model.processes:
                 session.give(f"rollback {process} 0")
-    found.seconds = time.monotonic() - begun
     if session:
         session.close()
-    return found
 
 
 class Model:
     """The program of a session, the command that sets the breakpoint, and what can be chosen."""
 
     def __init__(self, file, name):
-        self.program, end, lines = Path(file).read_text(encoding="utf-8").partition("%%\n")
+        try:
+            text = Path(file).read_text(encoding="utf-8")
+        except (OSError, UnicodeDecodeError) as error:
+            sys.exit(f"drive.py: {file} cannot be read: {getattr(error, 'strerror', 'it is not valid UTF-8')}")
+        self.file = file
+        self.program, end, lines = text.partition("%%\n")
         breaks = re.findall(r"^(?:\d+ )?(break (\w+) .*)$", lines, re.MULTILINE)
         found = [(command, it) for command, it in breaks if name in (None, it)]
         if not end or not found:
-            sys.exit(f"{file}: after a line %% there is no line `break {name or 'NAME'} ..`")
+            sys.exit(f"drive.py: {file}: after a line %% there is no line `break {name or 'NAME'} ..`")
         self.command, self.name = found[0]
         parts = [(part.split()[0], len(re.findall(r"\bwhen\b", part))) for part in re.split(r"\bprocess\b", self.program)[1:]]
         self.processes = [process for process, _ in parts]
@@ -194,14 +255,13 @@ class Model:
         return f"{self.program}%%\n" + "".join(f"1 {line}\n" for line in lines)
 
 
-def table_row(rdbg, file, options):
+def table_row(rdbg, model, options):
     """A row of a table: how many of the seeds found the breakpoint, and the median of schedules and of seconds that this took."""
-    model = Model(file, options.breakpoint)
     found = [search(rdbg, model, seed, options) for seed in range(options.seed, options.seed + options.seeds)]
     halted = [it for it in found if it.events is not None]
     rate = sum(it.schedules for it in found) / max(sum(it.seconds for it in found), 0.001)
     medians = [f"{statistics.median(it.schedules for it in halted):.0f}", f"{statistics.median(it.seconds for it in halted):.2f}"] if halted else ["", ""]
-    return f"| {Path(file).stem} | {options.strategy} | {len(halted)} of {len(found)} | {medians[0]} | {medians[1]} | {rate:.0f} |"
+    return f"| {Path(model.file).stem} | {options.strategy} | {len(halted)} of {len(found)} | {medians[0]} | {medians[1]} | {rate:.0f} |"
 
 
 def pair(word):
@@ -218,6 +278,7 @@ def arguments():
     parser.add_argument("--strategy", choices=STRATEGIES, default="random")
     parser.add_argument("--seed", type=int, default=1, help="of the random choices; the same seed plays the same schedules (1)")
     parser.add_argument("--schedules", type=int, default=100_000, metavar="N", help="schedules to play at most (100,000)")
+    parser.add_argument("--seconds", type=float, default=math.inf, metavar="N", help="begin no schedule after N seconds (no limit)")
     parser.add_argument("--length", type=int, default=100, metavar="N", help="events of a schedule at most (100)")
     parser.add_argument("--changes", type=int, default=3, metavar="N", help="priorities: how often a priority drops (3)")
     parser.add_argument("--weight", action="append", type=pair, default=[], metavar="P=N", help="random: choose P N times as often")
@@ -233,20 +294,26 @@ def arguments():
 
 def main():
     options, rdbg = arguments(), program_path()
+    models = [Model(file, options.breakpoint) for file in options.files]
+    for process in [*options.weight, *options.at_most]:
+        if not any(process in model.processes for model in models):
+            sys.exit(f"drive.py: no process has the name {process}")
     if options.table:
         print("| Example | Strategy | Found | Schedules | Seconds | Schedules a second |\n|---|---|---|---|---|---|")
-        for file in options.files:
+        for model in models:
             for options.strategy in STRATEGIES:
-                print(table_row(rdbg, file, options), flush=True)
+                print(table_row(rdbg, model, options), flush=True)
         return
-    model = Model(options.files[0], options.breakpoint)
+    model = models[0]
     found = search(rdbg, model, options.seed, options)
-    rate = found.schedules / max(found.seconds, 0.001)
-    print(f"{found.schedules} schedules, {found.played} events, {rate:.0f} schedules a second", file=sys.stderr)
+    print(found.summary(), file=sys.stderr)
     if found.events is None:
         sys.exit(f"no schedule of at most {options.length} events halted")
-    print(f"{len(found.events)} events lead to the bad state", file=sys.stderr)
+    print(f"events that lead to the bad state: {len(found.events)}", file=sys.stderr)
     print(model.session(found.events), end="")
 
 
-main()
+try:
+    main()
+except KeyboardInterrupt:
+    sys.exit(130)
