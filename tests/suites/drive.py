@@ -3,12 +3,22 @@ import os
 import subprocess
 import sys
 
-from harness import TOP
+from harness import TOP, temporary_folder
 
 DRIVE = TOP / "examples/drive.py"
 EXAMPLES = ["lost_update", "token_duplicated", "two_phase_commit", "leader_election", "two_hands"]
 SEARCHES = [["--seed", "1"], ["--seed", "2"], ["--strategy", "priorities"], ["--strategy", "swarm"]]
 SECONDS = 600  # for one search
+
+COUNTER = "process a { var x = 0; when (x < 3) : x := (x + 1); }"
+# What a file has, further arguments, the status, and what stands on standard error.
+EDGES = [
+    ("a refused breakpoint", f"{COUNTER}\n%%\nbreak bad a (y = 1)\n", [], 1, "drive.py: break bad a (y = 1)\nno "),
+    ("a refused program", "process a { var }\n%%\nbreak bad a (x = 1)\n", [], 1, "drive.py: rdbg has ended\nprogram refused "),
+    ("a state that is bad at the start", f"{COUNTER}\n%%\nbreak bad a (x = 0)\n", [], 0, "events that lead to the bad state: 0\n"),
+    ("a bound in seconds", f"{COUNTER}\n%%\nbreak bad a (x = 4)\n", ["--seconds", "0.2"], 1, "no schedule of at most 100 events halted\n"),
+    ("a process that is not there", f"{COUNTER}\n%%\nbreak bad a (x = 3)\n", ["--weight", "b=2"], 1, "drive.py: no process has the name b\n"),
+]
 
 
 def drive(suite, *words):
@@ -45,8 +55,18 @@ def check_options(suite):
     suite.case("a table has a row for each strategy", "" if ran.returncode == 0 and ran.stdout.count("| 2 of 2 |") == 3 else ran.stdout + ran.stderr)
 
 
+def edge_problem(suite, text, words, status, said):
+    """What is wrong with how drive.py ends with a file of this text, or an empty text."""
+    with temporary_folder() as folder:
+        (folder / "model.rdbg").write_text(text)
+        ran = drive(suite, folder / "model.rdbg", *words)
+    return "" if ran.returncode == status and said in ran.stderr else f"status {ran.returncode}\n{ran.stderr}"
+
+
 def run(suite):
     for example in EXAMPLES:
         for words in SEARCHES:
             suite.case(" ".join([example, *words]), search_problem(suite, example, words))
     check_options(suite)
+    for name, *edge in EDGES:
+        suite.case(name, edge_problem(suite, *edge))
