@@ -5,8 +5,8 @@ use dbg_base::{Call, Refusal, Said};
 use pictures::{draw_drawing, draw_text, write_log};
 use proc_lang::Program;
 use std::alloc::{AllocError, Global};
-use talk::{Stand, Teller};
 use telling::{Notes, Source, View};
+use ui_session::{Explainer, Stand};
 
 // Lines, each with a line end.
 fn with_line_ends(alloc: Global, lines: &[Vec<u8>]) -> Result<Vec<u8>, AllocError> {
@@ -69,7 +69,7 @@ impl Artist {
     }
 }
 
-impl Teller for Artist {
+impl Explainer for Artist {
     fn begin(&mut self, alloc: Global, _program: &Program, text: &[u8]) -> Result<(), AllocError> {
         self.source = Source::new(alloc, text)?;
         Ok(())

@@ -4,9 +4,10 @@ use crate::artist::Artist;
 use crate::page::write_page;
 use crate::recorder::Recorder;
 use devices::{Noted, Sink, Source};
+use line_runs::play;
 use reply_lines::{ServeFault, Served, hand_on, write_whole};
 use std::alloc::Global;
-use talk::{Typed, play};
+use ui_session::{Dialogue, Typed};
 
 /// What a picture is.
 #[derive(Clone, Copy, Debug, PartialEq, Eq)]
@@ -31,9 +32,10 @@ fn draw_page<R: Source + Typed, W: Sink>(
     reader: &mut R,
     writer: &mut W,
 ) -> Result<Served, ServeFault> {
-    let mut recorder = Recorder::new(alloc);
+    let mut dialogue = Dialogue::new(Recorder::new(alloc));
     let mut replies = Noted::new(Vec::new(alloc));
-    let served = play(alloc, &mut recorder, reader, &mut replies)?;
+    let served = play(alloc, &mut dialogue, reader, &mut replies)?;
+    let recorder = dialogue.explainer();
     if recorder.is_out_of_memory() {
         return Err(ServeFault::Memory);
     }
@@ -53,9 +55,10 @@ fn draw_end<R: Source + Typed, W: Sink>(
     reader: &mut R,
     writer: &mut W,
 ) -> Result<Served, ServeFault> {
-    let mut artist = Artist::new(alloc, form)?;
+    let mut dialogue = Dialogue::new(Artist::new(alloc, form)?);
     let mut replies = Noted::new(Vec::new(alloc));
-    let served = play(alloc, &mut artist, reader, &mut replies)?;
+    let served = play(alloc, &mut dialogue, reader, &mut replies)?;
+    let artist = dialogue.explainer();
     if artist.is_out_of_memory() {
         return Err(ServeFault::Memory);
     }
@@ -69,9 +72,9 @@ fn draw_end<R: Source + Typed, W: Sink>(
     Ok(served)
 }
 
-/// Plays a session as a talk plays it, and writes a picture of it: of its end, or a page to go through it. Where the input is too long, that
-/// of the lines that may be. A program that is refused is told as a talk tells it. The fault is one of the reader or the writer, or memory
-/// ran out.
+/// Plays a session as `talk` plays it, and writes a picture of it: of its end, or a page to go through it. If the input is too long, the
+/// picture is of the lines within the limit. A program that is refused is explained as `talk` explains it. The fault is one of the reader
+/// or the writer, or memory ran out.
 pub fn draw<R: Source + Typed, W: Sink>(
     alloc: Global,
     form: Form,

@@ -12,8 +12,8 @@ use dbg_base::{Call, Choice, Done, Pid, Plan, Refusal, Reply, Said};
 use lines::Lines;
 use proc_lang::Program;
 use std::alloc::{AllocError, Global};
-use talk::{Stand, Teller};
 use telling::{Notes, Source};
+use ui_session::{Explainer, Stand};
 
 // What a call is, as far as a page has to know.
 #[derive(Clone, Copy)]
@@ -196,7 +196,7 @@ impl Recorder {
     }
 }
 
-impl Teller for Recorder {
+impl Explainer for Recorder {
     fn begin(&mut self, alloc: Global, program: &Program, text: &[u8]) -> Result<(), AllocError> {
         let source = Source::new(alloc, text)?;
         for p in 0..program.processes() {

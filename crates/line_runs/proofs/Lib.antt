@@ -1,5 +1,6 @@
 mod Requests
 pub mod SomeAnswers
-mod LineReplies
-mod InputTexts
+pub mod Sessions
+mod InputSessions
+mod Runs
 pub mod Seats

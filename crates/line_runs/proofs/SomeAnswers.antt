@@ -1,5 +1,5 @@
 -- Lines have some answer, whatever they are, and whatever they are answered with, the calls that they make are a legal journal.
-use Rattle.std.proofs.Common.{◌≡◌, ℕ, ◌<◌, ◌≤◌, Bool, true, false, List, [], ◌∷◌, ◌++◌, length, Option, Some, None, Result, Ok, Err}
+use Rattle.std.proofs.Common.{◌≡◌, ℕ, ◌<◌, ◌≤◌, Bool, true, false, List, [], length, Option, Some, None, Result, Ok, Err}
 use Rattle.std.proofs.Common.{refl, sym, subst, inl, inr, arith}
 use Rattle.std.specs.Prelude.{nat_le, nat_lt, codes}
 use Rattle.std.specs.Bool.{MatchBool}
@@ -17,7 +17,7 @@ use Rattle.dbg_base.specs.CommandLines.{call_of_words, words_of, sets_break}
 use Rattle.dbg_base.specs.Requests.{AsksBreak, AsksOne, AsksBatch, AsksBy, AsksWithin, MayTakeMemory, AsksOrRefuses}
 use Rattle.dbg_base.specs.Journals.{Journal, IsLegal}
 use Rattle.dbg_base.specs.Replies.{reply_text, refusal_text}
-use Rattle.dbg_base.specs.Shell.{as_line, AnswersParsed, AnswersLine, AnswersLines, AnswersAll}
+use Rattle.dbg_base.specs.Shell.{as_line, AnswersParsed, AnswersLine}
 use Rattle.histories.proofs.Legal.{makes_legal}
 
 abbrev IsKnown : Result (Option Request) Refusal → Result (Option Request) Refusal → Type 0
@@ -87,27 +87,30 @@ module _ (P : Program) (line : List ℕ) where
 
 -- a line of which this is known, where each call may be refused for want of memory, or since the journal is full
 abbrev Answer : Program → Result (Option Request) Refusal → Journal → Type 0
-Answer P asked J = (out : List ℕ) × (J' : Journal) × AnswersParsed P asked J out J'
+Answer P asked J = (out : List ℕ) × AnswersParsed P asked J out J
 
 call_answer : (P : Program) (request : Request) (J : Journal) (t : Bool) → nat_lt (length J) CALLS ≡ t → length J ≤ CALLS
     → Answer P (Ok (Some request)) J
 call_answer P request J true below few =
-    let room : length J < CALLS = grind (arith, nat_tests) in (
-      as_line (reply_text P request.call (Refused Memory)),
-      J,
-      (Refused Memory, inl (room, inr (record { told = refl; left = refl })), refl),
-    )
+    let room : length J < CALLS = grind (arith, nat_tests) in
+    (as_line (reply_text P request.call (Refused Memory)), (Refused Memory, inl (room, inr (record { told = refl; left = refl })), refl))
 call_answer P request J false all few =
     let full : length J ≡ CALLS = grind (arith, nat_tests) in (
       as_line (reply_text P request.call (Refused JournalFull)),
-      J,
       (Refused JournalFull, inr (record { full = full; told = refl; left = refl }), refl),
     )
 
 some_answer : (P : Program) (asked : Result (Option Request) Refusal) (J : Journal) → length J ≤ CALLS → Answer P asked J
-some_answer P (Err refusal) J few = (as_line (refusal_text P refusal), J, (refl, refl))
-some_answer P (Ok None) J few = ([], J, (refl, refl))
+some_answer P (Err refusal) J few = (as_line (refusal_text P refusal), (refl, refl))
+some_answer P (Ok None) J few = ([], (refl, refl))
 some_answer P (Ok (Some request)) J few = call_answer P request J (nat_lt (length J) CALLS) refl few
+
+-- a line has some answer that makes no call
+pub some_line : (P : Program) (line : List ℕ) (J : Journal) → IsLegal P J → (out : List ℕ) × AnswersLine P line J out J
+some_line P line J legal =
+    let asked = known P line in
+    let answer = some_answer P asked.0 J legal.few in
+    (answer.0, (asked.0, asked.1, answer.1))
 
 -- whatever a line is answered with, the journal stays a legal one
 
@@ -122,27 +125,6 @@ pub line_legal : (P : Program) (line : List ℕ) (J : Journal) (out : List ℕ) 
     → IsLegal P J'
 line_legal P line J out J' answers legal = parsed_legal P answers.0 J out J' answers.2 legal
 
-lines_legal : (P : Program) (lines : List (List ℕ)) (J : Journal) (out : List ℕ) (J' : Journal) → AnswersLines P lines J out J'
-    → IsLegal P J → IsLegal P J'
-lines_legal P [] J out J' answers legal = subst (IsLegal P) (sym answers.1) legal
-lines_legal P (line ∷ lines) J out J' answers legal =
-    lines_legal P lines answers.2 answers.1 J' answers.4 (line_legal P line J answers.0 answers.2 answers.3 legal)
-
 -- the journal before the first call
 pub opens_legal : (P : Program) → IsLegal P []
 opens_legal P = record { few = (let none : 0 ≤ CALLS = omega arith in none); due = tt }
-
--- what answers all lines from the opening on
-pub all_answered : (P : Program) (lines : List (List ℕ)) (out : List ℕ) (J : Journal) → AnswersLines P lines [] out J
-    → AnswersAll P lines out
-all_answered P lines out J answers = (J, answers, lines_legal P lines [] out J answers (opens_legal P))
-
-pub some_answers : (P : Program) (lines : List (List ℕ)) (J : Journal) → IsLegal P J
-    → (out : List ℕ) × (J' : Journal) × AnswersLines P lines J out J'
-some_answers P [] J legal = ([], J, (refl, refl))
-some_answers P (line ∷ lines) J legal =
-    let asked = known P line in
-    let first = some_answer P asked.0 J legal.few in
-    let answers : AnswersLine P line J first.0 first.1 = (asked.0, asked.1, first.2) in
-    let others = some_answers P lines first.1 (line_legal P line J first.0 first.1 answers legal) in
-    (first.0 ++ others.0, others.1, (first.0, others.0, first.1, answers, others.2, refl))

@@ -1,2 +1,4 @@
+pub mod Sessions
+pub mod Plain
 pub mod Serving
 pub mod Answering

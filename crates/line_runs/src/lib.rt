@@ -1,10 +1,16 @@
-//! A run whose input is a program text and the command lines behind it: each line is a call of the seat that it names.
+//! Sessions whose input is a program text and the lines after it, which are answered before an observer: a run has none.
 //!
-//! Each plan of a line is made a command of its kind in `serve`, which alone knows the kinds.
+//! `play` makes each plan of a line a command of its kind, and alone knows the kinds.
 #![tactic(auto)]
 
+mod line;
+mod observer;
+mod running;
 mod serving;
 mod session;
+mod silent;
 
+pub use observer::Observer;
+pub use running::play;
 pub use serving::serve;
 pub use session::answer;

@@ -68,7 +68,8 @@ fn ask<L: Run, C: Command>(
 }
 
 /// Says what a seat's call gives, and by which call that is written: an answer by its question, and what is said to any command as what
-/// is said to `back`, since all commands are told alike. A refused call, and want of memory, change nothing.
+/// is said to `back`, since the replies to all commands look alike. A refused call changes nothing, and so does one for which memory runs
+/// out.
 pub fn answer<L: Run, C: Command, M: Fn(Givable) -> Result<C, Refusal>>(
     locked: &mut Locked<L, C>,
     alloc: Global,

@@ -20,8 +20,9 @@ use std::io::Error;
 use std::process::ExitCode;
 use std::sync::Wait;
 use std::thread::Threads;
-use talk::{Tested, Typed, explain, talk, test_session};
+use talk::{Tested, explain, talk, test_session};
 use typing::{Shown, Typing, open};
+use ui_session::Typed;
 use words::{WordsFault, words};
 
 // The status where a session was not answered as it has to be.

@@ -4,7 +4,7 @@ use dbg_shell::Job;
 use std::fs::{File, OpenFile};
 use std::io;
 use std::io::{Error, ErrorKind, IsTerminal, Read, Stdin};
-use talk::Typed;
+use ui_session::Typed;
 
 /// Standard input, which at a terminal asks for each line of a talk.
 #[derive(Drop)]

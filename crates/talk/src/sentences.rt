@@ -1,13 +1,12 @@
-//! What a talk tells beside the replies.
+//! What an interactive session explains.
 
-use crate::own::first_word;
-use crate::teller::{Stand, Teller};
 use command_line::{next_word, without_return};
 use dbg_base::{Call, Refusal, Said};
 use pictures::draw_text;
 use proc_lang::Program;
 use std::alloc::{AllocError, Global};
 use telling::{Before, Notes, Source, View, tell_help};
+use ui_session::{Explainer, Stand};
 
 // A call that is to be made, and what was known before it.
 #[derive(Drop)]
@@ -76,7 +75,7 @@ impl Sentences {
     ) -> Result<(), Refusal> {
         let view = self.view(stand);
         let (word, rest) = next_word(without_return(line));
-        let argument = first_word(rest);
+        let argument = next_word(without_return(rest)).0;
         match word {
             b"help" => Ok(tell_help(notes, argument)?),
             b"on" => view.tell_on(alloc, notes),
@@ -88,7 +87,7 @@ impl Sentences {
     }
 }
 
-impl Teller for Sentences {
+impl Explainer for Sentences {
     fn begin(&mut self, alloc: Global, _program: &Program, text: &[u8]) -> Result<(), AllocError> {
         self.source = Source::new(alloc, text)?;
         Ok(())

@@ -2,15 +2,14 @@
 
 ghost use Rattle.std.specs.Prelude.{Some};
 
-use crate::own::is_own;
 use crate::running::talk;
-use crate::typed::Typed;
 use devices::{Noted, Sink};
 use itoa::Buffer;
 use reply_lines::{ServeFault, Served, hand_on, write_whole};
 use std::alloc::{AllocError, Global};
 use std::io;
 use std::io::Read;
+use ui_session::{Typed, is_directive};
 
 // A text that is read, whose lines are not to be shown.
 #[derive(Drop)]
@@ -97,7 +96,7 @@ fn first_difference<'a>(session: &'a [u8], page: &[u8]) -> Option<Difference<'a>
                 return Some(asked);
             }
             Some(_) => {}
-            None if is_own(line) => {}
+            None if is_directive(line) => {}
             None => {
                 asked = Difference {
                     number,

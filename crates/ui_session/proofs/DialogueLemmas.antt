@@ -1,0 +1,75 @@
+-- What an interactive session writes beside the replies.
+use Rattle.std.proofs.Common.{◌≡◌, ℕ, true, List, [], ◌∷◌, ◌++◌, refl, sym, ap, ◌∙◌, inl, inr}
+use Rattle.std.specs.Prelude.{Result, Ok, Err, IsErrAnd}
+use Rattle.std.specs.List.{AllByRecursion}
+use Rattle.std.proofs.lemmas.List.{append-nil}
+use Rattle.std.proofs.lemmas.List.Concat.{flat_map-append}
+use Rattle.devices.specs.Seen.{Seen, Appended}
+use Rattle.devices.proofs.Appending.{appended_none, appended_then}
+use Rattle.dbg_base.specs.Shell.{as_line}
+use Rattle.reply_lines.specs.declared.outcome.ServeFault.{ServeFault}
+use Rattle.reply_lines.specs.Writing.{Writes}
+use Rattle.reply_lines.proofs.Writing.{front_then, stopped, writes_then}
+use Rattle.shell_input.specs.Spans.{is_unended}
+use Rattle.line_runs.specs.Sessions.{MayBeQuiet, WritesForm}
+use Rattle.ui_session.specs.Dialogues.{explanation_line, explanation_text, IsExplanation, IsEcho, interactive}
+
+-- nothing is explained
+none_explained : IsExplanation []
+none_explained = ([], tt, refl)
+
+-- nothing has to be written besides the replies
+pub quiet : MayBeQuiet interactive
+quiet = record { before = λ line. inl refl; explains = none_explained }
+
+all_more : (lines : List (List ℕ)) (line : List ℕ) → AllByRecursion (λ l. is_unended l ≡ true) lines → is_unended line ≡ true
+    → AllByRecursion (λ l. is_unended l ≡ true) (lines ++ line ∷ [])
+all_more [] line all one = (one, tt)
+all_more (x ∷ lines) line all one = (all.0, all_more lines line all.1 one)
+
+-- one line more
+one_more : (text line : List ℕ) → IsExplanation text → is_unended line ≡ true → IsExplanation (text ++ explanation_line line)
+one_more text line h one =
+    let lines = h.0 in
+    let same : text ++ explanation_line line ≡ explanation_text (lines ++ line ∷ []) =
+    ap (λ (t : List ℕ). t ++ explanation_line line) h.2
+    ∙ sym (flat_map-append explanation_line lines (line ∷ [])
+    ∙ ap (λ (t : List ℕ). explanation_text lines ++ t) (append-nil (explanation_line line))) in
+    (lines ++ line ∷ [], all_more lines line h.1 one, same)
+
+-- some lines of an explanation were written
+abbrev pub Explains : Seen → Seen → Type 0
+Explains old new = (text : List ℕ) × IsExplanation text × Appended old new text
+
+pub explains_none : (a : Seen) → Explains a a
+explains_none a = ([], none_explained, appended_none a)
+
+pub explains_more : {A : Type 0} {u : A} (a b c : Seen) (line : List ℕ) → Explains a b → is_unended line ≡ true
+    → Writes {A = A} b c (Ok u) (explanation_line line) → Explains a c
+explains_more a b c line h one wrote =
+    (h.0 ++ explanation_line line, one_more h.0 line h.1 one, appended_then a b c h.0 (explanation_line line) h.2 wrote.whole)
+
+pub explains_ends : {A : Type 0} {u : A} (a b : Seen) → Explains a b → WritesForm {A = A} IsExplanation a (Ok u) b
+explains_ends a b h = record { text = h.0; form = h.1; written = record { whole = h.2; part = tt; fault = tt } }
+
+pub explains_stops : {A B : Type 0} {e : ServeFault} {r : Result B ServeFault} (a b c : Seen) (line : List ℕ) → Explains a b
+    → is_unended line ≡ true → Writes {A = A} b c (Err e) (explanation_line line) → IsErrAnd r (λ f. f ≡ e)
+    → WritesForm IsExplanation a r c
+explains_stops {r = Ok v} a b c line h one wrote same = absurd same
+explains_stops {r = Err f} a b c line h one wrote same = record {
+  text = h.0 ++ explanation_line line;
+  form = one_more h.0 line h.1 one;
+  written = record { whole = tt; part = front_then a b c h.0 (explanation_line line) h.2 wrote.part; fault = same ∙ wrote.fault };
+}
+
+-- no echo, or the line
+pub no_echo : {A : Type 0} {u : A} (line : List ℕ) (a : Seen) → WritesForm {A = A} (IsEcho line) a (Ok u) a
+no_echo line a = record { text = []; form = inl refl; written = record { whole = appended_none a; part = tt; fault = tt } }
+
+pub echoed : {A B : Type 0} {u : A} {r : Result B ServeFault} (line : List ℕ) (a b c : Seen) → Writes {A = A} a b (Ok u) line
+    → Writes b c r (10 ∷ []) → WritesForm (IsEcho line) a r c
+echoed line a b c h k = record { text = as_line line; form = inr refl; written = writes_then h k }
+
+pub echo_stops : {A B : Type 0} {e : ServeFault} {r : Result B ServeFault} (line : List ℕ) (a b : Seen) → Writes {A = A} a b (Err e) line
+    → IsErrAnd r (λ f. f ≡ e) → WritesForm (IsEcho line) a r b
+echo_stops line a b h same = record { text = as_line line; form = inr refl; written = stopped (10 ∷ []) h same }

@@ -1,0 +1,67 @@
+-- The manner of an interactive session.
+use Rattle.std.specs.Prelude.{◌≡◌, ◌⊎◌, ◌==◌, ◌&&◌, ◌||◌, ℕ, Bool, true, false, nat_le, not, List, [], ◌∷◌, ◌++◌, length, codes, if◌then◌else◌}
+use Rattle.std.specs.List.{AllByRecursion, list_any, flat_map}
+use Rattle.std.specs.Str.{bytes_eq}
+use Rattle.dbg_base.specs.declared.limits.TheConstants.{LINE_BYTES}
+use Rattle.dbg_base.specs.Tokens.{is_digit}
+use Rattle.dbg_base.specs.CommandLines.{next_word, without_return}
+use Rattle.dbg_base.specs.Shell.{as_line}
+use Rattle.shell_input.specs.Spans.{is_unended}
+use Rattle.line_runs.specs.Sessions.{Manner}
+
+-- the words of directives
+abbrev pub directive_words : List (List ℕ)
+directive_words = codes "help" ∷ codes "on" ∷ codes "state" ∷ codes "line" ∷ codes "draw" ∷ codes "quit" ∷ []
+
+-- there is no word, or it begins a comment or an expectation
+abbrev pub is_remark : List ℕ → Bool
+is_remark [] = true
+is_remark (byte ∷ bytes) = (byte == 35) || (byte == 62)
+
+abbrev pub first_word : List ℕ → List ℕ
+first_word line = next_word (without_return line)
+
+-- the interactive session answers the line itself
+abbrev pub is_directive : List ℕ → Bool
+is_directive line = is_remark (first_word line) || list_any (bytes_eq (first_word line)) directive_words
+
+abbrev pub is_seat : List ℕ → Bool
+is_seat [] = false
+is_seat (byte ∷ bytes) = is_digit byte
+
+-- the line may be that of a command, and has no seat
+abbrev pub needs_seat : List ℕ → Bool
+needs_seat line = not (is_seat (first_word line)) && nat_le (length line) LINE_BYTES
+
+-- the line with the seat that it has, and else with the first seat
+abbrev pub with_seat : List ℕ → List ℕ
+with_seat line = if needs_seat line then codes "1 " ++ line else line
+
+-- a line of an explanation, which begins with two blanks
+abbrev pub explanation_line : List ℕ → List ℕ
+explanation_line line = codes "  " ++ as_line line
+
+abbrev pub explanation_text : List (List ℕ) → List ℕ
+explanation_text lines = flat_map explanation_line lines
+
+abbrev pub IsExplanation : List ℕ → Type 0
+IsExplanation text = (lines : List (List ℕ)) × AllByRecursion (λ line. is_unended line ≡ true) lines × (text ≡ explanation_text lines)
+
+-- the line itself, or nothing
+abbrev pub IsEcho : List ℕ → List ℕ → Type 0
+IsEcho line echo = (echo ≡ []) ⊎ (echo ≡ as_line line)
+
+-- the line ends the session
+abbrev pub is_quit : List ℕ → Bool
+is_quit line = bytes_eq (first_word line) (codes "quit")
+
+-- Each line is written before its reply, if it was not typed, and an explanation follows the reply. A command line without a seat is one of
+-- the first seat.
+abbrev pub interactive : Manner
+interactive = record {
+  before = IsEcho;
+  is_directive = is_directive;
+  seated = with_seat;
+  explains = IsExplanation;
+  ends = is_quit;
+}

@@ -1,0 +1,15 @@
+//! The lines of an interactive session: those of a run, each with an explanation, and directives, which make no call.
+#![tactic(auto)]
+
+mod dialogue;
+mod directives;
+mod explainer;
+mod refusing;
+mod typed;
+mod written;
+
+pub use dialogue::Dialogue;
+pub use directives::is_directive;
+pub use explainer::{Explainer, Stand};
+pub use refusing::explain_fault;
+pub use typed::Typed;

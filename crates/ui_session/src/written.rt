@@ -1,0 +1,63 @@
+//! What is written beside the replies.
+
+ghost use Rattle.std.specs.Prelude.{◌≡◌};
+ghost use Rattle.reply_lines.specs.Writing.{Writes};
+ghost use Rattle.shell_input.specs.Spans.{is_unended};
+ghost use Rattle.line_runs.specs.Sessions.{WritesForm};
+ghost use Rattle.ui_session.specs.Dialogues.{IsExplanation, IsEcho, explanation_line};
+
+use devices::Sink;
+use reply_lines::{ServeFault, hand_on, write_whole};
+use telling::Notes;
+
+fn is_unended(line: &[u8]) -> bool
+    ensures { result ≡ is_unended line.now }
+{
+    line.iter().all(|byte| *byte != b'\n')
+}
+
+// Writes a line of an explanation.
+fn write_line<W: Sink>(line: &[u8], writer: &mut W) -> Result<(), ServeFault>
+    ensures { Writes (W.seen writer.old) (W.seen writer.new) result (explanation_line line.now) }
+{
+    write_whole(writer, b"  ")?;
+    write_whole(writer, line)?;
+    write_whole(writer, b"\n")
+}
+
+// Writes the lines of an explanation.
+fn write_lines<W: Sink>(lines: &[Vec<u8>], writer: &mut W) -> Result<(), ServeFault>
+    ensures written { WritesForm IsExplanation (W.seen writer.old) result (W.seen writer.new) }
+{
+    for line in lines {
+        let line = line.as_slice();
+        // No line of an explanation has a line end.
+        if is_unended(line) {
+            write_line(line, writer)?;
+        }
+    }
+    Ok(())
+}
+
+/// Writes an explanation, and hands it on.
+pub(crate) fn explain<W: Sink>(notes: &Notes, writer: &mut W) -> Result<(), ServeFault>
+    ensures written { WritesForm IsExplanation (W.seen writer.old) result (W.seen writer.new) }
+{
+    let written = write_lines(notes.lines(), writer);
+    hand_on(written, writer)
+}
+
+/// Writes the line itself, if that is asked for.
+pub(crate) fn write_echo<W: Sink>(
+    echoes: bool,
+    line: &[u8],
+    writer: &mut W,
+) -> Result<(), ServeFault>
+    ensures written { WritesForm (IsEcho line.now) (W.seen writer.old) result (W.seen writer.new) }
+{
+    if !echoes {
+        return Ok(());
+    }
+    write_whole(writer, line)?;
+    write_whole(writer, b"\n")
+}
