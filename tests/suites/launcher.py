@@ -36,7 +36,7 @@ class Repository:
 
     def start(self, *words, given=subprocess.DEVNULL, **variables):
         return subprocess.Popen([self.top / "rdbg", *words], stdin=given, stdout=subprocess.PIPE, stderr=subprocess.PIPE,
-                                env=self.environment(**variables), cwd=self.top.parent, text=True)
+                                env=self.environment(**variables), cwd=self.top.parent, text=True, preexec_fn=heed_interrupts)
 
     def rdbg(self, *words, given="", **variables):
         """The status of a run, its output and its errors."""
@@ -61,6 +61,11 @@ class Repository:
             shown += more
         os.close(master)
         return started.wait(60), shown.decode().replace("\r\n", "\n")
+
+
+def heed_interrupts():
+    """Lets this process be interrupted. A shell that runs the tests in the background has them ignore interrupts."""
+    signal.signal(signal.SIGINT, signal.SIG_DFL)
 
 
 def try_unproved(suite, repository):
