@@ -1,6 +1,6 @@
 """What a page knows of its session, and the state to which this leads.
 
-crates/draw/README.md lists the operations: what a line of the session did.
+crates/ui_page/README.md lists the operations: what a line of the session did.
 """
 import json
 
@@ -121,14 +121,14 @@ class FinalState:
         counts = " ".join(f"{process}={head}" for process, head in zip(self.names, heads))
         self.answers[f"cut {name}"] = f"cut {name} " + ("none" if "past" in heads else counts)
         self.answers[f"why {name}"] = f"why {name} {counts}"
-        more = [f"{len(trail)} states were left out, the last of them these:"] if len(trail) > TRAIL_LENGTH else []
+        more = [f"{len(trail)} states were ruled out; the last of them are:"] if len(trail) > TRAIL_LENGTH else []
         self.reasons[name] = more + [self.reason(*step) for step in trail[-TRAIL_LENGTH:]]
 
     def reason(self, p, to, *cause):
         """What an interactive session says of an elimination."""
         if cause:
             return f"{self.names[p]} needs {events(to)}: event {cause[1]} of {self.names[cause[0]]} depends on that"
-        return f"{self.names[p]} behind {events(to - 1)}: its part is false"
+        return f"{self.names[p]} after {events(to - 1)}: its part is false"
 
 
 def events(count):

@@ -9,7 +9,7 @@ COUNTER = "process c { var n = 0; when (n < 30000) : n := (n + 1); }\n%%\n"
 LAST_LINES = 6  # of a session that reaches a limit, in its page
 
 # Files for `talk`. Each has a page of the same name.
-TALKS = ["own_words", "refusals", "more_refusals", "batches", "refused"]
+TALKS = ["directives", "refusals", "more_refusals", "batches", "refused"]
 
 # The name of a page, the arguments of the run, and its input.
 RUNS = [
@@ -21,7 +21,7 @@ RUNS = [
     ("check_program_file", "check program.rdbg", "1 vars a"),
     ("check_folder", "check faults", ""),
     ("crew_with_program_file", "crew --turns 3 program.rdbg", ""),
-    ("test_passes", "test expected.rdbg own_words.rdbg", ""),
+    ("test_passes", "test expected.rdbg directives.rdbg", ""),
     ("test_fails", "test expected.rdbg unexpected.rdbg refused.rdbg", ""),
 ]
 

@@ -1,6 +1,7 @@
-"""What the documents say: their blocks of `rdbg` are programs and sessions, and their links lead somewhere.
+"""What the documents say: blocks of `rdbg` are programs and sessions, links lead somewhere, and refusals mean the same everywhere.
 
 A block ```rdbg is a program, or a session whose lines `> ..` are its replies. A block ```rdbg-refused is a program that is refused.
+The meanings of the refusals are those of the source of `rdbg --help`, word by word.
 """
 import re
 from typing import NamedTuple
@@ -14,6 +15,14 @@ LINKED = ["CONTRIBUTING.md", "crates/*/README.md", "dist/editors/README.md"]
 # A document of these folders is installed with the files of its folder that have these endings (or all files) and no others.
 INSTALLED = {"examples": (".rdbg", ".md"), "editors": ("",)}
 MAN_PAGE = TOP / "dist/rdbg.1"
+# The list of the refusals in the help, and copies of it. Each is a file, the text before the list, and what an entry looks like.
+HELP_REFUSALS = ("crates/dbg_shell/src/usage.rt", "\nRefusals:", r"^ +(\d+) +(.+)$")
+OTHER_REFUSALS = [
+    ("crates/ui_explain/src/numbers.rt", "match number", r'^ +(\d+) =>\s+"(.+)",$'),
+    ("dist/rdbg.1", "\n.Sh REFUSALS", r"^\.It (\d+)\n((?:[^.\n].*\n)+)"),
+    ("docs/commands.md", "\n## Refusals", r"^\| (\d+) \| (.+) \|$"),
+]
+REFUSALS = 25
 ERROR_LINES = 8  # at most, of a block that is wrong
 
 LINK = re.compile(r"""\]\(<?([^)\s>]+)>?(?:\s+"[^"]*")?\)|^\[[^\]]+\]:\s+(\S+)|\b(?:href|src)="([^"]+)\"""", re.MULTILINE)
@@ -103,6 +112,21 @@ def dead_paths():
             yield f"{path}: nothing is installed there"
 
 
+def refusals(file, title, entry):
+    """The meanings of the refusals in a file, each a line with its number."""
+    _, _, listed = (TOP / file).read_text(encoding="utf-8").partition(title)
+    found = re.findall(entry, listed, re.MULTILINE)[:REFUSALS]
+    return "".join(f"{number} {' '.join(meaning.split())}\n" for number, meaning in found)
+
+
+def check_refusals(suite):
+    wanted = refusals(*HELP_REFUSALS)
+    numbers = [line.split()[0] for line in wanted.splitlines()]
+    suite.same("the numbers of refusals in the help", " ".join(numbers), " ".join(str(n) for n in range(1, REFUSALS + 1)))
+    for file, title, entry in OTHER_REFUSALS:
+        suite.same(f"the refusals in {file}", refusals(file, title, entry), wanted)
+
+
 def run(suite):
     with temporary_folder() as room:
         for document in documents(WITH_BLOCKS):
@@ -113,3 +137,4 @@ def run(suite):
     for document in documents(WITH_BLOCKS + LINKED):
         suite.case(f"links of {document.relative_to(TOP)}", "\n".join(dead_links(document)))
     suite.case(f"paths of {MAN_PAGE.relative_to(TOP)}", "\n".join(dead_paths()))
+    check_refusals(suite)

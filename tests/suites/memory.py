@@ -1,4 +1,4 @@
-"""Out of memory: the program of crates/refusals prints the same whichever of its allocations fails.
+"""Out of memory: the program of crates/test_memory prints the same whichever of its allocations fails.
 
 The suite runs the proved program once for each allocation that it fails: 100 spread over all, or every one with --all.
 """
@@ -10,7 +10,7 @@ from pathlib import Path
 
 from harness import TOP, difference, temporary_folder
 
-CRATE = TOP / "crates/refusals"
+CRATE = TOP / "crates/test_memory"
 ALLOCATOR = Path(__file__).with_name("failing_allocator.c")
 SPREAD = 100  # how many allocations fail without --all
 SECONDS = 120  # for one run
@@ -30,8 +30,8 @@ def build(suite, program):
     # Its run ends with status 0 if no allocation fails, so any other status is one of `rt`.
     made = subprocess.run(["rt", "run"], cwd=CRATE, stdin=subprocess.DEVNULL, stdout=subprocess.DEVNULL, stderr=subprocess.PIPE)
     errors = made.stderr.decode(errors="backslashreplace")
-    problem = f"`rt run` in crates/refusals ended with status {made.returncode}\n{errors}" if made.returncode != 0 else ""
-    return suite.case("the program of crates/refusals is proved and built", problem)
+    problem = f"`rt run` in crates/test_memory ended with status {made.returncode}\n{errors}" if made.returncode != 0 else ""
+    return suite.case("the program of crates/test_memory is proved and built", problem)
 
 
 def compile_allocator(room):
@@ -58,7 +58,7 @@ def run_failing(program, library, place):
 
 
 def run(suite):
-    program = CRATE / "out/refusals"
+    program = CRATE / "out" / CRATE.name
     if not suite.needs("rt", "a program whose allocations fail") or not build(suite, program):
         return
     with temporary_folder() as room:

@@ -2,6 +2,9 @@
 
 An edit has lines `file: PATH`, `old: TEXT` and `new: TEXT`, in the form that `rt must-fail` reads. A mutant changes the body of a
 function, and its file is crates/NAME/mutants/MODULE.FUNCTION.what_it_does.edit, with `.` for `/` in MODULE.
+
+With --prove, mutants of different functions of a crate are applied together, and one check looks at the modules that they change. A
+mutant is refused if the check refuses its own function. What is not refused so is tried again alone.
 """
 import os
 import re
@@ -14,6 +17,8 @@ from harness import TOP, stop, temporary_folder
 CRATES = TOP / "crates"
 FUNCTION = re.compile(r"\bfn (\w+)")
 EDIT_NAME = re.compile(r"[A-Za-z0-9_-][A-Za-z0-9_.-]*\.edit")
+NOT_PROVED = re.compile(r"fn (\S+): (?!proved|assumed)")
+BATCH = 40  # mutants at most in one check
 # What a copy of a crate needs for its proof, and what its folders are called there. What was built is used only if it is current.
 COPIED = {"src": "src", "specs": "specs", "proofs": "proofs", "mutants": "must-fail", "out/rlib": "out/rlib"}
 
@@ -125,8 +130,94 @@ def verdicts(crate, report):
     return found
 
 
+def changed_texts(folder, edits):
+    """The files that these edits change, with their new texts. Each change is made at its place in the text without any edit."""
+    changes = {}
+    for edit in edits:
+        for path, old, new in pairs(edit.read_text(encoding="utf-8")):
+            text = (folder / path).read_text(encoding="utf-8")
+            changes.setdefault(path, []).append((text.index(old), old, new))
+    texts = {}
+    for path, found in changes.items():
+        text, end = (folder / path).read_text(encoding="utf-8"), None
+        for at, old, new in sorted(found, reverse=True):
+            if end is not None and at + len(old) > end:
+                raise BadEdit("two edits change the same text")
+            text, end = text[:at] + new + text[at + len(old):], at
+        texts[path] = text
+    return texts
+
+
+def batches(edits):
+    """These edits by their places, in parts in which no two change the same function."""
+    lists = []
+    for edit in edits:
+        place = edit.name[:-len(".edit")].rpartition(".")[0]
+        batch = next((batch for batch in lists if place not in batch and len(batch) < BATCH), None)
+        if batch is None:
+            batch = {}
+            lists.append(batch)
+        batch[place] = edit
+    return lists
+
+
+def refused_in(report, place):
+    """What a check says against the function of this place itself, or an empty text."""
+    path = "::".join(place.split("."))
+    module, _, function = path.rpartition("::")
+    for line in report.splitlines():
+        said = NOT_PROVED.match(line)
+        if said and f"::{said[1]}::".find(f"::{module}::") >= 0 and said[1].endswith(f"::{function}") and "not proved; it calls" not in line:
+            return line
+    return ""
+
+
+def check_batch(folder, batch):
+    """Which edits of a batch one check refuses, by their places."""
+    modules = sorted({place.rpartition(".")[0].replace(".", "::") for place in batch})
+    texts = changed_texts(folder, batch.values())
+    kept = {path: (folder / path).read_text(encoding="utf-8") for path in texts}
+    try:
+        for path, text in texts.items():
+            (folder / path).write_text(text, encoding="utf-8")
+        report = rt(folder, "check", *[word for module in modules for word in ("--only", module)]).stdout
+    finally:
+        for path, text in kept.items():
+            (folder / path).write_text(text, encoding="utf-8")
+    return {place for place in batch if refused_in(report, place)}
+
+
+def refused_together(folder, edits):
+    """The names of the edits that a check of several of them refuses."""
+    refused, waiting = set(), batches(edits)
+    while waiting:
+        batch = waiting.pop(0)
+        try:
+            places = check_batch(folder, batch)
+        except (BadEdit, ValueError):
+            places = set()
+        refused |= {batch[place].name for place in places}
+        if not places and len(batch) > 1:
+            # (one that is not compiled hides what is said of the others)
+            half = list(batch.items())
+            waiting += [dict(half[: len(half) // 2]), dict(half[len(half) // 2 :])]
+    return refused
+
+
 def prove_mutants(suite, room, crate, edits):
     """Has the prover try each mutant of a crate. Returns how many it refused."""
+    folder = room / "crates" / crate
+    refused = refused_together(folder, edits)
+    others = [edit for edit in edits if edit.name not in refused]
+    for edit in edits:
+        if edit.name in refused:
+            (folder / "must-fail" / edit.name).unlink()
+            suite.case(f"{crate}/{edit.name}", "")
+    return len(refused) + (prove_alone(suite, room, crate, others) if others else 0)
+
+
+def prove_alone(suite, room, crate, edits):
+    """Has the prover try each of these mutants over the whole crate. Returns how many it refused."""
     folder = room / "crates" / crate
     # The crate without an edit must be proved, so that no edit is refused for another mistake.
     proved = rt(folder, "check" if (folder / "src/main.rt").exists() else "lib")
@@ -153,7 +244,7 @@ def prove_all(suite, crates):
         for crate in crates:
             edits = edit_files(crate, "mutants")
             if edits:
-                print(f"mutants: {crate}: proving it without an edit, and then trying {len(edits)} mutants", file=sys.stderr, flush=True)
+                print(f"mutants: {crate}: trying {len(edits)} mutants", file=sys.stderr, flush=True)
                 refused = prove_mutants(suite, room, crate, edits)
                 rows.append((crate, refused, len(edits) - refused))
     print(f"{'crate':20} {'refused':>8} {'failed':>8}", *(f"{crate:20} {refused:8} {failed:8}" for crate, refused, failed in rows), sep="\n")

@@ -30,7 +30,7 @@ SHOWN_MESSAGES = 50  # of a channel; the page writes ` ..` after them
 SHOWN_FAULTS = 12
 # Texts of the page.
 ALL_PROCESSES, START = "all processes", "start of the session"
-VARIABLES, EVENT_CLOCK, CUT, MESSAGES = "variables behind it", "its clock", "cut: events of", "on their way"
+VARIABLES, EVENT_CLOCK, CUT, MESSAGES = "variables after it", "its clock", "cut: events of", "on their way"
 
 
 class Page:
@@ -128,7 +128,7 @@ class Expected:
     def process_row(self, n, name):
         made, _, length = self.answer(n, f"place {name}").split()
         again = int(length) - int(made)
-        events = f"{made} event{'' if made == '1' else 's'}" + (f", {again} to make again" if again else "")
+        events = f"{made} event{'' if made == '1' else 's'}" + (f", {again} to redo" if again else "")
         return [name, events, self.answer(n, f"vars {name}")]
 
     def messages(self, n):

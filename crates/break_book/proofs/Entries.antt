@@ -23,7 +23,7 @@ use Rattle.break_book.specs.Books.{Kept, Entry, breakpoint_of, breakpoints_of, n
 abbrev names_of : List Entry → List (List ℕ)
 names_of book = map (λ (entry : Entry). entry.0) book
 
--- where the entry of this name stands, from 0
+-- the position of the entry of this name, from 0
 abbrev pub position_of : List ℕ → List Entry → Option ℕ
 position_of name book = position (bytes_eq name) (names_of book)
 
@@ -35,7 +35,7 @@ none_in None is = refl
 none_in (Some x) is = cc
 
 module _ (name : List ℕ) where
-  -- a breakpoint is named where its entry is found
+  -- a breakpoint has a name exactly if its entry is found
   pub named_there : (book : List Entry) → is_some (named name (breakpoints_of book)) ≡ is_some (lookup (bytes_eq name) book)
   named_there [] = refl
   named_there (entry ∷ book) = by (bytes_eq name entry.0) (named_there book)
@@ -52,7 +52,7 @@ module _ (name : List ℕ) where
   pub not_found : (book : List Entry) → named name (breakpoints_of book) ≡ None → lookup (bytes_eq name) book ≡ None
   not_found book none = none_in (lookup (bytes_eq name) book) (sym (named_there book) ∙ ap is_some none)
 
-  -- a new name goes last
+  -- a new name is appended
   pub inserted : (kept : Kept) (book : List Entry) → named name (breakpoints_of book) ≡ None
       → insert_entry bytes_eq book name kept ≡ book ++ (name, kept) ∷ []
   inserted kept [] none = refl
@@ -64,7 +64,7 @@ module _ (name : List ℕ) where
       by true rest none = cc
       by false rest none = ap (λ (l : List Entry). entry ∷ l) (rest none)
 
-  -- what holds of all holds of all others
+  -- what holds of all entries holds of all others
   pub all_left : (P : Entry → Type 0) (book : List Entry) → AllByRecursion P book
       → AllByRecursion P (shift_remove_entry (bytes_eq name) book)
   all_left P [] all = tt
@@ -86,7 +86,7 @@ module _ (name : List ℕ) where
       by true rest = refl
       by false rest = ap (λ (l : List Breakpoint). breakpoint_of entry ∷ l) rest
 
-  -- the breakpoint stands at this position, and goes there among the others
+  -- the breakpoint is at this position, and returns to it among the others
   pub record Here (book : List Entry) (i : ℕ) (kept : Kept) : Type 0 where
     pub stands : StandsAt name book i kept
     pub place : i ≤ length (shift_remove_entry (bytes_eq name) book)
@@ -153,7 +153,7 @@ module _ (name : List ℕ) where
           (from book i (omega (arith, less)) is (λ k lt. before (suc k) (omega (arith, lt)))
           (sym (ap (λ (b : Bool). cond b (Some entry.1) (lookup (bytes_eq name) book)) other) ∙ found))
 
--- a name that may be set is not there
+-- a name that may be set is free
 free_name : (o : Option Breakpoint) (rest : Option Refusal) → (if is_some o then Some BreakTaken else rest) ≡ None → o ≡ None
 free_name None rest may = refl
 free_name (Some b) rest may = cc
@@ -185,7 +185,7 @@ refusal_by name {inside} {book} found full view is size = subst (λ (l : List En
     if (named_there name inside ∙ sym is) i then Some BreakTaken
     else (if (ap (λ (n : ℕ). nat_lt n BREAKPOINTS) (length-map inside breakpoint_of) ∙ size) i then None else Some BreaksFull))
 
--- what a book is whose breakpoint of this name was taken out
+-- a book from which the breakpoint of this name was removed
 pub record IsCleared (name : List ℕ) (book new : List Entry) (i : ℕ) (kept : Kept) : Type 0 where
   pub is : named name (breakpoints_of book) ≡ Some (breakpoint_of (name, kept))
   pub left : breakpoints_of new ≡ without name (breakpoints_of book)
@@ -199,7 +199,7 @@ cleared name book new i kept at found entries =
     subst (λ (l : List Entry). IsCleared name book l i kept) (sym entries)
     (record { is = spot.stands.is; left = left name book; place = spot.place; whole = spot.whole })
 
--- a mark is written where the rest stays
+-- a mark is set, and the rest stays
 pub written : (book : List Entry) (i : ℕ) (kept next : Kept) (armed : Bool)
     → slice_get (map (λ (entry : Entry). entry.1) book) i ≡ Some kept → next ≡ record kept { armed = armed }
     → set_value_at book i next ≡ marked_at i armed book
@@ -214,7 +214,7 @@ length_marked [] i armed = refl
 length_marked (entry ∷ book) zero armed = refl
 length_marked (entry ∷ book) (suc i) armed = ap suc (length_marked book i armed)
 
--- what holds of all whatever the mark still does
+-- what holds of all entries, whatever their marks, still holds
 pub all_marked : (P : Kept → Type 0) → ((kept : Kept) (armed : Bool) → P kept → P (record { armed = armed; detector = kept.detector }))
     → (book : List Entry) (i : ℕ) (armed : Bool) → AllByRecursion (λ entry. P entry.1) book
     → AllByRecursion (λ entry. P entry.1) (marked_at i armed book)
@@ -222,7 +222,7 @@ all_marked P each [] i armed all = tt
 all_marked P each (entry ∷ book) zero armed all = (each entry.1 armed all.0, all.1)
 all_marked P each (entry ∷ book) (suc i) armed all = (all.0, all_marked P each book i armed all.1)
 
--- One more at a place.
+-- One more at a position.
 
 pub all_insert : (P : Entry → Type 0) (book : List Entry) (i : ℕ) (entry : Entry) → AllByRecursion P book → P entry
     → AllByRecursion P (insert book i entry)
@@ -249,7 +249,7 @@ moved book entry i =
     by None is = cc
     by (Some x) is = let same : x ≡ entry = cc in ap (insert (remove (book ++ entry ∷ []) (length book)) i) same
 
--- a new breakpoint goes to its place
+-- a new breakpoint is inserted at its position
 pub restored : (book : List Entry) (name : List ℕ) (kept : Kept) (i n : ℕ) → named name (breakpoints_of book) ≡ None → i ≤ length book
     → n ≡ index_before (position_or_len (bytes_eq name) (names_of book)) i
     → move_index (insert_entry bytes_eq book name kept) (position_or_len (bytes_eq name) (names_of book)) n ≡ insert book i (name, kept)

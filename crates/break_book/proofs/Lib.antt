@@ -1,5 +1,5 @@
-pub mod Callers
-pub mod Returning
-pub mod Followed
+pub mod BookCallLemmas
+pub mod BookUndoLemmas
+pub mod BookLoopLemmas
 pub mod Entries
-pub mod Halting
+pub mod HaltLemmas

@@ -1,4 +1,4 @@
--- What contracts see of a list of breakpoints, and what it is of a world.
+-- What contracts see of a list of breakpoints, and how it agrees with a world.
 use Rattle.std.specs.Prelude.{◌≡◌, ℕ, zero, suc, ◌<◌, Bool, true, false, List, [], ◌∷◌, length, map, slice_get, Option, Some, None}
 use Rattle.std.specs.Prelude.{if◌then◌else◌, ◌⊎◌}
 use Rattle.std.specs.Bool.{MatchBool}
@@ -15,7 +15,7 @@ use Rattle.causal_world.specs.Scenes.{Scene}
 use Rattle.least_cut.specs.Watches.{TruthLine}
 use Rattle.least_cut.specs.Detectors.{DetectorState, conjuncts_of, lines_of, IsDetectorOf, HasRoomUpTo, IsGrown, IsShrunk, IsMoved}
 
--- what is kept of a breakpoint beside its name
+-- what is kept of a breakpoint, without its name
 pub record Kept : Type 0 where
   pub armed : Bool
   pub detector : DetectorState
@@ -45,18 +45,18 @@ shown_in entry = record {
 abbrev pub shown_of : List Entry → List Shown
 shown_of book = map shown_in book
 
--- the breakpoint that it is
+-- the breakpoint of an entry
 abbrev pub breakpoint_of : Entry → Breakpoint
 breakpoint_of entry = record { name = entry.0; conjuncts = conjuncts_of entry.1.detector; armed = entry.1.armed }
 
 abbrev pub breakpoints_of : List Entry → List Breakpoint
 breakpoints_of book = map breakpoint_of book
 
--- a breakpoint as it is set
+-- a new breakpoint
 abbrev pub new_breakpoint : List ℕ → List Conjunct → Breakpoint
 new_breakpoint name conjuncts = record { name = name; conjuncts = conjuncts; armed = true }
 
--- no two breakpoints have one name
+-- no two breakpoints have the same name
 abbrev pub HasDistinctNames : List Entry → Type 0
 HasDistinctNames book = IsDistinct bytes_eq (map (λ entry. entry.0) book)
 
@@ -64,33 +64,33 @@ HasDistinctNames book = IsDistinct bytes_eq (map (λ entry. entry.0) book)
 abbrev pub AreDetectorsOf : Scene → List Entry → Type 0
 AreDetectorsOf w book = AllByRecursion (λ entry. IsDetectorOf w entry.1.detector) book
 
--- with these places they need no memory
+-- with these places they need no allocation
 abbrev pub HaveRoomUpTo : List Entry → List ℕ → Type 0
 HaveRoomUpTo book places = AllByRecursion (λ entry. HasRoomUpTo entry.1.detector places) book
 
--- the process has made an event since they were detectors of a world
+-- the process has made an event since they were detectors of the world
 abbrev pub AreGrown : List Entry → ℕ → Scene → Type 0
 AreGrown book p w = AllByRecursion (λ entry. IsGrown entry.1.detector p w) book
 
--- it has lost its last one since
+-- the process has lost its last event since
 abbrev pub AreShrunk : List Entry → ℕ → Scene → Type 0
 AreShrunk book p w = AllByRecursion (λ entry. IsShrunk entry.1.detector p w) book
 
--- events were made since, or taken back
+-- events were made or undone since
 abbrev pub AreMoved : List Entry → Scene → Type 0
 AreMoved book w = AllByRecursion (λ entry. IsMoved entry.1.detector w) book
 
--- the same whatever its name, but for the room, with a detector of each world of which it had one
+-- the same breakpoint but for its room, under any name; its detector is of each world of which the old one was
 pub record IsRoomier (old new : Kept) : Type 0 where
   pub same : (name : List ℕ) → shown_in (name, new) ≡ shown_in (name, old)
   pub detectors : (w : Scene) → IsDetectorOf w old.detector → IsDetectorOf w new.detector
 
--- the same breakpoint whatever its name, with a detector of the world
+-- the same breakpoint, under any name, with a detector of the world
 pub record IsFollowed (w : Scene) (old new : Kept) : Type 0 where
   pub same : (name : List ℕ) → breakpoint_of (name, new) ≡ breakpoint_of (name, old)
   pub detector : IsDetectorOf w new.detector
 
--- the same breakpoints, but for the room, with detectors that are so of each world of which they were
+-- the same breakpoints but for their room; their detectors are of each world of which the old ones were
 pub record AreRoomier (old new : List Entry) : Type 0 where
   pub same : shown_of new ≡ shown_of old
   pub detectors : (w : Scene) → AreDetectorsOf w old → AreDetectorsOf w new
@@ -106,7 +106,7 @@ marked_at position armed [] = []
 marked_at zero armed (entry ∷ book) = (entry.0, record entry.1 { armed = armed }) ∷ book
 marked_at (suc position) armed (entry ∷ book) = entry ∷ marked_at position armed book
 
--- the breakpoint of this name stands at this position, from 0, where this is kept
+-- the breakpoint of this name is at this position, from 0, and this is kept of it
 pub record StandsAt (name : List ℕ) (book : List Entry) (i : ℕ) (kept : Kept) : Type 0 where
   pub is : named name (breakpoints_of book) ≡ Some (breakpoint_of (name, kept))
   pub entry : slice_get book i ≡ Some (name, kept)
@@ -127,17 +127,17 @@ Halts P H kept =
 abbrev pub HaltsNot : Program → History → Kept → Type 0
 HaltsNot P H kept = (kept.armed ≡ false) ⊎ NoCut P H (conjuncts_of kept.detector)
 
--- why the breakpoint that was looked for is not armed, if it is not
+-- why this breakpoint cannot be armed, if it cannot
 abbrev pub arm_refusal : Option Breakpoint → Option Refusal
 arm_refusal None = Some refusals.UnknownBreak
 arm_refusal (Some b) = if b.armed then Some refusals.AlreadyArmed else None
 
--- the breakpoint that was looked for is there, armed, and has a cut
+-- this breakpoint exists, is armed, and has a cut
 abbrev pub MayPass : Program → History → Option Breakpoint → Type 0
 MayPass P H None = ⊥
 MayPass P H (Some b) = (b.armed ≡ true) × HasCut P H b
 
--- it is not there, not armed, or has no cut
+-- it does not exist, is not armed, or has no cut
 abbrev pub CannotPass : Program → History → Option Breakpoint → Refusal → Type 0
 CannotPass P H None refusal = refusal ≡ refusals.UnknownBreak
 CannotPass P H (Some b) refusal =

@@ -29,8 +29,8 @@ use least_cut::{Detector, Scan};
 use std::alloc::Global;
 use std::marker::Model;
 
-/// The breakpoints of a session, at most 64, by name and in the order in which they were set. It belongs to a world, which its detectors
-/// follow as events are made and taken back. Contracts see it as the list of names with what is kept of each.
+/// The breakpoints of a session, at most 64, by name and in the order in which they were set. The book belongs to a world, and its
+/// detectors follow the world as events are made and undone. Contracts see the list of names with what is kept of each.
 #[derive(Debug, Drop)]
 pub struct Book {
     breaks: IndexMap<Name, Breakpoint>,
@@ -52,7 +52,7 @@ impl Model for Book {
     ghost invariant = { λ book. length book.breaks.entries ≤ BREAKPOINTS };
 }
 
-// A breakpoint of a new name goes behind all others.
+// Appends a breakpoint with a new name.
 fn append(
     breaks: &mut IndexMap<Name, Breakpoint>,
     name: Name,
@@ -67,7 +67,7 @@ fn append(
 }
 
 impl Book {
-    /// No breakpoint. It takes no memory.
+    /// No breakpoints. It does not allocate.
     pub fn new(alloc: Global) -> Book
         ensures { result ≡ [] }
     {
@@ -76,7 +76,7 @@ impl Book {
         }
     }
 
-    /// The same breakpoints once more, with as much room. It is refused only as `Memory`, where that runs out.
+    /// Copies the breakpoints, with as much room. Error: `Memory`, if an allocation fails.
     pub fn copy(&self) -> Result<Book, Refusal>
         ensures { IsCopy result (λ made. made ≡ self.now) }
     {
@@ -87,8 +87,8 @@ impl Book {
         Ok(Book { breaks })
     }
 
-    /// Whether a further breakpoint of this name may be set: it is refused as `BreakTaken` where there is one of this name, and else as
-    /// `BreaksFull` where there are 64. It takes no memory.
+    /// Whether a further breakpoint of this name may be set. Errors: `BreakTaken` if the name is taken, otherwise `BreaksFull` if there are
+    /// 64. It does not allocate.
     pub fn may_set(&self, name: Name) -> Result<(), Refusal>
         ensures may { OnOk result (name_refusal name (breakpoints_of self.now) ≡ None) }
         ensures refuses { IfErr result (λ refusal. name_refusal name (breakpoints_of self.now) ≡ Some refusal) }
@@ -102,8 +102,8 @@ impl Book {
         Ok(())
     }
 
-    /// Sets an armed breakpoint behind all others: of these conjuncts, at least one, of processes of the world, where they are true as
-    /// the scan says. It is refused, and changes nothing, as `may_set`, or as `Memory`, where that runs out.
+    /// Sets an armed breakpoint after all others. It has these conjuncts, at least one, of processes of the world; the scan says where they
+    /// are true. On an error nothing changes. Errors: those of `may_set`, and `Memory` if an allocation fails.
     pub fn set(
         &mut self,
         alloc: Global,
@@ -129,9 +129,8 @@ impl Book {
         Ok(())
     }
 
-    /// Takes the breakpoint of this name out, and hands it out with its position, from 0. Then the name is free, and there is a place
-    /// for one more, as `restore_at` asks. It is refused, and changes nothing, as `UnknownBreak` where there is none. It takes no
-    /// memory.
+    /// Removes the breakpoint of this name, and returns it with its position, from 0. Then the name is free, and there is room for one more
+    /// breakpoint, as `restore_at` requires. Error: `UnknownBreak` if there is none; then nothing changes. It does not allocate.
     pub fn clear(&mut self, name: Name) -> Result<(usize, Breakpoint), Refusal>
         ensures clears { IfOk result (λ taken. (named name (breakpoints_of self.old) ≡ Some (breakpoint_of (name, taken.1)))
             × (breakpoints_of self.new ≡ without name (breakpoints_of self.old))) }
@@ -148,8 +147,8 @@ impl Book {
         Ok((position, breakpoint))
     }
 
-    /// Puts a breakpoint back that `clear` handed out: at its position, with its mark and its cut. Where memory runs out it is handed
-    /// back, and nothing changes.
+    /// Restores a breakpoint that `clear` returned: at its position, with its mark and its cut. If an allocation fails, it returns the
+    /// breakpoint, and nothing changes.
     pub fn restore_at(
         &mut self,
         position: usize,
@@ -170,8 +169,8 @@ impl Book {
         }
     }
 
-    /// Arms the breakpoint of this name. It is refused, and changes nothing, as `UnknownBreak` where there is none, and as
-    /// `AlreadyArmed` where it is armed. It takes no memory.
+    /// Arms the breakpoint of this name. On an error nothing changes. Errors: `UnknownBreak` if there is none, and `AlreadyArmed` if it is
+    /// armed. It does not allocate.
     pub fn arm(&mut self, name: Name) -> Result<(), Refusal>
         ensures arms { OnOk result ((arm_refusal (named name (breakpoints_of self.old)) ≡ None)
             × (breakpoints_of self.new ≡ with_mark name true (breakpoints_of self.old))) }
@@ -187,8 +186,8 @@ impl Book {
         Ok(())
     }
 
-    /// The armed breakpoint of this name no longer halts the session in which it has a cut. It is refused, and changes nothing, as
-    /// `UnknownBreak` where there is none, `NotArmed` where it is not armed, and `NoCut` where it has no cut. It takes no memory.
+    /// Disarms the armed breakpoint of this name, which has a cut and so halts the session. On an error nothing changes. Errors:
+    /// `UnknownBreak` if there is none, `NotArmed` if it is not armed, and `NoCut` if it has no cut. It does not allocate.
     pub fn pass(&mut self, name: Name) -> Result<(), Refusal>
         ensures passes { OnOk result ((breakpoints_of self.new ≡ with_mark name false (breakpoints_of self.old))
             × ((w : Scene) (P : tree.Program) → AreDetectorsOf w self.old → IsWorldOf P w
@@ -209,7 +208,7 @@ impl Book {
         Ok(())
     }
 
-    /// The breakpoint of this name is no longer armed, whether or not it has a cut. It takes no memory.
+    /// Disarms the breakpoint of this name, whether or not it has a cut. It does not allocate.
     pub fn disarm(&mut self, name: Name)
         requires { (b : model.Breakpoint) × (named name (breakpoints_of self.old) ≡ Some b) }
         ensures disarms { breakpoints_of self.new ≡ with_mark name false (breakpoints_of self.old) }
@@ -220,7 +219,7 @@ impl Book {
         }
     }
 
-    /// The breakpoint that halts the session: the first armed one that has a cut. It takes no memory.
+    /// The breakpoint that halts the session: the first armed one that has a cut. It does not allocate.
     pub fn halted(&self) -> Option<Name>
         ensures { (w : Scene) (P : tree.Program) → AreDetectorsOf w self.now → IsWorldOf P w
             → IsHaltedBy P (history_of w.state) (breakpoints_of self.now) result }
@@ -233,8 +232,8 @@ impl Book {
         None
     }
 
-    /// The place of the breakpoint that halts the session, counted from 1 in the order in which they were set, or 0 where none does. It
-    /// takes no memory.
+    /// The position of the breakpoint that halts the session, from 1 in the order in which they were set, or 0 if none does. It does not
+    /// allocate.
     pub fn halt_place(&self) -> u32
         ensures place { (w : Scene) (P : tree.Program) → AreDetectorsOf w self.now → IsWorldOf P w
             → HaltsAt P (history_of w.state) (breakpoints_of self.now) result }
@@ -249,7 +248,7 @@ impl Book {
         }
     }
 
-    /// The names in order, each with its mark: is it armed. It is refused only as `Memory`, where that runs out.
+    /// The names in order, each with its mark: whether it is armed. Error: `Memory`, if an allocation fails.
     pub fn list(&self, alloc: Global) -> Result<Sequence<(Name, bool)>, Refusal>
         ensures marks { IfOk result (λ marks. marks ≡ map mark_of (breakpoints_of self.now)) }
         ensures refuses { IfErr result (λ refusal. refusal ≡ Memory) }
@@ -263,7 +262,7 @@ impl Book {
         Ok(Sequence::new(marks))
     }
 
-    /// The breakpoint of this name with its position, from 0, or None where there is none. It takes no memory.
+    /// The breakpoint of this name with its position, from 0, or None if there is none. It does not allocate.
     pub fn find(&self, name: Name) -> Option<(usize, &Breakpoint)>
         ensures named { MatchOption result (named name (breakpoints_of self.now) ≡ None)
             (λ found. named name (breakpoints_of self.now) ≡ Some (breakpoint_of (name, found.1.now))) }
@@ -273,7 +272,7 @@ impl Book {
         self.entry(name).ok()
     }
 
-    // The breakpoint of this name with its position, from 0. It is refused as `UnknownBreak` where there is none.
+    // The breakpoint of this name with its position, from 0. Error: `UnknownBreak` if there is none.
     fn entry(&self, name: Name) -> Result<(usize, &Breakpoint), Refusal>
         ensures found { IfOk result (λ found. StandsAt name self.now found.0 found.1.now) }
         ensures refuses { IfErr result (λ refusal. (named name (breakpoints_of self.now) ≡ None) × (refusal ≡ UnknownBreak)) }
@@ -285,7 +284,7 @@ impl Book {
         Ok((position, found))
     }
 
-    // The breakpoint at this position gets this mark.
+    // Sets the mark of the breakpoint at this position.
     fn mark(&mut self, position: usize, armed: bool)
         requires { position < length self.old }
         ensures marks { self.new ≡ marked_at position armed self.old }

@@ -16,7 +16,7 @@ use least_cut::Detector;
 use std::alloc::AllocError;
 use std::marker::Model;
 
-/// What is kept of a breakpoint beside its name: whether it is armed, and where its least cut is.
+/// A breakpoint without its name: whether it is armed, and the detector of its least cut.
 #[derive(Debug, Drop)]
 pub struct Breakpoint {
     armed: bool,
@@ -36,7 +36,7 @@ impl Model for Breakpoint {
 }
 
 impl Breakpoint {
-    // A breakpoint as it is set: armed.
+    // A new breakpoint: armed.
     pub(crate) fn new(detector: Detector) -> Breakpoint
         ensures { result ≡ record { armed = true; detector = detector } }
     {
@@ -46,7 +46,7 @@ impl Breakpoint {
         }
     }
 
-    // The same once more, with as much room. It is refused only as `Memory`, where that runs out.
+    // Copies it, with as much room. Error: `Memory`, if an allocation fails.
     pub(crate) fn copy(&self) -> Result<Breakpoint, Refusal>
         ensures { IsCopy result (λ made. made ≡ self.now) }
     {
@@ -56,7 +56,7 @@ impl Breakpoint {
         })
     }
 
-    /// Whether it halts the session where it has a cut.
+    /// Whether it halts the session if it has a cut.
     pub fn is_armed(&self) -> bool
         ensures { result ≡ self.now.armed }
     {
@@ -70,7 +70,7 @@ impl Breakpoint {
         &self.detector
     }
 
-    // It gets this mark.
+    // Sets the mark.
     pub(crate) fn mark(&mut self, armed: bool)
         ensures { self.new ≡ record self.old { armed = armed } }
     {
@@ -93,7 +93,7 @@ impl Breakpoint {
         self.is_armed() && self.has_cut()
     }
 
-    // Its detector gets room for one event more of the process, after which there are at most so many eliminations.
+    // Makes room in its detector for one more event of the process. `steps` is at least the number of eliminations that there can be then.
     pub(crate) fn reserve(
         &mut self,
         world: &World,
@@ -108,7 +108,7 @@ impl Breakpoint {
         self.detector.reserve(world, pid, steps)
     }
 
-    // Its detector gets room for as many events as the cut has, at which there are at most so many eliminations.
+    // Makes room in its detector for as many events as the cut has. `steps` is at least the number of eliminations that there can be then.
     pub(crate) fn reserve_to(&mut self, cut: &Cut, steps: usize) -> Result<(), AllocError>
         requires steps { model.steps_up_to cut.now ≤ steps }
         ensures same { IsRoomier self.old self.new }
@@ -117,7 +117,7 @@ impl Breakpoint {
         self.detector.reserve_to(cut, steps)
     }
 
-    // Its detector goes on with the world, in which the process has made an event.
+    // Its detector follows the world, in which the process has made an event.
     pub(crate) fn grow(&mut self, pid: Pid, world: &World)
         requires grown { IsGrown self.old.detector pid.0 world.now }
         requires room { HasRoomUpTo self.old.detector world.now.state.places }
@@ -126,7 +126,7 @@ impl Breakpoint {
         self.detector.grow(pid, world);
     }
 
-    // Its detector goes back with the world, in which the process has lost its last event.
+    // Its detector follows the world, in which the process has lost its last event.
     pub(crate) fn shrink(&mut self, pid: Pid, world: &World)
         requires { IsShrunk self.old.detector pid.0 world.now }
         ensures { IsFollowed world.now self.old self.new }
@@ -134,7 +134,7 @@ impl Breakpoint {
         self.detector.shrink(pid, world);
     }
 
-    // Its detector becomes that of the world.
+    // Its detector follows the world, in which events were made or undone.
     pub(crate) fn follow(&mut self, world: &World)
         requires moved { IsMoved self.old.detector world.now }
         requires room { HasRoomUpTo self.old.detector world.now.state.places }

@@ -1,5 +1,4 @@
-//! The breakpoints of a session: by name, in the order in which they were set, each with the least cut that satisfies it as far as the
-//! events of a world go.
+//! The breakpoints of a session: by name, in the order in which they were set, each with its least cut in the events of a world.
 #![tactic(auto)]
 
 mod book;

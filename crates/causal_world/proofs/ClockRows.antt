@@ -1,4 +1,4 @@
--- The rows of all processes are their clocks: at the start, with an event more, and with one less. So all that is kept of events agrees.
+-- The rows of all processes are their clocks: at the start, with one more event, and with one less. So all that is kept of events agrees.
 use Rattle.std.proofs.Common.{◌≡◌, ◌≢◌, ℕ, zero, suc, ◌+◌, ◌-◌, ◌<◌, ◌≤◌, List, [], ◌∷◌, ◌++◌, length, get_or, set, take, replicate, refl}
 use Rattle.std.proofs.Common.{sym, ap, ◌∙◌, subst, ⊎_elim, arith, count_by, map, Some}
 use Rattle.std.specs.Prelude.{slice_get}
@@ -15,18 +15,18 @@ use Rattle.cut_core.specs.Kinds.{gets_from}
 use Rattle.cut_core.specs.Tallies.{got_by, sent_by}
 use Rattle.cut_core.specs.ConsistentCuts.{IsConsistentCut, places}
 use Rattle.cut_core.specs.declared.kind.Kind.TheVariants as does
-use Rattle.cut_core.proofs.Counted.{count_none}
-use Rattle.cut_core.proofs.Raising.{place_at}
+use Rattle.cut_core.proofs.CountLemmas.{count_none}
+use Rattle.cut_core.proofs.RaisedCutLemmas.{place_at}
 use Rattle.clock_rows.specs.Clocks.{next_row, last_row, join}
 use Rattle.event_rows.specs.EventValues.{EventValue}
-use Rattle.histories.proofs.Lists.{none_in_replicate, push_same, push_other, length-push}
+use Rattle.dbg_laws.proofs.Lists.{none_in_replicate, push_same, push_other, length-push}
 use Rattle.causal_world.specs.Pasts.{with_kind, without_kind, IsWhole, IsClockOf, AreClocksOf, IsCause, row_at, without_row, IsSender}
 use Rattle.causal_world.specs.Pasts.{IsPast}
 use Rattle.causal_world.specs.Scenes.{without_event}
-use Rattle.causal_world.proofs.Clocking.{one_longer, one_shorter, kept_clock, left_clock}
+use Rattle.causal_world.proofs.ClockLemmas.{one_longer, one_shorter, kept_clock, left_clock}
 use Rattle.causal_world.proofs.NextClocks.{cause_within, next_clock, fits_next}
 
--- One event more.
+-- One more event.
 
 module _ (kinds : List (List Kind)) (clocks : List (List (List ℕ))) (p q m : ℕ) (kind : Kind) (here : p < length kinds)
     (whole : IsWhole kinds) (longer : IsWhole (with_kind kinds p kind)) (cause : IsCause kinds p kind q m)
@@ -256,9 +256,9 @@ same_clocks kinds a b first second =
     let le : n ≤ length (get_or kinds p []) = omega (arith, lt, first.sizes p here) in
     one_clock kinds p n (row_at a p n) (row_at b p n) (first.rows p n here le) (second.rows p n here le)))
 
--- What is kept of events agrees, as events are added and taken back.
+-- What is kept of events agrees as events are added and undone.
 
--- the k-th send, where k is one at least, is an event that is there
+-- the k-th send, from 1, is an existing event
 pub sender : (kinds : List (List Kind)) (p s m : ℕ) → s < length kinds
     → slice_get (get_or kinds s []) (m - 1) ≡ Some (does.Sent (record { 0 = p }))
     → sent_by kinds s p m ≡ got_by kinds p s (length (get_or kinds p [])) + 1 → IsSender kinds p s m
@@ -267,7 +267,7 @@ sender kinds p s (suc m) here sends count =
     let there = slice_get_within (get_or kinds s []) m _ (ap (slice_get (get_or kinds s [])) (omega arith) ∙ sends) in
     record { here = here; first = omega arith; within = omega (arith, there); sends = sends; count = count }
 
--- a process has received no more messages than it has events
+-- a process has received at most as many messages as it has events
 pub got_few : (kinds : List (List Kind)) (p s n : ℕ) → got_by kinds p s n ≤ length (get_or kinds p [])
 got_few kinds p s n =
     let line = get_or kinds p [] in
@@ -287,7 +287,7 @@ as_many events kinds clocks p past = many events kinds p past.sizes
     many (own ∷ events) (row ∷ kinds) (suc p) e =
         many events kinds p (let rest : map (λ own. length own) events ≡ places kinds = cc in rest)
 
--- the sizes stay the same where one list of each changes to the same length
+-- the sizes agree if one list of each changes to the same length
 pub sizes_set : (events : List (List EventValue)) (kinds : List (List Kind)) (p : ℕ) (own : List EventValue) (row : List Kind)
     → map (λ own. length own) events ≡ places kinds → length own ≡ length row
     → map (λ own. length own) (set events p own) ≡ places (set kinds p row)
@@ -321,7 +321,7 @@ module _ (events : List (List EventValue)) (kinds : List (List Kind)) (clocks : 
       let size = past.rows.sizes p here in
       ap (λ (n : ℕ). get_or (get_or clocks p []) n []) (omega (arith, size))
 
-  -- the next row's own component is not too large
+  -- the own component of the next row is within its limit
   pub fits_row : (q m : ℕ) (kind : Kind) → IsCause kinds p kind q m → length (get_or kinds p []) < EVENTS
       → get_or (join (last_row (get_or clocks p [])) (row_at clocks q m)) p 0 < 4294967295
   fits_row q m kind cause few =
@@ -364,7 +364,7 @@ same_past {events} {e} {kinds} {k} {clocks} {c} same_events same_kinds same_cloc
       (subst (λ (l : List (List Kind)). AreClocksOf l clocks) (sym same_kinds) past.rows);
 }
 
--- a process with an event is there
+-- a process with an event exists
 pub has_events : {A : Type 0} (lists : List (List A)) (p : ℕ) → 0 < length (get_or lists p []) → p < length lists
 has_events [] p some = absurd (omega (arith, some))
 has_events (l ∷ lists) zero some = omega arith

@@ -1,5 +1,5 @@
--- A step or a redo that is taken back leaves the world before it, and events that were taken back are made again, the last one first, to
--- the world that had them.
+-- Undoing a step or a redo leads to the world before it. Undone events are made again, the last undone first, which leads to the world that
+-- had them.
 use Rattle.std.proofs.Common.{◌≡◌, ℕ, ◌+◌, ◌-◌, ◌<◌, ◌≤◌, ◌⊎◌, List, [], ◌∷◌, ◌++◌, length, get_or, set, take, drop, Some, sym, ap, ◌∙◌}
 use Rattle.std.proofs.Common.{subst, ⊎_elim, arith, take-append-drop, ◌≢◌, zero, suc, inl, inr, ℤ, ◌==◌, Bool, cond, count_by, refl}
 use Rattle.std.specs.Prelude.{slice_get}
@@ -19,21 +19,21 @@ use Rattle.event_rows.specs.EventValues.{EventValue}
 use Rattle.event_rows.specs.declared.exchange.Exchange.{Exchange}
 use Rattle.event_rows.specs.declared.exchange.Exchange.TheVariants.{Nothing, Sent, Took}
 use Rattle.fifo_grid.specs.Grids.{GridState, room_at}
-use Rattle.histories.proofs.Lists.{push_same}
-use Rattle.histories.proofs.Undoing.{without_with}
-use Rattle.histories.proofs.LineStates.{history_choice, history_redo, length_cut}
+use Rattle.dbg_laws.proofs.Lists.{push_same}
+use Rattle.dbg_laws.proofs.UndoLemmas.{without_with}
+use Rattle.dbg_laws.proofs.LineStates.{history_choice, history_redo, length_cut}
 use Rattle.causal_world.specs.Pasts.{kinds_of, PastState, HasRoomFor, kind_done, with_kind, AreClocksOf}
 use Rattle.causal_world.specs.Scenes.{Scene, IsWorldOf, unmade, restored, made}
 use Rattle.causal_world.specs.Worlds.{last_event, IsSomeWorld, Makes}
 use Rattle.causal_world.specs.Rollings.{IsStepped, IsRedone, TakesOut, unmade_all, AreTakenBack, IsRolledFrom}
 use Rattle.causal_world.specs.declared.rolled.Taken.{Taken}
 use Rattle.causal_world.specs.Room.{HasRoomsAfter, puts_after, puts_of, is_of, HasRoomForth, HasRoomForEach}
-use Rattle.causal_world.proofs.Going.{history_without}
-use Rattle.causal_world.proofs.Reversing.{choices_counted, unmade_more, channels_there}
-use Rattle.causal_world.proofs.Sames.{same_world, remade}
-use Rattle.causal_world.proofs.Behind.{one_at_most, one_of_both, none_of_one}
+use Rattle.causal_world.proofs.WorldOfLemmas.{history_without}
+use Rattle.causal_world.proofs.RollbackLemmas.{choices_counted, unmade_more, channels_there}
+use Rattle.causal_world.proofs.SameWorldLemmas.{same_world, remade}
+use Rattle.causal_world.proofs.LastKindLemmas.{one_at_most, one_of_both, none_of_one}
 
--- The last choice may be taken back where the history without it is possible.
+-- The last choice may be undone if the history without it is possible.
 may_last : (P : Program) (H B : History) (p k : ℕ) → H ≡ with_last B p k → p < length B → IsPossible P B → MayUndo P H p
 may_last P H B p k same here possible = record {
   some = omega (
@@ -65,7 +65,7 @@ module _ (P : Program) (p : ℕ) (w : Scene) (r : IsRedone P p w) where
       may_last P (history_of w.state) (history_of r.before.state) p r.choice redo_history (there P r.before.state p r.of.state r.here)
       r.of.possible
 
--- so nothing but memory refuses it
+-- so only a failed allocation can refuse it
 pub not_refused : (P : Program) (w : Scene) (p : ℕ) (refusal : Refusal) → IsWorldOf P w → MayUndo P (history_of w.state) p
     → CannotUndo P w.state p refusal → refusal ≡ Memory
 not_refused P w p NothingToUndo of may why = let events = may.some in absurd (omega (arith, events, why, choices_counted P w p of))
@@ -78,7 +78,7 @@ memory_alone P w p refusal of may why =
     ⊎_elim (λ (cannot : (Q : Program) → IsWorldOf Q w → CannotUndo Q w.state p refusal). not_refused P w p refusal of may (cannot P of))
     (λ (memory : refusal ≡ Memory). memory) why
 
--- The places go back.
+-- The places move back.
 
 pub place_back : (M : SystemState) (p : ℕ) → p < length M.places → after_undo (after_redo M p) p ≡ M
 place_back M p here =
@@ -95,7 +95,7 @@ redo_back P p w new event r took =
     (ap (λ (s : Scene). s.state) took.left ∙ ap (λ (M : SystemState). after_undo M p) r.state
     ∙ place_back r.before.state p (let here = r.here in omega (arith, here, r.of.state.places)))
 
--- a line cut at its place, with a choice, and cut there again, with what was cut off
+-- a line that is cut at its place, gets a choice, is cut there again, and gets what was cut off is as before
 line_back : (n k : ℕ) (line : List ℕ) → n ≤ length line → take n (take n line ++ k ∷ []) ++ drop n line ≡ line
 line_back n k line within =
     ap (λ (l : List ℕ). l ++ drop n line) (take_at (take n line) (k ∷ []) n (length-take-le n line within))
@@ -152,7 +152,7 @@ step_back P p cutoff w new event s was shorter same =
     let of = restate P (unmade w p event) (restored w.state p cutoff) shorter (subst (IsStateOf P) (sym state) s.of.state) history in
     same_world P new s.before (subst (IsWorldOf P) (sym same) of) s.of (ap (λ (v : Scene). v.state) same ∙ state)
 
--- Events that were taken back are made again.
+-- Undone events are made again.
 
 -- How many messages the events send.
 
@@ -161,7 +161,7 @@ puts_push : (taken : List Taken) (t : Taken) (i j : ℕ)
 puts_push [] t i j = omega arith
 puts_push (x ∷ taken) t i j = omega (arith, puts_push taken t i j)
 
--- no more than one each
+-- at most one each
 puts_few : (p i j : ℕ) (exchange : Exchange) → puts_after p exchange i j ≤ cond (p == i) 1 0
 puts_few p i j Nothing = omega arith
 puts_few p i j (Sent target value count) = one_at_most (p == i) (target.0 == j)
@@ -172,7 +172,7 @@ puts_counted [] i j = omega arith
 puts_counted (t ∷ taken) i j =
     omega (arith, puts_counted taken i j, puts_few t.pid.0 i j t.event.exchange, sum_by-cons (λ (x : Taken). cond (is_of i x) 1 0) t taken)
 
--- The last of the list.
+-- The last event of the list.
 
 pub record Again (P : Program) (before w : Scene) (front : List Taken) (t : Taken) : Type 0 where
   pub of : IsWorldOf P w
@@ -183,7 +183,7 @@ pub record Again (P : Program) (before w : Scene) (front : List Taken) (t : Take
   pub same : (clocks : List (List (List ℕ))) → AreClocksOf (with_kind w.kinds t.pid.0 (kind_done t.event.exchange)) clocks
       → made w t.pid.0 t.event (after_redo w.state t.pid.0) clocks ≡ unmade_all before front
 
--- the events before the last, and the last
+-- the events before the last one, and the last one
 record Parted (P : Program) (before : Scene) (front : List Taken) (t : Taken) : Type 0 where
   took : AreTakenBack P before front
   of : IsWorldOf P (unmade_all before front)
@@ -218,7 +218,7 @@ again P before w front t r =
 
 -- Room.
 
--- for the message of the last, where both processes are there
+-- for the message of the last event, if both processes exist
 pub room_for_last : (processes : ℕ) (grid : GridState) (front : List Taken) (t : Taken) → t.pid.0 < processes
     → ((j : ℕ) → j < length (get_or grid.channels t.pid.0 []) → j < processes) → HasRoomForth processes grid.room (front ++ t ∷ [])
     → HasRoomsAfter grid t.pid.0 t.event.exchange 1
@@ -234,7 +234,7 @@ room_for_last processes grid front t here inside room = by t.event.exchange refl
         omega (arith, enough, one, puts_push front t t.pid.0 target.0)
     by (Took source message count) e = tt
 
--- what is left has room
+-- there is room for the others
 pub room_behind : (processes : ℕ) (old new : List (List ℕ)) (front : List Taken) (t : Taken)
     → ((i j : ℕ) → room_at old i j ≤ room_at new i j + puts_after t.pid.0 t.event.exchange i j)
     → HasRoomForth processes old (front ++ t ∷ []) → HasRoomForth processes new front
@@ -279,7 +279,7 @@ room_each old new front t size own others room p here =
     others p (count_by (is_of p) front) apart (subst (λ (n : ℕ). HasRoomFor old p n) same enough))
     (cases_eq p t.pid.0)
 
--- Room found event by event.
+-- Room that is made event by event.
 
 puts_next : (taken : List Taken) (k : ℕ) (t : Taken) (i j : ℕ) → k < length taken → t ≡ get_or taken k t
     → puts_of (take (k + 1) taken) i j ≡ puts_of (take k taken) i j + puts_after t.pid.0 t.event.exchange i j
@@ -296,12 +296,12 @@ puts_next taken k t i j within is =
         omega (arith, same)
     next (x ∷ taken) (suc k) within is = omega (arith, next taken k (omega (arith, within)) is)
 
--- where an event sends to process j, there is room for so many messages
+-- if an event sends to process j, there is room for so many messages
 abbrev pub HasRoomFrom : List (List (List ℤ)) → List (List ℕ) → List Taken → ℕ → ℕ → Type 0
 HasRoomFrom channels room taken p more = (j : ℕ) → p < length channels → j < length (get_or channels p []) → 0 < puts_of taken p j
     → more ≤ room_at room p j
 
--- an event that sends to process j, and is of process p
+-- an event of process p that sends to process j
 sends_here : (channels : List (List (List ℤ))) (room : List (List ℕ)) (q p j more : ℕ) (exchange : Exchange) → p < length channels
     → j < length (get_or channels p []) → 0 < puts_after q exchange p j
     → (q ≡ p → HasRoomsAfter (record { channels = channels; room = room }) p exchange more) → more ≤ room_at room p j
@@ -332,7 +332,7 @@ room_from_next channels old grid taken k p more t within is same grows enough be
     → HasRoomsAfter (record { channels = l; room = grid.room }) p t.event.exchange more) same enough))
     (cases_lt 0 (puts_of (take k taken) p j))
 
--- room for a whole process
+-- room for all events of a process
 pub room_whole : (channels : List (List (List ℤ))) (room : List (List ℕ)) (taken : List Taken) (p more : ℕ)
     → more ≡ count_by (is_of p) taken → HasRoomFrom channels room taken p more → (j : ℕ) → p < length channels
     → j < length (get_or channels p []) → puts_of taken p j ≤ room_at room p j
@@ -342,7 +342,7 @@ room_whole channels room taken p more is enough j here column =
     (λ (none : puts_of taken p j ≤ 0). omega (arith, none))
     (cases_lt 0 (puts_of taken p j))
 
--- room found for each pair of processes
+-- room that is made for each pair of processes
 pub ways_forth : (w : Scene) (room : List (List ℕ)) (taken list : List Taken) → IsSomeWorld w → list ≡ taken
     → ((i j : ℕ) → i < length w.kinds → i < length w.standing.channels → j < length (get_or w.standing.channels i [])
     → puts_of list i j ≤ room_at room i j)

@@ -1,5 +1,5 @@
--- The clock of the next event of a process: count by count the larger of its last clock and of that of its cause, with its own count one
--- more. It is a consistent cut with the event, and each such cut has at least as much.
+-- The clock of the next event of a process. Count by count it is the larger of the process's last clock and the clock of its cause, with
+-- the own count one more. This is a consistent cut with the event, and each such cut has at least its counts.
 use Rattle.std.proofs.Common.{◌≡◌, ◌≢◌, ℕ, zero, suc, ◌+◌, ◌-◌, ◌<◌, ◌≤◌, ◌⊎◌, inl, inr, max, cond, true, false, List, [], ◌∷◌, length}
 use Rattle.std.proofs.Common.{get_or, take, count_by, Bool, refl, sym, ap, ◌∙◌, subst, ⊎_elim, arith}
 use Rattle.std.proofs.lemmas.Bool.{cases_eq, cases_lt, eq-eqb, ne_eqb}
@@ -11,13 +11,13 @@ use Rattle.cut_core.specs.declared.kind.Kind.TheVariants as does
 use Rattle.cut_core.specs.Kinds.{sends_to, gets_from}
 use Rattle.cut_core.specs.Tallies.{sent_by, got_by}
 use Rattle.cut_core.specs.ConsistentCuts.{IsConsistentCut}
-use Rattle.cut_core.proofs.Counted.{count_before, count_below}
+use Rattle.cut_core.proofs.CountLemmas.{count_before, count_below}
 use Rattle.clock_rows.specs.Clocks.{join, next_row}
 use Rattle.clock_rows.proofs.Joins.{length_join}
-use Rattle.histories.proofs.Lists.{push_other}
+use Rattle.dbg_laws.proofs.Lists.{push_other}
 use Rattle.causal_world.specs.Pasts.{with_kind, IsWhole, IsClockOf, IsSender, IsOwnLast, IsCause}
-use Rattle.causal_world.proofs.Clocking.{Continues, continues_more, one_longer, got_more, sent_grows, got_grows, same_sent, cut_more}
-use Rattle.causal_world.proofs.Clocking.{kept_clock}
+use Rattle.causal_world.proofs.ClockLemmas.{Continues, continues_more, one_longer, got_more, sent_grows, got_grows, same_sent, cut_more}
+use Rattle.causal_world.proofs.ClockLemmas.{kept_clock}
 
 -- Joins.
 
@@ -62,7 +62,7 @@ cause_within kinds p q m (does.Got source) here cause =
     subst (λ (x : ℕ). (x < length kinds) × (m ≤ length (get_or kinds x []))) (sym c.0) (c.1.here, c.1.within))
     (cases_eq source.0 p)
 
--- it receives nothing from process i, or what event m of that process sent
+-- the event receives nothing from process i, or what event m of that process sent
 abbrev Received : List (List Kind) → ℕ → Kind → ℕ → ℕ → ℕ → Type 0
 Received kinds p kind q m i = (cond {A = ℕ} (gets_from i kind) 1 0 ≡ 0) ⊎ ((q ≡ i) × IsSender kinds p i m)
 
@@ -75,7 +75,7 @@ received kinds p q m i (does.Got source) away cause =
     (λ (apart : source.0 ≢ i). inl (ap (λ b. cond b 1 0) (ne_eqb source.0 i apart)))
     (cases_eq source.0 i)
 
--- or the event m of process q is its own last, or it was sent to it
+-- event m of process q is the process's own last event, or it sent the message to the process
 abbrev OwnOrSent : List (List Kind) → ℕ → Kind → ℕ → ℕ → Type 0
 OwnOrSent kinds p kind q m =
     IsOwnLast kinds p q m ⊎ ((q ≢ p) × IsSender kinds p q m × (cond {A = ℕ} (gets_from q kind) 1 0 ≡ 1))
@@ -95,7 +95,7 @@ own_or_sent kinds p q m (does.Got source) cause =
     ))
     (cases_eq source.0 p)
 
--- a cut with the message has the event that sent it
+-- a cut with the message includes the event that sent it
 sender_in : (kinds : List (List Kind)) (p s m n : ℕ) → IsSender kinds p s m
     → got_by kinds p s (length (get_or kinds p [])) + 1 ≤ sent_by kinds s p n → m ≤ n
 sender_in kinds p s m n is enough =
@@ -178,7 +178,7 @@ module _ (kinds : List (List Kind)) (p q m : ℕ) (kind : Kind) (row joined : Li
       omega (arith, next_other r apart, row_within r, joined_within r, line))
       (cases_eq r p)
 
-  -- what another process receives was sent, since the larger of two consistent cuts has it
+  -- what another process receives was sent, since the larger of two consistent cuts includes it
   caused_other : (i j : ℕ) → i ≢ j → j ≢ p → got_by more j i (get_or next j 0) ≤ sent_by more i j (get_or next i 0)
   caused_other i j apart away =
       ⊎_elim
@@ -237,7 +237,7 @@ module _ (kinds : List (List Kind)) (p q m : ℕ) (kind : Kind) (row joined : Li
       (λ (away : j ≢ p). caused_other i j apart away)
       (cases_eq j p)
 
-  -- a consistent cut with the next event has what its clock has
+  -- a consistent cut with the next event has at least the counts of its clock
   module _ (cut : List ℕ) (consistent : IsConsistentCut more cut) (reaches : suc n ≤ get_or cut p 0) where
     row_in : IsAtMost row cut
     row_in = (kept_clock kinds p p n kind row here whole (omega arith) own).least cut consistent (omega arith)

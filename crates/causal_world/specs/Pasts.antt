@@ -1,4 +1,4 @@
--- What each event sent or received, and the clocks that this makes.
+-- What each event sent or received, and the clocks that follow from it.
 use Rattle.std.specs.Prelude.{◌≡◌, ◌≢◌, ℕ, ◌+◌, ◌-◌, ◌<◌, ◌≤◌, List, [], ◌∷◌, ◌++◌, length, map, Option, Some, None}
 use Rattle.std.specs.Prelude.{slice_get, slice_index, slice_index_or, slice_set}
 use Rattle.dbg_base.specs.Trees.{Action, Local, Sends, Receives, Command, Program, command_of}
@@ -28,7 +28,7 @@ kind_of_command (Some command) = kind_of_action command.action
 abbrev pub kind_at : Program → ℕ → ℕ → Kind
 kind_at P p k = kind_of_command (command_of P p k)
 
--- the same for each choice of a history, of which the first process has the number p
+-- the same for each choice of a history, whose first process has the number p
 abbrev pub kinds_from : Program → ℕ → History → List (List Kind)
 kinds_from P p [] = []
 kinds_from P p (choices ∷ H) = map (kind_at P p) choices ∷ kinds_from P (p + 1) H
@@ -42,11 +42,11 @@ kind_done Nothing = does.Local
 kind_done (Sent target value count) = does.Sent target
 kind_done (Took source message count) = does.Got source
 
--- one more event of process p
+-- the kinds with one more event of process p
 abbrev pub with_kind : List (List Kind) → ℕ → Kind → List (List Kind)
 with_kind kinds p kind = slice_set kinds p (slice_index_or kinds p [] ++ kind ∷ [])
 
--- and the last one taken back
+-- the kinds without the last event of process p
 abbrev pub without_kind : List (List Kind) → ℕ → List (List Kind)
 without_kind kinds p = slice_set kinds p (without_back (slice_index_or kinds p []))
 
@@ -64,17 +64,17 @@ pub record IsClockOf (kinds : List (List Kind)) (p n : ℕ) (cut : List ℕ) : T
 abbrev pub row_at : List (List (List ℕ)) → ℕ → ℕ → List ℕ
 row_at clocks p n = slice_index_or (slice_index_or clocks p []) n []
 
--- the last row of process p taken off
+-- the rows without the last one of process p
 abbrev pub without_row : List (List (List ℕ)) → ℕ → List (List (List ℕ))
 without_row clocks p = slice_set clocks p (without_back (slice_index_or clocks p []))
 
--- Each process has a row before its first event and one behind each event, and each row is the clock there.
+-- Each process has a row before its first event and one after each event, and each row is the clock there.
 pub record AreClocksOf (kinds : List (List Kind)) (clocks : List (List (List ℕ))) : Type 0 where
   pub processes : length clocks ≡ length kinds
   pub sizes : (p : ℕ) → p < length kinds → length (slice_index_or clocks p []) ≡ length (slice_index_or kinds p []) + 1
   pub rows : (p n : ℕ) → p < length kinds → n ≤ length (slice_index_or kinds p []) → IsClockOf kinds p n (row_at clocks p n)
 
--- Event m of process s, which is there, sent the message that process p takes next from it.
+-- Event m of the existing process s sent the message that process p receives next from it.
 pub record IsSender (kinds : List (List Kind)) (p s m : ℕ) : Type 0 where
   pub here : s < length kinds
   pub first : 1 ≤ m
@@ -86,15 +86,15 @@ pub record IsSender (kinds : List (List Kind)) (p s m : ℕ) : Type 0 where
 abbrev pub IsOwnLast : List (List Kind) → ℕ → ℕ → ℕ → Type 0
 IsOwnLast kinds p q m = (q ≡ p) × (m ≡ length (slice_index_or kinds p []))
 
--- Event m of process q is the one whose clock the next event of process p, of this kind, joins with its own: the event that sent the
--- message that it takes from another process, and else its own last event.
+-- Event m of process q is the one whose clock the next event of process p, of this kind, joins with its own. For a receive from another
+-- process it is the event that sent the message. Otherwise it is the last event of process p.
 abbrev pub IsCause : List (List Kind) → ℕ → Kind → ℕ → ℕ → Type 0
 IsCause kinds p (does.Got source) q m =
     (source.0 ≡ p → IsOwnLast kinds p q m) × (source.0 ≢ p → (q ≡ source.0) × IsSender kinds p source.0 m)
 IsCause kinds p kind q m = IsOwnLast kinds p q m
 
--- what is kept of each process: its start, its events, what they did to messages, the clock behind each; and how many more events are
--- taken without memory
+-- what is kept of each process: its start, its events, what they did to messages, the clock after each, and how many more events fit
+-- without allocation
 pub record PastState : Type 0 where
   pub starts : List LocalState
   pub events : List (List EventValue)
@@ -104,7 +104,7 @@ pub record PastState : Type 0 where
   pub kind_room : List ℕ
   pub clock_room : List ℕ
 
--- the same is kept, whatever the room
+-- both are equal but for their room
 pub record IsSamePast (old new : PastState) : Type 0 where
   pub starts : new.starts ≡ old.starts
   pub events : new.events ≡ old.events

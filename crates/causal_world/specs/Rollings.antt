@@ -1,4 +1,4 @@
--- Events taken back one after the other.
+-- Events that are undone one after the other.
 use Rattle.std.specs.Prelude.{◌≡◌, ℕ, ◌<◌, List, [], ◌∷◌, length, Some, slice_get, slice_index, slice_index_or}
 use Rattle.dbg_base.specs.Trees.{Program}
 use Rattle.dbg_base.specs.Reversal.{MayUndo}
@@ -18,26 +18,26 @@ abbrev pub unmade_all : Scene → List Taken → Scene
 unmade_all w [] = w
 unmade_all w (taken ∷ others) = unmade_all (unmade w taken.pid.0 taken.event) others
 
--- each was the last event of its process in its turn, and the world without it is of the program, too
+-- each was the last event of its process when it was undone, and the world without it is of the program, too
 abbrev pub AreTakenBack : Program → Scene → List Taken → Type 0
 AreTakenBack P w [] = Unit {0}
 AreTakenBack P w (taken ∷ others) =
     (last_event w taken.pid.0 ≡ Some taken.event) × IsWorldOf P (unmade w taken.pid.0 taken.event)
     × AreTakenBack P (unmade w taken.pid.0 taken.event) others
 
--- The last event of process p was this one, and taken out it leaves this world.
+-- The last event of process p was this one, and without it the world is `new`.
 pub record TakesOut (w : Scene) (p : ℕ) (event : EventValue) (new : Scene) : Type 0 where
   pub was : last_event w p ≡ Some event
   pub may : (P : Program) → IsWorldOf P w → MayUndo P (history_of w.state) p × IsWorldOf P (unmade w p event)
   pub left : new ≡ unmade w p event
 
--- These events were taken back from the world before, which was of the program, and left this world.
+-- These events were undone from the world `before`, which was of the program, and left this world.
 pub record IsRolledFrom (P : Program) (before : Scene) (taken : List Taken) (w : Scene) : Type 0 where
   pub of : IsWorldOf P before
   pub took : AreTakenBack P before taken
   pub is : w ≡ unmade_all before taken
 
--- The last event of process p may be taken back, and there is room for the message that goes back.
+-- The last event of process p may be undone, and there is room for the message that returns.
 pub record CanTakeBack (w : Scene) (grid : GridState) (p : ℕ) : Type 0 where
   pub world : IsSomeWorld w
   pub event : EventValue
@@ -45,20 +45,20 @@ pub record CanTakeBack (w : Scene) (grid : GridState) (p : ℕ) : Type 0 where
   pub may : (P : Program) → IsWorldOf P w → MayUndo P (history_of w.state) p × IsWorldOf P (unmade w p event)
   pub messages : HasRoomBefore grid p event.exchange
 
--- the same where the lines and places stand elsewhere
+-- the same with any lines and places
 abbrev pub CanTakeFrom : List LocalState → GridState → PastState → ℕ → Type 0
 CanTakeFrom states grid past p = (state : SystemState) × CanTakeBack (scene state states grid.channels past) grid p
 
--- process p is behind the cut, and its last event may be taken back
+-- process p has events beyond the cut, and its last event may be undone
 abbrev pub IsNextBack : Scene → List ℕ → ℕ → Type 0
 IsNextBack w cut p = (slice_index cut p < length (slice_index_or w.kinds p [])) × ((exchange : Exchange) × UndoableBy w p exchange)
 
--- from some world before
+-- the same from some earlier world
 pub record IsRolled (P : Program) (taken : List Taken) (w : Scene) : Type 0 where
   pub before : Scene
   pub from : IsRolledFrom P before taken w
 
--- Process p made a choice in the world before, which was of the program; these choices were cut off, and this world is left.
+-- Process p made a choice in the world `before`, which was of the program. These choices were cut off, and this world is the result.
 pub record IsStepped (P : Program) (p : ℕ) (cutoff : List ℕ) (w : Scene) : Type 0 where
   pub before : Scene
   pub of : IsWorldOf P before
@@ -68,7 +68,7 @@ pub record IsStepped (P : Program) (p : ℕ) (cutoff : List ℕ) (w : Scene) : T
   pub state : w.state ≡ after_choice before.state p choice
   pub cut : cutoff ≡ redo_line before.state p
 
--- Process p made the choice at its place again, and this world is left.
+-- Process p made the choice at its place again, and this world is the result.
 pub record IsRedone (P : Program) (p : ℕ) (w : Scene) : Type 0 where
   pub before : Scene
   pub of : IsWorldOf P before

@@ -1,4 +1,4 @@
--- Where a world stands, and what it knows of its events.
+-- What a world shows: its state, and its events.
 use Rattle.std.specs.Prelude.{◌≡◌, ℕ, ◌+◌, ◌-◌, ◌<◌, ◌≤◌, ℤ, List, [], ◌∷◌, ◌++◌, take, drop, length, Option, Some, None, Result, Ok, Err}
 use Rattle.std.specs.Prelude.{replicate, slice_get, slice_index_or, slice_set}
 use Rattle.std.specs.Option.{option_map}
@@ -20,8 +20,8 @@ use Rattle.event_rows.specs.Events.{after_event, before_event}
 use Rattle.cut_core.specs.declared.kind.Kind.{Kind}
 use Rattle.causal_world.specs.Pasts.{PastState, AreClocksOf, kinds_of, kind_done, with_kind, without_kind, row_at, without_row}
 
--- lines and places, local states and channels, and for each process its start, its events, what they did to messages, and the clocks
--- before and behind them
+-- lines and places, local states and channels; and for each process its start, its events, what they did to messages, and the clocks before
+-- and after them
 pub record Scene : Type 0 where
   pub state : SystemState
   pub standing : Configuration
@@ -42,12 +42,12 @@ scene state states channels past = record {
 
 -- What an event is.
 
--- the message that process p takes by this action: the front of its channel
+-- the message that process p receives by this action: the head of its channel
 abbrev pub message_for : Configuration → ℕ → Action → Option ℤ
 message_for c p (Receives source variable) = slice_get (channel_of c source p) 0
 message_for c p action = None
 
--- what process p sends, or takes, by this action, with how many messages that makes
+-- the exchange of process p by this action, with the count of its message
 abbrev pub exchange_for : LocalState → Action → Option ℤ → Option ℤ → Exchange
 exchange_for state (Sends target value) (Some sent) taken =
     Sent (record { 0 = target }) sent (slice_index_or state.sent target 0 + 1)
@@ -55,7 +55,7 @@ exchange_for state (Receives source variable) sent (Some message) =
     Took (record { 0 = source }) message (slice_index_or state.got source 0 + 1)
 exchange_for state action sent taken = Nothing
 
--- what choice k does in this local state, where it is this action with this effect and takes this message
+-- the event of choice k in this local state, for this action with this effect and this received message
 abbrev pub event_by : ℕ → Action → LocalState → Option ℤ → Effect → EventValue
 event_by k action state taken effect = record {
   choice = k;
@@ -63,7 +63,7 @@ event_by k action state taken effect = record {
   exchange = exchange_for state action effect.message taken;
 }
 
--- what it does where it is this command, unless an evaluation faults
+-- the event of a command, unless an evaluation faults
 abbrev pub event_of : ℕ → Command → LocalState → Option ℤ → Option EventValue
 event_of k command state taken = option_map (event_by k command.action state taken) (effect_of command state taken)
 
@@ -71,7 +71,7 @@ abbrev pub event_if : Configuration → ℕ → ℕ → Option Command → Optio
 event_if c p k None = None
 event_if c p k (Some command) = event_of k command (state_in c p) (message_for c p command.action)
 
--- what process p does at c by choice k
+-- the event that process p makes at c by choice k
 abbrev pub event_at : Program → Configuration → ℕ → ℕ → Option EventValue
 event_at P c p k = event_if c p k (command_of P p k)
 
@@ -80,13 +80,13 @@ abbrev pub with_event : List (List EventValue) → ℕ → Option EventValue →
 with_event events p None = events
 with_event events p (Some event) = slice_set events p (slice_index_or events p [] ++ event ∷ [])
 
--- goes on from where a choice led, if it fires
+-- continues from the configuration to which a choice led, if it fired
 abbrev pub events_then : Result Configuration Refusal → List (List EventValue) → (Configuration → List (List EventValue))
     → List (List EventValue)
 events_then (Ok c) events next = next c
 events_then (Err refusal) events next = events
 
--- what each process has done as these choices fire in turn from c on, behind what it did before
+-- the events of each process as these choices fire one after the other from c on, appended to its earlier events
 abbrev pub events_from : Program → Configuration → List (List EventValue) → List Event → List (List EventValue)
 events_from P c events [] = events
 events_from P c events (e ∷ E) =
@@ -96,8 +96,8 @@ events_from P c events (e ∷ E) =
 abbrev pub events_of : Program → List Event → List (List EventValue)
 events_of P E = events_from P (start_of P) (replicate (length P) []) E
 
--- The world is of the program P: its lines and places are P's, its events are possible, local states and channels are those of their
--- play, what is kept of the events is what they do as they fire in some order, and counts and clocks are those of the events.
+-- The world is of the program P. Its lines and places are a state of P with a possible history. Local states and channels are those of the
+-- play. Its events are those of the choices as they fire in some order, and counts and clocks are those of the events.
 pub record IsWorldOf (P : Program) (w : Scene) : Type 0 where
   pub state : IsStateOf P w.state
   pub possible : IsPossible P (history_of w.state)
@@ -112,7 +112,7 @@ pub record IsWorldOf (P : Program) (w : Scene) : Type 0 where
 
 -- What an event changes.
 
--- a sent message goes to the back of its channel, and a taken one leaves its front
+-- the channels after this exchange of process p: a sent message is appended, and a received one leaves the head
 abbrev pub channels_after : List (List (List ℤ)) → ℕ → Exchange → List (List (List ℤ))
 channels_after channels p Nothing = channels
 channels_after channels p (Sent target value count) =
@@ -120,7 +120,7 @@ channels_after channels p (Sent target value count) =
 channels_after channels p (Took source message count) =
     with_messages channels source.0 p (drop 1 (messages_at channels source.0 p))
 
--- a sent message is taken off the back of its channel, and a taken one goes back to its front
+-- the channels before it: a sent message leaves the tail, and a received one returns to the head
 abbrev pub channels_before : List (List (List ℤ)) → ℕ → Exchange → List (List (List ℤ))
 channels_before channels p Nothing = channels
 channels_before channels p (Sent target value count) =
@@ -128,28 +128,28 @@ channels_before channels p (Sent target value count) =
 channels_before channels p (Took source message count) =
     with_messages channels source.0 p (message ∷ messages_at channels source.0 p)
 
--- process p has done this
+-- the configuration after this event of process p
 abbrev pub with_done : Configuration → ℕ → EventValue → Configuration
 with_done c p event = record {
   states = slice_set c.states p (after_event event (state_in c p));
   channels = channels_after c.channels p event.exchange;
 }
 
--- and it is taken back
+-- the configuration before this event of process p
 abbrev pub with_undone : Configuration → ℕ → EventValue → Configuration
 with_undone c p event = record {
   states = slice_set c.states p (before_event event (state_in c p));
   channels = channels_before c.channels p event.exchange;
 }
 
--- the place of process p moves back, and these choices follow
+-- the place of process p moves back by one, and these choices follow it
 abbrev pub restored : SystemState → ℕ → List ℕ → SystemState
 restored M p choices = record {
   lines = slice_set M.lines p (take (place_at M p - 1) (line_of M p) ++ choices);
   places = slice_set M.places p (place_at M p - 1);
 }
 
--- process p has made this event, which leaves this state and these clocks
+-- the world after this event of process p, with this state and these clocks
 abbrev pub made : Scene → ℕ → EventValue → SystemState → List (List (List ℕ)) → Scene
 made w p event state clocks = record w {
   state = state;
@@ -159,7 +159,7 @@ made w p event state clocks = record w {
   clocks = clocks;
 }
 
--- the last event of process p is taken back
+-- the events without the last one of process p
 abbrev pub without_event : List (List EventValue) → ℕ → List (List EventValue)
 without_event events p = slice_set events p (without_back (slice_index_or events p []))
 
@@ -172,7 +172,7 @@ unmade w p event = record w {
   clocks = without_row w.clocks p;
 }
 
--- What the first world has of events and clocks the second one has, too, and perhaps more.
+-- The second world has all events and clocks of the first, and perhaps more.
 pub record IsEarlier (w more : Scene) : Type 0 where
   pub processes : length w.clocks ≡ length more.clocks
   pub starts : w.starts ≡ more.starts

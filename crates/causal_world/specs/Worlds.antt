@@ -1,4 +1,4 @@
--- What the calls of a world need and do.
+-- What the calls of a world require and do.
 use Rattle.std.specs.Prelude.{◌≡◌, ℕ, ◌-◌, ◌<◌, ℤ, List, [], length, Option, Some, None, Result, Ok, Err, slice_get, slice_index_or}
 use Rattle.dbg_base.specs.declared.refusal.Refusal.{Refusal}
 use Rattle.dbg_base.specs.declared.refusal.Refusal.TheVariants.{NothingToUndo, Consequence}
@@ -18,14 +18,14 @@ use Rattle.causal_world.specs.Scenes.{Scene, IsWorldOf, event_at, with_done, unm
 abbrev pub IsSomeWorld : Scene → Type 0
 IsSomeWorld w = (P : Program) × IsWorldOf P w
 
--- Process p makes choice k of the program, which is this event.
+-- Process p makes choice k of the program, which makes this event.
 pub record Makes (P : Program) (w : Scene) (p k : ℕ) (event : EventValue) : Type 0 where
   pub here : p < length P
   pub command : k < length (process_of P p).commands
   pub fires : fire P w.standing p k ≡ Ok (with_done w.standing p event)
   pub is : event_at P w.standing p k ≡ Some event
 
--- and the world is of that program
+-- the same, and the world is of that program
 abbrev pub CanMake : Scene → ℕ → ℕ → EventValue → Type 0
 CanMake w p k event = (P : Program) × IsWorldOf P w × Makes P w p k event
 
@@ -36,13 +36,13 @@ last_of events p = let own = slice_index_or events p [] in slice_get own (length
 abbrev pub last_event : Scene → ℕ → Option EventValue
 last_event w p = last_of w.events p
 
--- What process p sent by this exchange is still on its way, where it sent something to a process that is there.
+-- The message that process p sent by this exchange is still on its way, if it sent one to an existing process.
 abbrev pub NotReceived : List (List (List ℤ)) → ℕ → Exchange → Type 0
 NotReceived channels p (Sent target value count) =
     p < length channels → target.0 < length (slice_index_or channels p []) → 0 < length (messages_at channels p target.0)
 NotReceived channels p exchange = Unit {0}
 
--- the process that has received it
+-- process q has received it
 abbrev pub Received : List (List (List ℤ)) → ℕ → Exchange → ℕ → Type 0
 Received channels p (Sent target value count) q =
     (target.0 ≡ q) × (p < length channels) × (q < length (slice_index_or channels p [])) × (length (messages_at channels p q) ≡ 0)
@@ -53,7 +53,8 @@ abbrev pub ReceivedBy : List (List (List ℤ)) → ℕ → Exchange → Option P
 ReceivedBy channels p exchange None = NotReceived channels p exchange
 ReceivedBy channels p exchange (Some q) = Received channels p exchange q.0
 
--- What the last event of a process exchanged, where it was not received; or that it has none, or who has received it.
+-- The exchange of the last event of a process, if its message was not received. Otherwise the process has no event, or the refusal names
+-- the receiver.
 abbrev pub LastExchange : List (List EventValue) → List (List (List ℤ)) → ℕ → Result Exchange Refusal → Type 0
 LastExchange events channels p (Ok exchange) =
     (event : EventValue) × (last_of events p ≡ Some event) × (event.exchange ≡ exchange) × NotReceived channels p exchange

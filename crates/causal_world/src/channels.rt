@@ -1,4 +1,4 @@
-//! What an event does to the messages on their way, and what takes it back.
+//! What an event does to the messages on their way, and how that is undone.
 
 ghost use Rattle.std.specs.Prelude.{◌≡◌, ◌≤◌, ◌+◌, ℕ, OnOk};
 ghost use Rattle.fifo_grid.specs.Grids.{room_at};
@@ -11,7 +11,7 @@ use event_rows::Exchange;
 use fifo_grid::Grid;
 use std::alloc::AllocError;
 
-/// Makes room for so many messages to where the exchange sends. No room is lost, and where memory runs out no message changes.
+/// Makes room for so many messages on the channel to which the exchange sends. No room is lost. If an allocation fails, no message changes.
 pub(crate) fn make_room_after(
     grid: &mut Grid,
     pid: Pid,
@@ -28,7 +28,7 @@ pub(crate) fn make_room_after(
     }
 }
 
-/// A sent message goes to the back of its channel, and a taken one leaves its front.
+/// Appends a sent message to its channel, and removes a received one from the head.
 pub(crate) fn go_after(grid: &mut Grid, pid: Pid, exchange: Exchange)
     requires { HasRoomAfter grid.old pid.0 exchange }
     ensures channels { grid.new.channels ≡ channels_after grid.old.channels pid.0 exchange }
@@ -47,7 +47,7 @@ pub(crate) fn go_after(grid: &mut Grid, pid: Pid, exchange: Exchange)
     }
 }
 
-/// Makes room for what the exchange took. Where memory runs out no message changes.
+/// Makes room for the message that the exchange received. If an allocation fails, no message changes.
 pub(crate) fn make_room_before(
     grid: &mut Grid,
     pid: Pid,
@@ -62,7 +62,7 @@ pub(crate) fn make_room_before(
     }
 }
 
-/// A sent message is taken off the back of its channel, and a taken one goes back to its front.
+/// Removes a sent message from the tail of its channel, and puts a received one back at the head.
 pub(crate) fn go_before(grid: &mut Grid, pid: Pid, exchange: Exchange)
     requires { HasRoomBefore grid.old pid.0 exchange }
     ensures channels { grid.new.channels ≡ channels_before grid.old.channels pid.0 exchange }
@@ -85,7 +85,7 @@ pub(crate) fn go_before(grid: &mut Grid, pid: Pid, exchange: Exchange)
     }
 }
 
-/// The process that has received what the exchange sent, if it sent something: no message is left for it then, since what was sent
+/// The process that has received the message that the exchange sent, if there is one. Then the channel is empty, since the message sent
 /// last is received last.
 pub(crate) fn received(grid: &Grid, pid: Pid, exchange: Exchange) -> Option<Pid>
     ensures { ReceivedBy grid.now.channels pid.0 exchange result }

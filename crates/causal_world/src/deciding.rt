@@ -1,4 +1,4 @@
-//! What a command would do, found out before anything changes.
+//! What a command would do. It is decided before anything changes.
 
 ghost use Rattle.std.specs.Prelude.{◌≡◌, ◌+◌, ◌<◌, length, IfOk, Some, slice_index_or};
 ghost use Rattle.dbg_base.specs.declared.limits.TheConstants.{EVENTS};
@@ -16,7 +16,7 @@ use local_eval::{Env, EvalError, effect, guard};
 use proc_lang::{Action, Guarded, Program};
 use std::alloc::{AllocError, Global};
 
-// The message that the action takes, if it receives one.
+// The message that the action receives, if it receives one.
 fn taken(action: &Action, envs: &[Env], grid: &Grid, pid: Pid) -> Result<Option<i64>, Refusal>
     ensures { Takes result (action_tree action.now) (record { states = envs.now; channels = grid.now.channels }) pid.0 }
 {
@@ -29,7 +29,7 @@ fn taken(action: &Action, envs: &[Env], grid: &Grid, pid: Pid) -> Result<Option<
     }
 }
 
-// One more than a count.
+// A count plus one.
 fn one_more(counts: &[u32], other: Pid) -> u32
     requires { slice_index_or counts.now other.0 0 < EVENTS }
     ensures { result ≡ slice_index_or counts.now other.0 0 + 1 }
@@ -37,7 +37,7 @@ fn one_more(counts: &[u32], other: Pid) -> u32
     count_of(counts, other) + 1
 }
 
-// What the action sends or takes, with how many messages that makes.
+// The exchange of the action, with the count of its message.
 fn exchange(env: &Env, action: &Action, sent: Option<i64>, taken: Option<i64>) -> Exchange
     requires { CanCount env.now }
     ensures { result ≡ exchange_for env.now (action_tree action.now) sent taken }
@@ -57,7 +57,7 @@ fn exchange(env: &Env, action: &Action, sent: Option<i64>, taken: Option<i64>) -
     }
 }
 
-// What the command does in this local state, where it takes this message, or that an evaluation faults.
+// The event of the command in this local state, with this received message, or a fault of an evaluation.
 fn event(
     alloc: Global,
     command: &Guarded,
@@ -77,7 +77,7 @@ fn event(
     Ok(Ok(Event::of(alloc, choice, env, change.sets.items(), exchange)?))
 }
 
-// What the command does where its guard is true, or why it does not fire.
+// The event of the command after its guard was true, or why the command does not fire.
 fn proceed(
     alloc: Global,
     command: &Guarded,
@@ -99,8 +99,8 @@ fn proceed(
     event(alloc, command, choice, &envs[pid.0 as usize], taken)
 }
 
-// What the process does by this command, which is its choice, or why the command does not fire: its guard is evaluated first; then a
-// receive needs a message; then the value to send and the assigned values are evaluated.
+// The event that the process makes by this command, which is its choice, or why the command does not fire. The guard is evaluated first.
+// Then a receive needs a message. Then the value to send and the assigned values are evaluated.
 fn decide(
     alloc: Global,
     command: &Guarded,
@@ -122,8 +122,8 @@ fn decide(
     }
 }
 
-/// What the process does by this choice, or why its command does not fire. A command that the process has not counts as one whose
-/// guard is false.
+/// The event that the process makes by this choice, or why the command does not fire. A command that the process does not have counts as
+/// one whose guard is false.
 pub(crate) fn try_choice(
     alloc: Global,
     program: &Program,
@@ -143,7 +143,7 @@ pub(crate) fn try_choice(
     }
 }
 
-/// The first command of the process that fires, with what the process does by it, or None where none fires.
+/// The first command of the process that fires, with its event, or None if no command fires.
 pub(crate) fn lowest(
     alloc: Global,
     program: &Program,

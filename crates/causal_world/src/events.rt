@@ -1,13 +1,13 @@
-//! What an event of a process changes, and what takes it back.
+//! What an event of a process changes, and how that is undone.
 
-ghost use Rattle.std.specs.Prelude.{◌≡◌, ◌≢◌, ℕ, ◌+◌, ◌-◌, ◌<◌, ◌≤◌, length, [], OnOk, Some, slice_set, slice_index_or};
+ghost use Rattle.std.specs.Prelude.{◌≡◌, ℕ, ◌+◌, ◌<◌, ◌≤◌, length, [], OnOk, slice_set, slice_index_or};
 ghost use Rattle.dbg_base.specs.declared.limits.TheConstants.{EVENTS};
 ghost use Rattle.dbg_base.specs.LocalStates.{no_state};
 ghost use Rattle.event_rows.specs.Events.{after_event, before_event};
-ghost use Rattle.causal_world.specs.Scenes.{channels_after, channels_before, with_event};
-ghost use Rattle.causal_world.specs.Pasts.{IsWhole, AreClocksOf, IsSamePast, HasRoomFor, kind_done, with_kind};
+ghost use Rattle.causal_world.specs.Scenes.{channels_after, channels_before};
+ghost use Rattle.causal_world.specs.Pasts.{IsWhole, IsSamePast, HasRoomFor, kind_done, with_kind};
 ghost use Rattle.fifo_grid.specs.Grids.{room_at};
-ghost use Rattle.causal_world.specs.Room.{HasRoomAfter, HasRoomBefore, puts_after, puts_before};
+ghost use Rattle.causal_world.specs.Room.{HasRoomAfter, HasRoomBefore, IsAppended, puts_after, puts_before};
 
 use crate::channels::{go_after, go_before, make_room_after};
 use crate::past::Past;
@@ -17,7 +17,7 @@ use fifo_grid::Grid;
 use local_eval::Env;
 use std::alloc::AllocError;
 
-/// Makes room for an event of the process. Where memory runs out nothing changes that is seen.
+/// Makes room for an event of the process. If an allocation fails, contracts see no change.
 pub(crate) fn make_room(
     grid: &mut Grid,
     past: &mut Past,
@@ -33,10 +33,9 @@ pub(crate) fn make_room(
     past.reserve(pid, 1)
 }
 
-/// The event of the process happens.
+/// Makes the event of the process.
 pub(crate) fn happen(envs: &mut Vec<Env>, grid: &mut Grid, past: &mut Past, pid: Pid, event: Event)
-    requires here { pid.0 < length envs.old.items }
-    requires kept { pid.0 < length past.old.kinds }
+    requires here { (pid.0 < length envs.old.items) × (pid.0 < length past.old.kinds) }
     requires messages { HasRoomAfter grid.old pid.0 event.exchange }
     requires room { HasRoomFor past.old pid.0 1 }
     requires few { length (slice_index_or past.old.kinds pid.0 []) < EVENTS }
@@ -44,12 +43,7 @@ pub(crate) fn happen(envs: &mut Vec<Env>, grid: &mut Grid, past: &mut Past, pid:
     ensures states { envs.new.items
         ≡ slice_set envs.old.items pid.0 (after_event event (slice_index_or envs.old.items pid.0 no_state)) }
     ensures channels { grid.new.channels ≡ channels_after grid.old.channels pid.0 event.exchange }
-    ensures starts { past.new.starts ≡ past.old.starts }
-    ensures events { past.new.events ≡ with_event past.old.events pid.0 (Some event) }
-    ensures kinds { past.new.kinds ≡ with_kind past.old.kinds pid.0 (kind_done event.exchange) }
-    ensures clocks { AreClocksOf past.new.kinds past.new.clocks }
-    ensures own { (n : ℕ) → HasRoomFor past.old pid.0 n → HasRoomFor past.new pid.0 (n - 1) }
-    ensures others { (q n : ℕ) → q ≢ pid.0 → HasRoomFor past.old q n → HasRoomFor past.new q n }
+    ensures appended { IsAppended past.old pid.0 event past.new }
     ensures ways { (i j : ℕ) → room_at grid.old.room i j ≤ room_at grid.new.room i j + puts_after pid.0 event.exchange i j }
 {
     event.redo(&mut envs[pid.0 as usize]);
@@ -57,7 +51,7 @@ pub(crate) fn happen(envs: &mut Vec<Env>, grid: &mut Grid, past: &mut Past, pid:
     past.push(pid, event);
 }
 
-/// The event of the process, which was its last, is taken back.
+/// Undoes the event of the process, which was its last.
 pub(crate) fn revert(envs: &mut Vec<Env>, grid: &mut Grid, pid: Pid, event: &Event)
     requires here { pid.0 < length envs.old.items }
     requires messages { HasRoomBefore grid.old pid.0 event.now.exchange }

@@ -4,10 +4,10 @@ ghost use Rattle.std.specs.Prelude.{◌≡◌};
 ghost use Rattle.dbg_base.specs.Trees.{Program};
 ghost use Rattle.causal_world.specs.Scenes.{Scene, IsWorldOf};
 
-pub use histories::laws::{any_order, any_undo, one_outcome};
+pub use dbg_laws::laws::{any_order, any_undo, one_outcome};
 
-/// A world is known by its lines and places. Two worlds of one program that agree in these are equal, local states, channels, events,
-/// counts and clocks included, in whatever order their events were made.
+/// The lines and places of a world determine it. If two worlds of one program agree in these, they are equal, with local states, channels,
+/// events, counts and clocks, in whatever order their events were made.
 pub fn one_world()
     ensures { (P : Program) (w v : Scene) → IsWorldOf P w → IsWorldOf P v → w.state ≡ v.state → w ≡ v }
 {}

@@ -1,4 +1,5 @@
-//! The world of a system of processes, which its events change in place and which gives them back, and the laws of its histories.
+//! The world of a system of processes. Events change it in place, and can be undone (causal-consistent reversibility: Danos and Krivine
+//! 2004).
 #![tactic(auto)]
 
 mod channels;

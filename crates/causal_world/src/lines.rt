@@ -1,4 +1,4 @@
-//! The lines of choices, with the place in each.
+//! The lines of choices, with a place in each.
 
 ghost use Rattle.std.specs.Prelude.{◌≡◌, ◌<◌, ◌++◌, ◌∷◌, [], length, map, take, drop, replicate, IfOk, OnOk, OnErr, slice_get};
 ghost use Rattle.dbg_base.specs.declared.limits.TheConstants.{EVENTS};
@@ -9,14 +9,14 @@ use dbg_base::{Choice, Pid, count_of};
 use std::alloc::{AllocError, Global};
 use std::marker::Model;
 
-/// For each process its line of choices and its place in it, which contracts see as a state of the model.
+/// For each process its line of choices and its place in it. Contracts see a state of the model.
 #[derive(Debug, Drop)]
-pub(crate) struct Lines {
+pub(crate) struct ChoiceLines {
     lines: Vec<Vec<u32>>,
     places: Vec<u32>,
 }
 
-impl Model for Lines {
+impl Model for ChoiceLines {
     ghost use Rattle.std.specs.Prelude.{map};
     ghost use Rattle.dbg_base.specs.SystemStates.{SystemState};
 
@@ -35,7 +35,7 @@ fn empty_lines(alloc: Global, processes: u32) -> Result<Vec<Vec<u32>>, AllocErro
     Ok(lines)
 }
 
-// The same lines once more.
+// Copies the lines.
 fn copy_lines(lines: &Vec<Vec<u32>>) -> Result<Vec<Vec<u32>>, AllocError>
     ensures { IfOk result (λ made. map (λ line. line.items) made.items ≡ map (λ line. line.items) lines.now.items) }
 {
@@ -46,7 +46,7 @@ fn copy_lines(lines: &Vec<Vec<u32>>) -> Result<Vec<Vec<u32>>, AllocError>
     Ok(made)
 }
 
-// The line is cut at the place, and the choice is appended. Where memory runs out nothing changes.
+// Cuts the line at the place and appends the choice. If an allocation fails, nothing changes.
 fn append_choice(line: &mut Vec<u32>, place: usize, choice: u32) -> Result<(), AllocError>
     ensures appended { OnOk result (line.new.items ≡ take place line.old.items ++ choice ∷ []) }
     ensures kept { OnErr result (line.new.items ≡ line.old.items) }
@@ -60,7 +60,7 @@ fn append_choice(line: &mut Vec<u32>, place: usize, choice: u32) -> Result<(), A
     Ok(())
 }
 
-// The line is cut at the place, and these choices are appended. Where memory runs out nothing changes.
+// Cuts the line at the place and appends these choices. If an allocation fails, nothing changes.
 fn replace_end(line: &mut Vec<u32>, place: usize, choices: &[u32]) -> Result<(), AllocError>
     ensures replaced { OnOk result (line.new.items ≡ take place line.old.items ++ choices.now) }
     ensures kept { OnErr result (line.new.items ≡ line.old.items) }
@@ -77,28 +77,28 @@ fn behind(line: &[u32], place: usize) -> &[u32]
     line.get(place..).unwrap_or(&[])
 }
 
-impl Lines {
+impl ChoiceLines {
     /// Empty lines.
-    pub(crate) fn new(alloc: Global, processes: u32) -> Result<Lines, AllocError>
+    pub(crate) fn new(alloc: Global, processes: u32) -> Result<ChoiceLines, AllocError>
         ensures { IfOk result (λ lines. lines ≡ record { lines = replicate processes []; places = replicate processes 0 }) }
     {
-        Ok(Lines {
+        Ok(ChoiceLines {
             lines: empty_lines(alloc, processes)?,
             places: vec![in alloc; 0u32; processes as usize]?,
         })
     }
 
-    /// The same lines and places once more. It is refused only where memory runs out.
-    pub(crate) fn copy(&self) -> Result<Lines, AllocError>
+    /// Copies the lines and places. Error: out of memory.
+    pub(crate) fn copy(&self) -> Result<ChoiceLines, AllocError>
         ensures { IfOk result (λ lines. lines ≡ self.now) }
     {
-        Ok(Lines {
+        Ok(ChoiceLines {
             lines: copy_lines(&self.lines)?,
             places: self.places.clone()?,
         })
     }
 
-    // The line of a process, empty where there is none.
+    // The line of a process, empty if there is no such process.
     fn line(&self, pid: Pid) -> &[u32]
         ensures { result.now ≡ line_of self.now pid.0 }
     {
@@ -108,14 +108,14 @@ impl Lines {
         }
     }
 
-    /// The place of a process, 0 where there is none.
+    /// The place of a process, 0 if there is no such process.
     pub(crate) fn place(&self, pid: Pid) -> u32
         ensures { result ≡ place_at self.now pid.0 }
     {
         count_of(&self.places, pid)
     }
 
-    /// The places of all processes. It is refused only where memory runs out.
+    /// The places of all processes. Error: out of memory.
     pub(crate) fn places(&self, alloc: Global) -> Result<Vec<u32>, AllocError>
         ensures { IfOk result (λ places. places.items ≡ self.now.places) }
     {
@@ -136,7 +136,7 @@ impl Lines {
         self.line(pid).get(at as usize).copied()
     }
 
-    /// The choice at the place of a process, which can be made again.
+    /// The choice at the place of a process, which it can make again.
     pub(crate) fn next(&self, pid: Pid) -> Option<u32>
         ensures { result ≡ slice_get (line_of self.now pid.0) (place_at self.now pid.0) }
     {
@@ -151,14 +151,14 @@ impl Lines {
         self.line(pid).get(before as usize).copied()
     }
 
-    /// The choices from the place on. It is refused only where memory runs out.
+    /// The choices from the place on. Error: out of memory.
     pub(crate) fn redo_line(&self, alloc: Global, pid: Pid) -> Result<Vec<u32>, AllocError>
         ensures { IfOk result (λ choices. choices.items ≡ redo_line self.now pid.0) }
     {
         Vec::from_slice(alloc, behind(self.line(pid), self.place(pid) as usize))
     }
 
-    /// The line is cut at its place, the choice is appended, and the place moves on. Where memory runs out nothing changes.
+    /// Cuts the line at its place, appends the choice, and moves the place forward by one. If an allocation fails, nothing changes.
     #[tactic(auto, using(dbg_base::proofs::Places::one_place))]
     pub(crate) fn append(&mut self, pid: Pid, choice: Choice) -> Result<(), AllocError>
         requires line { pid.0 < length self.old.lines }
@@ -174,7 +174,7 @@ impl Lines {
         Ok(())
     }
 
-    /// The place moves on, and the line stays.
+    /// Moves the place forward by one. The line stays.
     pub(crate) fn advance(&mut self, pid: Pid)
         requires place { pid.0 < length self.old.places }
         requires room { place_at self.old pid.0 < EVENTS }
@@ -184,7 +184,7 @@ impl Lines {
         self.places[p] = self.places[p] + 1;
     }
 
-    /// The place moves back, and the line stays.
+    /// Moves the place back by one. The line stays.
     pub(crate) fn retreat(&mut self, pid: Pid)
         ensures { self.new ≡ after_undo self.old pid.0 }
     {
@@ -194,7 +194,7 @@ impl Lines {
         }
     }
 
-    /// The place moves back, and the choices from there on are these again. Where memory runs out nothing changes.
+    /// Moves the place back by one, and replaces the choices from there on by these. If an allocation fails, nothing changes.
     #[tactic(auto, using(dbg_base::proofs::Places::one_place))]
     pub(crate) fn restore(&mut self, pid: Pid, choices: &[u32]) -> Result<(), AllocError>
         requires line { pid.0 < length self.old.lines }

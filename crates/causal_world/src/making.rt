@@ -1,4 +1,4 @@
-//! Events that were taken back are made again, the last first.
+//! Undone events are made again, the last undone first.
 
 ghost use Rattle.std.specs.Prelude.{◌≡◌, ℕ, ◌<◌, ◌≤◌, [], length, OnOk, slice_index_or};
 ghost use Rattle.std.specs.List.{count_by};
@@ -11,7 +11,7 @@ ghost use Rattle.causal_world.specs.Rollings.{IsRolled};
 
 use crate::channels::make_room_after;
 use crate::events::happen;
-use crate::lines::Lines;
+use crate::lines::ChoiceLines;
 use crate::past::Past;
 use crate::rolled::Taken;
 use dbg_base::Pid;
@@ -47,7 +47,7 @@ fn make_room_from(grid: &mut Grid, taken: &[Taken], pid: Pid, more: usize) -> Re
     Ok(())
 }
 
-/// Makes room for all of these events. Nothing changes that is seen, also where memory runs out.
+/// Makes room for all of these events. Contracts see no change, also if an allocation fails.
 pub(crate) fn make_room_forth(
     grid: &mut Grid,
     past: &mut Past,
@@ -67,9 +67,9 @@ pub(crate) fn make_room_forth(
     Ok(())
 }
 
-/// The events are made again, the last first.
+/// Makes the events again, the last undone first.
 pub(crate) fn roll_forth(
-    lines: &mut Lines,
+    lines: &mut ChoiceLines,
     envs: &mut Vec<Env>,
     grid: &mut Grid,
     past: &mut Past,

@@ -9,6 +9,7 @@ ghost use Rattle.proc_lang.specs.Programs.{program_of};
 ghost use Rattle.causal_world.specs.Scenes.{with_event, without_event};
 ghost use Rattle.causal_world.specs.Pasts.{kind_done, with_kind, without_kind, without_row, row_at};
 ghost use Rattle.causal_world.specs.Pasts.{IsWhole, AreClocksOf, IsSamePast, HasRoomFor, IsCause};
+ghost use Rattle.causal_world.specs.Room.{IsAppended};
 
 use clock_rows::Clocks;
 use cut_core::{Kind, Tally};
@@ -18,7 +19,7 @@ use proc_lang::Program;
 use std::alloc::{AllocError, Global};
 use std::marker::Model;
 
-/// The events of each process, with what they did to messages and the clock behind each, and the process's start.
+/// The events of each process, with what they did to messages, the clock after each, and the start of the process.
 #[derive(Debug, Drop)]
 pub(crate) struct Past {
     rows: Rows,
@@ -55,8 +56,9 @@ fn kind_of(exchange: Exchange) -> Kind
     }
 }
 
-// The event whose clock the process's next event, which is of this kind, takes up: the one that sent the message that it receives, else
-// the process's last one. Its process, and its number from 1, or 0 where there is none.
+// The event whose clock the next event of the process joins with its own, if the next event is of this kind. For a receive from another
+// process it is the event that sent the message. Otherwise it is the last event of the process. Returns the event's process, and its
+// number from 1, or 0 if there is none.
 fn cause(tally: &Tally, pid: Pid, kind: Kind) -> (Pid, u32)
     requires here { pid.0 < length tally.now.kinds }
     requires few { length (slice_index_or tally.now.kinds pid.0 []) < EVENTS }
@@ -73,7 +75,7 @@ fn cause(tally: &Tally, pid: Pid, kind: Kind) -> (Pid, u32)
 }
 
 impl Past {
-    /// The start of each process, and no event. It is refused only where memory runs out.
+    /// The start of each process, and no events. Error: out of memory.
     pub(crate) fn new(alloc: Global, program: &Program) -> Result<Past, AllocError>
         ensures starts { IfOk result (λ past. past.starts ≡ map (start_among (length (program_of program.now))) (program_of program.now)) }
         ensures events { IfOk result (λ past. past.events ≡ replicate (length (program_of program.now)) []) }
@@ -88,7 +90,7 @@ impl Past {
         })
     }
 
-    /// The same events once more, with room of their own. It is refused only where memory runs out.
+    /// Copies the events; the copy has its own room. Error: out of memory.
     pub(crate) fn copy(&self) -> Result<Past, AllocError>
         ensures { IfOk result (λ past. IsSamePast self.now past) }
     {
@@ -99,7 +101,7 @@ impl Past {
         })
     }
 
-    /// The starts of the processes and their events. It takes no memory, as all readers.
+    /// The starts of the processes and their events. Like all methods that only read, it does not allocate.
     pub(crate) fn rows(&self) -> &Rows
         ensures starts { result.now.starts ≡ self.now.starts }
         ensures events { result.now.events ≡ self.now.events }
@@ -114,7 +116,7 @@ impl Past {
         &self.tally
     }
 
-    /// The clock of a process that is there behind its n-th event, which it has.
+    /// The clock of an existing process after its n-th event, which it must have.
     pub(crate) fn clock(&self, pid: Pid, n: u32) -> &[u32]
         requires here { pid.0 < length self.now.kinds }
         requires event { n ≤ length (slice_index_or self.now.kinds pid.0 []) }
@@ -124,7 +126,7 @@ impl Past {
         self.clocks.row(pid, n)
     }
 
-    /// The last event of the process, or None where there is none.
+    /// The last event of the process, or None if there is none.
     pub(crate) fn last(&self, pid: Pid) -> Option<&Event>
         ensures { option_map (λ event. event.now) result
             ≡ slice_get (slice_index_or self.now.events pid.0 []) (length (slice_index_or self.now.events pid.0 []) - 1) }
@@ -132,8 +134,8 @@ impl Past {
         self.rows.last(pid)
     }
 
-    /// Makes room for so many more events of the process. No room is lost, and nothing changes that is seen, also where it is refused,
-    /// which is only where memory runs out.
+    /// Makes room for so many more events of the process. No room is lost, and contracts see no change, also on an error. Error: out of
+    /// memory.
     pub(crate) fn reserve(&mut self, pid: Pid, more: usize) -> Result<(), AllocError>
         ensures same { IsSamePast self.old self.new }
         ensures grows { (q n : ℕ) → HasRoomFor self.old q n → HasRoomFor self.new q n }
@@ -144,18 +146,14 @@ impl Past {
         self.clocks.reserve(pid, more)
     }
 
-    /// The event goes to the end of those of the process, where there is room and its cause is among the others. It takes no memory.
+    /// Appends the event to those of the process. There must be room, and the cause of the event must be among the others. It does not
+    /// allocate.
     pub(crate) fn push(&mut self, pid: Pid, event: Event)
         requires here { pid.0 < length self.old.kinds }
         requires room { HasRoomFor self.old pid.0 1 }
         requires few { length (slice_index_or self.old.kinds pid.0 []) < EVENTS }
         requires whole { IsWhole (with_kind self.old.kinds pid.0 (kind_done event.exchange)) }
-        ensures starts { self.new.starts ≡ self.old.starts }
-        ensures events { self.new.events ≡ with_event self.old.events pid.0 (Some event) }
-        ensures kinds { self.new.kinds ≡ with_kind self.old.kinds pid.0 (kind_done event.exchange) }
-        ensures clocks { AreClocksOf self.new.kinds self.new.clocks }
-        ensures own { (n : ℕ) → HasRoomFor self.old pid.0 n → HasRoomFor self.new pid.0 (n - 1) }
-        ensures others { (q n : ℕ) → q ≢ pid.0 → HasRoomFor self.old q n → HasRoomFor self.new q n }
+        ensures appended { IsAppended self.old pid.0 event self.new }
     {
         let kind = kind_of(event.exchange());
         let (source, n) = cause(&self.tally, pid, kind);
@@ -164,8 +162,8 @@ impl Past {
         self.rows.push(pid, event);
     }
 
-    /// The last event of the process is taken out, which no other event waits for. Where there is none, nothing changes. It takes no
-    /// memory.
+    /// Removes and returns the last event of the process. No other event may depend on it. If there is none, nothing changes. It does not
+    /// allocate.
     pub(crate) fn pop(&mut self, pid: Pid) -> Option<Event>
         requires whole { IsWhole (without_kind self.old.kinds pid.0) }
         ensures last { slice_index_or self.old.events pid.0 [] ≡ slice_index_or self.new.events pid.0 [] ++ option_to_list result }

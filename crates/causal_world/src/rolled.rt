@@ -1,4 +1,4 @@
-//! What calls of a world take out of it, to be put back.
+//! What calls of a world remove from it, to be restored later.
 
 use dbg_base::Pid;
 use event_rows::Event;
@@ -18,14 +18,14 @@ impl Model for Cutoff {
     ghost view = { λ cutoff. cutoff.choices.items };
 }
 
-/// An event of a process that was taken back.
+/// An event of a process that was undone.
 #[derive(Debug, Drop)]
 pub(crate) struct Taken {
     pub(crate) pid: Pid,
     pub(crate) event: Event,
 }
 
-/// Events that were taken back, in the order in which that was done.
+/// Events that were undone, in the order of the undos.
 #[derive(Debug, Drop)]
 pub struct Rolled {
     pub(crate) taken: Vec<Taken>,

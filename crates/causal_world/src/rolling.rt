@@ -1,4 +1,4 @@
-//! Events taken back in turn, each where nothing that is left depends on it.
+//! Events are undone one after the other. No remaining event depends on an undone one.
 
 ghost use Rattle.std.specs.Prelude.{◌≡◌, ℕ, ◌+◌, ◌<◌, ◌≤◌, ◌⊎◌, [], length, sum, IfOk, OnOk, IfSome, MatchOption, Some};
 ghost use Rattle.std.specs.Prelude.{slice_index, slice_index_or, IsTrue, false};
@@ -16,7 +16,7 @@ ghost use Rattle.causal_world.specs.Rollings.{CanTakeFrom, IsNextBack, IsRolledF
 
 use crate::channels::received;
 use crate::events::revert;
-use crate::lines::Lines;
+use crate::lines::ChoiceLines;
 use crate::past::Past;
 use crate::rolled::Taken;
 use cut_core::Tally;
@@ -26,7 +26,7 @@ use fifo_grid::Grid;
 use local_eval::Env;
 use std::alloc::AllocError;
 
-/// How many events there are behind the cut.
+/// How many events there are beyond the cut.
 pub(crate) fn behind(tally: &Tally, cut: &[u32]) -> usize
     ensures { sum (places tally.now.kinds) ≤ result + sum cut.now }
 {
@@ -38,7 +38,7 @@ pub(crate) fn behind(tally: &Tally, cut: &[u32]) -> usize
     more
 }
 
-// Makes room for the messages that go back to this process as its events behind so many are taken back.
+// Makes room for the messages that return to their channels as the events of this process beyond the first `count` are undone.
 fn make_room_to(grid: &mut Grid, tally: &Tally, to: Pid, count: u32) -> Result<(), AllocError>
     ensures channels { grid.new.channels ≡ grid.old.channels }
     ensures grows { (i j : ℕ) → room_at grid.old.room i j ≤ room_at grid.new.room i j }
@@ -58,7 +58,7 @@ fn make_room_to(grid: &mut Grid, tally: &Tally, to: Pid, count: u32) -> Result<(
     Ok(())
 }
 
-/// Makes room for the messages that go back to their channels as the events behind the cut are taken back.
+/// Makes room for the messages that return to their channels as the events beyond the cut are undone.
 pub(crate) fn make_room_back(grid: &mut Grid, tally: &Tally, cut: &[u32]) -> Result<(), AllocError>
     ensures channels { grid.new.channels ≡ grid.old.channels }
     ensures room { OnOk result ((i j : ℕ) → i < length tally.now.kinds → j < length tally.now.kinds → i < length grid.old.channels
@@ -72,7 +72,7 @@ pub(crate) fn make_room_back(grid: &mut Grid, tally: &Tally, cut: &[u32]) -> Res
     Ok(())
 }
 
-/// What the last event of the process exchanged, where no other process has received what it sent, or why it may not be undone.
+/// What the last event of the process exchanged, if no other process has received what it sent, or why it may not be undone.
 pub(crate) fn last_exchange(grid: &Grid, past: &Past, pid: Pid) -> Result<Exchange, Refusal>
     ensures { LastExchange past.now.events grid.now.channels pid.0 result }
 {
@@ -85,7 +85,7 @@ pub(crate) fn last_exchange(grid: &Grid, past: &Past, pid: Pid) -> Result<Exchan
     }
 }
 
-/// The last event of the process, which may be undone, is taken back. The lines and places are left to the caller.
+/// Undoes the last event of the process, which may be undone. The caller changes lines and places.
 pub(crate) fn take_back(envs: &mut Vec<Env>, grid: &mut Grid, past: &mut Past, pid: Pid) -> Event
     requires { CanTakeFrom envs.old.items grid.old past.old pid.0 }
     ensures was { last_of past.old.events pid.0 ≡ Some result }
@@ -98,8 +98,15 @@ pub(crate) fn take_back(envs: &mut Vec<Env>, grid: &mut Grid, past: &mut Past, p
     event
 }
 
-// Whether the process is behind the cut, and its last event may be taken back.
-fn is_next(lines: &Lines, envs: &[Env], grid: &Grid, past: &Past, cut: &[u32], pid: Pid) -> bool
+// Whether the process has events beyond the cut, and its last event may be undone.
+fn is_next(
+    lines: &ChoiceLines,
+    envs: &[Env],
+    grid: &Grid,
+    past: &Past,
+    cut: &[u32],
+    pid: Pid,
+) -> bool
     requires { IsSomeWorld (scene lines.now envs.now grid.now.channels past.now) }
     ensures next { IsTrue result → IsNextBack (scene lines.now envs.now grid.now.channels past.now) cut.now pid.0 }
     ensures stuck { result ≡ false → (place_at lines.now pid.0 ≤ slice_index cut.now pid.0)
@@ -109,9 +116,10 @@ fn is_next(lines: &Lines, envs: &[Env], grid: &Grid, past: &Past, cut: &[u32], p
     lines.place(pid) > count_of(cut, pid) && last_exchange(grid, past, pid).is_ok()
 }
 
-// A process behind the cut whose last event may be taken back, or None where no process is behind it. `first` is tried before the others.
+// A process with events beyond the cut whose last event may be undone, or None if no process has events beyond the cut. `first` is tried
+// before the others.
 fn next_back(
-    lines: &Lines,
+    lines: &ChoiceLines,
     envs: &[Env],
     grid: &Grid,
     past: &Past,
@@ -134,9 +142,9 @@ fn next_back(
     None
 }
 
-/// All events behind the cut are taken back, and noted in that order.
+/// Undoes all events beyond the cut, and notes them in that order.
 pub(crate) fn roll_back(
-    lines: &mut Lines,
+    lines: &mut ChoiceLines,
     envs: &mut Vec<Env>,
     grid: &mut Grid,
     past: &mut Past,
@@ -157,7 +165,7 @@ pub(crate) fn roll_back(
     while let Some(pid) = next_back(lines, envs.as_slice(), grid, past, cut, first) {
         let event = take_back(envs, grid, past, pid);
         lines.retreat(pid);
-        // Most likely the sender of a message that went back is next.
+        // Most likely the sender of a returned message is next.
         first = match event.exchange() {
             Exchange::Took { source, .. } => source,
             _ => pid,

@@ -1,4 +1,4 @@
-//! A world: a system of processes, changed in place by its events.
+//! A world: a system of processes that its events change in place.
 
 ghost use Rattle.std.specs.Prelude.{◌≡◌, ℕ, List, ◌<◌, ◌≤◌, ◌⊎◌, length, IfOk, IfErr, MatchResult, OnOk, OnErr};
 ghost use Rattle.std.specs.Prelude.{Some, Ok, Err, slice_get, slice_index, slice_index_or, []};
@@ -26,7 +26,7 @@ mod forth;
 
 use crate::deciding::{lowest, try_choice};
 use crate::events::{happen, make_room};
-use crate::lines::Lines;
+use crate::lines::ChoiceLines;
 use crate::past::Past;
 use crate::rolled::Cutoff;
 use cut_core::{Tally, greatest_below};
@@ -39,11 +39,11 @@ use proc_lang::Program;
 use std::alloc::Global;
 use std::marker::Model;
 
-/// For each process its line of choices and its place in it, its local state and its events; and for each ordered pair of processes
-/// the messages on their way. There is no program in it: an event keeps what takes it back. Contracts see it as these.
+/// For each process its line of choices and its place in it, its local state and its events; and for each ordered pair of processes the
+/// messages on their way. Contracts see these. A world holds no program: an event has all that is needed to undo it.
 #[derive(Debug, Drop)]
 pub struct World {
-    lines: Lines,
+    lines: ChoiceLines,
     envs: Vec<Env>,
     grid: Grid,
     past: Past,
@@ -61,15 +61,14 @@ impl Model for World {
 }
 
 impl World {
-    /// The world of a program at its start: empty lines, initial values, no message. It is refused only as `Memory`, where that runs
-    /// out.
+    /// The world of a program at its start: empty lines, initial values, no messages. Error: `Memory`, if an allocation fails.
     pub fn new(alloc: Global, program: &Program) -> Result<World, Refusal>
         ensures of { IfOk result (λ world. IsWorldOf (program_of program.now) world) }
         ensures opens { IfOk result (λ world. world.state ≡ opening_state (program_of program.now)) }
         ensures refuses { IfErr result (λ refusal. refusal ≡ Memory) }
     {
         let processes = program.processes();
-        let lines = Lines::new(alloc, processes)?;
+        let lines = ChoiceLines::new(alloc, processes)?;
         let envs = Env::starts(alloc, program)?;
         let grid = Grid::new(alloc, processes)?;
         let past = Past::new(alloc, program)?;
@@ -81,7 +80,7 @@ impl World {
         })
     }
 
-    /// The same world once more. It is refused only as `Memory`, where that runs out.
+    /// Copies the world. Error: `Memory`, if an allocation fails.
     pub fn copy(&self) -> Result<World, Refusal>
         ensures { IsCopy result (λ world. world ≡ self.now) }
     {
@@ -93,7 +92,7 @@ impl World {
         })
     }
 
-    // The process makes this event: its line is cut at its place, and the choice is appended. Where memory runs out nothing changes.
+    // Makes this event of the process: cuts its line at its place, and appends the choice. If an allocation fails, nothing changes.
     fn append(
         &mut self,
         alloc: Global,
@@ -116,7 +115,7 @@ impl World {
         Ok(Cutoff { choices })
     }
 
-    // The process makes this event, which is the choice at its place, again. Where memory runs out nothing changes.
+    // Makes this event of the process, which is the choice at its place, again. If an allocation fails, nothing changes.
     fn repeat(&mut self, pid: Pid, choice: Choice, event: Event) -> Result<(), Refusal>
         requires can { CanMake self.old pid.0 choice.0 event }
         requires next { slice_get (line_of self.old.state pid.0) (place_at self.old.state pid.0) ≡ Some choice.0 }
@@ -131,10 +130,10 @@ impl World {
         Ok(())
     }
 
-    /// The process makes this command of the program that the world is of: its line is cut at its place, the choice is appended, and
-    /// the place moves on. The choices that were cut off are handed out. It is refused, and changes nothing, as `UnknownChoice` where
-    /// the process has no such command, `ProcessFull` where it has made as many events as may be, and `GuardFalse`, `Fault` or
-    /// `ChannelEmpty` where the command does not fire; or as `Memory`, where that runs out.
+    /// Makes the process fire this command of the world's program: cuts its line at its place, appends the choice, and moves the place
+    /// forward by one. Returns the choices that were cut off. On an error nothing changes. Errors: `UnknownChoice` if the process has no
+    /// such command, `ProcessFull` if it has as many events as a process may have, and `GuardFalse`, `Fault` or `ChannelEmpty` if the
+    /// command does not fire. `Memory` if an allocation fails.
     pub fn step(
         &mut self,
         alloc: Global,
@@ -169,8 +168,8 @@ impl World {
         self.append(alloc, pid, choice, event)
     }
 
-    /// The process makes its first command that fires, as `step` does, and which it was is told. It is refused, and changes nothing,
-    /// as `ProcessFull` or `NoneEnabled`; or as `Memory`, where that runs out.
+    /// Makes the process fire its first command that can fire, like `step`, and returns which one it was. On an error nothing changes.
+    /// Errors: `ProcessFull`, `NoneEnabled`, and `Memory` if an allocation fails.
     pub fn next(
         &mut self,
         alloc: Global,
@@ -196,9 +195,9 @@ impl World {
         Ok((choice, cutoff))
     }
 
-    /// The process makes the choice at its place again, by what holds now: the place moves on, and the line stays. Which choice it was
-    /// is told. It is refused, and changes nothing, as `NothingToRedo` where the place is at the line's end, and as `GuardFalse`,
-    /// `Fault` or `ChannelEmpty` where the command does not fire; or as `Memory`, where that runs out.
+    /// Makes the process fire the choice at its place again, in the present state: the place moves forward by one, and the line stays.
+    /// Returns the choice. On an error nothing changes. Errors: `NothingToRedo` if the place is at the line's end, and `GuardFalse`,
+    /// `Fault` or `ChannelEmpty` if the command does not fire. `Memory` if an allocation fails.
     pub fn redo(&mut self, alloc: Global, program: &Program, pid: Pid) -> Result<Choice, Refusal>
         requires process { pid.0 < length (program_of program.now) }
         requires of { IsWorldOf (program_of program.now) self.old }
@@ -222,7 +221,7 @@ impl World {
         Ok(choice)
     }
 
-    /// The values of the process's variables, none where it is not there. It is refused only as `Memory`, where that runs out.
+    /// The values of the process's variables, none if there is no such process. Error: `Memory`, if an allocation fails.
     pub fn vars(&self, alloc: Global, pid: Pid) -> Result<Sequence<i64>, Refusal>
         ensures { MatchResult result (λ values. values ≡ values_of self.now.standing pid.0) (λ refusal. refusal ≡ Memory) }
     {
@@ -232,8 +231,7 @@ impl World {
         }
     }
 
-    /// The messages on their way from the first process to the second, the front first. It is refused only as `Memory`, where that
-    /// runs out.
+    /// The messages on their way from the first process to the second, the head first. Error: `Memory`, if an allocation fails.
     pub fn channel(&self, alloc: Global, source: Pid, target: Pid) -> Result<Sequence<i64>, Refusal>
         ensures { MatchResult result (λ messages. messages ≡ channel_of self.now.standing source.0 target.0)
             (λ refusal. refusal ≡ Memory) }
@@ -241,15 +239,15 @@ impl World {
         Ok(self.grid.items(alloc, source, target)?)
     }
 
-    /// The place of a process in its line: how many events it has. It is 0 where there is no such process. It takes no memory, as all
-    /// readers do but `vars`, `channel`, `clock`, `places` and `rollback_cut`.
+    /// The place of a process in its line: how many events it has. It is 0 if there is no such process. Like all methods that only read,
+    /// except `vars`, `channel`, `clock`, `places` and `rollback_cut`, it does not allocate.
     pub fn place(&self, pid: Pid) -> u32
         ensures { result ≡ place_at self.now.state pid.0 }
     {
         self.lines.place(pid)
     }
 
-    /// The places of all processes. It is refused only as `Memory`, where that runs out.
+    /// The places of all processes. Error: `Memory`, if an allocation fails.
     pub fn places(&self, alloc: Global) -> Result<Cut, Refusal>
         ensures { MatchResult result (λ places. places ≡ self.now.state.places) (λ refusal. refusal ≡ Memory) }
     {
@@ -263,7 +261,7 @@ impl World {
         self.lines.line_len(pid) as u32
     }
 
-    /// The choice at this place of the process's line, from 0, or None where the line is not so long. Those before the process's place are
+    /// The choice at this place of the process's line, from 0, or None if the line is shorter. The choices before the process's place are
     /// its events, and the others can be made again.
     pub fn choice(&self, pid: Pid, at: u32) -> Option<Choice>
         ensures { option_map (λ choice. choice.0) result ≡ slice_get (line_of self.now.state pid.0) at }
@@ -271,21 +269,21 @@ impl World {
         self.lines.choice(pid, at).map(Choice)
     }
 
-    /// The choice of the process's last event, or None where it has no event.
+    /// The choice of the process's last event, or None if it has no event.
     pub fn last(&self, pid: Pid) -> Option<Choice>
         ensures { option_map (λ choice. choice.0) result ≡ last_choice self.now.state pid.0 }
     {
         self.lines.last(pid).map(Choice)
     }
 
-    /// The local state of a process, or None where there is no such process.
+    /// The local state of a process, or None if there is no such process.
     pub fn local_state(&self, pid: Pid) -> Option<&Env>
         ensures { option_map (λ env. env.now) result ≡ slice_get self.now.standing.states pid.0 }
     {
         self.envs.get(pid.0 as usize)
     }
 
-    /// The local state of a process that is there.
+    /// The local state of an existing process.
     pub fn env(&self, pid: Pid) -> &Env
         requires { pid.0 < length self.now.state.places }
         ensures present { slice_get self.now.standing.states pid.0 ≡ Some result.now }
@@ -295,8 +293,8 @@ impl World {
         &self.envs[pid.0 as usize]
     }
 
-    /// The clock of a process that is there behind its n-th event, which it has: how many events of each process come before it, the
-    /// event counted. It is refused only as `Memory`, where that runs out.
+    /// The clock of an existing process after its n-th event, which it must have: how many events of each process are in its causal past,
+    /// the event included. Error: `Memory`, if an allocation fails.
     pub fn clock(&self, alloc: Global, pid: Pid, n: u32) -> Result<Cut, Refusal>
         requires process { pid.0 < length self.now.state.places }
         requires event { n ≤ place_at self.now.state pid.0 }
@@ -306,8 +304,8 @@ impl World {
         Ok(Cut::new(Vec::from_slice(alloc, self.past.clock(pid, n))?))
     }
 
-    /// Component `of` of the clock of the process `pid` behind its n-th event: how many events of the first come before it. It takes no
-    /// memory.
+    /// Component `of` of the clock of the process `pid` after its n-th event: how many events of the process `of` are in its causal past.
+    /// It does not allocate.
     pub fn clock_part(&self, pid: Pid, n: u32, of: Pid) -> u32
         requires process { pid.0 < length self.now.state.places }
         requires event { n ≤ place_at self.now.state pid.0 }
@@ -318,7 +316,7 @@ impl World {
         count_of(self.past.clock(pid, n), of)
     }
 
-    /// What the events did to messages: sends and receives of each process, in order. A world is always one of some program.
+    /// What the events did to messages: the sends and receives of each process, in order. The world is always one of some program.
     pub fn tally(&self) -> &Tally
         ensures kinds { result.now.kinds ≡ self.now.kinds }
         ensures world { IsSomeWorld self.now }
@@ -326,8 +324,8 @@ impl World {
         self.past.tally()
     }
 
-    /// The cut to which a process that is there is rolled back at n, which is at most its place: the greatest consistent cut with at
-    /// most n events of it. It is refused only as `Memory`, where that runs out.
+    /// The cut of a rollback of an existing process to n, which must be at most its place: the greatest consistent cut with at most n
+    /// events of the process. Error: `Memory`, if an allocation fails.
     pub fn rollback_cut(&self, alloc: Global, pid: Pid, n: u32) -> Result<Cut, Refusal>
         requires process { pid.0 < length self.now.state.places }
         requires event { n ≤ place_at self.now.state pid.0 }

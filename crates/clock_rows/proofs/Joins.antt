@@ -1,4 +1,4 @@
--- The join of two rows, place by place.
+-- The join of two rows, component by component.
 use Rattle.std.proofs.Common.{◌≡◌, ℕ, zero, suc, ◌+◌, ◌<◌, List, [], ◌∷◌, ◌++◌, length, get_or, set, take, max, refl, ap, arith}
 use Rattle.clock_rows.specs.Clocks.{join, next_row}
 
@@ -18,7 +18,7 @@ pub join_none : (row : List ℕ) → join row [] ≡ []
 join_none [] = refl
 join_none (m ∷ row) = refl
 
--- one component more
+-- one more component
 join_more : (row other : List ℕ) (i : ℕ) → i < length row → i < length other
     → join row (take (suc i) other) ≡ join row (take i other) ++ max (get_or row i 0) (get_or other i 0) ∷ []
 join_more [] other i lt there = absurd (omega arith)
@@ -27,7 +27,7 @@ join_more (m ∷ row) (n ∷ other) zero lt there = ap (λ (rest : List ℕ). ma
 join_more (m ∷ row) (n ∷ other) (suc i) lt there =
     ap (λ (rest : List ℕ). max m n ∷ rest) (join_more row other i (omega arith) (omega arith))
 
--- which is the process's own
+-- the component is the process's own
 pub own_more : (row other : List ℕ) (i : ℕ) → i < length row → i < length other
     → next_row i row (take (suc i) other) ≡ next_row i row (take i other) ++ (max (get_or row i 0) (get_or other i 0) + 1) ∷ []
 own_more [] other i lt there = absurd (omega arith)
@@ -36,7 +36,7 @@ own_more (m ∷ row) (n ∷ other) zero lt there = ap (λ (rest : List ℕ). (ma
 own_more (m ∷ row) (n ∷ other) (suc i) lt there =
     ap (λ (rest : List ℕ). max m n ∷ rest) (own_more row other i (omega arith) (omega arith))
 
--- or not
+-- the component is another one
 pub other_more : (own : ℕ) (row other : List ℕ) (i : ℕ) → i < length row → i < length other → (i ≡ own → ⊥)
     → next_row own row (take (suc i) other) ≡ next_row own row (take i other) ++ max (get_or row i 0) (get_or other i 0) ∷ []
 other_more own [] other i lt there ne = absurd (omega arith)

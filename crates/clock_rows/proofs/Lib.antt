@@ -1,5 +1,5 @@
 pub mod Pieces
 pub mod Joins
 pub mod Lines
-pub mod Appends
+pub mod AppendedRowLemmas
 pub mod Widths

@@ -1,4 +1,4 @@
--- The rows of one process in a flat list of `len` counts, `n` a row.
+-- The rows of one process in a flat list of `len` counts, with `n` counts in each row.
 use Rattle.std.proofs.Common.{◌≡◌, ℕ, ◌+◌, ◌-◌, ◌*◌, ◌/◌, ◌<◌, ◌≤◌, List, [], ◌∷◌, ◌++◌, length, get_or, take, drop, replicate}
 use Rattle.std.proofs.Common.{sym, ap, ◌∙◌, arith, length-drop, add-one, subst}
 use Rattle.std.proofs.lemmas.List.{take_all, length-set, length-replicate}
@@ -87,7 +87,7 @@ module _ (n len : ℕ) (rows : AreWholeRows n len) where
       let same : (capacity - len - n) / n ≡ (capacity - (len + n)) / n = ap (λ (m : ℕ). m / n) less in
       omega arith
 
-  -- after the last row is taken off
+  -- after the last row is removed
   module _ (after m : ℕ) (same : m ≡ len) (less : after + (len - (m - n)) ≡ len) where
     left : after ≡ len - n
     left = omega (arith, rows.has_first)
@@ -133,7 +133,7 @@ module _ (n len : ℕ) (rows : AreWholeRows n len) where
         let rest : holds - after ≡ capacity - (len + n) = omega arith in
         ap (λ (k : ℕ). k / n) rest ∙ room_less capacity some
 
-  -- the i-th row stands in the list
+  -- the i-th row is within the list
   pub row_within : (i : ℕ) (list : List ℕ) → i < length (pieces n (len / n) list) → i * n + n ≤ len
   row_within i list lt =
       let inside : i < len / n = omega (arith, length_pieces n (len / n) list) in

@@ -1,4 +1,4 @@
--- A flat list in pieces: how many there are, one more, one less, and one of them.
+-- A flat list in pieces: their number, one more, one less, and one of them.
 use Rattle.std.proofs.Common.{◌≡◌, ℕ, zero, suc, ◌+◌, ◌*◌, ◌<◌, ◌≤◌, List, [], ◌∷◌, ◌++◌, length, get_or, take, drop}
 use Rattle.std.proofs.Common.{refl, sym, ap, ◌∙◌, arith, length-drop}
 use Rattle.std.proofs.lemmas.List.{take-append-le, drop-append-le, take_all, take-take, drop-take, drop-drop}
@@ -8,7 +8,7 @@ pub length_pieces : (n k : ℕ) (list : List ℕ) → length (pieces n k list) �
 length_pieces n zero list = refl
 length_pieces n (suc k) list = ap suc (length_pieces n k (drop n list))
 
--- one piece more at the end
+-- one more piece at the end
 pub pieces_more : (n k : ℕ) (list more : List ℕ) → length list ≡ k * n → length more ≡ n
     → pieces n (suc k) (list ++ more) ≡ pieces n k list ++ more ∷ []
 pieces_more n zero [] more len wide = ap (λ (row : List ℕ). row ∷ []) (take_all n more (omega arith))
@@ -22,7 +22,7 @@ pieces_more n (suc k) list more len wide =
     ∙ ap (λ (others : List ℕ). take n list ∷ pieces n (suc k) others) rest
     ∙ ap (λ (rows : List (List ℕ)). take n list ∷ rows) (pieces_more n k (drop n list) more left wide)
 
--- what lies past the pieces is not seen
+-- what is after the pieces does not matter
 pub pieces_within : (n k : ℕ) (list : List ℕ) → pieces n k (take (k * n) list) ≡ pieces n k list
 pieces_within n zero list = refl
 pieces_within n (suc k) list =
@@ -39,11 +39,11 @@ fewer : (n k : ℕ) (list : List ℕ) → pieces n k list ≡ take k (pieces n (
 fewer n zero list = refl
 fewer n (suc k) list = ap (λ (rows : List (List ℕ)). take n list ∷ rows) (fewer n k (drop n list))
 
--- the last taken off
+-- the last piece is removed
 pub pieces_less : (n k : ℕ) (list : List ℕ) → pieces n k (take (k * n) list) ≡ take k (pieces n (suc k) list)
 pieces_less n k list = pieces_within n k list ∙ fewer n k list
 
--- the i-th
+-- the i-th piece
 pub piece_at : (n k i : ℕ) (list : List ℕ) → i < k → get_or (pieces n k list) i [] ≡ take n (drop (i * n) list)
 piece_at n zero i list lt = absurd (omega arith)
 piece_at n (suc k) zero list lt = let none : 0 ≡ 0 * n = omega arith in ap (λ (m : ℕ). take n (drop m list)) none

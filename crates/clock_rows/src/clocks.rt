@@ -4,17 +4,17 @@ ghost use Rattle.std.specs.Prelude.{◌≡◌, ℕ, ◌-◌, ◌<◌, ◌≤◌,
 ghost use Rattle.std.specs.Prelude.{IfOk, OnOk};
 ghost use Rattle.clock_rows.specs.Clocks.{join, next_row, last_row};
 
-use crate::line::Line;
+use crate::line::ClockLine;
 use dbg_base::Pid;
 use std::alloc::{AllocError, Global};
 use std::marker::Model;
 
-/// For each process its rows, in order, the first one zeros: a row has one count for each process. Contracts see it as these, and as
-/// the room of each process: how many rows more it takes without memory.
+/// For each process its rows in order, the first one zeros; a row has one count for each process. Contracts see these rows, and the room of
+/// each process: how many more rows it can take without allocation.
 #[derive(Debug, Drop)]
 pub struct Clocks {
-    lines: Vec<Line>,
-    // A row to copy to, of one count for each process.
+    lines: Vec<ClockLine>,
+    // A buffer for one row, with one count for each process.
     copied: Vec<u32>,
 }
 
@@ -35,19 +35,19 @@ impl Model for Clocks {
 }
 
 // One row of zeros for each of so many processes.
-fn first_lines(alloc: Global, processes: u32) -> Result<Vec<Line>, AllocError>
+fn first_lines(alloc: Global, processes: u32) -> Result<Vec<ClockLine>, AllocError>
     ensures widths { IfOk result (λ lines. map (λ line. line.width) lines.items ≡ replicate processes processes) }
     ensures rows { IfOk result (λ lines. map (λ line. line.rows) lines.items ≡ replicate processes (replicate processes 0 ∷ [])) }
 {
     let mut lines = Vec::new(alloc);
     for _ in 0..processes {
-        lines.push(Line::new(alloc, processes as usize)?)?;
+        lines.push(ClockLine::new(alloc, processes as usize)?)?;
     }
     Ok(lines)
 }
 
-// The rows of all processes once more.
-fn copy_lines(lines: &Vec<Line>) -> Result<Vec<Line>, AllocError>
+// Copies the rows of all processes.
+fn copy_lines(lines: &Vec<ClockLine>) -> Result<Vec<ClockLine>, AllocError>
     ensures len { IfOk result (λ made. length made.items ≡ length lines.now.items) }
     ensures widths { IfOk result (λ made. map (λ line. line.width) made.items ≡ map (λ line. line.width) lines.now.items) }
     ensures rows { IfOk result (λ made. map (λ line. line.rows) made.items ≡ map (λ line. line.rows) lines.now.items) }
@@ -60,7 +60,7 @@ fn copy_lines(lines: &Vec<Line>) -> Result<Vec<Line>, AllocError>
 }
 
 impl Clocks {
-    /// One row of zeros for each of so many processes. It is refused only where memory runs out.
+    /// One row of zeros for each of so many processes. Error: out of memory.
     pub fn new(alloc: Global, processes: u32) -> Result<Clocks, AllocError>
         ensures { IfOk result (λ clocks. clocks.rows ≡ replicate processes (replicate processes 0 ∷ [])) }
     {
@@ -70,7 +70,7 @@ impl Clocks {
         })
     }
 
-    /// The same rows once more, with room of their own. It is refused only where memory runs out.
+    /// Copies the rows; the copy has its own room. Error: out of memory.
     pub fn copy(&self) -> Result<Clocks, AllocError>
         ensures { IfOk result (λ clocks. clocks.rows ≡ self.now.rows) }
     {
@@ -80,7 +80,7 @@ impl Clocks {
         })
     }
 
-    /// How many rows the process has, which is none where it is not there. It takes no memory.
+    /// How many rows the process has, 0 if it does not exist. It does not allocate.
     pub fn len(&self, pid: Pid) -> usize
         ensures { result ≡ length (slice_index_or self.now.rows pid.0 []) }
     {
@@ -90,7 +90,7 @@ impl Clocks {
         }
     }
 
-    /// The n-th row of the process, from 0, where both are there. It takes no memory.
+    /// The n-th row of the process, from 0; both must exist. It does not allocate.
     #[tactic(auto, using(crate::proofs::Widths::one_line))]
     pub fn row(&self, pid: Pid, n: u32) -> &[u32]
         requires there { pid.0 < length self.now.rows }
@@ -102,8 +102,8 @@ impl Clocks {
         line.row(n as usize)
     }
 
-    /// Makes room for so many more rows of the process, and does nothing where it is not there. No room is lost, and no row changes,
-    /// also where it is refused, which is only where memory runs out.
+    /// Makes room for so many more rows of the process. It does nothing if the process does not exist. No row changes, and no room is lost,
+    /// also on an error. Error: out of memory.
     #[tactic(auto, using(crate::proofs::Widths::one_line))]
     pub fn reserve(&mut self, pid: Pid, more: usize) -> Result<(), AllocError>
         ensures rows { self.new.rows ≡ self.old.rows }
@@ -117,8 +117,9 @@ impl Clocks {
         line.reserve(more)
     }
 
-    /// The row of the process's next event goes to the end of its rows, where there is room: component by component the larger of its
-    /// last row and the given one, which has one count for each process, with the process's own count one more. It takes no memory.
+    /// Appends the row of the process's next event, for which there must be room. The row joins the last row of the process with the given
+    /// row, which has one count for each process, and has the process's own count one more. The join takes the larger of each two counts.
+    /// It does not allocate.
     #[tactic(auto, using(crate::proofs::Widths::one_line))]
     pub fn push(&mut self, pid: Pid, joined: &[u32])
         requires room { 0 < slice_index_or self.old.room pid.0 0 }
@@ -132,7 +133,7 @@ impl Clocks {
         line.push(pid.0 as usize, joined);
     }
 
-    /// As `push` does with the n-th row of the source, which may be the process itself.
+    /// Like `push`, with the n-th row of the source, which may be the process itself.
     #[tactic(auto, using(crate::proofs::Widths::one_line))]
     pub fn push_joined(&mut self, pid: Pid, source: Pid, n: u32)
         requires room { 0 < slice_index_or self.old.room pid.0 0 }
@@ -151,7 +152,7 @@ impl Clocks {
         line.push(pid.0 as usize, self.copied.as_slice());
     }
 
-    /// The last row of the process is taken off, where it has more than its first. No room is lost, and it takes no memory.
+    /// Removes the last row of the process, which must have more than its first. No room is lost. It does not allocate.
     #[tactic(auto, using(crate::proofs::Widths::one_line))]
     pub fn pop(&mut self, pid: Pid)
         requires { 1 < length (slice_index_or self.old.rows pid.0 []) }

@@ -7,14 +7,14 @@ ghost use Rattle.clock_rows.specs.Clocks.{join, next_row, last_row};
 use std::alloc::{AllocError, Global};
 use std::marker::Model;
 
-/// The rows of one process, one behind the other, each of the same number of counts.
+/// The rows of one process, one after the other, each of the same number of counts.
 #[derive(Debug, Drop)]
-pub(crate) struct Line {
+pub(crate) struct ClockLine {
     width: usize,
     counts: Vec<u32>,
 }
 
-impl Model for Line {
+impl Model for ClockLine {
     ghost use Rattle.std.specs.Prelude.{◌-◌, ◌/◌};
     ghost use Rattle.std.specs.Vec.{vec_len, vec_capacity};
     ghost use Rattle.clock_rows.specs.Clocks.{LineState, AreWholeRows, pieces};
@@ -30,7 +30,7 @@ impl Model for Line {
     ghost invariant = { λ line. AreWholeRows line.width (vec_len line.counts) };
 }
 
-// Behind the counts goes the join of those from `start` on and the given ones, with the count at `own` one more.
+// Appends the join of the counts from `start` on with the given ones, with the count at `own` one more.
 fn append_next(counts: &mut Vec<u32>, start: usize, own: usize, joined: &[u32])
     requires row { start + length joined.now ≡ vec_len counts.old }
     requires room { vec_len counts.old + length joined.now ≤ vec_capacity counts.old }
@@ -45,14 +45,14 @@ fn append_next(counts: &mut Vec<u32>, start: usize, own: usize, joined: &[u32])
     }
 }
 
-impl Line {
+impl ClockLine {
     /// One row of so many zeros.
-    pub(crate) fn new(alloc: Global, width: usize) -> Result<Line, AllocError>
+    pub(crate) fn new(alloc: Global, width: usize) -> Result<ClockLine, AllocError>
         requires { 0 < width }
         ensures width { IfOk result (λ line. line.width ≡ width) }
         ensures rows { IfOk result (λ line. line.rows ≡ replicate width 0 ∷ []) }
     {
-        Ok(Line {
+        Ok(ClockLine {
             width,
             counts: vec![in alloc; 0u32; width]?,
         })
@@ -88,7 +88,7 @@ impl Line {
         }
     }
 
-    /// The next row goes to the end: the join of the last and the given one, with the count at `own` one more. It takes no memory.
+    /// Appends the next row: the join of the last row and the given one, with the count at `own` one more. It does not allocate.
     pub(crate) fn push(&mut self, own: usize, joined: &[u32])
         requires room { 0 < self.old.room }
         requires len { length joined.now ≡ self.old.width }
@@ -101,7 +101,7 @@ impl Line {
         append_next(&mut self.counts, start, own, joined);
     }
 
-    /// The last row is taken off, which is not the first. It takes no memory.
+    /// Removes the last row, which must not be the first. It does not allocate.
     pub(crate) fn pop(&mut self)
         requires { 1 < length self.old.rows }
         ensures width { self.new.width ≡ self.old.width }
@@ -112,12 +112,12 @@ impl Line {
         self.counts.truncate(left);
     }
 
-    /// The same rows once more.
-    pub(crate) fn copy(&self) -> Result<Line, AllocError>
+    /// Copies the rows.
+    pub(crate) fn copy(&self) -> Result<ClockLine, AllocError>
         ensures width { IfOk result (λ line. line.width ≡ self.now.width) }
         ensures rows { IfOk result (λ line. line.rows ≡ self.now.rows) }
     {
-        Ok(Line {
+        Ok(ClockLine {
             width: self.width,
             counts: self.counts.clone()?,
         })

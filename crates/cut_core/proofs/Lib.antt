@@ -1,8 +1,8 @@
-pub mod Counted
-pub mod Cutting
-pub mod Listed
-pub mod Lowering
-pub mod Placed
-pub mod Raising
+pub mod CountLemmas
+pub mod CutBoundLemmas
+pub mod PositionListLemmas
+pub mod LoweredCutLemmas
+pub mod PositionLemmas
+pub mod RaisedCutLemmas
 pub mod Rooms
-pub mod Notes
+pub mod NotedEventLemmas

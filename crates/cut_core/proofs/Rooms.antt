@@ -1,4 +1,4 @@
--- Room for more events, in each list of places.
+-- Room for more events, in each list of positions.
 use Rattle.std.proofs.Common.{◌≡◌, inl, inr, ℕ, ◌+◌, ◌-◌, ◌<◌, ◌≤◌, List, [], ◌∷◌, ◌++◌, length, get_or, set}
 use Rattle.std.proofs.Common.{sym, subst, arith}
 use Rattle.std.proofs.lemmas.Bool.{cases_eq}
@@ -7,7 +7,7 @@ use Rattle.cut_core.specs.declared.kind.Kind.{Kind}
 use Rattle.cut_core.specs.Places.{HasRoom}
 
 module _ (kinds : List Kind) (spare : ℕ) (rooms : List ℕ) (room : ℕ) (has : HasRoom kinds spare rooms room) where
-  -- with no more events, and no less room anywhere
+  -- with at most as many events, and nowhere less room
   pub room_kept : (fewer : List Kind) (more : ℕ) (others : List ℕ) → length fewer ≤ length kinds → spare ≤ more
       → length others ≡ length rooms → ((s : ℕ) → get_or rooms s 0 ≤ get_or others s 0) → HasRoom fewer more others room
   room_kept fewer more others less le long grows = record {
@@ -16,7 +16,7 @@ module _ (kinds : List Kind) (spare : ℕ) (rooms : List ℕ) (room : ℕ) (has 
     lists = λ s lt. let a = has.lists s (omega arith) in let b = grows s in omega arith;
   }
 
-  -- one event more
+  -- one more event
   pub room_less : (x : Kind) (s after : ℕ) → 0 < room → spare ≤ after + 1 → s < length rooms
       → HasRoom (kinds ++ x ∷ []) after (set rooms s (get_or rooms s 0 - 1)) (room - 1)
   room_less x s after some le there = record {

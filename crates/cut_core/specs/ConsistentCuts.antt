@@ -1,17 +1,17 @@
--- Cuts: for each process how many of its events are kept.
+-- Cuts: a number of events of each process.
 use Rattle.std.specs.Prelude.{◌≡◌, ◌≢◌, ℕ, ◌<◌, ◌≤◌, List, [], length, map, slice_index, slice_index_or}
 use Rattle.dbg_base.specs.Cuts.{IsAtMost}
 use Rattle.cut_core.specs.declared.kind.Kind.{Kind}
 use Rattle.cut_core.specs.Tallies.{sent_by, got_by}
 
--- A cut has one count for each process, at most as large as its number of events. It is consistent where no process has received more
--- messages from another one than that one has sent to it.
+-- A cut has one count for each process, at most its number of events. It is consistent if no process has received more messages from
+-- another than that one has sent to it.
 pub record IsConsistentCut (kinds : List (List Kind)) (cut : List ℕ) : Type 0 where
   pub sizes : length cut ≡ length kinds
   pub within : (p : ℕ) → slice_index cut p ≤ length (slice_index_or kinds p [])
   pub causes : (i j : ℕ) → i ≢ j → got_by kinds j i (slice_index cut j) ≤ sent_by kinds i j (slice_index cut i)
 
--- one count for each process, at most as large as its number of events
+-- one count for each process, at most its number of events
 abbrev pub IsWithin : List (List Kind) → List ℕ → Type 0
 IsWithin kinds cut = (length cut ≡ length kinds) × ((p : ℕ) → slice_index cut p ≤ length (slice_index_or kinds p []))
 

@@ -4,7 +4,7 @@ use Rattle.std.specs.List.{count_by}
 use Rattle.cut_core.specs.declared.kind.Kind.{Kind}
 use Rattle.cut_core.specs.Kinds.{sends_to, gets_from}
 
--- what the events of one process did, in order, and how many more are noted without memory
+-- what the events of one process did, in order, and how many more fit without allocation
 pub record LineState : Type 0 where
   pub kinds : List Kind
   pub room : ℕ

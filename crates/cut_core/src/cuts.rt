@@ -1,4 +1,4 @@
-//! Cuts that keep the cause of each message that was received.
+//! Consistent cuts (Mattern 1989): each received message was sent within the cut.
 
 ghost use Rattle.std.specs.Prelude.{◌≡◌, ℕ, ◌+◌, ◌-◌, ◌<◌, List, [], length, min, sum, slice_index, slice_index_or};
 ghost use Rattle.std.specs.Prelude.{false, IfOk, IsTrue, IsSome, IfSome, ◌↔◌, MatchOption};
@@ -11,7 +11,7 @@ use dbg_base::{Cut, Pid, count_of};
 use std::alloc::{AllocError, Global};
 
 impl Tally {
-    // Whether the second process has received more from the first than that one has sent to it, up to these counts.
+    // Whether the second process has received more messages from the first than the first has sent to it, up to these counts.
     fn is_orphan(&self, counts: &[u32], from: Pid, to: Pid) -> bool
         ensures { IsTrue result ↔ HasOrphan self.now.kinds counts.now from.0 to.0 }
     {
@@ -20,7 +20,7 @@ impl Tally {
         from.0 != to.0 && sent < got
     }
 
-    // A process of which this one has received more than that one has sent to it, up to these counts.
+    // A process from which this one has received more messages than that process has sent to it, up to these counts.
     fn orphan_of(&self, counts: &[u32], to: Pid) -> Option<Pid>
         requires { to.0 < length self.now.kinds }
         ensures { MatchOption result ((i : ℕ) → ¬ HasOrphan self.now.kinds counts.now i to.0)
@@ -34,7 +34,7 @@ impl Tally {
         self.stranger(to, count_of(counts, to))
     }
 
-    // Two processes of which the second has received more from the first than that one has sent to it, up to these counts.
+    // Two processes, of which the second has received more messages from the first than the first has sent to it, up to these counts.
     fn orphan(&self, counts: &[u32]) -> Option<(Pid, Pid)>
         ensures { MatchOption result ((i j : ℕ) → ¬ HasOrphan self.now.kinds counts.now i j)
             (λ pair. HasOrphan self.now.kinds counts.now pair.0.0 pair.1.0) }
@@ -47,7 +47,7 @@ impl Tally {
         None
     }
 
-    /// The cut of all events. It is refused only where memory runs out.
+    /// The cut of all events. Error: out of memory.
     pub fn all_events(&self, alloc: Global) -> Result<Cut, AllocError>
         ensures { IfOk result (λ cut. cut ≡ places self.now.kinds) }
     {
@@ -58,7 +58,7 @@ impl Tally {
         Ok(Cut::new(counts))
     }
 
-    // Whether there is one count for each process, and none is more than its events.
+    // Whether there is one count for each process, at most its number of events.
     fn is_within(&self, counts: &[u32]) -> bool
         ensures { IsTrue result ↔ IsWithin self.now.kinds counts.now }
     {
@@ -73,7 +73,7 @@ impl Tally {
         true
     }
 
-    // The counts, where they are more than the events of a process that number instead.
+    // The counts, each at most the number of the process's events.
     fn clipped(&self, alloc: Global, counts: &[u32]) -> Result<Vec<u32>, AllocError>
         ensures len { IfOk result (λ made. length made.items ≡ length self.now.kinds) }
         ensures counts { IfOk result (λ made. (p : ℕ) → slice_index made.items p
@@ -86,7 +86,7 @@ impl Tally {
         Ok(made)
     }
 
-    // The process goes back to before the first message that it received too many, and tells whether there was one.
+    // Lowers the process to before the first message for which there is no send, and returns whether there was such a message.
     fn lower_at(&self, counts: &mut [u32], to: Pid) -> bool
         requires within { IsWithin self.now.kinds counts.old }
         requires there { to.0 < length self.now.kinds }
@@ -104,7 +104,7 @@ impl Tally {
         lowered
     }
 
-    // Each process goes back like this, one after the other; it tells whether any did.
+    // Lowers each process in this way, one after the other, and returns whether any was lowered.
     fn lower_each(&self, counts: &mut [u32]) -> bool
         requires { IsWithin self.now.kinds counts.old }
         ensures lowered { IsLowered self.now.kinds counts.old counts.new }
@@ -120,7 +120,8 @@ impl Tally {
         lowered
     }
 
-    // The counts go down to the greatest consistent cut below: each process that received a message too many goes back to before it.
+    // Lowers the counts to the greatest consistent cut below them: as long as a process has received a message for which there is no send,
+    // it goes back to before that message.
     fn lower(&self, counts: &mut [u32])
         requires { IsWithin self.now.kinds counts.old }
         ensures consistent { IsConsistentCut self.now.kinds counts.new }
@@ -130,7 +131,8 @@ impl Tally {
         while self.lower_each(counts) {}
     }
 
-    // The counts go up to the least consistent cut above: each process of which another one received more goes on to where it sent it.
+    // Raises the counts to the least consistent cut above them: as long as a process has received a message for which there is no send, its
+    // sender moves to the event that sent it.
     fn raise(&self, counts: &mut [u32])
         requires within { IsWithin self.now.kinds counts.old }
         requires all { IsConsistentCut self.now.kinds (places self.now.kinds) }
@@ -145,15 +147,15 @@ impl Tally {
     }
 }
 
-/// Whether the cut has one count for each process, none more than its events, and no process has received more messages from another
-/// one than that one has sent to it. It takes no memory.
+/// Whether the cut is consistent. It has one count for each process, at most its number of events, and no process has received more
+/// messages from another than that one has sent to it. It does not allocate.
 pub fn is_consistent(tally: &Tally, cut: &Cut) -> bool
     ensures { IsTrue result ↔ IsConsistentCut tally.now.kinds cut.now }
 {
     tally.is_within(cut.counts()) && tally.orphan(cut.counts()).is_none()
 }
 
-/// The greatest consistent cut that is at most this one. It is refused only where memory runs out.
+/// The greatest consistent cut that is at most this one. Error: out of memory.
 pub fn greatest_below(alloc: Global, tally: &Tally, cut: &Cut) -> Result<Cut, AllocError>
     requires { length cut.now ≡ length tally.now.kinds }
     ensures consistent { IfOk result (λ made. IsConsistentCut tally.now.kinds made) }
@@ -165,8 +167,8 @@ pub fn greatest_below(alloc: Global, tally: &Tally, cut: &Cut) -> Result<Cut, Al
     Ok(Cut::new(counts))
 }
 
-/// The least consistent cut that is at least this one, or None where this one has more events of a process than there are. It is refused
-/// only where memory runs out.
+/// The least consistent cut that is at least this one, or None if this cut has more events of a process than there are. Error: out of
+/// memory.
 pub fn least_above(alloc: Global, tally: &Tally, cut: &Cut) -> Result<Option<Cut>, AllocError>
     requires sizes { length cut.now ≡ length tally.now.kinds }
     requires all { IsConsistentCut tally.now.kinds (places tally.now.kinds) }

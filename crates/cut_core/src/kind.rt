@@ -11,9 +11,9 @@ use dbg_base::Pid;
 pub enum Kind {
     /// It sent a message to this process.
     Sent(Pid),
-    /// It took a message from this process.
+    /// It received a message from this process.
     Got(Pid),
-    /// It sent and took none.
+    /// It sent no message and received none.
     Local,
 }
 
@@ -30,14 +30,14 @@ impl Kind {
         }
     }
 
-    // The number of the list in which its place stands, where the last one is for all that have none of their own.
+    // The number of the list for its position. The last list is for all kinds without a list of their own.
     pub(crate) fn list(self, last: usize) -> usize
         ensures { result ≡ min (own_list self) last }
     {
         self.own_list().min(last)
     }
 
-    // The number of the list for what did the same, if there are as many.
+    // The number of the list of its own, if there are so many lists.
     pub(crate) fn own_list(self) -> usize
         ensures { result ≡ own_list self }
     {
@@ -48,7 +48,7 @@ impl Kind {
         }
     }
 
-    // The process that it received from, where that is not among so many.
+    // The process from which it received, if that is not among so many.
     pub(crate) fn stranger(self, processes: u32) -> Option<Pid>
         ensures { MatchOption result ((i : ℕ) → processes ≤ i → gets_from i self ≡ false)
             (λ from. (processes ≤ from.0) × (gets_from from.0 self ≡ true)) }

@@ -1,4 +1,4 @@
-//! What each event of each process sent or received, and the cuts that this makes consistent.
+//! What each event of each process sent or received, and which cuts are consistent.
 #![tactic(auto)]
 
 mod cuts;

@@ -11,16 +11,16 @@ use dbg_base::Pid;
 use std::alloc::{AllocError, Global};
 use std::marker::Model;
 
-/// What the events of one process did, in order, and the place of each in one of several lists, by what it did: the last list is for
-/// all that have none of their own.
+/// What the events of one process did, in order. The position of each event is in one of several lists, by what it did. The last list is
+/// for all kinds without a list of their own.
 #[derive(Debug, Drop)]
-pub(crate) struct Line {
+pub(crate) struct CountLine {
     kinds: Vec<Kind>,
     lists: Vec<Places>,
     room: usize,
 }
 
-impl Model for Line {
+impl Model for CountLine {
     ghost use Rattle.std.specs.Prelude.{◌-◌, map};
     ghost use Rattle.std.specs.Vec.{vec_len, vec_capacity};
     ghost use Rattle.cut_core.specs.Places.{AreListed, HasRoom};
@@ -37,7 +37,7 @@ impl Model for Line {
         × HasRoom line.kinds.items (vec_capacity line.kinds - vec_len line.kinds) (map (λ list. list.room) line.lists.items) line.room };
 }
 
-// How many of these are like the wanted one.
+// How many of these equal the wanted kind.
 fn count(kinds: &[Kind], wanted: Kind) -> u32
     requires { length kinds.now < 2 ^ 32 }
     ensures { result ≡ count_by (is_like wanted) kinds.now }
@@ -51,7 +51,7 @@ fn count(kinds: &[Kind], wanted: Kind) -> u32
     count
 }
 
-// The number, from 1, of the k-th of these that is like the wanted one.
+// The number, from 1, of the k-th of these that equals the wanted kind.
 fn nth(kinds: &[Kind], wanted: Kind, k: u32) -> u32
     requires short { length kinds.now < 2 ^ 32 }
     requires first { 1 ≤ k }
@@ -75,7 +75,7 @@ fn nth(kinds: &[Kind], wanted: Kind, k: u32) -> u32
     place
 }
 
-// A process that is not among so many, of which one of these received.
+// A process that is not among so many, and from which one of these events received.
 fn stranger(kinds: &[Kind], processes: u32) -> Option<Pid>
     ensures { MatchOption result ((i : ℕ) → processes ≤ i → count_by (gets_from i) kinds.now ≡ 0)
         (λ from. (processes ≤ from.0) × (0 < count_by (gets_from from.0) kinds.now)) }
@@ -89,7 +89,7 @@ fn stranger(kinds: &[Kind], processes: u32) -> Option<Pid>
     None
 }
 
-// So many lists of no place.
+// So many empty lists of positions.
 fn empty_lists(alloc: Global, lists: usize) -> Result<Vec<Places>, AllocError>
     ensures places { IfOk result (λ made. map (λ list. list.places) made.items ≡ replicate lists []) }
     ensures len { IfOk result (λ made. length made.items ≡ lists) }
@@ -101,7 +101,7 @@ fn empty_lists(alloc: Global, lists: usize) -> Result<Vec<Places>, AllocError>
     Ok(made)
 }
 
-// Makes room for so many more places in each list.
+// Makes room for so many more positions in each list.
 #[tactic(auto, using(dbg_base::proofs::Places::one_place))]
 fn reserve_each(lists: &mut Vec<Places>, more: usize) -> Result<(), AllocError>
     ensures places { map (λ list. list.places) lists.new.items ≡ map (λ list. list.places) lists.old.items }
@@ -116,7 +116,7 @@ fn reserve_each(lists: &mut Vec<Places>, more: usize) -> Result<(), AllocError>
     Ok(())
 }
 
-// The same lists once more.
+// Copies the lists.
 fn copy_lists(lists: &Vec<Places>) -> Result<Vec<Places>, AllocError>
     ensures { IfOk result (λ made. map (λ list. list.places) made.items ≡ map (λ list. list.places) lists.now.items) }
 {
@@ -127,23 +127,23 @@ fn copy_lists(lists: &Vec<Places>) -> Result<Vec<Places>, AllocError>
     Ok(made)
 }
 
-impl Line {
-    /// No event, and as many lists as so many processes need: for each two, for what was sent to it and received from it.
-    pub(crate) fn new(alloc: Global, processes: u32) -> Result<Line, AllocError>
+impl CountLine {
+    /// No events, and the lists for so many processes: for each process two, of what was sent to it and of what was received from it.
+    pub(crate) fn new(alloc: Global, processes: u32) -> Result<CountLine, AllocError>
         ensures { IfOk result (λ line. line.kinds ≡ []) }
     {
-        Ok(Line {
+        Ok(CountLine {
             kinds: Vec::new(alloc),
             lists: empty_lists(alloc, processes as usize * 2 + 2)?,
             room: 0,
         })
     }
 
-    /// The same events once more.
-    pub(crate) fn copy(&self) -> Result<Line, AllocError>
+    /// Copies the events.
+    pub(crate) fn copy(&self) -> Result<CountLine, AllocError>
         ensures { IfOk result (λ line. line.kinds ≡ self.now.kinds) }
     {
-        Ok(Line {
+        Ok(CountLine {
             kinds: Vec::from_slice(*self.kinds.allocator(), self.kinds.as_slice())?,
             lists: copy_lists(&self.lists)?,
             room: 0,
@@ -157,7 +157,7 @@ impl Line {
         self.kinds.len() as u32
     }
 
-    /// Makes room for so many more events. It is refused where memory runs out, and where there were more than a `u32` counts.
+    /// Makes room for so many more events. It is an error if an allocation fails, or if there were more events than a `u32` counts.
     pub(crate) fn reserve(&mut self, more: usize) -> Result<(), AllocError>
         ensures same { self.new.kinds ≡ self.old.kinds }
         ensures grows { self.old.room ≤ self.new.room }
@@ -175,7 +175,7 @@ impl Line {
         Ok(())
     }
 
-    /// One more event. It takes no memory.
+    /// Appends one event. It does not allocate.
     pub(crate) fn note(&mut self, kind: Kind)
         requires { 0 < self.old.room }
         ensures kinds { self.new.kinds ≡ self.old.kinds ++ kind ∷ [] }
@@ -189,7 +189,7 @@ impl Line {
         self.room -= 1;
     }
 
-    /// The last event is taken out, if there is one. It takes no memory.
+    /// Removes the last event, if there is one. It does not allocate.
     pub(crate) fn unnote(&mut self)
         ensures kinds { self.new.kinds ≡ take (length self.old.kinds - 1) self.old.kinds }
         ensures grows { self.old.room ≤ self.new.room }
@@ -204,7 +204,7 @@ impl Line {
         }
     }
 
-    // The first n events, or all where there are fewer.
+    // The first n events, or all if there are fewer.
     fn first(&self, n: u32) -> &[Kind]
         ensures kinds { result.now ≡ take n self.now.kinds }
         ensures len { length result.now < 2 ^ 32 }
@@ -212,7 +212,7 @@ impl Line {
         &self.kinds[..self.kinds.len().min(n as usize)]
     }
 
-    /// How many of the first n events are like the wanted one.
+    /// How many of the first n events equal the wanted kind.
     pub(crate) fn count(&self, wanted: Kind, n: u32) -> u32
         ensures { result ≡ count_by (is_like wanted) (take n self.now.kinds) }
     {
@@ -224,7 +224,7 @@ impl Line {
         }
     }
 
-    /// The number, from 1, of the k-th event that is like the wanted one.
+    /// The number, from 1, of the k-th event that equals the wanted kind.
     pub(crate) fn nth(&self, wanted: Kind, k: u32) -> u32
         requires first { 1 ≤ k }
         requires enough { k ≤ count_by (is_like wanted) self.now.kinds }
@@ -241,8 +241,8 @@ impl Line {
         }
     }
 
-    /// A process that is not among so many, of which one of the first n events received. No event is looked at where none of these has
-    /// its place in the last list.
+    /// A process that is not among so many, and from which one of the first n events received. If none of these events is in the last list,
+    /// no event is read.
     pub(crate) fn stranger(&self, processes: u32, n: u32) -> Option<Pid>
         ensures { MatchOption result ((i : ℕ) → processes ≤ i → count_by (gets_from i) (take n self.now.kinds) ≡ 0)
             (λ from. (processes ≤ from.0) × (0 < count_by (gets_from from.0) (take n self.now.kinds))) }

@@ -1,11 +1,11 @@
-//! A list of places.
+//! A list of positions.
 
 ghost use Rattle.std.specs.Prelude.{◌≡◌, ◌+◌, ◌-◌, ◌<◌, ◌≤◌, ◌++◌, ◌∷◌, [], length, take, slice_index, IfOk, OnOk};
 
 use std::alloc::{AllocError, Global};
 use std::marker::Model;
 
-/// The places of some events, in order. Contracts see them as a list, and as how many more it takes without memory.
+/// The positions of some events, in order. Contracts see a list, and how many more positions fit without allocation.
 #[derive(Debug, Drop)]
 pub(crate) struct Places {
     places: Vec<u32>,
@@ -24,7 +24,7 @@ impl Model for Places {
     } };
 }
 
-// How many of these come first that are below n, where they go up.
+// How many of these ascending positions are below n.
 fn before(places: &[u32], n: u32) -> usize
     ensures within { result ≤ length places.now }
     ensures below { 0 < result → slice_index places.now (result - 1) < n }
@@ -44,7 +44,7 @@ fn before(places: &[u32], n: u32) -> usize
 }
 
 impl Places {
-    /// None. It takes no memory.
+    /// An empty list. It does not allocate.
     pub(crate) fn new(alloc: Global) -> Places
         ensures { result.places ≡ [] }
     {
@@ -53,7 +53,7 @@ impl Places {
         }
     }
 
-    /// How many of them are below n, where they go up.
+    /// How many of these ascending positions are below n.
     pub(crate) fn before(&self, n: u32) -> usize
         ensures within { result ≤ length self.now.places }
         ensures below { 0 < result → slice_index self.now.places (result - 1) < n }
@@ -62,7 +62,7 @@ impl Places {
         before(self.places.as_slice(), n)
     }
 
-    /// The k-th, from 0.
+    /// The k-th position, from 0.
     pub(crate) fn at(&self, k: u32) -> u32
         requires { k < length self.now.places }
         ensures { result ≡ slice_index self.now.places k }
@@ -70,7 +70,7 @@ impl Places {
         self.places[k as usize]
     }
 
-    /// Makes room for so many more.
+    /// Makes room for so many more positions.
     pub(crate) fn reserve(&mut self, more: usize) -> Result<(), AllocError>
         ensures same { self.new.places ≡ self.old.places }
         ensures grows { self.old.room ≤ self.new.room }
@@ -79,7 +79,7 @@ impl Places {
         self.places.reserve(more)
     }
 
-    /// One more at the end. It takes no memory.
+    /// Appends a position. It does not allocate.
     pub(crate) fn push(&mut self, place: u32)
         requires { 0 < self.old.room }
         ensures places { self.new.places ≡ self.old.places ++ place ∷ [] }
@@ -88,7 +88,7 @@ impl Places {
         self.places.push_reserved(place);
     }
 
-    /// The last one is taken off, if there is one. It takes no memory.
+    /// Removes the last position, if there is one. It does not allocate.
     pub(crate) fn pop(&mut self)
         ensures places { self.new.places ≡ take (length self.old.places - 1) self.old.places }
         ensures grows { self.old.room ≤ self.new.room }
@@ -96,7 +96,7 @@ impl Places {
         self.places.pop();
     }
 
-    /// The same once more.
+    /// Copies the positions.
     pub(crate) fn copy(&self) -> Result<Places, AllocError>
         ensures { IfOk result (λ made. made.places ≡ self.now.places) }
     {

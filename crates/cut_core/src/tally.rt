@@ -8,16 +8,16 @@ ghost use Rattle.cut_core.specs.declared.kind.Kind.TheVariants.{Sent};
 ghost use Rattle.cut_core.specs.Tallies.{sent_by, got_by};
 
 use crate::kind::Kind;
-use crate::line::Line;
+use crate::line::CountLine;
 use dbg_base::Pid;
 use std::alloc::{AllocError, Global};
 use std::marker::Model;
 
-/// For each process what its events did, in order. Contracts see it as this, and as the room of each process: how many more of its
-/// events are noted without memory.
+/// For each process what its events did, in order. Contracts see this, and the room of each process: how many more of its events fit
+/// without allocation.
 #[derive(Debug, Drop)]
 pub struct Tally {
-    lines: Vec<Line>,
+    lines: Vec<CountLine>,
 }
 
 impl Model for Tally {
@@ -35,20 +35,20 @@ impl Model for Tally {
     ghost invariant = { λ tally. length tally.lines.items < 2 ^ 32 };
 }
 
-// No event of any of so many processes.
-fn empty_lines(alloc: Global, processes: u32) -> Result<Vec<Line>, AllocError>
+// No events of each of so many processes.
+fn empty_lines(alloc: Global, processes: u32) -> Result<Vec<CountLine>, AllocError>
     ensures kinds { IfOk result (λ lines. map (λ line. line.kinds) lines.items ≡ replicate processes []) }
     ensures len { IfOk result (λ lines. length lines.items ≡ processes) }
 {
     let mut lines = Vec::new(alloc);
     for _ in 0..processes {
-        lines.push(Line::new(alloc, processes)?)?;
+        lines.push(CountLine::new(alloc, processes)?)?;
     }
     Ok(lines)
 }
 
-// The events of all processes once more.
-fn copy_lines(lines: &Vec<Line>) -> Result<Vec<Line>, AllocError>
+// Copies the events of all processes.
+fn copy_lines(lines: &Vec<CountLine>) -> Result<Vec<CountLine>, AllocError>
     ensures kinds { IfOk result (λ made. map (λ line. line.kinds) made.items ≡ map (λ line. line.kinds) lines.now.items) }
     ensures len { IfOk result (λ made. length made.items ≡ length lines.now.items) }
 {
@@ -60,7 +60,7 @@ fn copy_lines(lines: &Vec<Line>) -> Result<Vec<Line>, AllocError>
 }
 
 impl Tally {
-    /// No event of any of so many processes. It is refused only where memory runs out.
+    /// No events of each of so many processes. Error: out of memory.
     pub fn new(alloc: Global, processes: u32) -> Result<Tally, AllocError>
         ensures { IfOk result (λ tally. tally.kinds ≡ replicate processes []) }
     {
@@ -69,7 +69,7 @@ impl Tally {
         })
     }
 
-    /// The same events once more, with room of their own. It is refused only where memory runs out.
+    /// Copies the events; the copy has its own room. Error: out of memory.
     pub fn copy(&self) -> Result<Tally, AllocError>
         ensures { IfOk result (λ tally. tally.kinds ≡ self.now.kinds) }
     {
@@ -85,7 +85,7 @@ impl Tally {
         self.lines.len() as u32
     }
 
-    /// How many events the process has, which is none where it is not there. It takes no memory, as all readers.
+    /// How many events the process has, 0 if it does not exist. Like all methods that only read, it does not allocate.
     pub fn len(&self, pid: Pid) -> u32
         ensures { result ≡ length (slice_index_or self.now.kinds pid.0 []) }
     {
@@ -95,7 +95,7 @@ impl Tally {
         }
     }
 
-    // How many of the first n events of the process are like the wanted one.
+    // How many of the first n events of the process equal the wanted kind.
     fn count(&self, pid: Pid, wanted: Kind, n: u32) -> u32
         ensures { result ≡ count_by (is_like wanted) (take n (slice_index_or self.now.kinds pid.0 [])) }
     {
@@ -119,8 +119,8 @@ impl Tally {
         self.count(j, Kind::Got(i), n)
     }
 
-    /// Makes room for so many more events of the process, and does nothing where it is not there. No room is lost, and no event
-    /// changes, also where it is refused: where memory runs out, or where the process had more events than a `u32` counts.
+    /// Makes room for so many more events of the process. It does nothing if the process does not exist. No event changes, and no room is
+    /// lost, also on an error. It is an error if an allocation fails, or if the process had more events than a `u32` counts.
     #[tactic(auto, using(dbg_base::proofs::Places::one_place))]
     pub fn reserve(&mut self, pid: Pid, more: usize) -> Result<(), AllocError>
         ensures kinds { self.new.kinds ≡ self.old.kinds }
@@ -134,7 +134,7 @@ impl Tally {
         line.reserve(more)
     }
 
-    /// One more event of the process, where there is room. It takes no memory.
+    /// Appends an event of the process, for which there must be room. It does not allocate.
     #[tactic(auto, using(dbg_base::proofs::Places::one_place))]
     pub fn note(&mut self, pid: Pid, kind: Kind)
         requires { 0 < slice_index_or self.old.room pid.0 0 }
@@ -145,7 +145,7 @@ impl Tally {
         line.note(kind);
     }
 
-    /// The last event of the process is taken out. Where there is none, nothing changes. It takes no memory.
+    /// Removes the last event of the process. If there is none, it changes nothing. It does not allocate.
     #[tactic(auto, using(dbg_base::proofs::Places::one_place))]
     pub fn unnote(&mut self, pid: Pid)
         ensures kinds { self.new.kinds ≡ slice_set self.old.kinds pid.0
@@ -159,7 +159,7 @@ impl Tally {
         line.unnote();
     }
 
-    // The number, from 1, of the process's k-th event that is like the wanted one.
+    // The number, from 1, of the process's k-th event that equals the wanted kind.
     pub(crate) fn nth(&self, pid: Pid, wanted: Kind, k: u32) -> u32
         requires first { 1 ≤ k }
         requires enough { k ≤ count_by (is_like wanted) (slice_index_or self.now.kinds pid.0 []) }
@@ -184,7 +184,7 @@ impl Tally {
         self.nth(i, Kind::Sent(j), k)
     }
 
-    // A process that is not there, of which one of the first n events of the process received.
+    // A process that does not exist, and from which one of the first n events of the process received.
     pub(crate) fn stranger(&self, pid: Pid, n: u32) -> Option<Pid>
         ensures { MatchOption result
             ((i : ℕ) → length self.now.kinds ≤ i → count_by (gets_from i) (take n (slice_index_or self.now.kinds pid.0 [])) ≡ 0)

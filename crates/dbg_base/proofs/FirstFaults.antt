@@ -125,7 +125,7 @@ sign_takes Star = omega arith
 sign_takes Slash = omega arith
 sign_takes Percent = omega arith
 
--- a token takes a byte at least
+-- a token takes at least one byte
 pub token_takes : (token : Token) (piece : List ℕ) → Spells token piece → 1 ≤ length piece
 token_takes token (b ∷ piece) spelled = omega arith
 token_takes (Word []) [] spelled = absurd (false≢true spelled.1)
@@ -142,7 +142,7 @@ text_spans (p ∷ tokens) at text end rest begins = (
       (text_spans tokens (p.at + length begins.1) begins.2 end rest begins.8),
 )
 
--- What a production derives has its faults between the tokens that stand around it.
+-- The faults of what a production derives are between the tokens around it.
 
 name_spans : (tokens : List Placed) (named : Named) (lo hi : ℕ) → DerivesName tokens named → Spans lo tokens hi
     → (lo ≤ named.at) × (named.at < hi)
@@ -164,7 +164,7 @@ name_spread limit earlier named lo hi above below =
     (spread_where (is_among named.name earlier) kind.NameTaken named.at _ _ (omega (arith, above)) (omega arith))
     (spread_where (length earlier == limit) kind.Limit named.at _ _ (omega arith) (omega (arith, below)))
 
--- a sort that is asked at the first byte, and the faults of what follows it
+-- a type that is checked at the first byte, and the faults of what follows it
 module _ (scope : Scope) (wanted found : Sort) (at : ℕ) where
   sort_spread : (faults : List ProgFault) (lo next hi : ℕ) → lo ≤ at → at < next → Spread (16 * next) faults (16 * hi)
       → Spread (16 * lo) (fault_where (not (is_same_sort wanted found)) kind.TypeWrong at ++ faults) (16 * hi)
@@ -214,7 +214,7 @@ expression_spread scope wanted tokens (Binary at operator left right) lo hi deri
     (spread_within _ (16 * parts.0) _ _ (16 * hi) (omega (arith, parts.2.0)) (omega (arith, both.2.0, both.2.1))
     (expression_spread scope (operand_sort operator) derives.1 right (suc derives.2) both.0 derives.5 parts.2.1)))
 
--- the faults of each of several, one after the other, where `seen` is what stands before
+-- the faults of several elements, one after the other; `seen` describes the elements before
 module _ {A S : Type 0} (Derives : List Placed → A → Type 0) (F : S → List A → List ProgFault) (here : S → A → List ProgFault)
     (behind : S → A → S) where
   in_turn : ((seen : S) → F seen [] ≡ []) → ((seen : S) (x : A) (xs : List A) → F seen (x ∷ xs) ≡ here seen x ++ F (behind seen x) xs)
@@ -342,14 +342,14 @@ program_spread tokens (process ∷ processes) lo hi derives s =
     (λ earlier p. p.name.name ∷ earlier) (λ earlier. refl) (λ earlier p others. refl) (process_spread names) [] tokens
     (process ∷ processes) lo hi derives s
 
--- of a program
+-- the first fault of a program
 pub first_of_program : (text : List ℕ) (tokens : List Placed) (written : List WrittenProcess) (fault : ProgFault) → HasTokens text tokens
     → DerivesProgram tokens written → slice_get (check_faults written) 0 ≡ Some fault → IsFirstFault (check_faults written) fault
 first_of_program text tokens written fault has derives here =
     head_is_first (check_faults written) fault (16 * 0) (16 * length text) here
     (program_spread tokens written 0 (length text) derives (text_spans tokens 0 text (length text) [] has.1))
 
--- and of an expression
+-- the first fault of an expression
 pub first_of_expression : (scope : Scope) (wanted : Sort) (text : List ℕ) (tokens : List Placed) (phrase : Phrase) (fault : ProgFault)
     → HasTokens text tokens → DerivesExpression tokens phrase → slice_get (expression_faults scope wanted phrase) 0 ≡ Some fault
     → IsFirstFault (expression_faults scope wanted phrase) fault
@@ -357,7 +357,7 @@ first_of_expression scope wanted text tokens phrase fault has derives here =
     head_is_first (expression_faults scope wanted phrase) fault (16 * 0) (16 * length text) here
     (expression_spread scope wanted tokens phrase 0 (length text) derives (text_spans tokens 0 text (length text) [] has.1))
 
--- Processes are no more than the bytes of their text.
+-- A text has at most as many processes as bytes.
 
 process_takes : (tokens : List Placed) (process : WrittenProcess) (lo hi : ℕ) → DerivesProcess tokens process → Spans lo tokens hi → lo < hi
 process_takes tokens process lo hi derives s =

@@ -7,11 +7,11 @@ use Rattle.dbg_base.specs.declared.refusal.Refusal.TheVariants.{NoneEnabled}
 use Rattle.dbg_base.specs.Calls.{Next, Undo, One, Give, Back}
 use Rattle.dbg_base.specs.Journals.{Entry, effective}
 
--- what an accepted command without more to tell is answered
+-- the answer to an accepted command that has nothing else to report
 abbrev well : Said
 well = Accepted (record { done = Plain; halted = None })
 
--- seat 1 and seat 2 give a command each, seat 2 takes its own back, is refused one, and gives another
+-- seats 1 and 2 give a command each; seat 2 takes its own back, has one refused, and gives another
 abbrev entries : List Entry
 entries =
     record { seat = 1; call = Give (One (Next 0)); said = well } ∷ record { seat = 2; call = Give (One (Next 1)); said = well }
@@ -22,6 +22,6 @@ two_count : effective entries
     ≡ record { seat = 1; order = One (Next 0) } ∷ record { seat = 2; order = One (Undo 0) } ∷ []
 two_count = refl
 
--- each further `back` strikes the last one that is left
+-- each further `back` removes the last order that is left
 none_counts : effective (entries ++ record { seat = 2; call = Back; said = well } ∷ record { seat = 1; call = Back; said = well } ∷ []) ≡ []
 none_counts = refl

@@ -1,4 +1,4 @@
-pub mod Padding
+pub mod PaddedNameLemmas
 pub mod WellFormedTrees
 pub mod FirstFaults
 pub mod Places
@@ -6,6 +6,6 @@ mod Rows
 mod LineRows
 mod JournalRows
 mod OrderRows
-pub mod Counted
-pub mod Searching
+pub mod CountLemmas
+pub mod EliminationLemmas
 mod SearchRows

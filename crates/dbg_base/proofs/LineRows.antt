@@ -31,7 +31,7 @@ no_seat = refl
 seat_too_large : IsRefused (codes "17 next a") BadLine
 seat_too_large = refl
 
--- the shape of the whole line comes before the names in it
+-- the shape of the whole line is checked before the names in it
 unknown_word : IsRefused (codes "1 jump d") BadLine
 unknown_word = (_, refl, refl)
 
@@ -41,11 +41,11 @@ one_word_too_many = (_, refl, refl)
 seat_alone : IsRefused (codes "1 ") BadLine
 seat_alone = (_, refl, refl)
 
--- a bad seat makes the line a bad one, whatever follows
+-- a bad seat makes the line a syntax error, whatever follows
 no_seat_of_break : IsRefused (codes "0 break k d (x = 1)") BadLine
 no_seat_of_break = refl
 
--- and so does a part without its form, whichever processes stand before it
+-- so does a part without its form, whichever processes come before it
 break_without_form : IsRefused (codes "1 break k d (x = 1) b") BadLine
 break_without_form = (_, refl, refl)
 
@@ -102,7 +102,7 @@ first_of_words = refl
 behind_first : after_word (codes "  break k ") ≡ codes " k "
 behind_first = refl
 
--- a predicate goes on to the parenthesis that closes its first one, blanks and all
+-- a predicate ends at the parenthesis that closes its first one; its blanks count
 front_in_parentheses : predicate_front (codes "((x) = 1) b") ≡ codes "((x) = 1)"
 front_in_parentheses = refl
 
@@ -119,7 +119,7 @@ two_parts = refl
 no_part : parts_in (codes "  ") ≡ Some []
 no_part = refl
 
--- a process without a predicate, a predicate that is followed by no blank, and a process that is no name
+-- a process without a predicate, a predicate that no blank follows, and a process that is not a name
 part_without_predicate : parts_in (codes "a (x) b ") ≡ None
 part_without_predicate = refl
 
@@ -139,7 +139,7 @@ back_has_no_argument = (_, refl, refl)
 three_commands : commands_of (codes " next a ; next b;c ; ") ≡ codes " next a " ∷ codes " next b;c " ∷ codes " " ∷ []
 three_commands = refl
 
--- where a breakpoint is set, what stands in parentheses belongs to a predicate
+-- if a breakpoint is set, what is in parentheses belongs to a predicate
 separator_in_parentheses : commands_of (codes "break k a (x ; (y ; 1) ; z) ; undo b") ≡ codes "break k a (x ; (y ; 1) ; z) " ∷ codes " undo b" ∷ []
 separator_in_parentheses = refl
 
@@ -152,7 +152,7 @@ no_blank_behind_parenthesis = refl
 reads_batch : AsksFor (codes "1 batch next a ; undo b") 1 (Give (Batch (Next 0 ∷ Undo 1 ∷ [])))
 reads_batch = (_, (_, (_, _, refl, (_, _, refl, refl, refl), refl), refl), refl)
 
--- the shape of each of its commands comes before what the commands name
+-- the shape of each command of a batch is checked before what the commands name
 no_process_in_batch : IsRefused (codes "1 batch next d ; next a") UnknownProcess
 no_process_in_batch = (_, (_, (_, _, refl, (_, _, refl, refl, refl), refl), refl), refl)
 

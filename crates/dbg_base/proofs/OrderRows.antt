@@ -40,7 +40,7 @@ early = sent ∷ received ∷ sent ∷ []
 abbrev late : List Event
 late = sent ∷ sent ∷ received ∷ []
 
--- a second send before or behind the receive leads to one place, and makes one history
+-- a second send before or after the receive leads to one configuration and makes one history
 abbrev two_and_one : History
 two_and_one = (0 ∷ 0 ∷ []) ∷ (0 ∷ []) ∷ []
 
@@ -66,7 +66,7 @@ states_of_late = refl
 receives_too_early : order system (received ∷ sent ∷ []) ≡ Err ChannelEmpty
 receives_too_early = refl
 
--- a process that is not there makes no choice
+-- a process that does not exist makes no choice
 no_such_process : order system (record { process = 2; choice = 0 } ∷ []) ≡ Err GuardFalse
 no_such_process = refl
 
@@ -93,7 +93,7 @@ receives_from_the_sender = refl
 local_sends_to_none : target_in (command_of system 1 1) ≡ None
 local_sends_to_none = refl
 
--- two sends, and one receive: what is counted, cut and taken back
+-- two sends, and one receive: what is counted, cut and undone
 two_sent : sent_among system two_and_one 0 1 2 ≡ 2
 two_sent = refl
 
@@ -103,7 +103,7 @@ one_got = refl
 cut_at_one : history_at two_and_one (1 ∷ 1 ∷ []) ≡ (0 ∷ []) ∷ (0 ∷ []) ∷ []
 cut_at_one = refl
 
--- the receive is made behind the two sends, since the lower-numbered process goes first
+-- the play makes the receive after the two sends, since the lower-numbered process goes first
 receives_behind_both : before_last system two_and_one 1 ≡ play system ((0 ∷ 0 ∷ []) ∷ [] ∷ [])
 receives_behind_both = refl
 
@@ -125,7 +125,7 @@ undoes_all = refl
 nothing_is_left : after_undos two_and_one (0 ∷ 1 ∷ 0 ∷ []) ≡ [] ∷ [] ∷ []
 nothing_is_left = refl
 
--- a send whose message was received is not taken back: without it the receive is not played
+-- a send whose message was received may not be undone: without it the receive is not played
 abbrev one_and_one : History
 one_and_one = (0 ∷ []) ∷ (0 ∷ []) ∷ []
 
@@ -139,7 +139,7 @@ one_received = refl
 none_sent : sent_among system one_and_one 0 1 0 ≡ 0
 none_sent = refl
 
--- a message that was taken goes back before one that was sent later
+-- a message that was received returns before one that was sent later
 abbrev seven_and_eight : Program
 seven_and_eight =
     record sender { commands = send ∷ record send { action = Sends 1 (Number (pos 8)) } ∷ [] } ∷ receiver ∷ []

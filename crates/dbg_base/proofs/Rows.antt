@@ -46,11 +46,11 @@ consumer = record {
 abbrev pub system : Program
 system = counter ∷ consumer ∷ []
 
--- a process with these values that knows of no other one
+-- a process with these values that knows no other process
 abbrev valued : List ℤ → LocalState
 valued values = record { values = values; sent = []; got = [] }
 
--- the least signed number of 64 bits by -1, and what rounds toward zero
+-- the least signed number of 64 bits divided by -1, and rounding toward zero
 quotient_overflows : evaluate (Binary Divide (Number (negsuc 9223372036854775807)) (Number (negsuc 0))) (valued []) ≡ None
 quotient_overflows = refl
 
@@ -71,7 +71,7 @@ or_stops : evaluate (Binary Or (Binary Equal (Variable 0) (Number (pos 0)))
     (Binary Equal (Binary Divide (Variable 0) (Number (pos 0))) (Number (pos 1)))) (valued (pos 0 ∷ [])) ≡ Some (Tru true)
 or_stops = refl
 
--- at the start the counter fires, and the consumer doesn't: its first command finds no message, and the guard of its second is false
+-- at the start the counter fires and the consumer does not: its first command finds no message, and the guard of its second is false
 
 nothing_to_receive : fire system (start_of system) 1 0 ≡ Err ChannelEmpty
 nothing_to_receive = refl
@@ -108,7 +108,7 @@ orphan_stays_unplayed = refl
 after_next : values_of (configuration_of system (after_choice (opening_state system) 0 0)) 0 ≡ pos 1 ∷ []
 after_next = refl
 
--- what a process makes at the start, or why it makes nothing
+-- the choice that a process makes at the start, or why it makes none
 no_such_command : step_choice system (opening_state system) 1 2 ≡ Err UnknownChoice
 no_such_command = refl
 
@@ -121,7 +121,7 @@ first_choice = refl
 nothing_to_redo : redo_choice system (opening_state system) 0 ≡ Err NothingToRedo
 nothing_to_redo = refl
 
--- two counts and one receive, and the receive taken back: its message is the front of the channel again, and can be taken again
+-- two counts and one receive, and the receive undone: its message is at the head of the channel again, and can be received again
 abbrev received : SystemState
 received = record { lines = two_and_one; places = 2 ∷ 1 ∷ [] }
 
@@ -137,7 +137,7 @@ can_be_made_again = refl
 made_again : redo_choice system (after_undo received 1) 1 ≡ Ok 0
 made_again = refl
 
--- a rollback leaves the lines, so that all of it can be made again
+-- a rollback keeps the lines, so all of it can be made again
 rolled_back : after_rollback received (1 ∷ 0 ∷ []) ≡ record { lines = two_and_one; places = 1 ∷ 0 ∷ [] }
 rolled_back = refl
 
@@ -148,7 +148,7 @@ can_be_made_again_after = refl
 cut_line : line_of (after_choice (after_undo (after_undo received 0) 0) 0 0) 0 ≡ 0 ∷ []
 cut_line = refl
 
--- messages that are counted: a sends twice, each time the count of those before and 10, and b receives what it has counted
+-- counted messages: a sends twice, each time the count of earlier sends plus 10, and b receives and stores what it has counted
 abbrev sender : Process
 sender = record {
   name = codes "a";
@@ -192,7 +192,7 @@ plays_two_and_two : play pair two_and_two ≡ record {
 }
 plays_two_and_two = refl
 
--- what it sends is the count before that send
+-- it sends the count before that send
 sends_ten_and_eleven : channel_of (play pair ((0 ∷ 0 ∷ []) ∷ [] ∷ [])) 0 1 ≡ pos 10 ∷ pos 11 ∷ []
 sends_ten_and_eleven = refl
 
@@ -209,11 +209,11 @@ no_third_send = refl
 pair_is_well_formed : is_well_formed pair ≡ true
 pair_is_well_formed = refl
 
--- a process that is not there has no count
+-- a process that does not exist has no count
 counts_of_no_process : evaluate (Count Got 2) (local_state pair two_and_two 1 2) ≡ None
 counts_of_no_process = refl
 
--- the system is as each program that is read; the counter beside itself is not: names differ, and it would send to itself
+-- the system is well formed; the counter twice is not: names differ, and it would send to itself
 system_is_well_formed : is_well_formed system ≡ true
 system_is_well_formed = refl
 

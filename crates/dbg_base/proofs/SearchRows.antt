@@ -18,7 +18,7 @@ x_is_0 = record { process = 0; expression = Binary Equal (Variable 0) (Number (p
 abbrev n_is_1 : Conjunct
 n_is_1 = record { process = 1; expression = Binary Equal (Variable 1) (Number (pos 1)) }
 
--- a fault
+-- a conjunct that faults
 abbrev divides_by_0 : Conjunct
 divides_by_0 = record { process = 0; expression = Binary Equal (Binary Divide (Variable 0) (Number (pos 0))) (Number (pos 1)) }
 
@@ -40,7 +40,7 @@ ruled_out_behind_one = refl
 not_at_the_start : is_ruled_out system two_and_one (x_is_0 ∷ n_is_1 ∷ []) 0 0 ≡ false
 not_at_the_start = refl
 
--- the consumer goes on to where n is 1, the counter to what that needs, and on, past its last event
+-- the consumer moves to where n is 1; the counter moves to what that needs, and further, past its last event
 abbrev steps : List Elimination
 steps =
     record { pid = record { 0 = 1 }; from = 0; to = 1; cause = FalseAt }

@@ -1,4 +1,4 @@
--- A written program of which no check fails says a well-formed tree, and an expression of which none fails says one that fits.
+-- A parsed program that passes all checks has a well-formed tree, and an expression that passes all checks has a tree that fits.
 use Rattle.std.proofs.Common.{◌≡◌, ◌≢◌, ℕ, ℤ, suc, ◌+◌, ◌<◌, ◌≤◌, eqb, Bool, true, false, not, ◌||◌, List, [], ◌∷◌, ◌++◌, length, map}
 use Rattle.std.proofs.Common.{drop, get_or, Option, Some, refl, sym, ap, ◌∙◌, subst, arith}
 use Rattle.std.specs.Prelude.{nat_lt, unwrap_or}
@@ -38,7 +38,7 @@ neither_true : (b c : Bool) → b ≡ false → c ≡ false → (b || c) ≡ fal
 neither_true true c x y = x
 neither_true false c x y = y
 
--- a test that makes no fault, and one whose failure makes none
+-- a test without a fault; a negated test without one
 fails : (b : Bool) (kind : FaultKind) (at : ℕ) → fault_where b kind at ≡ [] → b ≡ false
 fails true kind at none = cc
 fails false kind at none = refl
@@ -50,7 +50,7 @@ holds false kind at none = cc
 differ : (a b : List ℕ) → bytes_eq a b ≡ false → a ≢ b
 differ a b other same = let equal : bytes_eq a b ≡ true = (bytes_eq-Decides a b).1 same in cc
 
--- a name that is among these has a place there
+-- a name among these has a position there
 record HasPlace (first : ℕ) (name : List ℕ) (names : List (List ℕ)) : Type 0 where
   index : ℕ
   within : index < length names
@@ -91,7 +91,7 @@ has_place first name [] among = absurd (let e : false ≡ true = among in cc)
 has_place first name (n ∷ names) among =
     place_by first name n names (bytes_eq n name) refl (λ other. has_place (first + 1) name names (among_behind name n names among other))
 
--- where the name is among these, its index is within them and leads to it
+-- a name among these has an index within them, and the index leads to it
 record IsKnown (names : List (List ℕ)) (name : List ℕ) : Type 0 where
   within : index_of names name < length names
   there : get_or names (index_of names name) [] ≡ name
@@ -109,11 +109,11 @@ named_known names named none = among_known names named.name (holds _ _ _ none)
 same_name : (names : List (List ℕ)) (a b : List ℕ) → IsKnown names a → IsKnown names b → index_of names a ≡ index_of names b → a ≡ b
 same_name names a b x y e = sym x.there ∙ ap (λ (k : ℕ). get_or names k []) e ∙ y.there
 
--- as many as may be are not there yet
+-- a number of names that is at most the limit, and not the limit, is below it
 below_limit : (n limit : ℕ) → n ≤ limit → eqb n limit ≡ false → n < limit
 below_limit n limit few other = grind (arith, nat_tests)
 
--- what is named in this scope is numbered within these bounds
+-- what is named in this scope has numbers within these bounds
 record Matches (scope : Scope) (bounds : Bounds) : Type 0 where
   processes : length scope.processes ≡ bounds.processes
   own : get_or scope.processes bounds.own [] ≡ scope.own
@@ -218,7 +218,7 @@ module _ (scope : Scope) (bounds : Bounds) (same : Matches scope bounds) where
       let behind = commands_fit (earlier + 1) all (omega arith) parts.1 in
       record { few = omega (arith, behind.few); fit = both_true (command_fit command here.1) behind.fit }
 
--- names that no earlier one has, and with the earlier ones no more than may be
+-- names that differ from all earlier ones, and whose number with the earlier ones is within the limit
 record NamesFit (limit : ℕ) (earlier names : List (List ℕ)) : Type 0 where
   few : length earlier + length names ≤ limit
   fresh : are_fresh earlier names ≡ true
@@ -226,7 +226,7 @@ record NamesFit (limit : ℕ) (earlier names : List (List ℕ)) : Type 0 where
 no_name : (limit : ℕ) (earlier : List (List ℕ)) → length earlier ≤ limit → NamesFit limit earlier []
 no_name limit earlier few = record { few = omega arith; fresh = refl }
 
--- there is room for this one, and it is fresh
+-- there is room for this name, and it is new
 record NameFits (limit : ℕ) (earlier : List (List ℕ)) (named : Named) : Type 0 where
   room : length (named.name ∷ earlier) ≤ limit
   fresh : not (is_among named.name earlier) ≡ true
@@ -254,7 +254,7 @@ variables_fit earlier (variable ∷ all) few none =
     let first = name_fits VARIABLES earlier variable.name few parts.0 in
     one_name_more VARIABLES earlier _ variable.name first (variables_fit (variable.name.name ∷ earlier) all first.room parts.1)
 
--- a process that has this place among all
+-- a process with this position among all
 process_fit : (names : List (List ℕ)) (own : ℕ) (process : WrittenProcess) → get_or names own [] ≡ process.name.name
     → process_faults names process ≡ [] → process_fits (length names) own (process_tree names process) ≡ true
 process_fit names own process here none =
@@ -274,7 +274,7 @@ process_fit names own process here none =
     (le-leb (length made.commands) COMMANDS (omega (arith, commands.few, length-map process.commands (command_tree scope)))))
     (both_true variables.fresh commands.fit)
 
--- what stands at the front of what is left of a list
+-- the first element of the rest of a list
 front_there : (names : List (List ℕ)) (k : ℕ) (n : List ℕ) (others : List (List ℕ)) → drop k names ≡ n ∷ others → get_or names k [] ≡ n
 front_there names k n others here =
     ap (λ (i : ℕ). get_or names i []) (omega arith) ∙ sym (get_or-drop k names 0 []) ∙ ap (λ (l : List (List ℕ)). get_or l 0 []) here
@@ -286,7 +286,7 @@ record ProcessesFit (names : List (List ℕ)) (earlier : List (List ℕ)) (own :
   named : NamesFit PROCESSES earlier (tree.names_of all)
   fit : processes_fit (length names) own all ≡ true
 
--- the processes from a place on, behind these names
+-- the processes from a position on, after these names
 processes_all : (names earlier : List (List ℕ)) (own : ℕ) (all : List WrittenProcess) → length earlier ≤ PROCESSES
     → drop own names ≡ process_names all → processes_faults names earlier all ≡ []
     → ProcessesFit names earlier own (map (process_tree names) all)
@@ -301,7 +301,7 @@ processes_all names earlier own (process ∷ all) few here none =
       fit = both_true (process_fit names own process (front_there names own _ _ here) first.1) rest.fit;
     }
 
--- a written program of which no check fails
+-- a parsed program that passes all checks
 pub says_well_formed : (written : List WrittenProcess) → check_faults written ≡ [] → is_well_formed (program_tree written) ≡ true
 says_well_formed written none =
     let names : List (List ℕ) = process_names written in
@@ -312,7 +312,7 @@ says_well_formed written none =
     (both_true (le-leb (length made) PROCESSES (omega (arith, all.named.few, length-map made (λ process. process.name)))) all.named.fresh)
     (subst (λ (n : ℕ). processes_fit n 0 made ≡ true) count all.fit)
 
--- an expression of a process of which no check fails
+-- an expression of a process that passes all checks
 pub says_fit : (P : tree.Program) (p : ℕ) (phrase : Phrase) → expression_faults (scope_of P p) sort.Truth phrase ≡ []
     → is_fit (bounds_of P p) sort.Truth (phrase_tree (scope_of P p) phrase) ≡ true
 says_fit P p phrase none =

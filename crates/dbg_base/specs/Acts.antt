@@ -1,4 +1,4 @@
--- What a command does: accepted it changes the state, and refused it changes nothing.
+-- What a command does: an accepted command changes the state, and a refused one changes nothing.
 use Rattle.std.specs.Prelude.{◌≡◌, ℕ, ◌+◌, true, false, List, [], ◌∷◌, ◌++◌, length, Option, Some, None, Result, Ok, Err, nat_lt}
 use Rattle.std.specs.Prelude.{◌==◌, ◌&&◌, not}
 use Rattle.std.specs.Prelude.{if◌then◌else◌, ◌⊎◌}
@@ -26,28 +26,28 @@ use Rattle.dbg_base.specs.SystemStates.{SystemState, place_at, history_of, last_
 use Rattle.dbg_base.specs.SystemStates.{after_redo, after_rollback}
 use Rattle.dbg_base.specs.ModelStates.{ModelState, with_system, IsHalted}
 
--- the refusal is told, and nothing is changed
+-- the command was refused for this reason, and nothing changed
 abbrev pub Refuses : Refusal → ModelState → Said → ModelState → Type 0
 Refuses refusal M said M' = (said ≡ Refused refusal) × (M' ≡ M)
 
--- the command was accepted, did this, and left M', which this breakpoint halts, if one does
+-- the command was accepted with this result, and left M'; this breakpoint halts M', if one does
 pub record Accepts (P : Program) (done : Done) (said : Said) (M' : ModelState) : Type 0 where
   pub halted : Option (List ℕ)
   pub is : IsHalted P M' halted
   pub told : said ≡ Accepted (record { done = done; halted = halted })
 
--- The process makes this choice, which leaves the system that `after` tells, or it makes none and tells why.
+-- The process makes this choice, which leaves the system given by `after`; or it makes none, for this reason.
 abbrev pub Plays : Program → ℕ → Result ℕ Refusal → (ℕ → SystemState) → ModelState → Said → ModelState → Type 0
 Plays P p (Ok k) after M said M' =
     Accepts P (Played (record { 0 = p }) (record { 0 = k })) said M' × (M' ≡ with_system M (after k))
 Plays P p (Err refusal) after M said M' = Refuses refusal M said M'
 
--- no process plays while a breakpoint halts the session
+-- no process makes an event while a breakpoint halts the session
 abbrev pub UnlessHalted : Program → Type 0 → ModelState → Said → ModelState → Type 0
 UnlessHalted P Does M said M' =
     (IsHalted P M None × Does) ⊎ ((name : List ℕ) × IsHalted P M (Some name) × Refuses (Halted name) M said M')
 
--- the last event of process p is taken back
+-- the last event of process p is undone
 pub record TakesBack (P : Program) (p : ℕ) (M : ModelState) (said : Said) (M' : ModelState) : Type 0 where
   pub may : MayUndo P (history_of M.system) p
   pub choice : ℕ
@@ -61,22 +61,22 @@ pub record KeepsEvent (P : Program) (p : ℕ) (M : ModelState) (said : Said) (M'
   pub why : CannotUndo P M.system p refusal
   pub told : Refuses refusal M said M'
 
--- Process p is rolled back at n: the events behind the cut are taken back, and the places are told.
+-- Process p is rolled back to n: the events beyond the cut are undone, and the reply shows the places.
 pub record RollsBack (P : Program) (p n : ℕ) (M : ModelState) (said : Said) (M' : ModelState) : Type 0 where
   pub cut : List ℕ
   pub is : IsRollback P (history_of M.system) p n cut
   pub told : Accepts P (Places cut) said M'
   pub left : M' ≡ with_system M (after_rollback M.system cut)
 
--- it is rolled back, unless n is more than its place
+-- it is rolled back, unless n is above its place
 abbrev pub RollsBackAt : Program → ℕ → ℕ → ModelState → Said → ModelState → Type 0
 RollsBackAt P p n M said M' = MatchBool (nat_lt (place_at M.system p) n) (Refuses BadPlace M said M') (RollsBack P p n M said M')
 
--- a command about a process is refused where there is no such process
+-- a command about a process is refused if there is no such process
 abbrev pub WithProcess : Program → ℕ → Type 0 → ModelState → Said → ModelState → Type 0
 WithProcess P p Does M said M' = MatchBool (nat_lt p (length P)) Does (Refuses UnknownProcess M said M')
 
--- and one about a breakpoint where there is no such breakpoint
+-- a command about a breakpoint is refused if there is no such breakpoint
 abbrev pub WithFound : Option Breakpoint → (Breakpoint → Type 0) → ModelState → Said → ModelState → Type 0
 WithFound None Does M said M' = Refuses UnknownBreak M said M'
 WithFound (Some b) Does M said M' = Does b
@@ -84,7 +84,7 @@ WithFound (Some b) Does M said M' = Does b
 abbrev pub WithBreak : List ℕ → (Breakpoint → Type 0) → ModelState → Said → ModelState → Type 0
 WithBreak name Does M said M' = WithFound (named name M.breakpoints) Does M said M'
 
--- All processes go back to the breakpoint's cut, and the places are told.
+-- All processes go back to the breakpoint's cut, and the reply shows the places.
 pub record GoesTo (P : Program) (b : Breakpoint) (M : ModelState) (said : Said) (M' : ModelState) : Type 0 where
   pub cut : List ℕ
   pub is : IsLeast P (history_of M.system) b.conjuncts cut
@@ -95,11 +95,11 @@ pub record GoesTo (P : Program) (b : Breakpoint) (M : ModelState) (said : Said) 
 abbrev pub HasNone : Program → ModelState → Breakpoint → Type 0
 HasNone P M b = NoCut P (history_of M.system) b.conjuncts
 
--- the list of breakpoints changed, and there is nothing to tell beside
+-- only the list of breakpoints changed
 abbrev pub Lists : Program → List Breakpoint → ModelState → Said → ModelState → Type 0
 Lists P breakpoints M said M' = Accepts P Plain said M' × (M' ≡ record M { breakpoints = breakpoints })
 
--- why these conjuncts are refused, of which the processes of those before are known
+-- why these conjuncts are refused, if they are; `before` are the processes of the conjuncts before them
 abbrev pub conjuncts_refusal : Program → List ℕ → List Conjunct → Option Refusal
 conjuncts_refusal P before [] = None
 conjuncts_refusal P before (c ∷ conjuncts) =
@@ -118,18 +118,18 @@ break_refusal P M name [] = Some BadPredicate
 break_refusal P M name (c ∷ conjuncts) =
     first_refusal (conjuncts_refusal P [] (c ∷ conjuncts)) (name_refusal name M.breakpoints)
 
--- a breakpoint is set, armed, behind all others
+-- a breakpoint is set, armed, after all others
 abbrev pub Sets : Option Refusal → Program → List ℕ → List Conjunct → ModelState → Said → ModelState → Type 0
 Sets (Some refusal) P name conjuncts M said M' = Refuses refusal M said M'
 Sets None P name conjuncts M said M' =
     Lists P (M.breakpoints ++ record { name = name; conjuncts = conjuncts; armed = true } ∷ []) M said M'
 
--- a breakpoint that is not armed is armed
+-- a breakpoint that is not armed becomes armed
 abbrev pub Arms : Program → List ℕ → Breakpoint → ModelState → Said → ModelState → Type 0
 Arms P name b M said M' =
     MatchBool b.armed (Refuses AlreadyArmed M said M') (Lists P (with_mark name true M.breakpoints) M said M')
 
--- one that is armed, and has a cut, no longer halts the session
+-- an armed breakpoint that has a cut no longer halts the session
 abbrev pub Passes : Program → List ℕ → Breakpoint → ModelState → Said → ModelState → Type 0
 Passes P name b M said M' =
     MatchBool b.armed
@@ -137,7 +137,7 @@ Passes P name b M said M' =
     ⊎ (HasNone P M b × Refuses refusals.NoCut M said M'))
     (Refuses NotArmed M said M')
 
--- the plan was given at M, was answered so, and left M'
+-- the plan was given at M, had this answer, and left M'
 abbrev pub Acts : Program → Plan → ModelState → Said → ModelState → Type 0
 Acts P (Step p k) M said M' =
     WithProcess P p (UnlessHalted P (Plays P p (step_choice P M.system p k) (after_choice M.system p) M said M') M said M') M said M'
@@ -154,18 +154,18 @@ Acts P (Clear name) M said M' = WithBreak name (λ b. Lists P (without name M.br
 Acts P (Arm name) M said M' = WithBreak name (λ b. Arms P name b M said M') M said M'
 Acts P (Pass name) M said M' = WithBreak name (λ b. Passes P name b M said M') M said M'
 
--- Batches: commands one after the other, which are accepted all or not at all.
+-- Batches: commands one after the other, of which all are accepted or none.
 
--- The commands from this one on, which has this place in its batch, were given at M one after the other, and the batch was given at the
--- start. Each is accepted where those before it left the session, and the last leaves M'; or the first that is refused is told by its
--- place and the number of its refusal, and nothing is changed.
+-- The batch was given at `start`. Its commands from position `at` on were given one after the other, from M on. Each is accepted in the
+-- state that those before it left, and the last leaves M'. Or one is refused: the reply has the position of the first refused one and the
+-- number of its refusal, and nothing changed.
 abbrev pub Batches : Program → ModelState → ℕ → List Plan → ModelState → Said → ModelState → Type 0
 Batches P start at [] M said M' = Accepts P Plain said M' × (M' ≡ M)
 Batches P start at (plan ∷ plans) M said M' =
     ((reply : Reply) × (between : ModelState) × Acts P plan M (Accepted reply) between × Batches P start (at + 1) plans between said M')
     ⊎ ((refusal : Refusal) × Acts P plan M (Refused refusal) M × Refuses (InBatch at (refusal_number refusal)) start said M')
 
--- the order was given at M, was answered so, and left M'
+-- the order was given at M, had this answer, and left M'
 abbrev pub Follows : Program → Order → ModelState → Said → ModelState → Type 0
 Follows P (One plan) M said M' = Acts P plan M said M'
 Follows P (Batch plans) M said M' = Batches P M 1 plans M said M'

@@ -10,7 +10,7 @@ use Rattle.dbg_base.specs.Trees.{Program}
 use Rattle.dbg_base.specs.Histories.{History}
 use Rattle.dbg_base.specs.Predicates.{Conjunct, IsLeast, NoCut}
 
--- a name, a predicate, and whether it halts the session where a cut satisfies the predicate
+-- a name, a predicate, and whether the breakpoint halts the session if some cut satisfies the predicate
 pub record Breakpoint : Type 0 where
   pub name : List ℕ
   pub conjuncts : List Conjunct
@@ -21,24 +21,24 @@ abbrev pub named : List ℕ → List Breakpoint → Option Breakpoint
 named name [] = None
 named name (b ∷ breakpoints) = if bytes_eq name b.name then Some b else named name breakpoints
 
--- all others
+-- the list without it
 abbrev pub without : List ℕ → List Breakpoint → List Breakpoint
 without name [] = []
 without name (b ∷ breakpoints) = if bytes_eq name b.name then breakpoints else b ∷ without name breakpoints
 
--- the breakpoint of this name has this mark
+-- the list with this mark for the breakpoint of this name
 abbrev pub with_mark : List ℕ → Bool → List Breakpoint → List Breakpoint
 with_mark name armed [] = []
 with_mark name armed (b ∷ breakpoints) =
     if bytes_eq name b.name then record b { armed = armed } ∷ breakpoints else b ∷ with_mark name armed breakpoints
 
--- why no further breakpoint of this name may be set, if it may not
+-- why no further breakpoint of this name may be set, if none may
 abbrev pub name_refusal : List ℕ → List Breakpoint → Option Refusal
 name_refusal name breakpoints =
     if is_some (named name breakpoints) then Some BreakTaken
     else (if nat_lt (length breakpoints) BREAKPOINTS then None else Some BreaksFull)
 
--- some cut satisfies the breakpoint's predicate, of which this one is the least
+-- this cut is the least that satisfies the breakpoint's predicate
 abbrev pub HasCut : Program → History → Breakpoint → Type 0
 HasCut P H b = (cut : List ℕ) × IsLeast P H b.conjuncts cut
 
@@ -50,13 +50,13 @@ IsHaltedBy P H (b ∷ breakpoints) halted =
     ((HasCut P H b × (halted ≡ Some b.name)) ⊎ (NoCut P H b.conjuncts × IsHaltedBy P H breakpoints halted))
     (IsHaltedBy P H breakpoints halted)
 
--- the breakpoint of this name stands at this place, counted from 1; no name stands at 0
+-- the breakpoint of this name is at this position, from 1; without a name the position is 0
 abbrev pub IsAtPlace : List Breakpoint → Option (List ℕ) → ℕ → Type 0
 IsAtPlace breakpoints None place = place ≡ 0
 IsAtPlace breakpoints (Some name) place =
     (0 < place) × (b : Breakpoint) × (slice_get breakpoints (place - 1) ≡ Some b) × (b.name ≡ name)
 
--- the place of the breakpoint that halts the session, or 0 where none does
+-- the position of the breakpoint that halts the session, or 0 if none does
 pub record HaltsAt (P : Program) (H : History) (breakpoints : List Breakpoint) (place : ℕ) : Type 0 where
   pub halted : Option (List ℕ)
   pub is : IsHaltedBy P H breakpoints halted

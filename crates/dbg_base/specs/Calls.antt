@@ -1,4 +1,4 @@
--- Calls: what a seat can ask of a session, by the numbers of processes and without the places in memory that calls of the code have.
+-- Calls: what a seat can ask of a session. Processes have numbers, and calls own no heap memory, unlike those of the code.
 use Rattle.std.specs.Prelude.{ℕ, ◌≤◌, List, [], ◌∷◌, length, map}
 use Rattle.std.specs.List.{AllByRecursion, flat_map}
 use Rattle.dbg_base.specs.declared.limits.TheConstants.{BATCH}
@@ -13,7 +13,7 @@ use Rattle.dbg_base.specs.declared.call.Conjunct as conjunct
 use Rattle.dbg_base.specs.Trees.{tree_of}
 use Rattle.dbg_base.specs.Predicates.{Conjunct}
 
--- a command, which changes the session where it is accepted
+-- a command, which changes the session if it is accepted
 pub data Plan : Type 0 where
   Step : (process choice : ℕ) → Plan
   Next : (process : ℕ) → Plan
@@ -26,12 +26,12 @@ pub data Plan : Type 0 where
   Arm : (name : List ℕ) → Plan
   Pass : (name : List ℕ) → Plan
 
--- what is given at once: one command, or a batch of commands, which are accepted all or not at all
+-- what is given at once: one command, or a batch of commands, of which all are accepted or none
 pub data Order : Type 0 where
   One : (plan : Plan) → Order
   Batch : (plans : List Plan) → Order
 
--- it is a batch, or one command
+-- it is a batch
 abbrev pub IsBatch : Order → Type 0
 IsBatch (One plan) = ⊥
 IsBatch (Batch plans) = Unit {0}
@@ -40,7 +40,7 @@ abbrev pub IsOne : Order → Type 0
 IsOne (One plan) = Unit {0}
 IsOne (Batch plans) = ⊥
 
--- a question, which changes nothing
+-- a query, which changes nothing
 pub data Query : Type 0 where
   Vars : (process : ℕ) → Query
   Chan : (source target : ℕ) → Query
@@ -51,7 +51,7 @@ pub data Query : Type 0 where
   Why : (name : List ℕ) → Query
   Breaks : Query
 
--- an order, the command that takes back the last one, or a question
+-- an order, the command `back`, or a query
 pub data Call : Type 0 where
   Give : (order : Order) → Call
   Back : Call
@@ -65,8 +65,7 @@ abbrev pub plans_of : Order → List Plan
 plans_of (One plan) = plan ∷ []
 plans_of (Batch plans) = plans
 
--- The order that a plan of the code gives, where those that the plans within it give are known. A batch within a batch stands for its
--- commands.
+-- The order of a plan of the code, given the orders of the plans within it. A batch within a batch is its commands.
 abbrev order_step : plans.Plan-F Order → Order
 order_step (plans.Step pid choice) = One (Step pid.0 choice.0)
 order_step (plans.Next pid) = One (Next pid.0)
@@ -84,11 +83,11 @@ order_step (plans.Batch orders) = Batch (flat_map plans_of orders.items)
 abbrev pub order_of : plan.Plan → Order
 order_of = fold-Plan Order order_step
 
--- the commands that plans of the code give, one after the other
+-- the commands of plans of the code, one after the other
 abbrev pub plans_in : List plan.Plan → List Plan
 plans_in given = flat_map plans_of (map order_of given)
 
--- The commands of a batch, which are at most 32, and no batches.
+-- The commands of a batch: at most 32, none of them a batch.
 pub record AreCommands (given : List plan.Plan) : Type 0 where
   pub few : length given ≤ BATCH
   pub each : AllByRecursion (λ one. IsOne (order_of one)) given

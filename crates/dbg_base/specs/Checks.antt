@@ -1,4 +1,4 @@
--- The checks of what is written, in text order, the tree that it says, and which text reads as which program or predicate.
+-- The checks of a parsed program in text order, its tree, and which text reads as which program or predicate.
 use Rattle.std.specs.Prelude.{◌≡◌, ℕ, ◌+◌, ◌<◌, ◌≤◌, Bool, List, [], ◌∷◌, ◌++◌, length, map, not, ◌==◌, if◌then◌else◌, ◌⊎◌, Contains, pos}
 use Rattle.std.specs.Prelude.{unwrap_or}
 use Rattle.std.specs.List.{AllByRecursion}
@@ -24,24 +24,24 @@ pub record Scope : Type 0 where
   pub own : List ℕ
   pub variables : List (List ℕ)
 
--- the fault, where the test passes
+-- the fault, if the test passes
 abbrev pub fault_where : Bool → FaultKind → ℕ → List ProgFault
 fault_where b kind at = if b then record { kind = kind; at = at } ∷ [] else []
 
--- the name is none of these
+-- the fault of a name that is none of these
 abbrev pub unknown : List (List ℕ) → Named → List ProgFault
 unknown names named = fault_where (not (is_among named.name names)) NameUnknown named.at
 
--- an expression gives something else than its place asks
+-- the fault of an expression of the wrong type
 abbrev pub wrong_sort : Sort → Sort → ℕ → List ProgFault
 wrong_sort wanted found at = fault_where (not (is_same_sort wanted found)) TypeWrong at
 
--- a target that is no process, or the process itself
+-- the faults of a target that is not a process, or is the process itself
 abbrev pub target_faults : Scope → Named → List ProgFault
 target_faults scope target =
     unknown scope.processes target ++ fault_where (bytes_eq target.name scope.own) SelfSend target.at
 
--- the faults of an expression whose place asks this sort
+-- the faults of an expression that should have this type
 abbrev pub expression_faults : Scope → Sort → Phrase → List ProgFault
 expression_faults scope wanted (Number at value) = wrong_sort wanted sort.Number at
 expression_faults scope wanted (Name at name) =
@@ -59,18 +59,18 @@ action_faults scope Local = []
 action_faults scope (Sends target value) = target_faults scope target ++ expression_faults scope sort.Number value
 action_faults scope (Receives source variable) = target_faults scope source ++ unknown scope.variables variable
 
--- the variables that the command sets before its assignments
+-- the variables that a command sets before its assignments
 abbrev pub set_by_action : WrittenAction → List (List ℕ)
 set_by_action (Receives source variable) = variable.name ∷ []
 set_by_action action = []
 
--- the faults of an assignment, where the command already sets these
+-- the faults of an assignment, if the command has already set these variables
 abbrev pub assigned_faults : Scope → List (List ℕ) → WrittenAssignment → List ProgFault
 assigned_faults scope earlier a =
     (unknown scope.variables a.variable ++ fault_where (is_among a.variable.name earlier) SetTwice a.variable.at)
     ++ expression_faults scope sort.Number a.value
 
--- and of several, one after the other
+-- the faults of several assignments, one after the other
 abbrev pub assignment_faults : Scope → List (List ℕ) → List WrittenAssignment → List ProgFault
 assignment_faults scope earlier [] = []
 assignment_faults scope earlier (a ∷ assignments) =
@@ -82,7 +82,7 @@ command_faults scope command =
     ++ (action_faults scope command.action
     ++ assignment_faults scope (set_by_action command.action) command.assignments)
 
--- the faults of a name that stands behind these names: it is one of them, or they are as many as may be
+-- the faults of a name after these names: it is one of them, or their number has reached the limit
 abbrev pub name_faults : ℕ → List (List ℕ) → Named → List ProgFault
 name_faults limit earlier named =
     fault_where (is_among named.name earlier) NameTaken named.at ++ fault_where (length earlier == limit) Limit named.at
@@ -92,7 +92,7 @@ variables_faults earlier [] = []
 variables_faults earlier (variable ∷ variables) =
     name_faults VARIABLES earlier variable.name ++ variables_faults (variable.name.name ∷ earlier) variables
 
--- the faults of commands that stand behind so many
+-- the faults of commands, with so many commands before them
 abbrev pub commands_faults : Scope → ℕ → List WrittenCommand → List ProgFault
 commands_faults scope earlier [] = []
 commands_faults scope earlier (command ∷ commands) =
@@ -102,7 +102,7 @@ commands_faults scope earlier (command ∷ commands) =
 abbrev pub variable_names : WrittenProcess → List (List ℕ)
 variable_names process = map (λ variable. variable.name.name) process.variables
 
--- the names that a written process can use, where these are all processes
+-- the names that a parsed process can use, if these are the names of all processes
 abbrev pub scope_among : List (List ℕ) → WrittenProcess → Scope
 scope_among names process = record { processes = names; own = process.name.name; variables = variable_names process }
 
@@ -110,7 +110,7 @@ abbrev pub process_faults : List (List ℕ) → WrittenProcess → List ProgFaul
 process_faults names process =
     variables_faults [] process.variables ++ commands_faults (scope_among names process) 0 process.commands
 
--- the faults of processes that stand behind these
+-- the faults of processes, with these names of processes before them
 abbrev pub processes_faults : List (List ℕ) → List (List ℕ) → List WrittenProcess → List ProgFault
 processes_faults names earlier [] = []
 processes_faults names earlier (process ∷ processes) =
@@ -120,18 +120,18 @@ processes_faults names earlier (process ∷ processes) =
 abbrev pub process_names : List WrittenProcess → List (List ℕ)
 process_names written = map (λ process. process.name.name) written
 
--- all checks that fail
+-- all failed checks
 abbrev pub check_faults : List WrittenProcess → List ProgFault
 check_faults written = processes_faults (process_names written) [] written
 
--- the fault with the least offset, and at one offset with the lowest kind
+-- the first fault has the lesser offset, or the same offset and at most the same kind
 abbrev pub IsNotAfter : ProgFault → ProgFault → Type 0
 IsNotAfter a b = (a.at < b.at) ⊎ ((a.at ≡ b.at) × (kind_number a.kind ≤ kind_number b.kind))
 
 abbrev pub IsFirstFault : List ProgFault → ProgFault → Type 0
 IsFirstFault faults fault = Contains faults fault × AllByRecursion (IsNotAfter fault) faults
 
--- the place of a name among these; where it isn't among them a check fails
+-- the position of a name among these; a name that is not among them fails a check
 abbrev pub index_of : List (List ℕ) → List ℕ → ℕ
 index_of names name = unwrap_or (place_of name names) 0
 
@@ -167,12 +167,12 @@ process_tree names process = record {
   commands = map (command_tree (scope_among names process)) process.commands;
 }
 
--- the tree of a written program
+-- the tree of a parsed program
 abbrev pub program_tree : List WrittenProcess → tree.Program
 program_tree written = map (process_tree (process_names written)) written
 
--- The text has tokens, they derive what is written, no check of it fails, and this is what it says. What a text may be is given by its
--- start symbol, its checks and its meaning.
+-- The text has tokens, they derive something, no check of it fails, and this is its meaning. A start symbol is given by its derivations,
+-- its checks and its meaning.
 pub record ReadsAs {W M : Type 0} (Derives : List Placed → W → Type 0) (faults : W → List ProgFault) (says : W → M) (text : List ℕ)
     (meaning : M) : Type 0 where
   pub tokens : List Placed
@@ -191,7 +191,7 @@ IsFaultOf {W} Derives faults text fault =
     ⊎ ((tokens : List Placed) × (written : W) × HasTokens text tokens × Derives tokens written
     × IsFirstFault (faults written) fault)
 
--- the text is this program
+-- the text reads as this program
 abbrev pub Reads : List ℕ → tree.Program → Type 0
 Reads = ReadsAs DerivesProgram check_faults program_tree
 
@@ -207,7 +207,7 @@ scope_of P p = record {
   variables = map (λ variable. variable.0) (tree.process_of P p).variables;
 }
 
--- the text is this truth expression of process p
+-- the text reads as this truth expression of process p
 abbrev pub ReadsPredicate : tree.Program → ℕ → List ℕ → tree.Tree → Type 0
 ReadsPredicate P p = ReadsAs DerivesExpression (expression_faults (scope_of P p) sort.Truth) (phrase_tree (scope_of P p))
 

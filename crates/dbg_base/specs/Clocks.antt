@@ -1,4 +1,4 @@
--- The clock of a local state: how many choices of each process come before it.
+-- The clock of a local state: how many choices of each process are in its causal past.
 use Rattle.std.specs.Prelude.{ℕ, ◌≤◌, List, slice_index}
 use Rattle.dbg_base.specs.Trees.{Program}
 use Rattle.dbg_base.specs.Histories.{History}

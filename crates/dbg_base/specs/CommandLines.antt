@@ -18,17 +18,17 @@ use Rattle.dbg_base.specs.Tokens.{is_word, is_numeral}
 abbrev pub is_blank : ℕ → Bool
 is_blank b = (b == 32) || (b == 9)
 
--- the byte goes before the first word
+-- the byte is put before the first word
 abbrev pub before_first_word : ℕ → List (List ℕ) → List (List ℕ)
 before_first_word b [] = (b ∷ []) ∷ []
 before_first_word b (word ∷ words) = (b ∷ word) ∷ words
 
--- a byte that is no blank is a word of its own where a blank follows or nothing, and else begins the first word of what follows
+-- a nonblank byte is a word of its own if a blank or nothing follows; otherwise it begins the first word of what follows
 abbrev pub with_byte : ℕ → List ℕ → List (List ℕ) → List (List ℕ)
 with_byte b [] words = (b ∷ []) ∷ words
 with_byte b (c ∷ bytes) words = if is_blank c then (b ∷ []) ∷ words else before_first_word b words
 
--- the words of a line: its longest runs of bytes that are no blanks
+-- the words of a line: its longest runs of bytes that are not blank
 abbrev pub words_of : List ℕ → List (List ℕ)
 words_of [] = []
 words_of (b ∷ bytes) = if is_blank b then words_of bytes else with_byte b bytes (words_of bytes)
@@ -50,11 +50,11 @@ seat_in_range n = if nat_le 1 n && nat_le n SEATS then Some n else None
 abbrev pub seat_word : List ℕ → Option ℕ
 seat_word word = option_and_then seat_in_range (number_word word)
 
--- a name: a letter, and then letters, digits and `_`, 32 bytes at most; the reserved words are names here
+-- a name: a letter, and then letters, digits and `_`, at most 32 bytes; reserved words are allowed here
 abbrev pub name_word : List ℕ → Option (List ℕ)
 name_word word = if is_word word && nat_le (length word) NAME_BYTES then Some word else None
 
--- goes on with what was found
+-- continues with the value, unless there is an error
 abbrev pub map_ok : {X Y E : Type 0} → (X → Y) → Result X E → Result Y E
 map_ok f (Ok x) = Ok (f x)
 map_ok f (Err e) = Err e
@@ -67,7 +67,7 @@ give plan = Give (One plan)
 abbrev pub named_process : Program → List ℕ → Result ℕ Refusal
 named_process P name = ok_or (place_of name (names_of P)) UnknownProcess
 
--- the call of a word that is about a process
+-- the call of a command word about a process
 abbrev pub process_call : List ℕ → Result ℕ Refusal → Result Call Refusal
 process_call word process =
     if bytes_eq word (codes "next") then map_ok (λ p. give (Next p)) process
@@ -79,7 +79,7 @@ process_call word process =
     else (if bytes_eq word (codes "can") then map_ok (λ p. Ask (Can p)) process
     else Err BadLine))))))
 
--- the call of a word that is about a breakpoint
+-- the call of a command word about a breakpoint
 abbrev pub break_call : List ℕ → List ℕ → Option Call
 break_call word name =
     if bytes_eq word (codes "goto") then Some (give (Goto name))
@@ -90,35 +90,35 @@ break_call word name =
     else (if bytes_eq word (codes "why") then Some (Ask (Why name))
     else None)))))
 
--- the call of a word with one name, of a breakpoint or of a process
+-- the call of a command word with one name, of a breakpoint or of a process
 abbrev pub named_call : Program → List ℕ → List ℕ → Option Call → Result Call Refusal
 named_call P word name (Some call) = Ok call
 named_call P word name None = process_call word (named_process P name)
 
--- goes on with what a word is, and a word that is no such thing makes the line a bad one
+-- continues with the value of a word; a word without one is a syntax error
 abbrev pub with_word : {X : Type 0} → Option X → (X → Result Call Refusal) → Result Call Refusal
 with_word None go = Err BadLine
 with_word (Some x) go = go x
 
--- goes on with two processes, of which the first that is missing is told
+-- continues with two processes; the refusal is that of the first missing one
 abbrev pub with_both : (ℕ → ℕ → Call) → Result ℕ Refusal → Result ℕ Refusal → Result Call Refusal
 with_both call (Err refusal) second = Err refusal
 with_both call (Ok first) second = map_ok (call first) second
 
--- the process makes the command of this number
+-- `step`: the process makes the command of this number
 abbrev pub step_call : Program → List ℕ → List ℕ → Result Call Refusal
 step_call P process choice = with_word (number_word choice) (λ k. map_ok (λ p. give (Step p k)) (named_process P process))
 
--- the process is rolled back to this number of events
+-- `rollback`: the process goes back to this number of events
 abbrev pub rollback_call : Program → List ℕ → List ℕ → Result Call Refusal
 rollback_call P process place = with_word (number_word place) (λ n. map_ok (λ p. give (Rollback p n)) (named_process P process))
 
--- the messages from a process to another
+-- `chan`: the messages from one process to another
 abbrev pub chan_call : Program → List ℕ → List ℕ → Result Call Refusal
 chan_call P source target =
     with_word (name_word target) (λ name. with_both (λ i j. Ask (Chan i j)) (named_process P source) (named_process P name))
 
--- the call of a word that is about a process and one of its commands or places, or about a sender and a receiver
+-- the call of a command word with two arguments: a process with a command or a place, or a sender and a receiver
 abbrev pub pair_call : Program → List ℕ → List ℕ → List ℕ → Result Call Refusal
 pair_call P word first second =
     if bytes_eq word (codes "step") then step_call P first second
@@ -126,14 +126,14 @@ pair_call P word first second =
     else (if bytes_eq word (codes "chan") then chan_call P first second
     else Err BadLine))
 
--- the call of a word without arguments
+-- the call of a command word without arguments
 abbrev pub lone_call : List ℕ → Result Call Refusal
 lone_call word =
     if bytes_eq word (codes "back") then Ok Back
     else (if bytes_eq word (codes "breaks") then Ok (Ask Breaks)
     else Err BadLine)
 
--- The call of a command word and its arguments. The shape of all of them comes first, and then what they name.
+-- The call of a command word and its arguments. The shape of all of them is checked first, and then what they name.
 abbrev pub call_of_words : Program → List ℕ → List (List ℕ) → Result Call Refusal
 call_of_words P word [] = lone_call word
 call_of_words P word (argument ∷ []) = with_word (name_word argument) (λ name. named_call P word name (break_call word name))
@@ -145,26 +145,26 @@ pub record Request : Type 0 where
   pub seat : ℕ
   pub call : Call
 
--- A command that sets a breakpoint: the bytes of a predicate count, blanks and all.
+-- A command that sets a breakpoint: all bytes of a predicate count, also blanks.
 
--- the bytes without the blanks at their front
+-- the bytes without the blanks at their beginning
 abbrev pub without_blanks : List ℕ → List ℕ
 without_blanks [] = []
 without_blanks (b ∷ bytes) = if is_blank b then without_blanks bytes else b ∷ bytes
 
--- the bytes up to a blank
+-- the bytes before the first blank
 abbrev pub word_front : List ℕ → List ℕ
 word_front [] = []
 word_front (b ∷ bytes) = if is_blank b then [] else b ∷ word_front bytes
 
--- the first word, which may be empty, and the bytes behind it
+-- the first word, which may be empty, and the bytes after it
 abbrev pub next_word : List ℕ → List ℕ
 next_word bytes = word_front (without_blanks bytes)
 
 abbrev pub after_word : List ℕ → List ℕ
 after_word bytes = drop (length (next_word bytes)) (without_blanks bytes)
 
--- The bytes up to the parenthesis that closes all that are open, so many of them; all bytes where none does.
+-- The bytes up to the parenthesis that closes all open ones, of which `depth` are open already; all bytes if none closes them.
 abbrev pub closed_front : ℕ → List ℕ → List ℕ
 closed_front depth [] = []
 closed_front depth (b ∷ bytes) =
@@ -172,61 +172,61 @@ closed_front depth (b ∷ bytes) =
     else (if b == 41 then (if nat_le depth 1 then b ∷ [] else b ∷ closed_front (depth - 1) bytes)
     else b ∷ closed_front depth bytes)
 
--- the text of a predicate at the front of these bytes
+-- the text of a predicate at the beginning of these bytes
 abbrev pub predicate_front : List ℕ → List ℕ
 predicate_front [] = []
 predicate_front (b ∷ bytes) = if b == 40 then closed_front 0 (b ∷ bytes) else word_front (b ∷ bytes)
 
--- nothing, or a blank first
+-- the bytes are empty or begin with a blank
 abbrev pub is_apart : List ℕ → Bool
 is_apart [] = true
 is_apart (b ∷ bytes) = is_blank b
 
--- a process by its name, and the text of its predicate
+-- the name of a process, and the text of its predicate
 abbrev pub Part : Type 0
 Part = List ℕ × List ℕ
 
 abbrev pub with_part : Part → Option (List Part) → Option (List Part)
 with_part part parts = option_map (λ others. part ∷ others) parts
 
--- the part whose process has this name, if it has one, and whose text is not empty, and then what the bytes behind it have
+-- the first part, if its process has a name and its text is not empty, and then the parts of the bytes after it
 abbrev pub part_then : Option (List ℕ) → List ℕ → List ℕ → (List ℕ → Option (List Part)) → Option (List Part)
 part_then None text rest next = None
 part_then (Some name) [] rest next = None
 part_then (Some name) (b ∷ text) rest next = if is_apart rest then with_part (name, b ∷ text) (next rest) else None
 
--- the same, where the text stands at the front of these bytes
+-- the same, if the text is at the beginning of these bytes
 abbrev pub part_at : Option (List ℕ) → List ℕ → (List ℕ → Option (List Part)) → Option (List Part)
 part_at name bytes next = part_then name (predicate_front bytes) (drop (length (predicate_front bytes)) bytes) next
 
--- the processes and predicates of these bytes, at most so many, or nothing where they have no such form
+-- the processes and predicates of these bytes, at most so many, or nothing if the bytes do not have this form
 abbrev pub parts_within : ℕ → List ℕ → Option (List Part)
 parts_within zero bytes = None
 parts_within (suc n) bytes =
     if nat_le (length (next_word bytes)) 0 then Some []
     else part_at (name_word (next_word bytes)) (without_blanks (after_word bytes)) (parts_within n)
 
--- the same, however many: there are no more of them than bytes
+-- the same, for any number of parts: there are at most as many as bytes
 abbrev pub parts_in : List ℕ → Option (List Part)
 parts_in bytes = parts_within (suc (length bytes)) bytes
 
--- Batches: commands with the word `;` between each and the next.
+-- Batches: commands with the word `;` between neighbours.
 
--- where a byte of a command stands: between words, within one, or within so many open parentheses of one
+-- where a byte of a command is: between words, within a word, or within so many open parentheses
 pub data Spot : Type 0 where
   Between : Spot
   InWord : Spot
   InParentheses : (depth : ℕ) → Spot
 
--- a byte that begins a word; where parentheses group, one of them begins what goes on to the one that closes it
+-- the spot after a byte that begins a word; if parentheses group, `(` begins a group up to the one that closes it
 abbrev pub begun_by : Bool → ℕ → Spot
 begun_by grouped b = if grouped && (b == 40) then InParentheses 1 else InWord
 
--- behind a byte of a word
+-- the spot after a byte of a word
 abbrev pub word_behind : ℕ → Spot
 word_behind b = if is_blank b then Between else InWord
 
--- behind a byte within so many open parentheses
+-- the spot after a byte within so many open parentheses
 abbrev pub parentheses_behind : ℕ → ℕ → Spot
 parentheses_behind depth b =
     if b == 40 then InParentheses (depth + 1)
@@ -238,16 +238,16 @@ spot_behind grouped Between b = if is_blank b then Between else begun_by grouped
 spot_behind grouped InWord b = word_behind b
 spot_behind grouped (InParentheses depth) b = parentheses_behind depth b
 
--- the word `;` stands here, and these bytes follow it
+-- the byte is the word `;`, and these bytes follow it
 abbrev pub is_separator : Spot → ℕ → List ℕ → Bool
 is_separator Between b bytes = (b == 59) && is_apart bytes
 is_separator spot b bytes = false
 
--- the command sets a breakpoint: there parentheses group
+-- the command sets a breakpoint; in such a command parentheses group
 abbrev pub sets_break : List ℕ → Bool
 sets_break bytes = bytes_eq (next_word bytes) (codes "break")
 
--- the commands of these bytes, the first of which is under way
+-- the commands of these bytes, where the first has already begun
 abbrev pub commands_from : Bool → Spot → List ℕ → List (List ℕ)
 commands_from grouped spot [] = [] ∷ []
 commands_from grouped spot (b ∷ bytes) =

@@ -1,15 +1,15 @@
--- Where a system of processes stands: the local state of each process, and the messages on their way.
+-- The state of a system of processes: the local state of each process, and the messages on their way.
 use Rattle.std.specs.Prelude.{ℕ, ℤ, List, [], length, map, replicate, slice_index_or, slice_set}
 use Rattle.dbg_base.specs.Trees.{Program}
 use Rattle.dbg_base.specs.LocalStates.{LocalState, no_state, start_among}
 
--- A local state for each process, in which the messages sent to and received from each other one are counted; and for each ordered
--- pair of processes the messages from the first to the second, the front first.
+-- A local state for each process, which counts its messages to and from each other process. For each ordered pair of processes the messages
+-- from the first to the second, the head of the channel first.
 pub record Configuration : Type 0 where
   pub states : List LocalState
   pub channels : List (List (List ℤ))
 
--- the initial values, and no message
+-- the initial values, and no messages
 abbrev pub start_of : Program → Configuration
 start_of P =
     record { states = map (start_among (length P)) P; channels = replicate (length P) (replicate (length P) []) }
@@ -26,11 +26,11 @@ values_of c p = (state_in c p).values
 abbrev pub channel_of : Configuration → ℕ → ℕ → List ℤ
 channel_of c i j = slice_index_or (slice_index_or c.channels i []) j []
 
--- with other messages from process i to process j
+-- the configuration with other messages from process i to process j
 abbrev pub with_channel : Configuration → ℕ → ℕ → List ℤ → Configuration
 with_channel c i j messages =
     record c { channels = slice_set c.channels i (slice_set (slice_index_or c.channels i []) j messages) }
 
--- with another local state of process p
+-- the configuration with another local state of process p
 abbrev pub with_state : Configuration → ℕ → LocalState → Configuration
 with_state c p state = record c { states = slice_set c.states p state }

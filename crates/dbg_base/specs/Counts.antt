@@ -5,16 +5,16 @@ use Rattle.dbg_base.specs.Trees.{Program, command_of}
 use Rattle.dbg_base.specs.Histories.{History}
 use Rattle.dbg_base.specs.Orders.{target_in, source_in}
 
--- is it this process
+-- whether it is this process
 abbrev pub is_process : ℕ → Option ℕ → Bool
 is_process p None = false
 is_process p (Some q) = q == p
 
--- does choice k of process i send to process j
+-- whether choice k of process i sends to process j
 abbrev pub sends_to : Program → ℕ → ℕ → ℕ → Bool
 sends_to P i j k = is_process j (target_in (command_of P i k))
 
--- does choice k of process j receive from process i
+-- whether choice k of process j receives from process i
 abbrev pub receives_from : Program → ℕ → ℕ → ℕ → Bool
 receives_from P j i k = is_process i (source_in (command_of P j k))
 

@@ -1,4 +1,4 @@
--- The kinds of faults by their numbers.
+-- The numbers of the kinds of faults.
 use Rattle.std.specs.Prelude.{ℕ}
 use Rattle.dbg_base.specs.declared.fault.FaultKind.{FaultKind}
 use Rattle.dbg_base.specs.declared.fault.FaultKind.TheVariants.{Byte, Token, Grammar, NameTaken, NameUnknown, TypeWrong, Limit, SelfSend}

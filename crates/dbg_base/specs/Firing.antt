@@ -1,4 +1,4 @@
--- One command of one process fires, or it is told why it doesn't: its guard is false, an evaluation faults, or there is nothing to receive.
+-- One command of one process fires, or is refused: its guard is false, an evaluation faults, or there is nothing to receive.
 use Rattle.std.specs.Prelude.{ℕ, ℤ, Bool, true, false, List, [], ◌∷◌, ◌++◌, Option, Some, None, Result, Ok, Err, slice_set}
 use Rattle.dbg_base.specs.Trees.{Tree, Action, Local, Sends, Receives, Command, Program, command_of}
 use Rattle.dbg_base.specs.Evaluation.{Value, Num, Tru, evaluate, number_of}
@@ -7,18 +7,18 @@ use Rattle.dbg_base.specs.declared.refusal.Refusal.TheVariants.{GuardFalse, Faul
 use Rattle.dbg_base.specs.LocalStates.{LocalState, one_more}
 use Rattle.dbg_base.specs.Configurations.{Configuration, state_in, channel_of, with_channel, with_state}
 
--- the guard's truth, or none where its evaluation faults
+-- the guard's truth, or none if its evaluation faulted or gave a number
 abbrev pub truth_of : Option Value → Option Bool
 truth_of None = None
 truth_of (Some (Num z)) = None
 truth_of (Some (Tru b)) = Some b
 
--- what firing a command does: the variables that are set, each with its new value, and the value that is sent, if any
+-- the effect of a command: the variables that it sets with their new values, and the value that it sends, if any
 pub record Effect : Type 0 where
   pub sets : List (ℕ × ℤ)
   pub message : Option ℤ
 
--- the variable that takes the message, if the command receives one
+-- the variable that the received message sets, if the command receives
 abbrev pub taken : Action → Option ℤ → List (ℕ × ℤ)
 taken (Receives source variable) (Some message) = (variable, message) ∷ []
 taken (Receives source variable) None = []
@@ -36,17 +36,17 @@ and_set variable None sets = None
 and_set variable (Some z) None = None
 and_set variable (Some z) (Some sets) = Some ((variable, z) ∷ sets)
 
--- the assigned variables with their new values, all read in the same state
+-- the assigned variables with their new values, all evaluated in the same state
 abbrev pub assigned : List (ℕ × Tree) → LocalState → Option (List (ℕ × ℤ))
 assigned [] state = Some []
 assigned (a ∷ assignments) state = and_set a.0 (number_of (evaluate a.1 state)) (assigned assignments state)
 
--- what is sent behind what is set
+-- the settings `front`, then the assigned ones, with the value to send
 abbrev pub effect_with : List (ℕ × ℤ) → Option ℤ → Option (List (ℕ × ℤ)) → Option Effect
 effect_with front message None = None
 effect_with front message (Some sets) = Some (record { sets = front ++ sets; message = message })
 
--- goes on with the value to send
+-- continues with the value to send
 abbrev pub sending : Option ℤ → (ℤ → Option Effect) → Option Effect
 sending None go = None
 sending (Some z) go = go z
@@ -55,26 +55,26 @@ sending (Some z) go = go z
 abbrev pub with_set : LocalState → List (ℕ × ℤ) → LocalState
 with_set state sets = record state { values = set_all state.values sets }
 
--- the same, by what the command does beside its assignments
+-- the effect, by what the command does besides its assignments
 abbrev pub effect_by : Action → List (ℕ × Tree) → LocalState → Option ℤ → Option Effect
 effect_by (Sends target value) assignments state message =
     sending (number_of (evaluate value state)) (λ z. effect_with [] (Some z) (assigned assignments state))
 effect_by action assignments state message =
     effect_with (taken action message) None (assigned assignments (with_set state (taken action message)))
 
--- What a command does where its process is in this state and, if it receives, takes this message. The value to send is read in the
--- old state, an assignment in the old state with the message already in its variable; a message is counted only behind the event.
--- None where an evaluation faults.
+-- The effect of a command in this local state, with this message if it receives; none if an evaluation faults. The value to send is
+-- evaluated in the old state. An assignment is evaluated in the old state with the received message in its variable. Messages are counted
+-- only after the event.
 abbrev pub effect_of : Command → LocalState → Option ℤ → Option Effect
 effect_of command state message = effect_by command.action command.assignments state message
 
--- the message that the command sends or receives is counted
+-- the state with the message counted that the command sends or receives
 abbrev pub counted : Action → LocalState → LocalState
 counted Local state = state
 counted (Sends target value) state = record state { sent = one_more state.sent target }
 counted (Receives source variable) state = record state { got = one_more state.got source }
 
--- the value goes to the back of the channel from process p to the target
+-- the value is appended to the channel from process p to the target
 abbrev pub deliver : Configuration → ℕ → ℕ → Option ℤ → Configuration
 deliver c p target None = c
 deliver c p target (Some z) = with_channel c p target (channel_of c p target ++ z ∷ [])
@@ -83,17 +83,17 @@ deliver c p target (Some z) = with_channel c p target (channel_of c p target ++ 
 abbrev pub advanced : Configuration → ℕ → Action → List (ℕ × ℤ) → Configuration
 advanced c p action sets = with_state c p (counted action (with_set (state_in c p) sets))
 
--- the configuration after process p did this: the sent value goes to the back of its channel
+-- the configuration after this effect of process p: the sent value is appended to its channel
 abbrev pub after_effect : Configuration → ℕ → Action → Effect → Configuration
 after_effect c p (Sends target value) effect = deliver (advanced c p (Sends target value) effect.sets) p target effect.message
 after_effect c p action effect = advanced c p action effect.sets
 
--- the effect is made, unless an evaluation faulted
+-- the configuration after the effect, or the refusal of an evaluation that faulted
 abbrev pub complete : Configuration → ℕ → Action → Option Effect → Result Configuration Refusal
 complete c p action None = Err Fault
 complete c p action (Some effect) = Ok (after_effect c p action effect)
 
--- a receive takes the front of its channel, and any other command goes on as it is
+-- a receive takes the head of its channel; other commands proceed unchanged
 abbrev pub receive : Command → Configuration → ℕ → ℕ → List ℤ → Result Configuration Refusal
 receive command c p source [] = Err ChannelEmpty
 receive command c p source (message ∷ messages) =
@@ -103,15 +103,15 @@ abbrev pub proceed : Command → Action → Configuration → ℕ → Result Con
 proceed command (Receives source variable) c p = receive command c p source (channel_of c source p)
 proceed command action c p = complete c p action (effect_of command (state_in c p) None)
 
--- goes on where the guard is true
+-- continues if the guard is true
 abbrev pub where_true : Option Bool → Result Configuration Refusal → Result Configuration Refusal
 where_true None next = Err Fault
 where_true (Some false) next = Err GuardFalse
 where_true (Some true) next = next
 
--- Process p makes this command: its guard is evaluated first; then a receive needs a message; then the value to send and the
--- assigned values are evaluated, all with the counts as they were before; then all variables are set at once, the message is
--- counted, and the sent value goes on its way.
+-- Process p makes this command. First its guard is evaluated. Then a receive needs a message. Then the value to send and the assigned
+-- values are evaluated, all with the counts before the event. Then all variables are set at once, the message is counted, and the sent
+-- value is appended to its channel.
 abbrev pub fire_command : Command → Configuration → ℕ → Result Configuration Refusal
 fire_command command c p =
     where_true (truth_of (evaluate command.guard (state_in c p))) (proceed command command.action c p)
@@ -121,6 +121,6 @@ abbrev pub fire_if : Option Command → Configuration → ℕ → Result Configu
 fire_if None c p = Err GuardFalse
 fire_if (Some command) c p = fire_command command c p
 
--- Command k of process p; a command that the process has not counts as one whose guard is false.
+-- Command k of process p. A command that the process does not have counts as one whose guard is false.
 abbrev pub fire : Program → Configuration → ℕ → ℕ → Result Configuration Refusal
 fire P c p k = fire_if (command_of P p k) c p

@@ -1,4 +1,4 @@
--- How far the search for a cut gets: for each process the first local state that nothing rules out, or the one past its last.
+-- How far the search for a cut gets: for each process the first local state that is not ruled out, or one past its last.
 use Rattle.std.specs.Prelude.{◌≡◌, ℕ, ◌+◌, ◌<◌, ◌≤◌, List, [], ◌∷◌, true, length, min, nat_le, if◌then◌else◌, slice_index, slice_index_or}
 use Rattle.std.specs.List.{AllByRecursion}
 use Rattle.dbg_base.specs.declared.said.Head.{Head}
@@ -13,9 +13,9 @@ use Rattle.dbg_base.specs.Predicates.{Conjunct, is_true}
 abbrev pub choices_at : History → ℕ → ℕ
 choices_at H p = length (slice_index_or H p [])
 
--- A component for each process, at most one more than its choices, with which nothing is left to rule out: a conjunct is true where the
--- component of its process is no more than its choices, and each component is at least that of the clock of each process, behind its own
--- component or behind its last choice, if that comes first.
+-- A tuple with one component for each process, at most one more than its choices, in which nothing is left to rule out. Each conjunct is
+-- true at the component of its process, if that is at most its number of choices. Each component is at least that of the clock of every
+-- process at its own component, or at its last choice if that comes first.
 pub record IsSettled (P : Program) (H : History) (conjuncts : List Conjunct) (tuple : List ℕ) : Type 0 where
   pub sizes : length tuple ≡ length H
   pub within : (p : ℕ) → slice_index tuple p ≤ choices_at H p + 1
@@ -30,7 +30,7 @@ pub record IsFrontier (P : Program) (H : History) (conjuncts : List Conjunct) (t
   pub settled : IsSettled P H conjuncts tuple
   pub least : (other : List ℕ) → IsSettled P H conjuncts other → IsAtMost tuple other
 
--- a component as it is told, where the process has so many choices
+-- a component as a query shows it, if the process has so many choices
 abbrev pub head_at : ℕ → ℕ → Head
 head_at count n = if nat_le n count then At n else Past
 

@@ -1,4 +1,4 @@
--- The grammar: which tokens derive which written program. What is written keeps the offsets that a fault may name.
+-- The grammar: which tokens derive which parsed program. A parsed program keeps the offsets that a fault may name.
 use Rattle.std.specs.Prelude.{◌≡◌, ℕ, ℤ, pos, neg_ℤ, Bool, true, false, List, [], ◌∷◌, ◌++◌, codes, ◌⊎◌, IsFalse}
 use Rattle.std.specs.List.{list_any}
 use Rattle.std.specs.Str.{bytes_eq}
@@ -16,12 +16,12 @@ use Rattle.dbg_base.specs.declared.fault.FaultKind.TheVariants as fault
 use Rattle.dbg_base.specs.Tokens.{Token, Word, Symbol, Placed}
 use Rattle.dbg_base.specs.Tokens as token
 
--- a name where it stands
+-- a name with its offset
 pub record Named : Type 0 where
   pub at : ℕ
   pub name : List ℕ
 
--- an expression, each part with the offset of its first byte
+-- an expression, with the offset of each part
 pub data Phrase : Type 0 where
   Number : (at value : ℕ) → Phrase
   Name : (at : ℕ) (name : List ℕ) → Phrase
@@ -56,7 +56,7 @@ pub record WrittenProcess : Type 0 where
   pub variables : List WrittenVariable
   pub commands : List WrittenCommand
 
--- the words that are no names
+-- the words that cannot be names
 abbrev pub reserved_words : List (List ℕ)
 reserved_words =
     codes "process" ∷ codes "var" ∷ codes "when" ∷ codes "send" ∷ codes "recv" ∷ codes "true" ∷ codes "false" ∷ codes "and"
@@ -75,7 +75,7 @@ number_at at value = record { at = at; token = token.Number value }
 abbrev pub sign_at : ℕ → Sign → Placed
 sign_at at sign = record { at = at; token = Symbol sign }
 
--- how an operator is written
+-- the token of an operator
 abbrev pub operator_token : Operator → Token
 operator_token Add = Symbol Plus
 operator_token Subtract = Symbol Minus
@@ -95,7 +95,7 @@ abbrev pub truth_word : Bool → List ℕ
 truth_word true = codes "true"
 truth_word false = codes "false"
 
--- how a count is written
+-- the word of a count
 abbrev pub direction_word : Direction → List ℕ
 direction_word Sent = codes "sent"
 direction_word Got = codes "got"
@@ -124,7 +124,7 @@ DerivesExpression tokens (Binary at operator left right) =
     × (tokens ≡ sign_at at OpenParenthesis ∷ first ++ record { at = operator_at; token = operator_token operator } ∷ second
     ++ sign_at close_at CloseParenthesis ∷ [])
 
--- an initial value: a number, with a minus before it or without
+-- an initial value: a number, perhaps with a minus before it
 abbrev pub DerivesStart : List Placed → ℤ → Type 0
 DerivesStart tokens start =
     ((at value : ℕ) × (tokens ≡ number_at at value ∷ []) × (start ≡ pos value))
@@ -142,7 +142,7 @@ DerivesAssignment tokens assignment =
     (name value : List Placed) × (becomes_at : ℕ) × DerivesName name assignment.variable × DerivesExpression value assignment.value
     × (tokens ≡ name ++ sign_at becomes_at Becomes ∷ value)
 
--- each of these derives one of those, one after the other
+-- each part of the tokens derives one element, in order
 abbrev pub DeriveInTurn : {A : Type 0} → (List Placed → A → Type 0) → List Placed → List A → Type 0
 DeriveInTurn Derives tokens [] = tokens ≡ []
 DeriveInTurn Derives tokens (x ∷ xs) =
@@ -186,8 +186,8 @@ abbrev pub DerivesProgram : List Placed → List WrittenProcess → Type 0
 DerivesProgram tokens [] = ⊥
 DerivesProgram tokens (process ∷ processes) = DeriveInTurn DerivesProcess tokens (process ∷ processes)
 
--- Some tokens that begin so derive what is written, where these tokens derive such a thing. The start symbol is given, since a text may
--- be a program or something else.
+-- The tokens can be continued to tokens that derive something. The start symbol is a parameter, since a text may be a program or something
+-- else.
 abbrev pub Begins : {A : Type 0} → (List Placed → A → Type 0) → List Placed → Type 0
 Begins {A} Derives tokens = (more : List Placed) × (written : A) × Derives (tokens ++ more) written
 
@@ -195,7 +195,7 @@ Begins {A} Derives tokens = (more : List Placed) × (written : A) × Derives (to
 abbrev pub DerivesNothing : {A : Type 0} → (List Placed → A → Type 0) → List Placed → Type 0
 DerivesNothing {A} Derives tokens = (written : A) → Derives tokens written → ⊥
 
--- the first token with which the tokens so far are no front of what can be derived, or the end of the text where each front is one
+-- the first token after which the tokens so far cannot be continued, or the end of the text if all prefixes can be continued
 abbrev pub IsGrammarFault : {A : Type 0} → (List Placed → A → Type 0) → ℕ → List Placed → ProgFault → Type 0
 IsGrammarFault Derives text_length tokens found =
     (found.kind ≡ fault.Grammar)

@@ -1,4 +1,4 @@
--- A history, and what its play leads to.
+-- A history, and the configuration to which its play leads.
 use Rattle.std.specs.Prelude.{◌≡◌, ℕ, zero, suc, ◌+◌, List, [], ◌∷◌, ◌++◌, length, map, Option, Some, None, Result, Ok, Err}
 use Rattle.std.specs.Prelude.{slice_index_or, slice_set}
 use Rattle.std.specs.List.{AllByRecursion}
@@ -8,12 +8,12 @@ use Rattle.dbg_base.specs.Configurations.{Configuration, start_of, state_in}
 use Rattle.dbg_base.specs.declared.refusal.Refusal.{Refusal}
 use Rattle.dbg_base.specs.Firing.{fire}
 
--- the choices that each process has made, first to last: a choice is the number of a command
+-- the choices that each process has made, in their order: a choice is the number of a command
 abbrev pub History : Type 0
 History = List (List ℕ)
 
--- How far a play has come: where the system stands, the choices that are not played yet, and for each process its local states so
--- far, its start first.
+-- The progress of a play: the configuration, the choices that are not played yet, and for each process its local states so far, its start
+-- first.
 pub record Progress : Type 0 where
   pub configuration : Configuration
   pub unplayed : History
@@ -27,7 +27,7 @@ opening_of P H = record {
   states = map (λ state. state ∷ []) (start_of P).states;
 }
 
--- process p has made its next choice, and the system stands at c
+-- process p has made its next choice, which led to c
 abbrev pub moved : Progress → ℕ → List ℕ → Configuration → Progress
 moved at p rest c = record {
   configuration = c;
@@ -35,7 +35,7 @@ moved at p rest c = record {
   states = slice_set at.states p (slice_index_or at.states p [] ++ state_in c p ∷ []);
 }
 
--- the move of process p, or else what the other processes can do
+-- the move of process p, or otherwise what the other processes can do
 abbrev pub first_move : Result Configuration Refusal → Progress → ℕ → List ℕ → Option Progress → Option Progress
 first_move (Ok c) at p rest others = Some (moved at p rest c)
 first_move (Err refusal) at p rest others = others
@@ -46,11 +46,11 @@ move_from P at p [] = None
 move_from P at p ([] ∷ others) = move_from P at (p + 1) others
 move_from P at p ((k ∷ rest) ∷ others) = first_move (fire P at.configuration p k) at p rest (move_from P at (p + 1) others)
 
--- the next move, which the lowest-numbered process makes whose next choice fires, if any does
+-- the next move: the lowest-numbered process whose next choice fires makes it
 abbrev pub next_move : Program → Progress → Option Progress
 next_move P at = move_from P at 0 at.unplayed
 
--- goes on after a move
+-- continues after a move, if there was one
 abbrev pub go_on : Progress → Option Progress → (Progress → Progress) → Progress
 go_on at None next = at
 go_on at (Some to) next = next to
@@ -65,18 +65,18 @@ abbrev pub choice_count : History → ℕ
 choice_count [] = 0
 choice_count (choices ∷ H) = length choices + choice_count H
 
--- the play of a history: as many moves as it has choices, or fewer where none is possible
+-- the play of a history: as many moves as it has choices, or fewer if no further move is possible
 abbrev pub progress_of : Program → History → Progress
 progress_of P H = play_moves (choice_count H) P (opening_of P H)
 
--- where the system stands after the play
+-- the configuration after the play
 abbrev pub play : Program → History → Configuration
 play P H = (progress_of P H).configuration
 
--- all choices get played
+-- all choices are played
 abbrev pub IsPossible : Program → History → Type 0
 IsPossible P H = AllByRecursion (λ choices. choices ≡ []) (progress_of P H).unplayed
 
--- the local state of process p after its n-th choice in the play, or its start where n is 0
+-- the local state of process p after its n-th choice in the play, or its start if n is 0
 abbrev pub local_state : Program → History → ℕ → ℕ → LocalState
 local_state P H p n = slice_index_or (slice_index_or (progress_of P H).states p []) n no_state

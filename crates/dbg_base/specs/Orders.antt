@@ -1,4 +1,4 @@
--- Lists of events: what they lead to, the history that they make, and how one goes over into another.
+-- Lists of events: the configurations to which they lead, the histories that they make, and swaps of neighbours.
 use Rattle.std.specs.Prelude.{◌≡◌, ◌≢◌, ℕ, List, [], ◌∷◌, ◌++◌, map, replicate, slice_index_or, slice_set}
 use Rattle.std.specs.Prelude.{Option, Some, None, Result, Ok, Err}
 use Rattle.dbg_base.specs.declared.refusal.Refusal.{Refusal}
@@ -13,21 +13,21 @@ pub record Event : Type 0 where
   pub process : ℕ
   pub choice : ℕ
 
--- goes on from where a choice led, unless it did not fire
+-- continues from the configuration to which a choice led, unless it did not fire
 abbrev pub and_then : Result Configuration Refusal → (Configuration → Result Configuration Refusal) → Result Configuration Refusal
 and_then (Ok c) next = next c
 and_then (Err refusal) next = Err refusal
 
--- where these events lead from c, one after the other, or the refusal of the first that does not fire
+-- the configuration to which these events lead from c, one after the other, or the refusal of the first that does not fire
 abbrev pub order_from : Program → Configuration → List Event → Result Configuration Refusal
 order_from P c [] = Ok c
 order_from P c (e ∷ E) = and_then (fire P c e.process e.choice) (λ d. order_from P d E)
 
--- where they lead from the start
+-- the configuration to which they lead from the start
 abbrev pub order : Program → List Event → Result Configuration Refusal
 order P E = order_from P (start_of P) E
 
--- each event fires in its turn
+-- each event fires after those before it
 abbrev pub IsLegalFrom : Program → Configuration → List Event → Type 0
 IsLegalFrom P c E = (d : Configuration) × (order_from P c E ≡ Ok d)
 
@@ -42,22 +42,22 @@ with_first H p k = slice_set H p (k ∷ slice_index_or H p [])
 abbrev pub with_last : History → ℕ → ℕ → History
 with_last H p k = slice_set H p (slice_index_or H p [] ++ k ∷ [])
 
--- the history of these events, of so many processes: for each process its choices in their order
+-- the history of these events, for so many processes: for each process its choices in their order
 abbrev pub choices_of : ℕ → List Event → History
 choices_of processes [] = replicate processes []
 choices_of processes (e ∷ E) = with_first (choices_of processes E) e.process e.choice
 
--- process p stands at one more local state, the one that it has at c
+-- process p has one more local state, the one at c
 abbrev pub with_state_of : List (List LocalState) → ℕ → Configuration → List (List LocalState)
 with_state_of states p c = slice_set states p (slice_index_or states p [] ++ state_in c p ∷ [])
 
--- process p has fired, and the others go on, unless it did not fire
+-- the local state of process p is added and the rest follows, unless p did not fire
 abbrev pub states_then : Result Configuration Refusal → List (List LocalState) → ℕ
     → (Configuration → List (List LocalState) → List (List LocalState)) → List (List LocalState)
 states_then (Ok c) states p next = next c (with_state_of states p c)
 states_then (Err refusal) states p next = states
 
--- the local states of each process behind these, as the events fire from c on
+-- the local states of each process, after those of `states`, as the events fire from c on
 abbrev pub states_from : Program → Configuration → List (List LocalState) → List Event → List (List LocalState)
 states_from P c states [] = states
 states_from P c states (e ∷ E) = states_then (fire P c e.process e.choice) states e.process (λ d later. states_from P d later E)
@@ -76,7 +76,7 @@ pub record IsSwap (E F : List Event) : Type 0 where
   pub after : F ≡ front ++ other ∷ one ∷ behind
   pub apart : one.process ≢ other.process
 
--- The first list goes over into the second by swaps of neighbours of different processes, and each list on the way is legal from c.
+-- The first list becomes the second by swaps of neighbours of different processes, and each list between them is legal from c.
 pub data GoesOver (P : Program) (c : Configuration) : List Event → List Event → Type 0 where
   Stays : {E : List Event} → IsLegalFrom P c E → GoesOver P c E E
   Swaps : {E F G : List Event} → IsLegalFrom P c E → IsSwap E F → GoesOver P c F G → GoesOver P c E G

@@ -1,4 +1,4 @@
--- Predicates of a global state: conjunctions of local ones.
+-- Predicates of a global state: conjunctions of local predicates.
 use Rattle.std.specs.Prelude.{◌≡◌, ℕ, List, Bool, true, false, ◌&&◌, Option, Some, None, length, nat_lt, slice_index}
 use Rattle.std.specs.List.{AllByRecursion}
 use Rattle.dbg_base.specs.declared.expr.Sort.TheVariants as sort
@@ -15,24 +15,24 @@ pub record Conjunct : Type 0 where
   pub process : ℕ
   pub expression : Tree
 
--- the expression is a predicate of process p, which is there: it gives a truth value, and what it names is there
+-- the expression is a predicate of process p: p exists, the expression is a truth expression, and all that it names exists
 abbrev pub is_predicate : Program → ℕ → Tree → Bool
 is_predicate P p tree = nat_lt p (length P) && is_fit (bounds_of P p) sort.Truth tree
 
--- a truth value that is there and true
+-- a truth value that is known and true
 abbrev pub is_known_true : Option Bool → Bool
 is_known_true None = false
 is_known_true (Some truth) = truth
 
--- where the evaluation faults the expression does not hold
+-- whether an expression holds in a local state; one whose evaluation faults does not
 abbrev pub holds : Tree → LocalState → Bool
 holds tree state = is_known_true (truth_of (evaluate tree state))
 
--- the conjunct is true behind the n-th choice of its process
+-- the conjunct is true after the n-th choice of its process
 abbrev pub is_true : Program → History → Conjunct → ℕ → Bool
 is_true P H conjunct n = holds conjunct.expression (local_state P H conjunct.process n)
 
--- A consistent cut satisfies conjuncts where each is true in the local state of its process there.
+-- A consistent cut satisfies conjuncts if each is true in the local state of its process in that cut.
 pub record Satisfies (P : Program) (H : History) (conjuncts : List Conjunct) (cut : List ℕ) : Type 0 where
   pub consistent : IsConsistent P H cut
   pub all : AllByRecursion (λ conjunct. is_true P H conjunct (slice_index cut conjunct.process) ≡ true) conjuncts

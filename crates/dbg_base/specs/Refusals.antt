@@ -1,4 +1,4 @@
--- The numbers by which refusals are told.
+-- The numbers of refusals.
 use Rattle.std.specs.Prelude.{ℕ}
 use Rattle.dbg_base.specs.declared.refusal.Refusal.{Refusal}
 use Rattle.dbg_base.specs.declared.refusal.Refusal.TheVariants.{UnknownProcess, UnknownChoice, GuardFalse, Fault, ChannelEmpty}

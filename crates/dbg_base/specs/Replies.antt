@@ -20,7 +20,7 @@ use Rattle.dbg_base.specs.Trees.{Program, process_of, names_of}
 abbrev pub spaced : List (List ℕ) → List ℕ
 spaced words = flat_map (λ word. codes " " ++ word) words
 
--- words, with a space between each and the next
+-- words, with a space between neighbours
 abbrev pub joined : List (List ℕ) → List ℕ
 joined [] = []
 joined (word ∷ words) = word ++ spaced words
@@ -29,11 +29,11 @@ joined (word ∷ words) = word ++ spaced words
 abbrev pub name_of : Program → ℕ → List ℕ
 name_of P p = (process_of P p).name
 
--- a name with what belongs to it
+-- a name, `=`, and a text
 abbrev pub pair_word : List ℕ × List ℕ → List ℕ
 pair_word pair = pair.0 ++ codes "=" ++ pair.1
 
--- each name with what belongs to it
+-- a pair word for each name and its text
 abbrev pub pair_words : List (List ℕ) → List (List ℕ) → List (List ℕ)
 pair_words names texts = map pair_word (zip names texts)
 
@@ -45,7 +45,7 @@ count_words P counts = pair_words (names_of P) (map decimal counts)
 abbrev pub value_words : Program → ℕ → List ℤ → List (List ℕ)
 value_words P p values = pair_words (map (λ variable. variable.0) (process_of P p).variables) (map signed_decimal values)
 
--- a count, or that there is none further
+-- a count, or `past`
 abbrev pub head_text : Head → List ℕ
 head_text (At count) = decimal count
 head_text Past = codes "past"
@@ -54,16 +54,16 @@ head_text Past = codes "past"
 abbrev pub head_words : Program → List Head → List (List ℕ)
 head_words P heads = pair_words (names_of P) (map head_text heads)
 
--- is a breakpoint armed
+-- the mark of a breakpoint: whether it is armed
 abbrev pub mark_text : Bool → List ℕ
 mark_text true = codes "on"
 mark_text false = codes "off"
 
--- a breakpoint, and its mark behind a space
+-- a breakpoint, a space, and its mark
 abbrev pub mark_word : List ℕ × Bool → List ℕ
 mark_word m = m.0 ++ codes " " ++ mark_text m.1
 
--- the name or the seat that a refusal carries, or the place in a batch and the number of the refusal there
+-- the name or the seat in a refusal, or the position in a batch with the number of the refusal there
 abbrev pub carried_words : Program → Refusal → List (List ℕ)
 carried_words P (Consequence pid) = name_of P pid.0 ∷ []
 carried_words P (Halted name) = name ∷ []
@@ -71,7 +71,7 @@ carried_words P (OtherSeat seat) = decimal seat ∷ []
 carried_words P (InBatch at number) = decimal at ∷ decimal number ∷ []
 carried_words P refusal = []
 
--- the number of a refusal, and what it carries
+-- the number of a refusal, and what it contains
 abbrev pub refusal_words : Program → Refusal → List (List ℕ)
 refusal_words P refusal = decimal (refusal_number refusal) ∷ carried_words P refusal
 
@@ -79,7 +79,7 @@ refusal_words P refusal = decimal (refusal_number refusal) ∷ carried_words P r
 abbrev pub refusal_text : Program → Refusal → List ℕ
 refusal_text P refusal = joined (codes "no" ∷ refusal_words P refusal)
 
--- what a command did
+-- the result of a command
 abbrev pub done_words : Program → Done → List (List ℕ)
 done_words P (Played pid choice) = name_of P pid.0 ∷ decimal choice.0 ∷ []
 done_words P (Undone pid choice) = name_of P pid.0 ∷ decimal choice.0 ∷ []
@@ -96,12 +96,12 @@ abbrev pub cut_words : Program → Option (List ℕ) → List (List ℕ)
 cut_words P None = codes "none" ∷ []
 cut_words P (Some cut) = count_words P cut
 
--- may an event be undone, or why not
+-- whether an event may be undone, or why not
 abbrev pub can_words : Program → Result (Unit {0}) Refusal → List (List ℕ)
 can_words P (Ok done) = codes "yes" ∷ []
 can_words P (Err refusal) = codes "no" ∷ refusal_words P refusal
 
--- The words that answer a question: those of the question, and then what was answered. No other answer fits the question.
+-- The words of the answer to a query: those of the query, and then the answer. No other answer fits the query.
 abbrev pub answer_words : Program → Query → Answer → List (List ℕ)
 answer_words P (Vars p) (Values values) = codes "vars" ∷ name_of P p ∷ value_words P p values
 answer_words P (Chan i j) (Messages messages) = codes "chan" ∷ name_of P i ∷ name_of P j ∷ map signed_decimal messages
@@ -120,6 +120,6 @@ reply_words P (Ask query) (Answered given) = answer_words P query given
 reply_words P call (Answered given) = []
 reply_words P call (Refused refusal) = codes "no" ∷ refusal_words P refusal
 
--- and its text
+-- the text of that line
 abbrev pub reply_text : Program → Call → Said → List ℕ
 reply_text P call said = joined (reply_words P call said)

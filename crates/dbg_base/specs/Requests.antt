@@ -19,8 +19,8 @@ use Rattle.dbg_base.specs.CommandLines.{give, call_of_words, next_word, after_wo
 abbrev pub with_conjunct : ℕ → Tree → Result (List Conjunct) Refusal → Result (List Conjunct) Refusal
 with_conjunct p tree others = map_ok (λ conjuncts. record { process = p; expression = tree } ∷ conjuncts) others
 
--- The first part has this process, and then the others are read; or why it is refused: it has no such process, its text is no predicate
--- of it, or the process has a part already.
+-- The conjuncts of a part whose process and text are given, followed by the others; or why the part is refused. It is refused if there is
+-- no such process, if its text is not a predicate of the process, or if the process has a part already.
 abbrev pub ReadsPart : Program → List ℕ → Result ℕ Refusal → List ℕ → (ℕ → Result (List Conjunct) Refusal → Type 0)
     → Result (List Conjunct) Refusal → Type 0
 ReadsPart P before (Err refusal) text Rest result = result ≡ Err refusal
@@ -30,7 +30,7 @@ ReadsPart P before (Ok p) text Rest result =
     ((others : Result (List Conjunct) Refusal) × Rest p others × (result ≡ with_conjunct p tree others)))
     ⊎ ((fault : ProgFault) × IsPredicateFault P p text fault × (result ≡ Err BadPredicate))
 
--- the parts as conjuncts, or why the first of them that is refused is so, where these processes have a part already
+-- the parts as conjuncts, or the refusal of the first part that is refused; the processes `before` have a part already
 abbrev pub ReadsParts : Program → List ℕ → List Part → Result (List Conjunct) Refusal → Type 0
 ReadsParts P before [] result = result ≡ Ok []
 ReadsParts P before (part ∷ parts) result =
@@ -43,28 +43,28 @@ AsksBreak P (Some name) (Some (part ∷ parts)) result =
     × (result ≡ map_ok (λ made. give (Break name made)) conjuncts)
 AsksBreak P name parts result = result ≡ Err BadLine
 
--- The call of a command by itself, or why it is refused: what is behind the word `break` is a name and parts, and what is behind all other
--- words is words.
+-- The call of a single command, or why it is refused. After the word `break` a name and parts follow, and after other words their
+-- arguments.
 abbrev pub AsksOne : Program → List ℕ → Result Call Refusal → Type 0
 AsksOne P bytes result =
     MatchBool (sets_break bytes)
     (AsksBreak P (name_word (next_word (after_word bytes))) (parts_in (after_word (after_word bytes))) result)
     (result ≡ call_of_words P (next_word bytes) (words_of (after_word bytes)))
 
--- the command that a call gives, where it may stand in a batch: only a command by itself does
+-- the command that a call gives; only a single command may be in a batch
 abbrev pub command_in : Result Call Refusal → Result Plan Refusal
 command_in (Ok (Give (One plan))) = Ok plan
 command_in (Ok call) = Err BadLine
 command_in (Err refusal) = Err refusal
 
--- each of these commands, or why it may not stand in a batch
+-- each of these commands, or why it may not be in a batch
 abbrev pub AsksEach : Program → List (List ℕ) → List (Result Plan Refusal) → Type 0
 AsksEach P [] results = results ≡ []
 AsksEach P (command ∷ commands) results =
     (call : Result Call Refusal) × (others : List (Result Plan Refusal)) × AsksOne P command call × AsksEach P commands others
     × (results ≡ command_in call ∷ others)
 
--- it has not the shape of a command
+-- whether it has not the shape of a command
 abbrev pub is_shapeless : Result Plan Refusal → Bool
 is_shapeless (Err BadLine) = true
 is_shapeless result = false
@@ -79,7 +79,7 @@ abbrev pub all_commands : List (Result Plan Refusal) → Result (List Plan) Refu
 all_commands [] = Ok []
 all_commands (first ∷ others) = with_command first (all_commands others)
 
--- The call of a batch of these commands, at most 32. The shape of the whole line comes first, and then what its commands name.
+-- The call of a batch of these commands, at most 32. The shape of the whole line is checked first, and then what its commands name.
 abbrev pub batch_of : List (Result Plan Refusal) → Result Call Refusal
 batch_of results =
     if list_any is_shapeless results || nat_lt BATCH (length results) then Err BadLine
@@ -89,37 +89,37 @@ abbrev pub AsksBatch : Program → List ℕ → Result Call Refusal → Type 0
 AsksBatch P bytes result =
     (results : List (Result Plan Refusal)) × AsksEach P (commands_of bytes) results × (result ≡ batch_of results)
 
--- The call of a command: what is behind the word `batch` is commands.
+-- The call of a command; after the word `batch` commands follow.
 abbrev pub AsksCall : Program → List ℕ → Result Call Refusal → Type 0
 AsksCall P bytes result =
     MatchBool (bytes_eq (next_word bytes) (codes "batch")) (AsksBatch P (after_word bytes) result) (AsksOne P bytes result)
 
--- a seat's call, and where there is no such seat the line is a bad one, whatever follows
+-- a seat's call; if there is no such seat, the line is a syntax error, whatever follows
 abbrev pub AsksBy : Program → Option ℕ → List ℕ → Result (Option Request) Refusal → Type 0
 AsksBy P None bytes result = result ≡ Err BadLine
 AsksBy P (Some seat) bytes result =
     (call : Result Call Refusal) × AsksCall P bytes call × (result ≡ map_ok (λ made. Some (record { seat = seat; call = made })) call)
 
--- a blank line asks for nothing, and else the first word is the seat, and what is behind it a command
+-- a blank line asks for nothing; otherwise the first word is the seat, and a command follows it
 abbrev pub AsksWithin : Program → List ℕ → Result (Option Request) Refusal → Type 0
 AsksWithin P bytes result =
     MatchBool (nat_le (length (next_word bytes)) 0) (result ≡ Ok None) (AsksBy P (seat_word (next_word bytes)) (after_word bytes) result)
 
--- What a line asks for, nothing for a blank one, or why the line is refused. The line is without its line end, and may
--- have a carriage return at its end, which its length counts.
+-- What a line asks for, or why it is refused; a blank line asks for nothing. The line is without its line end. It may have a carriage
+-- return at its end, which its length counts.
 abbrev pub Asks : Program → List ℕ → Result (Option Request) Refusal → Type 0
 Asks P line result =
     MatchBool (nat_lt LINE_BYTES (length line)) (result ≡ Err BadLine) (AsksWithin P (without_return line) result)
 
--- the command sets a breakpoint, or gives a batch: such a command alone takes memory
+-- the command sets a breakpoint or gives a batch; only such commands allocate
 abbrev pub MayTakeMemory : List ℕ → Type 0
 MayTakeMemory bytes = (next_word bytes ≡ codes "break") ⊎ (next_word bytes ≡ codes "batch")
 
--- The line is no longer than may be, and its command is such a one.
+-- The line is within its limit, and its command is one that allocates.
 pub record TakesMemory (line : List ℕ) : Type 0 where
   pub short : length line ≤ LINE_BYTES
   pub command : MayTakeMemory (after_word (without_return line))
 
--- what a line asks for, or a line that takes memory is refused for want of it
+-- what a line asks for, or a line that allocates is refused as out of memory
 abbrev pub AsksOrRefuses : Program → List ℕ → Result (Option Request) Refusal → Type 0
 AsksOrRefuses P line asked = Asks P line asked ⊎ (TakesMemory line × (asked ≡ Err Memory))

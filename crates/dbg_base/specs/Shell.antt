@@ -1,4 +1,4 @@
--- What the shell writes for its input.
+-- The output of the shell for its input.
 use Rattle.std.specs.Prelude.{◌≡◌, ℕ, Bool, List, [], ◌∷◌, ◌++◌, length, take, Option, Some, None, Result, Ok, Err, ◌==◌, nat_lt}
 use Rattle.std.specs.Prelude.{if◌then◌else◌, ◌⊎◌, codes}
 use Rattle.std.specs.Option.{option_map}
@@ -16,7 +16,7 @@ use Rattle.dbg_base.specs.CommandLines.{Request, without_return}
 use Rattle.dbg_base.specs.Requests.{AsksOrRefuses}
 use Rattle.dbg_base.specs.Replies.{joined, reply_text, refusal_text}
 
--- The whole lines of some bytes, without their line ends, and the bytes behind the last line end.
+-- The whole lines of some bytes, without their line ends, and the bytes after the last line end.
 pub record Lines : Type 0 where
   pub whole : List (List ℕ)
   pub rest : List ℕ
@@ -26,7 +26,7 @@ abbrev pub byte_before : ℕ → List (List ℕ) → List ℕ → Lines
 byte_before b [] rest = record { whole = []; rest = b ∷ rest }
 byte_before b (line ∷ whole) rest = record { whole = (b ∷ line) ∷ whole; rest = rest }
 
--- a line end makes what stands before it a line
+-- the lines with one more byte before them; a line end makes an empty first line
 abbrev pub with_front : ℕ → Lines → Lines
 with_front b lines =
     if b == 10 then record { whole = [] ∷ lines.whole; rest = lines.rest } else byte_before b lines.whole lines.rest
@@ -35,30 +35,29 @@ abbrev pub lines_of : List ℕ → Lines
 lines_of [] = record { whole = []; rest = [] }
 lines_of (b ∷ bytes) = with_front b (lines_of bytes)
 
--- is there more input than may be
+-- whether the input is longer than its limit
 abbrev pub is_too_long : List ℕ → Bool
 is_too_long input = nat_lt INPUT_BYTES (length input)
 
--- bytes behind the last line end are a last line, if there are any
+-- the bytes after the last line end are a last line, if there are any
 abbrev pub last_line : List ℕ → List (List ℕ)
 last_line [] = []
 last_line (b ∷ bytes) = (b ∷ bytes) ∷ []
 
--- the whole lines, and then what is behind them
+-- the whole lines, and then the last line
 abbrev pub all_lines : Lines → List (List ℕ)
 all_lines lines = lines.whole ++ last_line lines.rest
 
--- the lines that are looked at where at most so many bytes may be: those that end within the limit, and where all bytes are within
--- it also a last line without an end
+-- The lines that are read within a limit: those that end within it, and a last line without an end if all bytes are within it.
 abbrev pub lines_within : ℕ → List ℕ → List (List ℕ)
 lines_within limit bytes =
     if nat_lt limit (length bytes) then (lines_of (take limit bytes)).whole else all_lines (lines_of bytes)
 
--- the lines of the input that are looked at
+-- the lines of the input that are read
 abbrev pub read_lines : List ℕ → List (List ℕ)
 read_lines input = lines_within INPUT_BYTES input
 
--- the program text, and the lines behind its end line
+-- the program text, and the lines after its end line
 pub record Parts : Type 0 where
   pub program : List ℕ
   pub commands : List (List ℕ)
@@ -70,7 +69,7 @@ is_end_line line = bytes_eq (without_return line) (codes "%%")
 abbrev pub line_before : List ℕ → Parts → Parts
 line_before line parts = record parts { program = line ++ 10 ∷ [] ++ parts.program }
 
--- the lines before the first end line are the program text, and those behind it command lines
+-- the lines before the first end line are the program text, and those after it are command lines
 abbrev pub parts_of : List (List ℕ) → Option Parts
 parts_of [] = None
 parts_of (line ∷ lines) =
@@ -80,7 +79,7 @@ parts_of (line ∷ lines) =
 abbrev pub as_line : List ℕ → List ℕ
 as_line text = text ++ 10 ∷ []
 
--- what is written for a line where the journal is J, and the journal behind it
+-- the output for a parsed line after the journal J, and the journal after it
 abbrev pub AnswersParsed : Program → Result (Option Request) Refusal → Journal → List ℕ → Journal → Type 0
 AnswersParsed P (Err refusal) J out J' = (out ≡ as_line (refusal_text P refusal)) × (J' ≡ J)
 AnswersParsed P (Ok None) J out J' = (out ≡ []) × (J' ≡ J)
@@ -91,7 +90,7 @@ abbrev pub AnswersLine : Program → List ℕ → Journal → List ℕ → Journ
 AnswersLine P line J out J' =
     (asked : Result (Option Request) Refusal) × AsksOrRefuses P line asked × AnswersParsed P asked J out J'
 
--- what is written for these lines from J on, and the journal after them
+-- the output for these lines after the journal J, and the journal after them
 abbrev pub AnswersLines : Program → List (List ℕ) → Journal → List ℕ → Journal → Type 0
 AnswersLines P [] J out J' = (out ≡ []) × (J' ≡ J)
 AnswersLines P (line ∷ lines) J out J' =
@@ -101,37 +100,37 @@ AnswersLines P (line ∷ lines) J out J' =
 abbrev pub too_long_text : List ℕ
 too_long_text = as_line (codes "input too long")
 
--- what is written at the end of the input
+-- the output at the end of the input
 abbrev pub end_text : List ℕ → List ℕ
 end_text input = if is_too_long input then too_long_text else []
 
--- how it is told that no line ends the program text
+-- the message if no line ends the program text
 abbrev pub no_end_line_text : List ℕ
 no_end_line_text = as_line (codes "program refused: no end line")
 
--- what is written where no end line was read
+-- the output if no end line was read
 abbrev pub no_end_text : List ℕ → List ℕ
 no_end_text input = if is_too_long input then too_long_text else no_end_line_text
 
--- how a program fault is told
+-- the message for a fault of a program
 abbrev pub fault_text : ProgFault → List ℕ
 fault_text fault = as_line (joined (codes "program refused" ∷ decimal (kind_number fault.kind) ∷ codes "at" ∷ decimal fault.at ∷ []))
 
--- how many processes and commands a program has
+-- the message with the numbers of processes and commands of a program
 abbrev pub size_text : ℕ → ℕ → List ℕ
 size_text processes commands =
     as_line (joined (codes "ok" ∷ decimal processes ∷ codes "processes" ∷ decimal commands ∷ codes "commands" ∷ []))
 
--- what is written for these lines from the opening on: the calls that they make are a legal journal
+-- the output for these lines from the opening state on, if their calls are a legal journal
 abbrev pub AnswersAll : Program → List (List ℕ) → List ℕ → Type 0
 AnswersAll P lines out = (J : Journal) × AnswersLines P lines [] out J × IsLegal P J
 
--- the program was read, and each line behind it was answered in turn
+-- the program was accepted, and each line after it was answered
 abbrev pub AnswersCommands : List ℕ → Parts → List ℕ → Type 0
 AnswersCommands input parts out =
     (P : Program) × Reads parts.program P × (replies : List ℕ) × AnswersAll P parts.commands replies × (out ≡ replies ++ end_text input)
 
--- the program was refused, and nothing else is written
+-- the program was refused, and the fault is the only output
 abbrev pub RefusesProgram : Parts → List ℕ → Type 0
 RefusesProgram parts out = (fault : ProgFault) × IsFault parts.program fault × (out ≡ fault_text fault)
 
@@ -139,15 +138,15 @@ abbrev pub TextOfParts : List ℕ → Option Parts → List ℕ → Type 0
 TextOfParts input None out = out ≡ no_end_text input
 TextOfParts input (Some parts) out = AnswersCommands input parts out ⊎ RefusesProgram parts out
 
--- what is written for some lines of the input: the replies to those behind the program text, and nothing where no line ends it
+-- the output for a part of the input: the replies to the lines after the program text, or nothing if no line ends it
 abbrev pub AnswersParts : Option Parts → List ℕ → Type 0
 AnswersParts None out = out ≡ []
 AnswersParts (Some parts) out = (P : Program) × Reads parts.program P × AnswersAll P parts.commands out
 
--- what is written where no more of the input can be read than these bytes: the replies to the whole lines among them
+-- the output if no more than these bytes of the input can be read: the replies to the whole lines among them
 abbrev pub WholeText : List ℕ → List ℕ → Type 0
 WholeText bytes out = AnswersParts (parts_of (lines_of bytes).whole) out
 
--- what is written for the input
+-- the output for the input
 abbrev pub Text : List ℕ → List ℕ → Type 0
 Text input out = TextOfParts input (parts_of (read_lines input)) out

@@ -1,4 +1,4 @@
--- What an expression gives, a number or a truth value, by its outermost form alone; and what its parts have to give.
+-- The type of an expression, a number or a truth value, by its outermost form alone; and the types that its operands must have.
 use Rattle.std.specs.Prelude.{Bool, true, false}
 use Rattle.dbg_base.specs.declared.expr.Operator.{Operator}
 use Rattle.dbg_base.specs.declared.expr.Operator.TheVariants.{Add, Subtract, Multiply, Divide, Remainder, And, Or}
@@ -10,7 +10,7 @@ is_same_sort Number Number = true
 is_same_sort Truth Truth = true
 is_same_sort a b = false
 
--- what an operator gives
+-- the type of an operator's result
 abbrev pub outcome_sort : Operator → Sort
 outcome_sort Add = Number
 outcome_sort Subtract = Number
@@ -19,7 +19,7 @@ outcome_sort Divide = Number
 outcome_sort Remainder = Number
 outcome_sort operator = Truth
 
--- and what it asks of its operands
+-- the type of its operands
 abbrev pub operand_sort : Operator → Sort
 operand_sort And = Truth
 operand_sort Or = Truth

@@ -1,4 +1,4 @@
--- How a system came to stand where it does: what each process has done, and what it may do again.
+-- The state of a system: the choices that each process has made, and those that it can make again.
 use Rattle.std.specs.Prelude.{◌≡◌, ℕ, zero, suc, ◌+◌, ◌-◌, ◌<◌, ◌≤◌, List, [], ◌∷◌, ◌++◌, length, replicate, take, drop, Option, Some, None}
 use Rattle.std.specs.Prelude.{slice_get, slice_index, slice_index_or, slice_set}
 use Rattle.dbg_base.specs.declared.limits.TheConstants.{EVENTS}
@@ -6,8 +6,8 @@ use Rattle.dbg_base.specs.Trees.{Program, process_of}
 use Rattle.dbg_base.specs.Configurations.{Configuration}
 use Rattle.dbg_base.specs.Histories.{History, play}
 
--- For each process its line of choices and its place in it: the choices before the place are its events, and those from the place
--- on are its redo line.
+-- For each process its line of choices and its place in it. The choices before the place are its events, and those from the place on are
+-- its redo line.
 pub record SystemState : Type 0 where
   pub lines : List (List ℕ)
   pub places : List ℕ
@@ -32,11 +32,11 @@ cut_lines (line ∷ lines) (place ∷ places) = take place line ∷ cut_lines li
 abbrev pub history_of : SystemState → History
 history_of M = cut_lines M.lines M.places
 
--- where the system stands
+-- the configuration to which the events lead
 abbrev pub configuration_of : Program → SystemState → Configuration
 configuration_of P M = play P (history_of M)
 
--- process p made choice k: its line is cut at its place, the choice is appended, and the place moves on by one
+-- process p made choice k: its line is cut at its place, the choice is appended, and the place moves forward by one
 abbrev pub after_choice : SystemState → ℕ → ℕ → SystemState
 after_choice M p k = record M {
   lines = slice_set M.lines p (take (place_at M p) (line_of M p) ++ k ∷ []);
@@ -59,15 +59,15 @@ last_choice M p = choice_before (place_at M p) (line_of M p)
 abbrev pub after_redo : SystemState → ℕ → SystemState
 after_redo M p = record M { places = slice_set M.places p (place_at M p + 1) }
 
--- process p's last event was taken back: the line stays
+-- the last event of process p was undone: the line stays
 abbrev pub after_undo : SystemState → ℕ → SystemState
 after_undo M p = record M { places = slice_set M.places p (place_at M p - 1) }
 
--- the events behind this cut were taken back: the lines stay
+-- the events beyond this cut were undone: the lines stay
 abbrev pub after_rollback : SystemState → List ℕ → SystemState
 after_rollback M cut = record M { places = cut }
 
--- M is a state of this program: a line and a place for each process, the place in the line, and the choices those of commands
+-- M is a state of this program: each process has a line and a place in it, and the choices are of its commands
 pub record IsStateOf (P : Program) (M : SystemState) : Type 0 where
   pub lines : length M.lines ≡ length P
   pub places : length M.places ≡ length P

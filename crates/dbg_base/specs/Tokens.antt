@@ -1,4 +1,4 @@
--- The tokens of a program text, each with the offset of its first byte, and what a text without tokens has wrong.
+-- The tokens of a program text, each with the offset of its first byte, and the faults of a text without tokens.
 use Rattle.std.specs.Prelude.{◌≡◌, ℕ, ◌+◌, ◌-◌, ◌^◌, ◌<◌, ◌≤◌, Bool, false, ◌&&◌, ◌||◌, ◌==◌, List, [], ◌∷◌, ◌++◌, length, nat_le, IsTrue}
 use Rattle.std.specs.Prelude.{codes}
 use Rattle.std.specs.List.{list_all, AllByRecursion}
@@ -18,12 +18,12 @@ pub data Token : Type 0 where
   Number : (value : ℕ) → Token
   Symbol : (sign : Sign) → Token
 
--- a token where it stands: the offset of its first byte
+-- a token with the offset of its first byte
 pub record Placed : Type 0 where
   pub at : ℕ
   pub token : Token
 
--- how a sign is written
+-- the bytes of a sign
 abbrev pub sign_bytes : Sign → List ℕ
 sign_bytes OpenBrace = codes "{"
 sign_bytes CloseBrace = codes "}"
@@ -71,19 +71,19 @@ abbrev pub is_numeral : List ℕ → Bool
 is_numeral [] = false
 is_numeral (b ∷ bytes) = is_digit b && list_all is_digit bytes
 
--- these bytes write the token; a number may have leading zeros
+-- these bytes are the text of the token; a number may have leading zeros
 abbrev pub Spells : Token → List ℕ → Type 0
 Spells (Word word) bytes = (bytes ≡ word) × IsTrue (is_word word)
 Spells (Number value) bytes = IsTrue (is_numeral bytes) × (value ≡ digits_value 10 bytes)
 Spells (Symbol sign) bytes = bytes ≡ sign_bytes sign
 
--- no longer piece at the front of the same text writes a token
+-- no longer prefix of the same text is the text of a token
 abbrev pub IsLongest : List ℕ → List ℕ → Type 0
 IsLongest piece rest =
     (longer more : List ℕ) (other : Token) → Spells other longer → longer ++ more ≡ piece ++ rest → length longer ≤ length piece
 
--- From the offset `at` on the text begins with these tokens, each the longest that stands there, with spaces before and between
--- them; `rest`, at the offset `end`, is the text behind them and behind some of the spaces that follow.
+-- From the offset `at` on the text begins with these tokens, each the longest at its offset, with spaces before and between them. `rest`,
+-- at the offset `end`, is the text after them and after some of the spaces that follow.
 abbrev pub BeginsWith : ℕ → List ℕ → List Placed → ℕ → List ℕ → Type 0
 BeginsWith at text [] end rest =
     (gap : List ℕ) × IsTrue (list_all is_space gap) × (text ≡ gap ++ rest) × (end ≡ at + length gap)
@@ -91,24 +91,24 @@ BeginsWith at text (p ∷ tokens) end rest =
     (gap piece more : List ℕ) × IsTrue (list_all is_space gap) × (text ≡ gap ++ piece ++ more) × (p.at ≡ at + length gap)
     × Spells p.token piece × IsLongest piece more × BeginsWith (p.at + length piece) more tokens end rest
 
--- a word is no longer than a name may be, and a number is at most the largest signed number of 64 bits
+-- a word is within the length of a name, and a number is at most the largest signed number of 64 bits
 abbrev pub IsWithinLimits : Token → Type 0
 IsWithinLimits (Word bytes) = length bytes ≤ NAME_BYTES
 IsWithinLimits (Number value) = value < 2 ^ 63
 IsWithinLimits (Symbol sign) = Unit {0}
 
--- how many parentheses are open behind a token; the count never goes below 0
+-- how many parentheses are open after a token; the count never goes below 0
 abbrev pub open_behind : ℕ → Token → ℕ
 open_behind depth (Symbol OpenParenthesis) = depth + 1
 open_behind depth (Symbol CloseParenthesis) = depth - 1
 open_behind depth token = depth
 
--- and behind several
+-- the same after several tokens
 abbrev pub open_after : ℕ → List Placed → ℕ
 open_after depth [] = depth
 open_after depth (p ∷ tokens) = open_after (open_behind depth p.token) tokens
 
--- no more parentheses are open at once than may be
+-- the number of open parentheses is always within its limit
 abbrev pub StaysShallow : ℕ → List Placed → Type 0
 StaysShallow depth [] = Unit {0}
 StaysShallow depth (p ∷ tokens) = (open_behind depth p.token ≤ OPEN_PARENTHESES) × StaysShallow (open_behind depth p.token) tokens
@@ -122,32 +122,32 @@ abbrev pub HasTokens : List ℕ → List Placed → Type 0
 HasTokens text tokens =
     (length text ≤ INPUT_BYTES) × BeginsWith 0 text tokens (length text) [] × AreWithinLimits tokens
 
--- the first byte is no space
+-- the first byte is not a space
 abbrev pub BeginsWithNoSpace : List ℕ → Type 0
 BeginsWithNoSpace [] = ⊥
 BeginsWithNoSpace (b ∷ bytes) = is_space b ≡ false
 
--- no token stands at the front
+-- the bytes do not begin with a token
 abbrev pub BeginsWithNoToken : List ℕ → Type 0
 BeginsWithNoToken bytes = (piece more : List ℕ) (token : Token) → Spells token piece → bytes ≡ piece ++ more → ⊥
 
--- the longest token at the front is beyond its limit
+-- the longest token at the beginning exceeds its limit
 abbrev pub BeginsWithTooLarge : List ℕ → Type 0
 BeginsWithTooLarge bytes =
     (piece more : List ℕ) × (token : Token) × Spells token piece × IsLongest piece more × (bytes ≡ piece ++ more) × ¬ IsWithinLimits token
 
--- a parenthesis opens at the front where as many are open as may be
+-- a parenthesis opens at the beginning while the limit of open parentheses is reached
 abbrev pub OpensTooDeep : ℕ → List ℕ → Type 0
 OpensTooDeep depth bytes = (depth ≡ OPEN_PARENTHESES) × (more : List ℕ) × (bytes ≡ sign_bytes OpenParenthesis ++ more)
 
--- what is wrong at the front, where so many parentheses are open
+-- the fault at the beginning, while so many parentheses are open
 abbrev pub FaultsInFront : FaultKind → ℕ → List ℕ → Type 0
 FaultsInFront fault.Byte depth bytes = BeginsWithNoSpace bytes × BeginsWithNoToken bytes
 FaultsInFront fault.Token depth bytes = BeginsWithTooLarge bytes
 FaultsInFront fault.Limit depth bytes = OpensTooDeep depth bytes
 FaultsInFront kind depth bytes = ⊥
 
--- the first fault of the tokens: tokens without a fault stand before it
+-- the first fault of the tokens: the tokens before it have none
 abbrev pub IsTokenFault : List ℕ → ProgFault → Type 0
 IsTokenFault text found =
     (tokens : List Placed) × (rest : List ℕ) × BeginsWith 0 text tokens found.at rest × AreWithinLimits tokens

@@ -1,4 +1,4 @@
--- A program as a tree: what its text says, with processes, variables and commands named by their places from 0.
+-- A program as a tree: the meaning of its text, with numbers from 0 for processes, variables and commands.
 use Rattle.std.specs.Prelude.{ℕ, ℤ, Bool, List, [], map, Option, slice_get, slice_index_or}
 use Rattle.dbg_base.specs.declared.expr.Operator.{Operator}
 use Rattle.dbg_base.specs.declared.expr.Direction.{Direction}
@@ -16,7 +16,7 @@ pub data Tree : Type 0 where
   Negate : (operand : Tree) → Tree
   Binary : (operator : Operator) (left right : Tree) → Tree
 
--- an expression of the code, without the places in memory of its parts
+-- the tree of an expression of the code, without its heap memory
 abbrev pub tree_of : Expr → Tree
 tree_of (expr.Number value) = Number value
 tree_of (expr.Variable index) = Variable index
@@ -27,7 +27,7 @@ tree_of (expr.Not' place operand) = Not (tree_of operand)
 tree_of (expr.Negate' place operand) = Negate (tree_of operand)
 tree_of (expr.Binary' operator left_place left right_place right) = Binary operator (tree_of left) (tree_of right)
 
--- what a command does beside its assignments: nothing, a send of a value, or a receive into a variable
+-- what a command does besides its assignments: nothing, a send of a value, or a receive into a variable
 pub data Action : Type 0 where
   Local : Action
   Sends : (target : ℕ) (value : Tree) → Action
@@ -49,11 +49,11 @@ pub record Process : Type 0 where
 abbrev pub Program : Type 0
 Program = List Process
 
--- a process that a program has not
+-- the process of a program that does not have it
 abbrev pub no_process : Process
 no_process = record { name = []; variables = []; commands = [] }
 
--- the process p, where there is one
+-- process p, or the empty process if there is none
 abbrev pub process_of : Program → ℕ → Process
 process_of P p = slice_index_or P p no_process
 
@@ -61,6 +61,6 @@ process_of P p = slice_index_or P p no_process
 abbrev pub names_of : Program → List (List ℕ)
 names_of P = map (λ process. process.name) P
 
--- the command k of process p, if it has one
+-- command k of process p, if it has one
 abbrev pub command_of : Program → ℕ → ℕ → Option Command
 command_of P p k = slice_get (process_of P p).commands k

@@ -1,4 +1,4 @@
--- What a session shows.
+-- The answers to queries.
 use Rattle.std.specs.Prelude.{◌≡◌, ◌⊎◌, ◌&&◌, ℕ, Bool, List, length, map, nat_lt, if◌then◌else◌, Option, Some, None, Ok, Err}
 use Rattle.std.specs.Bool.{MatchBool}
 use Rattle.dbg_base.specs.declared.said.Said.{Said}
@@ -19,38 +19,38 @@ use Rattle.dbg_base.specs.SystemStates.{SystemState, line_of, place_at, history_
 use Rattle.dbg_base.specs.ModelStates.{ModelState}
 use Rattle.dbg_base.specs.Choices.{CannotUndo}
 
--- the answer to a question about a process, where there is one
+-- the answer to a query about a process, if the process exists
 abbrev pub about : Program → ℕ → Answer → Said
 about P p told = if nat_lt p (length P) then Answered told else Refused UnknownProcess
 
--- the clock of process p where it stands is told
+-- the answer is the clock of process p at its place
 pub record TellsClock (P : Program) (M : SystemState) (p : ℕ) (said : Said) : Type 0 where
   pub cut : List ℕ
   pub is : IsClock P (history_of M) p (place_at M p) cut
   pub told : said ≡ Answered (Counts cut)
 
--- why the last event may not be undone
+-- the answer is why the last event may not be undone
 pub record TellsWhy (P : Program) (M : SystemState) (p : ℕ) (said : Said) : Type 0 where
   pub refusal : Refusal
   pub why : CannotUndo P M p refusal
   pub told : said ≡ Answered (CanUndo (Err refusal))
 
--- it is told that the last event of process p may be undone, or why not
+-- the answer is that the last event of process p may be undone, or why not
 abbrev pub TellsUndo : Program → SystemState → ℕ → Said → Type 0
 TellsUndo P M p said = (MayUndo P (history_of M) p × (said ≡ Answered (CanUndo (Ok tt)))) ⊎ TellsWhy P M p said
 
--- the answer to a question about a breakpoint, where there is one
+-- the answer to a query about a breakpoint, if the breakpoint exists
 abbrev pub AboutFound : Option Breakpoint → (Breakpoint → Type 0) → Said → Type 0
 AboutFound None Tells said = said ≡ Refused UnknownBreak
 AboutFound (Some b) Tells said = Tells b
 
--- the breakpoint's cut is told, or that it has none
+-- the answer is the breakpoint's cut, or that it has none
 abbrev pub TellsCut : Program → ModelState → Breakpoint → Said → Type 0
 TellsCut P M b said =
     ((cut : List ℕ) × IsLeast P (history_of M.system) b.conjuncts cut × (said ≡ Answered (CutIs (Some cut))))
     ⊎ (NoCut P (history_of M.system) b.conjuncts × (said ≡ Answered (CutIs None)))
 
--- the breakpoint's frontier is told
+-- the answer is the breakpoint's frontier
 pub record TellsFrontier (P : Program) (M : ModelState) (b : Breakpoint) (said : Said) : Type 0 where
   pub tuple : List ℕ
   pub is : IsFrontier P (history_of M.system) b.conjuncts tuple
@@ -60,7 +60,7 @@ pub record TellsFrontier (P : Program) (M : ModelState) (b : Breakpoint) (said :
 abbrev pub mark_of : Breakpoint → List ℕ × Bool
 mark_of b = (b.name, b.armed)
 
--- the query was answered so
+-- the query has this answer
 abbrev pub Answers : Program → ModelState → Query → Said → Type 0
 Answers P M (Vars p) said = said ≡ about P p (Values (values_of (configuration_of P M.system) p))
 Answers P M (Chan i j) said =

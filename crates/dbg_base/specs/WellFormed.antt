@@ -1,5 +1,5 @@
--- What each program that is read meets, as a test of its tree: all that its commands name is there, no process sends to itself or
--- counts its own messages to itself, types fit, names differ, no command sets a variable twice, and nothing passes its limit.
+-- What every accepted program meets, as a test of its tree. All that its commands name exists. No process sends to itself or counts
+-- messages with itself. Types fit, names differ, no command sets a variable twice, and all numbers are within the limits.
 use Rattle.std.specs.Prelude.{ℕ, ◌+◌, Bool, true, not, ◌&&◌, ◌==◌, List, [], ◌∷◌, length, map, nat_lt, nat_le}
 use Rattle.std.specs.List.{list_all, list_any}
 use Rattle.dbg_base.specs.declared.expr.Sort.{Sort}
@@ -10,7 +10,7 @@ use Rattle.dbg_base.specs.Sorts.{is_same_sort, outcome_sort, operand_sort}
 use Rattle.dbg_base.specs.Trees.{Tree, Number, Variable, Truth, Count, Not, Negate, Binary, Action, Local, Sends, Receives}
 use Rattle.dbg_base.specs.Trees.{Command, Process, Program, process_of, names_of}
 
--- what an expression gives, by its outermost form alone
+-- the type of an expression, by its outermost form alone
 abbrev pub tree_sort : Tree → Sort
 tree_sort (Number value) = sort.Number
 tree_sort (Variable index) = sort.Number
@@ -20,17 +20,17 @@ tree_sort (Not operand) = sort.Truth
 tree_sort (Negate operand) = sort.Number
 tree_sort (Binary operator left right) = outcome_sort operator
 
--- what there is for a process to name: so many processes, of which it is one, and so many variables of its own
+-- what a process can name: so many processes, of which it is number `own`, and so many variables of its own
 pub record Bounds : Type 0 where
   pub processes : ℕ
   pub own : ℕ
   pub variables : ℕ
 
--- the process is there, and it is not the process itself
+-- the process exists, and is not the process itself
 abbrev pub is_other : Bounds → ℕ → Bool
 is_other bounds process = nat_lt process bounds.processes && not (process == bounds.own)
 
--- within the expression each operand gives what is asked of it, and what is named is there
+-- within the expression each operand has the type that it must have, and all that is named exists
 abbrev pub fits_within : Bounds → Tree → Bool
 fits_within bounds (Number value) = true
 fits_within bounds (Variable index) = nat_lt index bounds.variables
@@ -42,16 +42,16 @@ fits_within bounds (Binary operator left right) =
     (is_same_sort (operand_sort operator) (tree_sort left) && fits_within bounds left)
     && (is_same_sort (operand_sort operator) (tree_sort right) && fits_within bounds right)
 
--- the expression gives this, and what it names is there
+-- the expression has this type, and all that it names exists
 abbrev pub is_fit : Bounds → Sort → Tree → Bool
 is_fit bounds wanted tree = is_same_sort wanted (tree_sort tree) && fits_within bounds tree
 
--- each of these names is none of those before it
+-- each of these names differs from all names before it
 abbrev pub are_fresh : List (List ℕ) → List (List ℕ) → Bool
 are_fresh earlier [] = true
 are_fresh earlier (name ∷ names) = not (is_among name earlier) && are_fresh (name ∷ earlier) names
 
--- each of these variables is none of those before it
+-- each of these variables differs from all variables before it
 abbrev pub are_unset : List ℕ → List ℕ → Bool
 are_unset earlier [] = true
 are_unset earlier (variable ∷ variables) =
@@ -76,11 +76,11 @@ command_fits bounds command =
     && (assignments_fit bounds command.assignments
     && are_unset (set_before command.action) (map (λ a. a.0) command.assignments))
 
--- what the process can name that has this place among so many
+-- what a process can name, if it has this position among so many
 abbrev pub bounds_among : ℕ → ℕ → Process → Bounds
 bounds_among processes own process = record { processes = processes; own = own; variables = length process.variables }
 
--- and process p of a program
+-- what process p of a program can name
 abbrev pub bounds_of : Program → ℕ → Bounds
 bounds_of P p = bounds_among (length P) p (process_of P p)
 
@@ -90,7 +90,7 @@ process_fits processes own process =
     && (are_fresh [] (map (λ variable. variable.0) process.variables)
     && list_all (command_fits (bounds_among processes own process)) process.commands)
 
--- these are the processes from this place on, of so many
+-- these processes fit; they are the processes from this position on, of so many
 abbrev pub processes_fit : ℕ → ℕ → Program → Bool
 processes_fit processes own [] = true
 processes_fit processes own (process ∷ others) = process_fits processes own process && processes_fit processes (own + 1) others

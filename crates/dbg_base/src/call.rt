@@ -18,7 +18,7 @@ pub struct Conjunct {
 }
 
 impl Conjunct {
-    /// The same conjunct once more. It is refused only as `Memory`, where that runs out.
+    /// Copies the conjunct. Error: `Memory`, if an allocation fails.
     pub fn copy(&self) -> Result<Conjunct, Refusal>
         ensures { IsCopy result (λ made. conjunct_of made ≡ conjunct_of self.now) }
     {
@@ -30,7 +30,7 @@ impl Conjunct {
     }
 }
 
-/// The same conjuncts once more. It is refused only as `Memory`, where that runs out.
+/// Copies the conjuncts. Error: `Memory`, if an allocation fails.
 pub fn copy_conjuncts(conjuncts: &Sequence<Conjunct>) -> Result<Sequence<Conjunct>, Refusal>
     ensures { IsCopy result (λ made. map conjunct_of made ≡ map conjunct_of conjuncts.now) }
 {
@@ -41,34 +41,34 @@ pub fn copy_conjuncts(conjuncts: &Sequence<Conjunct>) -> Result<Sequence<Conjunc
     Ok(Sequence::new(made))
 }
 
-/// A command, or a batch of commands, which changes the session where it is accepted.
+/// A command, or a batch of commands. It changes the session if it is accepted.
 #[derive(Debug, Drop)]
 pub enum Plan {
-    /// The process makes this command.
+    /// Makes the process fire this command.
     Step(Pid, Choice),
-    /// The process makes its first command that fires.
+    /// Makes the process fire its first command that can fire.
     Next(Pid),
-    /// The process's last event is taken back.
+    /// Undoes the last event of the process.
     Undo(Pid),
-    /// The process makes the first command of its redo line again.
+    /// Makes the process fire the first command of its redo line again.
     Redo(Pid),
-    /// The process goes back to this count of events, and the others no further than they must.
+    /// Takes the process back to this count of events, and the others no further than they must go.
     Rollback(Pid, u32),
-    /// All processes go back to the breakpoint's cut.
+    /// Takes all processes back to the breakpoint's cut.
     Goto(Name),
-    /// A breakpoint is set, armed.
+    /// Sets a breakpoint, armed.
     Break(Name, Sequence<Conjunct>),
-    /// The breakpoint is removed.
+    /// Removes the breakpoint.
     Clear(Name),
-    /// The breakpoint halts the session again.
+    /// Arms the breakpoint: it halts the session again.
     Arm(Name),
-    /// The breakpoint no longer halts the session.
+    /// Disarms the breakpoint: it no longer halts the session.
     Pass(Name),
-    /// Commands of the other kinds, one after the other, as one: they are accepted all or not at all.
+    /// Commands of the other kinds, one after the other: all of them are accepted, or none.
     Batch(Vec<Plan>),
 }
 
-// The same commands once more.
+// Copies the commands. Error: `Memory`, if an allocation fails.
 #[cycle(plan)]
 fn copy_plans(plans: &Vec<Plan>) -> Result<Vec<Plan>, Refusal>
     ensures { IsCopy result (λ made. map order_of made.items ≡ map order_of plans.now.items) }
@@ -81,7 +81,7 @@ fn copy_plans(plans: &Vec<Plan>) -> Result<Vec<Plan>, Refusal>
 }
 
 impl Plan {
-    /// The same command once more. It is refused only as `Memory`, where that runs out.
+    /// Copies the command. Error: `Memory`, if an allocation fails.
     #[cycle(plan)]
     pub fn copy(&self) -> Result<Plan, Refusal>
         ensures { IsCopy result (λ made. order_of made ≡ order_of self.now) }
@@ -101,7 +101,7 @@ impl Plan {
         }
     }
 
-    /// Whether it is a batch. It takes no memory.
+    /// Whether it is a batch. It does not allocate.
     pub fn is_batch(&self) -> bool
         ensures { IsTrue result ↔ IsBatch (order_of self.now) }
     {
@@ -109,7 +109,7 @@ impl Plan {
     }
 }
 
-/// A question, which changes nothing.
+/// A query, which changes nothing.
 #[derive(Clone, Copy, Debug, PartialEq, Eq)]
 pub enum Query {
     /// The values of the process's variables.
@@ -118,7 +118,7 @@ pub enum Query {
     Chan(Pid, Pid),
     /// The vector clock of the process's present state.
     Clock(Pid),
-    /// The process's place and the length of its line.
+    /// The place of the process, and the length of its line.
     Place(Pid),
     /// Whether the process's last event may be undone.
     Can(Pid),
@@ -131,7 +131,7 @@ pub enum Query {
 }
 
 impl Query {
-    /// The same question once more. It takes no memory, and is not refused.
+    /// Copies the query. It does not allocate, and never fails.
     pub fn copy(&self) -> Result<Query, Refusal>
         ensures { result ≡ Ok self.now }
     {
@@ -144,14 +144,14 @@ impl Query {
 pub enum Call {
     /// A command.
     Give(Plan),
-    /// The last accepted command is taken back.
+    /// Takes back the last accepted command.
     Back,
-    /// A question.
+    /// A query.
     Ask(Query),
 }
 
 impl Call {
-    /// The same call once more. It is refused only as `Memory`, where that runs out.
+    /// Copies the call. Error: `Memory`, if an allocation fails.
     pub fn copy(&self) -> Result<Call, Refusal>
         ensures { IsCopy result (λ made. call_of made ≡ call_of self.now) }
     {

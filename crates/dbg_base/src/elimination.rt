@@ -7,11 +7,11 @@ use crate::ids::Pid;
 pub enum Cause {
     /// The conjunct of its process is false in it.
     FalseAt,
-    /// The clock of this process behind this event, which every satisfying cut has, counts more events.
+    /// The clock of this process after this event, which every satisfying cut includes, counts more events.
     Passed(Pid, u32),
 }
 
-/// A step of the search: no cut that satisfies the breakpoint has fewer than `to` events of the process, where all have at least `from`.
+/// A step of the search. If all satisfying cuts have at least `from` events of the process, all have at least `to`.
 #[derive(Clone, Copy, Debug, PartialEq, Eq)]
 pub struct Elimination {
     pub pid: Pid,

@@ -8,7 +8,7 @@ use crate::ids::Pid;
 use crate::refusal::Refusal;
 use std::alloc::Global;
 
-/// What an expression gives, by its outermost form alone.
+/// The type of an expression's value, by the outermost form of the expression alone.
 #[derive(Clone, Copy, Debug, PartialEq, Eq)]
 pub enum Sort {
     Number,
@@ -33,14 +33,14 @@ pub enum Operator {
     Or,
 }
 
-/// Which messages a process counts: those that it has sent to another one, or those that it has received from it.
+/// Which messages a process counts: those that it has sent to another process, or those that it has received from it.
 #[derive(Clone, Copy, Debug, PartialEq, Eq)]
 pub enum Direction {
     Sent,
     Got,
 }
 
-/// An expression of one process: over its variables, which are named by their places, from 0, and its counts of messages.
+/// An expression of one process: over its variables, which have numbers from 0, and its counts of messages.
 #[derive(Debug, Drop)]
 pub enum Expr {
     Number(i64),
@@ -55,7 +55,7 @@ pub enum Expr {
     Binary(Operator, Box<Expr>, Box<Expr>),
 }
 
-// The expression in a box of its own.
+// Moves the expression into a box of its own.
 fn boxed(alloc: &Global, expr: Expr) -> Result<Box<Expr>, Refusal>
     ensures { IsCopy result (λ made. made.value ≡ expr) }
 {
@@ -63,7 +63,7 @@ fn boxed(alloc: &Global, expr: Expr) -> Result<Box<Expr>, Refusal>
 }
 
 impl Expr {
-    /// The same expression once more. It is refused only as `Memory`, where that runs out.
+    /// Copies the expression. Error: `Memory`, if an allocation fails.
     pub fn copy(&self) -> Result<Expr, Refusal>
         ensures { IsCopy result (λ made. tree_of made ≡ tree_of self.now) }
     {

@@ -1,22 +1,22 @@
-//! What a program text has wrong.
+//! Faults of a program text.
 
 ghost use Rattle.std.specs.Prelude.{◌≡◌};
 ghost use Rattle.dbg_base.specs.Faults.{kind_number};
 
-/// What is wrong with a text.
+/// The kind of a fault.
 #[derive(Clone, Copy, Debug, PartialEq, Eq)]
 pub enum FaultKind {
     /// A byte begins no token.
     Byte,
     /// A word of more than 32 bytes, or a number above 9223372036854775807.
     Token,
-    /// A token that cannot follow, or the text ends too early.
+    /// A token cannot follow the tokens before it, or the text ends too early.
     Grammar,
     /// The name is taken.
     NameTaken,
-    /// Nothing has the name.
+    /// Nothing has this name.
     NameUnknown,
-    /// A truth value stands in a number's place, or the other way round.
+    /// A truth value is in place of a number, or a number in place of a truth value.
     TypeWrong,
     /// Too many bytes, open parentheses, processes, variables or commands.
     Limit,
@@ -27,7 +27,7 @@ pub enum FaultKind {
 }
 
 impl FaultKind {
-    /// The number by which the kind is told, from 1 to 9. It takes no memory.
+    /// The number of the kind, from 1 to 9. It does not allocate.
     pub fn number(&self) -> u32
         ensures { result ≡ kind_number self.now }
     {
@@ -45,7 +45,7 @@ impl FaultKind {
     }
 }
 
-/// A fault of a text, and the offset of the byte at which it is.
+/// A fault of a text, and the offset of its byte.
 #[derive(Clone, Copy, Debug, PartialEq, Eq)]
 pub struct ProgFault {
     pub kind: FaultKind,

@@ -4,18 +4,18 @@ ghost use Rattle.std.specs.Prelude.{IsFalse};
 
 use std::marker::Sync;
 
-/// What workers in threads ask before each turn of work, and tell after it. A worker that it bars does not start that turn.
+/// Workers in threads call it before and after each turn of work. A worker does not start a turn from which the gate bars it.
 pub trait Gate: Sync {
     ghost use Rattle.std.specs.Prelude.{ℕ};
 
-    // It may bar this worker, both numbered from 0, from this turn.
+    // The gate may bar this worker from this turn. Both are numbered from 0.
     ghost may_bar: { Self → ℕ → ℕ → Type 0 };
 
     /// Whether the worker may start the turn. Workers and turns are numbered from 0.
     fn may_start(&self, worker: u32, turn: u32) -> bool
         ensures { IsFalse result → may_bar self.now worker turn };
 
-    /// The worker has ended the turn, whatever came of it.
+    /// The worker has ended the turn, with whatever result.
     fn answered(&self, worker: u32, turn: u32);
 }
 

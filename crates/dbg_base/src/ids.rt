@@ -7,15 +7,15 @@ ghost use Rattle.dbg_base.specs.Copies.{IsCopy};
 use crate::refusal::Refusal;
 use std::marker::Model;
 
-/// A process, by its place in the program, from 0.
+/// A process, by its position in the program, from 0.
 #[derive(Clone, Copy, Debug, PartialEq, Eq, PartialOrd, Ord)]
 pub struct Pid(pub u32);
 
-/// A command of a process, by its place in the process, from 0.
+/// A command of a process, by its position in the process, from 0.
 #[derive(Clone, Copy, Debug, PartialEq, Eq, PartialOrd, Ord)]
 pub struct Choice(pub u32);
 
-/// The count of a process among these, which is 0 where it is not there. It takes no memory.
+/// The count of a process in this list, or 0 if the list has none. It does not allocate.
 pub fn count_of(counts: &[u32], pid: Pid) -> u32
     ensures { result ≡ slice_index counts.now pid.0 }
 {
@@ -37,7 +37,7 @@ impl Model for Cut {
 }
 
 impl Cut {
-    /// The cut with these counts. It takes no memory.
+    /// The cut with these counts. It does not allocate.
     pub fn new(counts: Vec<u32>) -> Self
         ensures { result ≡ counts.items }
     {
@@ -51,14 +51,14 @@ impl Cut {
         self.counts.as_slice()
     }
 
-    /// The count of a process, which is 0 where it is not there. It takes no memory.
+    /// The count of a process, or 0 if the cut has none. It does not allocate.
     pub fn count(&self, pid: Pid) -> u32
         ensures { result ≡ slice_index self.now pid.0 }
     {
         count_of(self.counts(), pid)
     }
 
-    /// Sets the count of a process that is there. It takes no memory.
+    /// Sets the count of a process that the cut has. It does not allocate.
     pub fn set(&mut self, pid: Pid, count: u32)
         requires { pid.0 < length self.old }
         ensures { self.new ≡ slice_set self.old pid.0 count }
@@ -66,14 +66,14 @@ impl Cut {
         self.counts[pid.0 as usize] = count;
     }
 
-    /// The same cut once more. It is refused only as `Memory`, where that runs out.
+    /// Copies the cut. Error: `Memory`, if an allocation fails.
     pub fn copy(&self) -> Result<Cut, Refusal>
         ensures { IsCopy result (λ made. made ≡ self.now) }
     {
         Ok(Cut::new(self.counts.clone()?))
     }
 
-    /// The same cut once more, in the memory of this list, which is empty and has room for it. It takes no memory.
+    /// Copies the cut into the memory of this list, which is empty and has room for it. It does not allocate.
     pub fn copy_into(&self, room: Vec<u32>) -> Cut
         requires empty { room.items ≡ [] }
         requires room { length self.now ≤ vec_capacity room }

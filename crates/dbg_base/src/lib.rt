@@ -1,7 +1,7 @@
-//! The plain types that every crate of the debugger speaks of, and the limits.
+//! The plain types that all crates of the debugger share, and the limits.
 //!
-//! They hold no logic. What a system of processes does, and what a session shows, is defined in `specs/`,
-//! one module for each concept; `docs/model.md` tells it in words.
+//! They have no logic. `specs/` defines what a system of processes does and what a session shows, one module for each concept.
+//! `docs/model.md` explains these definitions.
 #![tactic(auto)]
 
 mod call;

@@ -9,7 +9,7 @@ use std::marker::Model;
 /// A name of 1 to 32 bytes, which contracts see as the list of its bytes.
 #[derive(Clone, Copy, Debug)]
 pub struct Name {
-    // The bytes, and behind them zeros.
+    // The bytes of the name, then zeros.
     bytes: [u8; NAME_BYTES],
     used: u8,
 }
@@ -62,7 +62,7 @@ impl Hash for Name {
 }
 
 impl Name {
-    /// The name of these bytes, or None where they are not 1 to 32. It takes no memory.
+    /// The name of these bytes, or None if they are not 1 to 32. It does not allocate.
     pub fn new(bytes: &[u8]) -> Option<Name>
         ensures some { IsSome result ↔ ((1 ≤ length bytes.now) × (length bytes.now ≤ NAME_BYTES)) }
         ensures value { IfSome result (λ name. name ≡ bytes.now) }

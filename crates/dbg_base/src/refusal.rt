@@ -43,28 +43,28 @@ pub enum Refusal {
     AlreadyArmed,
     /// No accepted command is left to take back.
     NothingBack,
-    /// This seat gave the last accepted command.
+    /// Another seat gave the last accepted command: this one.
     OtherSeat(u32),
-    /// The process has as many events as a process may have.
+    /// The process has reached the limit of events.
     ProcessFull,
-    /// As many breakpoints are set as may be.
+    /// The session has reached the limit of breakpoints.
     BreaksFull,
-    /// As many calls are entered as may be.
+    /// The journal has reached the limit of calls.
     JournalFull,
-    /// Memory ran out.
+    /// An allocation failed.
     Memory,
-    /// The line has no form of a command line.
+    /// Syntax error: the line is not a command line.
     BadLine,
-    /// No truth expression over that process, a process named twice, or no conjunct.
+    /// The text is not a truth expression of that process, a process is named twice, or there is no conjunct.
     BadPredicate,
     /// No command of the process fires.
     NoneEnabled,
-    /// A command of the batch was refused: the first such one stands at this place, from 1, and this is the number of its refusal.
+    /// A command of the batch was refused: the first refused one is at this position, from 1, with this number of its refusal.
     InBatch { at: u32, number: u32 },
 }
 
 impl Refusal {
-    /// The number by which the refusal is told, from 1 to 25. It takes no memory.
+    /// The number of the refusal, from 1 to 25. It does not allocate.
     pub fn number(&self) -> u32
         ensures { result ≡ refusal_number self.now }
     {

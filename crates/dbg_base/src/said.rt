@@ -14,16 +14,16 @@ use crate::sequence::Sequence;
 pub enum Done {
     /// The process made this command.
     Played(Pid, Choice),
-    /// The process took back this command.
+    /// The process undid this command.
     Undone(Pid, Choice),
     /// The processes are at these places now.
     Places(Cut),
-    /// Nothing to tell beside.
+    /// There is nothing else to report.
     Plain,
 }
 
 impl Done {
-    // The same once more.
+    // Copies it. Error: `Memory`, if an allocation fails.
     fn copy(&self) -> Result<Done, Refusal>
         ensures { IsCopy result (λ made. made ≡ self.now) }
     {
@@ -35,7 +35,7 @@ impl Done {
         }
     }
 
-    // The same once more, in the memory of this list.
+    // Copies it into the memory of this list, which is empty and has room for the counts.
     fn copy_into(&self, room: Vec<u32>) -> Done
         requires empty { room.items ≡ [] }
         requires room { counts_in self.now ≤ vec_capacity room }
@@ -59,7 +59,7 @@ pub struct Reply {
 }
 
 impl Reply {
-    // The same reply once more.
+    // Copies the reply. Error: `Memory`, if an allocation fails.
     fn copy(&self) -> Result<Reply, Refusal>
         ensures { IsCopy result (λ made. made ≡ self.now) }
     {
@@ -70,8 +70,8 @@ impl Reply {
         })
     }
 
-    /// The same reply once more, in the memory of this list, which is empty and has room for the places that the reply tells, if it does.
-    /// It takes no memory.
+    /// Copies the reply into the memory of this list. The list is empty, and has room for the places if the reply has places. It does not
+    /// allocate.
     pub fn copy_into(&self, room: Vec<u32>) -> Reply
         requires empty { room.items ≡ [] }
         requires room { counts_in self.now.done ≤ vec_capacity room }
@@ -89,7 +89,7 @@ impl Reply {
 pub enum Head {
     /// This count of events of the process.
     At(u32),
-    /// Past the process's last event.
+    /// One more than the number of the process's events.
     Past,
 }
 
@@ -98,7 +98,7 @@ pub enum Head {
 pub enum Answer {
     /// The values of a process's variables, in program order.
     Values(Sequence<i64>),
-    /// The messages on the way, the front first.
+    /// The messages on their way, the head of the channel first.
     Messages(Sequence<i64>),
     /// A vector clock.
     Counts(Cut),
@@ -110,12 +110,12 @@ pub enum Answer {
     CutIs(Option<Cut>),
     /// A breakpoint's frontier, a component for each process.
     Frontier(Sequence<Head>),
-    /// The breakpoints in order, each with its mark: is it armed.
+    /// The breakpoints in order, each with its mark: whether it is armed.
     Marks(Sequence<(Name, bool)>),
 }
 
 impl Answer {
-    /// The same answer once more. It is refused only as `Memory`, where that runs out.
+    /// Copies the answer. Error: `Memory`, if an allocation fails.
     pub fn copy(&self) -> Result<Answer, Refusal>
         ensures { IsCopy result (λ made. made ≡ self.now) }
     {
@@ -136,19 +136,19 @@ impl Answer {
     }
 }
 
-/// What a session says to a call.
+/// The answer of a session to a call.
 #[derive(Debug, Drop)]
 pub enum Said {
     /// The command was accepted.
     Accepted(Reply),
-    /// The question was answered.
+    /// The query was answered.
     Answered(Answer),
     /// The call was refused, and changed nothing.
     Refused(Refusal),
 }
 
 impl Said {
-    /// The same answer once more. It is refused only as `Memory`, where that runs out.
+    /// Copies the answer. Error: `Memory`, if an allocation fails.
     pub fn copy(&self) -> Result<Said, Refusal>
         ensures { IsCopy result (λ made. made ≡ self.now) }
     {

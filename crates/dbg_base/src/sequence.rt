@@ -1,4 +1,4 @@
-//! A list, as a value that contracts compare.
+//! A list as a value that contracts can compare.
 
 ghost use Rattle.std.specs.Prelude.{◌≡◌};
 ghost use Rattle.dbg_base.specs.Copies.{IsCopy};
@@ -7,7 +7,7 @@ use crate::refusal::Refusal;
 use std::alloc::Global;
 use std::marker::Model;
 
-/// A list of values, which contracts see as that list alone, and not with the memory that it takes.
+/// A list of values. Contracts see only the list, not its memory.
 #[derive(Debug, Drop)]
 pub struct Sequence<T> {
     items: Vec<T>,
@@ -22,7 +22,7 @@ impl<T> Model for Sequence<T> {
 }
 
 impl<T> Sequence<T> {
-    /// The sequence of these items. It takes no memory.
+    /// The sequence of these items. It does not allocate.
     pub fn new(items: Vec<T>) -> Self
         ensures { result ≡ items.items }
     {
@@ -41,7 +41,7 @@ impl<T> Sequence<T> {
         *self.items.allocator()
     }
 
-    /// Gives the items back. It takes no memory.
+    /// Returns the items. It does not allocate.
     pub fn into_items(self) -> Vec<T>
         ensures { result.items ≡ self }
     {
@@ -51,7 +51,7 @@ impl<T> Sequence<T> {
 }
 
 impl<T: Copy> Sequence<T> {
-    // The same items once more.
+    // Copies the items. Error: `Memory`, if an allocation fails.
     pub(crate) fn copy(&self) -> Result<Sequence<T>, Refusal>
         ensures { IsCopy result (λ made. made ≡ self.now) }
     {

@@ -1,6 +1,6 @@
-//! Marks of the process language.
+//! Signs of the process language.
 
-/// A mark of the process language.
+/// A sign of the process language.
 #[derive(Clone, Copy, Debug, PartialEq, Eq)]
 pub enum Sign {
     OpenBrace,

@@ -1,2 +1,2 @@
-pub mod Listed
-pub mod Steps
+pub mod PairListLemmas
+pub mod WordStepLemmas

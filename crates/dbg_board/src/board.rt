@@ -10,17 +10,17 @@ ghost use Rattle.dbg_board.specs.Rules.{publishing};
 use crate::glance::Glance;
 use crate::publisher::Publisher;
 use crate::seat_view::SeatView;
-use crate::word::{Looks, Place, Shows, Word, glance};
+use crate::word::{BoardWord, Looks, Shows, WordSeat, glance};
 use atomic_table::Table;
 use dbg_base::Refusal;
 use std::alloc::Global;
 use std::marker::Model;
 use std::sync::Arc;
 
-/// What displays look at. Threads share it, and no call on it waits. Contracts see it as which board it is.
+/// What displays read. Threads share it, and no call on it waits. Contracts see which board it is.
 #[derive(Drop)]
 pub struct Board {
-    word: Arc<Word>,
+    word: Arc<BoardWord>,
 }
 
 impl Model for Board {
@@ -41,8 +41,8 @@ impl Model for Board {
 // So many views of a board to which nothing was published.
 fn make_views(
     alloc: Global,
-    word: &Word,
-    publisher: &mut Place,
+    word: &BoardWord,
+    publisher: &mut WordSeat,
     looks: u32,
 ) -> Result<Vec<SeatView>, Refusal>
     requires word { word.now.shared.table_id.words ≡ 1 }
@@ -61,8 +61,7 @@ fn make_views(
 }
 
 impl Board {
-    /// A board to which nothing was published, its publisher, and so many views of it. It is refused only as `Memory`, where that runs
-    /// out.
+    /// A board to which nothing was published, its publisher, and so many views of it. Error: `Memory`, if an allocation fails.
     pub fn new(alloc: Global, looks: u32) -> Result<(Board, Publisher, Vec<SeatView>), Refusal>
         requires one { 1 ≤ looks }
         requires few { looks ≤ SEATS }
@@ -79,7 +78,7 @@ impl Board {
         Ok((board, Publisher { word, seat }, views))
     }
 
-    /// The last pair that was published, or zeros. The view has then seen it and all before it. It takes no memory.
+    /// The last pair that was published, or zeros. The view has then seen this pair and all before it. It does not allocate.
     pub fn look(&self, view: &mut SeatView) -> Glance
         requires { view.old.board ≡ self.now }
         ensures board { view.new.board ≡ view.old.board }

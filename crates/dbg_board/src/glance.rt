@@ -1,6 +1,6 @@
-//! What a display is told.
+//! What a display reads.
 
-/// How many calls were entered, and the position, from 1, of the breakpoint that halts the session behind them, or 0 where none does.
+/// How many calls were entered, and the position, from 1, of the breakpoint that halts the session after them, or 0 if none does.
 #[derive(Clone, Copy, Debug, PartialEq, Eq)]
 pub struct Glance {
     pub calls: u64,

@@ -1,8 +1,8 @@
-//! A board beside a session's lock: one word that tells how many calls were entered and which breakpoint halts the session, to displays
-//! that must not wait for the lock.
+//! A board next to a session's lock, for displays that must not wait for the lock. It is one word: how many calls were entered, and which
+//! breakpoint halts the session.
 //!
-//! A `Publisher` publishes a pair of both for each call. Everyone else has a `SeatView`, which knows the pairs that it has seen so far,
-//! and looks at the `Board` with it. A look takes no lock, is never torn, and never goes back.
+//! A `Publisher` publishes a pair of both for each call. Everyone else has a `SeatView`, which knows the pairs that it has seen so far, and
+//! reads the `Board` with it. A look takes no lock, returns a pair that was published whole, and never goes back to an earlier one.
 #![tactic(auto)]
 
 mod board;

@@ -1,4 +1,4 @@
-//! Who publishes.
+//! The publisher.
 
 ghost use Rattle.std.specs.Prelude.{◌≡◌, ◌+◌, ◌≤◌, ◌++◌, ◌∷◌, [], length};
 ghost use Rattle.dbg_base.specs.declared.limits.TheConstants.{BREAKPOINTS, CALLS};
@@ -7,16 +7,16 @@ ghost use Rattle.dbg_board.specs.Boards.{listing};
 
 use crate::glance::Glance;
 use crate::seat_view::SeatView;
-use crate::word::{Compares, Hosts, Place, Publishes, Shows, Word, code};
+use crate::word::{BoardWord, Compares, Hosts, Publishes, Shows, WordSeat, code};
 use std::marker::Model;
 use std::mem;
 use std::sync::Arc;
 
-/// The only one who publishes to a board. Contracts see it as the board, and all pairs that were published.
+/// The only one who publishes to a board. Contracts see the board, and all pairs that were published.
 #[derive(Drop)]
 pub struct Publisher {
-    pub(crate) word: Arc<Word>,
-    pub(crate) seat: Place,
+    pub(crate) word: Arc<BoardWord>,
+    pub(crate) seat: WordSeat,
 }
 
 impl Model for Publisher {
@@ -41,7 +41,7 @@ impl Model for Publisher {
 }
 
 impl Publisher {
-    /// Publishes one pair more: the number of calls, and the position of the breakpoint that halts the session, or 0. It takes no memory.
+    /// Publishes one more pair: the number of calls, and the position of the breakpoint that halts the session, or 0. It does not allocate.
     pub fn publish(&mut self, calls: u64, halt: u64)
         requires next { calls ≡ length self.old.pairs + 1 }
         requires few { calls ≤ CALLS }
@@ -52,7 +52,7 @@ impl Publisher {
         self.word.shared.store::<Publishes>(&mut self.seat, 0, code);
     }
 
-    /// Tells a view all that was published. It takes no memory.
+    /// Lets a view see all that was published. It does not allocate.
     pub fn tell(&mut self, view: &mut SeatView)
         requires { view.old.board ≡ self.old.board }
         ensures kept { self.new ≡ self.old }

@@ -1,12 +1,12 @@
-//! Who looks.
+//! The views.
 
-use crate::word::Place;
+use crate::word::WordSeat;
 use std::marker::Model;
 
-/// What a seat has seen of a board. Contracts see it as the board, and the pairs that it has seen.
+/// What a seat has seen of a board. Contracts see the board, and these pairs.
 #[derive(Drop)]
 pub struct SeatView {
-    pub(crate) seat: Place,
+    pub(crate) seat: WordSeat,
 }
 
 impl Model for SeatView {

@@ -9,18 +9,18 @@ use atomic_table::{Join, Play, Seat, Split, Table, TableRule};
 use std::alloc::Global;
 use std::collections::LinkedList;
 
-// More than there are positions of a breakpoint, and 0 for none.
+// More than the positions of breakpoints, with 0 for none.
 const POSITIONS: u64 = 128;
 
-/// What a seat of the word knows: whether it publishes, the pairs that it has published or seen, and what it was told that another one
-/// had seen. No value of it is made.
+/// What a holder of the word knows: whether it publishes, the pairs that it has published or seen, and the pairs that its guest has seen.
+/// No value of this type exists at run time.
 pub struct Known {
     pub publishes: bool,
     pub pairs: LinkedList<Glance>,
     pub guest: LinkedList<Glance>,
 }
 
-/// All seats know beginnings of one list, of which the word is the last pair.
+/// All holders know prefixes of one list, whose last pair is in the word.
 pub struct OneList;
 
 impl TableRule<(), Known, ()> for OneList {
@@ -41,7 +41,7 @@ impl Play<(), Known> for Publishes {
     ghost then = { Adds };
 }
 
-/// A view finds the last pair.
+/// A view loads the last pair.
 pub struct Looks;
 
 impl Play<(), Known> for Looks {
@@ -50,7 +50,7 @@ impl Play<(), Known> for Looks {
     ghost then = { Sees };
 }
 
-/// The publisher finds that what its guest has seen begins what was published.
+/// The publisher finds that the pairs that its guest has seen are a prefix of those that were published.
 pub struct Compares;
 
 impl Play<(), Known> for Compares {
@@ -70,7 +70,7 @@ impl Split<Known> for Shows {
     ghost right = { λ known. following known.pairs };
 }
 
-/// The publisher takes in a view as its guest.
+/// The publisher takes a view as its guest.
 pub struct Hosts;
 
 impl Join<Known> for Hosts {
@@ -82,9 +82,9 @@ impl Join<Known> for Hosts {
     ghost spent = { following [] };
 }
 
-pub type Word = Table<(), Known, (), OneList, Global>;
+pub type BoardWord = Table<(), Known, (), OneList, Global>;
 
-pub type Place = Seat<(), Known>;
+pub type WordSeat = Seat<(), Known>;
 
 /// A pair as one number.
 pub fn code(pair: Glance) -> u64
@@ -95,7 +95,7 @@ pub fn code(pair: Glance) -> u64
     POSITIONS * pair.calls + pair.halt
 }
 
-/// The pair that a number stands for.
+/// The pair of a number.
 pub fn glance(code: u64) -> Glance
     ensures { result ≡ glance_of code }
 {

@@ -1,4 +1,4 @@
--- What a command keeps once it was accepted: where it may be taken back by that, and the state to which this leads.
+-- What a command keeps once it was accepted: when that can undo it, and the state to which the undo leads.
 use Rattle.std.specs.Prelude.{◌≡◌, ℕ, ◌<◌, ◌≤◌, Bool, true, false, List, [], length, insert, Option, Some, None, Result, Ok, Err, slice_get, ◌∷◌}
 use Rattle.dbg_base.specs.declared.call.Plan as plan
 use Rattle.dbg_base.specs.declared.call.Plan.TheVariants as plans
@@ -18,12 +18,12 @@ use Rattle.least_cut.specs.Watches.{TruthLine, scan_of}
 use Rattle.least_cut.specs.Detectors.{IsDetectorOf}
 use Rattle.break_book.specs.Books.{Kept, breakpoint_of}
 
--- A command led from M to M', where it may be taken back, and that leads to M.
+-- A command led from M to M'. It can be undone in M', and that leads to M.
 pub record LeadsBack (MayGoBack : ModelState → Type 0) (undone : ModelState → ModelState) (M M' : ModelState) : Type 0 where
   pub may : MayGoBack M'
   pub leads : undone M' ≡ M
 
--- where nothing is kept, nothing is taken back
+-- something is kept, and has this property
 abbrev pub IfKept : {A : Type 0} → Option A → (A → Type 0) → Type 0
 IfKept None Holds = ⊥
 IfKept (Some kept) Holds = Holds kept
@@ -32,12 +32,12 @@ abbrev pub undone_by : {A : Type 0} → Option A → (A → ModelState → Model
 undone_by None undone M = M
 undone_by (Some kept) undone M = undone kept M
 
--- the same where nothing but that it was applied is kept
+-- the same, if all that is kept is that the command was applied
 abbrev pub IfApplied : Bool → Type 0 → Type 0
 IfApplied false Holds = ⊥
 IfApplied true Holds = Holds
 
--- what an accepted command is answered with, without what is kept of it
+-- the reply to an accepted command, without what is kept of it
 abbrev pub reply_of : {A : Type 0} → Result (Reply × A) Refusal → Result Reply Refusal
 reply_of (Ok done) = Ok done.0
 reply_of (Err refusal) = Err refusal
@@ -66,7 +66,7 @@ pub record HasRedone (P : Program) (p : ℕ) (M : ModelState) : Type 0 where
 abbrev pub unredone : ℕ → ModelState → ModelState
 unredone p M = with_system M (after_undo M.system p)
 
--- These events were taken back, which led to M, from a world with these places.
+-- These events were undone, which led to M, from a world with these places.
 pub record HasRolled (P : Program) (taken : List Taken) (places : List ℕ) (M : ModelState) : Type 0 where
   pub before : Scene
   pub now : Scene
@@ -86,11 +86,11 @@ HasNamed name M = (b : Breakpoint) × (named name M.breakpoints ≡ Some b)
 abbrev pub HasUnarmed : List ℕ → ModelState → Type 0
 HasUnarmed name M = (b : Breakpoint) × (named name M.breakpoints ≡ Some b) × (b.armed ≡ false)
 
--- without it
+-- the state without this breakpoint
 abbrev pub unset : List ℕ → ModelState → ModelState
 unset name M = record M { breakpoints = without name M.breakpoints }
 
--- the plan sets a breakpoint, of this name
+-- whether the plan sets a breakpoint, and of which name
 abbrev pub is_break : plan.Plan → Bool
 is_break (plans.Break name conjuncts) = true
 is_break other = false
@@ -99,19 +99,19 @@ abbrev pub name_set : plan.Plan → List ℕ
 name_set (plans.Break name conjuncts) = name
 name_set other = []
 
--- it is a batch
+-- whether it is a batch
 abbrev pub is_batch : Order → Bool
 is_batch (One plan) = false
 is_batch (Batch plans) = true
 
--- Giving the order may want memory: to remove a breakpoint or to mark one takes none.
+-- Whether giving the order may allocate: removing or marking a breakpoint does not.
 abbrev pub takes_memory : Order → Bool
 takes_memory (One (Clear name)) = false
 takes_memory (One (Arm name)) = false
 takes_memory (One (Pass name)) = false
 takes_memory order = true
 
--- taking it back may: to remove a breakpoint, to mark one, or to exchange two tables takes none
+-- whether undoing the order may allocate: removing or marking a breakpoint does not, and exchanging two tables does not
 abbrev pub takes_memory_back : Order → Bool
 takes_memory_back (One (Break name conjuncts)) = false
 takes_memory_back (One (Arm name)) = false
@@ -119,11 +119,11 @@ takes_memory_back (One (Pass name)) = false
 takes_memory_back (Batch plans) = false
 takes_memory_back order = true
 
--- with this mark of it
+-- the state with this mark of the breakpoint
 abbrev pub marked : List ℕ → Bool → ModelState → ModelState
 marked name armed M = record M { breakpoints = with_mark name armed M.breakpoints }
 
--- The breakpoint of this name was taken out at this position, from 0, which led to M.
+-- The breakpoint of this name was removed from this position, from 0, which led to M.
 pub record HasCleared (P : Program) (position : ℕ) (name : List ℕ) (kept : Kept) (M : ModelState) : Type 0 where
   pub place : position ≤ length M.breakpoints
   pub few : length M.breakpoints < BREAKPOINTS
@@ -133,17 +133,17 @@ pub record HasCleared (P : Program) (position : ℕ) (name : List ℕ) (kept : K
 abbrev pub uncleared : ℕ → List ℕ → Kept → ModelState → ModelState
 uncleared position name kept M = record M { breakpoints = insert M.breakpoints position (breakpoint_of (name, kept)) }
 
--- The scan that is handed in for an order is that of its conjuncts. No other order looks at one.
+-- The scan that is passed with an order is that of its conjuncts. Other orders ignore it.
 abbrev pub IsScanFor : Order → Program → ModelState → List TruthLine → Type 0
 IsScanFor (One (Break name conjuncts)) P M scan = (w : Scene) → IsWorldOf P w → w.state ≡ M.system → scan ≡ scan_of w conjuncts
 IsScanFor order P M scan = Unit {0}
 
--- what is found for an order whose conjuncts are refused so, or are not
+-- what is scanned for an order: nothing if its conjuncts are refused
 abbrev pub ScansUnless : Option Refusal → Order → Program → ModelState → Option (List TruthLine) → Type 0
 ScansUnless (Some refusal) order P M found = found ≡ None
 ScansUnless None order P M found = IfKept found (IsScanFor order P M)
 
--- What is found for an order: the scan of a breakpoint's conjuncts, where there is at least one and they are not refused, and else nothing.
+-- What is scanned for an order: a breakpoint's conjuncts, if there is at least one and they are not refused, and otherwise nothing.
 abbrev pub ScansFor : Order → Program → ModelState → Option (List TruthLine) → Type 0
 ScansFor (One (Break name [])) P M found = found ≡ None
 ScansFor (One (Break name (c ∷ conjuncts))) P M found =

@@ -1,4 +1,4 @@
--- What contracts see of a table, what it is of a program, what a command may do to it, and what it may tell.
+-- What contracts see of a table, how it agrees with a program, what commands may do to it, and how queries are answered.
 use Rattle.std.specs.Prelude.{◌≡◌, ◌⊎◌, ℕ, ◌+◌, ◌<◌, ◌≤◌, Bool, true, false, List, [], ◌∷◌, ◌++◌, length, Option, Some, None, Result, Ok, Err, IfOk}
 use Rattle.std.specs.Prelude.{IfErr, OnOk, OnErr, Vec}
 use Rattle.std.specs.declared.alloc.Global.{Global}
@@ -38,7 +38,7 @@ pub record TableShown : Type 0 where
 abbrev pub shown : TableState → TableShown
 shown t = record { world = t.world; book = shown_of t.book }
 
--- the state of the model that it stands for
+-- the state of the model that it represents
 abbrev pub state_of : TableState → ModelState
 state_of t = record { system = t.world.state; breakpoints = breakpoints_of t.book }
 
@@ -47,7 +47,7 @@ pub record IsTableOf (P : Program) (t : TableState) : Type 0 where
   pub world : IsWorldOf P t.world
   pub detectors : AreDetectorsOf t.world t.book
 
--- the reply tells what was done, and which breakpoint halts the session now
+-- the reply has this result, and the breakpoint that halts the session now
 pub record Replies (P : Program) (M : ModelState) (did : Done) (reply : Reply) : Type 0 where
   pub done : reply.done ≡ did
   pub halted : IsHalted P M reply.halted
@@ -61,89 +61,89 @@ pub record UnknownIn (P : Program) (p : ℕ) (refusal : Refusal) : Type 0 where
 abbrev pub HaltedAt : Program → ModelState → Refusal → Type 0
 HaltedAt P M refusal = (name : List ℕ) × IsHalted P M (Some name) × (refusal ≡ Halted name)
 
--- The process can't make an event: it is not there, a breakpoint halts the session, or memory ran out.
+-- The process cannot make an event: it does not exist, a breakpoint halts the session, or memory ran out.
 abbrev pub Unready : Program → ℕ → ModelState → Refusal → Type 0
 Unready P p M refusal =
     UnknownIn P p refusal ⊎ ((p < length P) × HaltedAt P M refusal) ⊎ (refusal ≡ Memory)
 
--- it can: it is there, no breakpoint halts the session, and there is room for its event
+-- it can: it exists, no breakpoint halts the session, and there is room for its event
 pub record IsReady (P : Program) (p : ℕ) (t : TableState) : Type 0 where
   pub here : p < length P
   pub goes_on : IsHalted P (state_of t) None
   pub room : HaveRoomUpTo t.book (one_more t.world p)
 
--- a breakpoint of this name, which was free, stands behind all others, armed
+-- a breakpoint of this name, which was free, was added after all others, armed
 pub record Adds (old : List Entry) (name : List ℕ) (conjuncts : List Conjunct) (new : List Entry) : Type 0 where
   pub free : name_refusal name (breakpoints_of old) ≡ None
   pub added : breakpoints_of new ≡ breakpoints_of old ++ new_breakpoint name conjuncts ∷ []
 
--- the breakpoint of this name is there, and this is its least cut
+-- the breakpoint of this name exists, and this is its least cut
 abbrev pub HasLeast : Program → ModelState → List ℕ → List ℕ → Type 0
 HasLeast P M name cut =
     (b : Breakpoint) × (named name M.breakpoints ≡ Some b) × IsLeast P (history_of M.system) b.conjuncts cut
 
--- it is not there
+-- it does not exist
 pub record LacksBreak (M : ModelState) (name : List ℕ) (refusal : Refusal) : Type 0 where
   pub none : named name M.breakpoints ≡ None
   pub is : refusal ≡ refusals.UnknownBreak
 
--- it is there, and has no cut
+-- it exists, and has no cut
 abbrev pub HasNoCut : Program → ModelState → List ℕ → Type 0
 HasNoCut P M name =
     (b : Breakpoint) × (named name M.breakpoints ≡ Some b) × NoCut P (history_of M.system) b.conjuncts
 
--- What is told of the cut of the breakpoint of this name: its least cut, that it has none, that it is not there, or that memory ran out.
+-- The result for the cut of the breakpoint of this name: its least cut, that it has none, that it does not exist, or that memory ran out.
 abbrev pub IsCutOf : Program → ModelState → List ℕ → Result (Option (List ℕ)) Refusal → Type 0
 IsCutOf P M name (Ok (Some cut)) = HasLeast P M name cut
 IsCutOf P M name (Ok None) = HasNoCut P M name
 IsCutOf P M name (Err refusal) = LacksBreak M name refusal ⊎ (refusal ≡ Memory)
 
--- What a call that goes back to a cut returned, and the state that it left: the places, or that memory ran out.
+-- The result of a call that goes back to a cut, and the state after it: the places are those of the cut, or memory ran out.
 pub record GoesBack (P : Program) (M : ModelState) (cut : List ℕ) (result : Result Reply Refusal) (M' : ModelState) : Type 0 where
   pub moves : OnOk result (M' ≡ with_system M (after_rollback M.system cut))
   pub replies : IfOk result (λ reply. Replies P M' (Places cut) reply)
   pub refuses : IfErr result (λ refusal. refusal ≡ Memory)
   pub kept : OnErr result (M' ≡ M)
 
--- what is said where a command was accepted or refused
+-- the answer to a command that was accepted or refused
 abbrev pub said_of : Result Reply Refusal → Said
 said_of (Ok reply) = Accepted reply
 said_of (Err refusal) = Refused refusal
 
--- the plan was given at M, was answered so, and left M', or memory ran out, which changes nothing
+-- the plan was given at M, had this answer, and left M'; or memory ran out, and nothing changed
 abbrev pub ActsOrRefuses : Program → Plan → ModelState → Result Reply Refusal → ModelState → Type 0
 ActsOrRefuses P plan M result M' = Acts P plan M (said_of result) M' ⊎ Refuses Memory M (said_of result) M'
 
--- the same of an order, and of a batch, which is refused by the place of one of its commands, too
+-- the same for an order; a batch can also be refused at the position of one of its commands
 abbrev pub FollowsOrRefuses : Program → Order → ModelState → Result Reply Refusal → ModelState → Type 0
 FollowsOrRefuses P order M result M' = Follows P order M (said_of result) M' ⊎ Refuses Memory M (said_of result) M'
 
--- The commands of a batch were given one after the other from M on, and left N: what is said of the batch where all were accepted, that
--- it is refused, or that memory ran out.
+-- The commands of a batch were given one after the other from M on, which led to N. If all were accepted, the batch is accepted. Otherwise
+-- it is refused, or memory ran out.
 abbrev pub GivesEach : Program → List Plan → ModelState → Result (Unit {0}) Refusal → ModelState → Type 0
 GivesEach P plans M (Ok done) N = (said : Said) → Accepts P Plain said N → Batches P M 1 plans M said N
 GivesEach P plans M (Err refusal) N = (refusal ≡ Memory) ⊎ Batches P M 1 plans M (Refused refusal) M
 
--- how a batch is refused whose command at this position, from 0, is refused so: want of memory is told as such
+-- the refusal of a batch whose command at this position, from 0, was refused like this; "out of memory" stays as it is
 abbrev pub TellsWithin : ℕ → Refusal → Refusal → Type 0
 TellsWithin i Memory told = told ≡ Memory
 TellsWithin i refusal told = told ≡ InBatch (i + 1) (refusal_number refusal)
 
--- a plan that may be given: where it is a batch, it is one of at most 32 commands, none of which is a batch
+-- a plan that may be given: if it is a batch, it has at most 32 commands, none of which is a batch
 abbrev pub IsGivable : plan.Plan → Type 0
 IsGivable given = (batch : Vec plan.Plan Global) → given ≡ plans.Batch batch → AreCommands batch.items
 
--- what is said where a question was answered or refused
+-- the answer to a query that was answered or refused
 abbrev pub told_of : Result Answer Refusal → Said
 told_of (Ok told) = Answered told
 told_of (Err refusal) = Refused refusal
 
--- Answering the query may want memory: what is told of a process's place, and of whether its last event may be undone, takes none.
+-- Whether answering the query may allocate: the place of a process does not, and whether its last event may be undone does not.
 abbrev pub asks_memory : Query → Bool
 asks_memory (Place p) = false
 asks_memory (Can p) = false
 asks_memory query = true
 
--- the query was answered so, or memory ran out
+-- the query had this answer, or memory ran out
 abbrev pub AnswersOrRefuses : Program → ModelState → Query → Result Answer Refusal → Type 0
 AnswersOrRefuses P M query result = Answers P M query (told_of result) ⊎ (result ≡ Err Memory)

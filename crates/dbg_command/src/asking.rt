@@ -1,4 +1,4 @@
-//! What a table tells.
+//! The answers of a table to queries.
 
 ghost use Rattle.std.specs.Prelude.{◌≢◌, IfErr};
 ghost use Rattle.dbg_base.specs.declared.refusal.Refusal.TheVariants.{Memory};
@@ -58,7 +58,7 @@ impl Table {
         Ok(Answer::Counts(counts))
     }
 
-    // The process's place and the length of its line.
+    // The place of the process, and the length of its line.
     pub(crate) fn place(&self, program: &Program, pid: Pid) -> Result<Answer, Refusal>
         ensures answers { AnswersOrRefuses (program_of program.now) (state_of self.now) (model.Place pid.0) result }
         ensures memory { IfErr result (λ refusal. refusal ≢ Memory) }
@@ -80,7 +80,7 @@ impl Table {
         Ok(Answer::CanUndo(self.world().can_undo(pid)))
     }
 
-    // The least cut of the breakpoint of this name, as an answer.
+    // The least cut of the breakpoint of this name.
     pub(crate) fn cut(&self, program: &Program, name: Name) -> Result<Answer, Refusal>
         requires { IsTableOf (program_of program.now) self.now }
         ensures { AnswersOrRefuses (program_of program.now) (state_of self.now) (model.CutOf name) result }

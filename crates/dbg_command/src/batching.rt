@@ -12,7 +12,7 @@ use dbg_base::{Done, Plan, Refusal, Reply};
 use proc_lang::Program;
 use std::alloc::Global;
 
-// How a batch is refused whose command at this position, from 0, is refused so.
+// The refusal of a batch whose command at this position, from 0, was refused like this.
 fn within_batch(position: usize, refusal: Refusal) -> Refusal
     requires { position < BATCH }
     ensures { TellsWithin position refusal result }
@@ -26,7 +26,7 @@ fn within_batch(position: usize, refusal: Refusal) -> Refusal
     }
 }
 
-// What is said, without what is kept.
+// The reply, without what is kept of the command.
 fn told<K: Drop>(done: Result<(Reply, K), Refusal>) -> Result<Reply, Refusal>
     ensures { result ≡ reply_of done }
 {
@@ -83,7 +83,7 @@ impl Table {
         Ok(())
     }
 
-    // Gives the commands of a batch to a copy, which is handed out with the answer to the batch.
+    // Gives the commands of a batch to a copy of the table, and returns the copy with the reply to the batch.
     pub(crate) fn after_batch(
         &self,
         alloc: Global,

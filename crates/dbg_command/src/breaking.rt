@@ -22,7 +22,7 @@ use proc_lang::Program;
 use std::alloc::Global;
 
 impl Table {
-    // The scan that is handed in, or else that of the conjuncts.
+    // The given scan. If there is none, the conjuncts are scanned here.
     fn scan_or(
         &self,
         alloc: Global,
@@ -63,7 +63,7 @@ impl Table {
         self.book.set(alloc, name, conjuncts, scan, &self.world)
     }
 
-    // A breakpoint is set, armed, behind all others.
+    // Sets a breakpoint, armed, after all others.
     pub(crate) fn set_break(
         &mut self,
         alloc: Global,
@@ -89,7 +89,7 @@ impl Table {
         Ok(self.reply(Done::Plain))
     }
 
-    // The breakpoint is removed, and handed out with its position.
+    // Removes the breakpoint, and returns it with its position.
     pub(crate) fn clear(
         &mut self,
         program: &Program,
@@ -107,7 +107,7 @@ impl Table {
         Ok((self.reply(Done::Plain), cleared))
     }
 
-    // The breakpoint halts the session again.
+    // Arms the breakpoint: it halts the session again.
     pub(crate) fn arm(&mut self, program: &Program, name: Name) -> Result<Reply, Refusal>
         requires { IsTableOf (program_of program.now) self.old }
         ensures of { IsTableOf (program_of program.now) self.new }
@@ -120,7 +120,7 @@ impl Table {
         Ok(self.reply(Done::Plain))
     }
 
-    // The breakpoint no longer halts the session.
+    // Disarms the breakpoint: it no longer halts the session.
     pub(crate) fn pass(&mut self, program: &Program, name: Name) -> Result<Reply, Refusal>
         requires { IsTableOf (program_of program.now) self.old }
         ensures of { IsTableOf (program_of program.now) self.new }

@@ -1,4 +1,4 @@
-//! What a table is asked.
+//! The answer of a table to a query of any kind.
 
 ghost use Rattle.std.specs.Prelude.{◌≡◌, true, IfErr};
 ghost use Rattle.dbg_base.specs.declared.refusal.Refusal.TheVariants.{Memory};
@@ -12,7 +12,7 @@ use proc_lang::Program;
 use std::alloc::Global;
 
 impl Table {
-    /// Answers a question. It is refused as its kind says, or as `Memory`, where that runs out; `place` and `can` take none.
+    /// Answers a query. The errors depend on its kind. `Memory` if an allocation fails; `place` and `can` do not allocate.
     pub fn ask(&self, alloc: Global, program: &Program, query: &Query) -> Result<Answer, Refusal>
         requires { IsTableOf (program_of program.now) self.now }
         ensures answers { AnswersOrRefuses (program_of program.now) (state_of self.now) (query_of query.now) result }

@@ -1,4 +1,4 @@
-//! What all commands have in common that can be taken back.
+//! What all commands have in common that can be undone.
 
 ghost use Rattle.std.specs.Prelude.{◌≡◌, ◌↔◌, true, IsTrue, IfErr, IfSome, OnOk, OnErr};
 ghost use Rattle.dbg_base.specs.declared.refusal.Refusal.TheVariants.{Memory};
@@ -15,30 +15,32 @@ use least_cut::Scan;
 use proc_lang::Program;
 use std::alloc::Global;
 
-/// A command that is applied to a table at most once, and then keeps what takes it back. Others know it by this alone.
+/// A command that is applied to a table at most once, and then keeps what is needed to undo it. Other crates use commands only through this
+/// trait.
 pub trait Command: Drop + Send {
-    // What it is to do, or did.
+    // The order that the command gives, or gave.
     ghost order: { Self → Order };
 
-    // It was not applied yet.
+    // The command was not applied yet.
     ghost IsFresh: { Self → Type 0 };
 
-    // It may be taken back in this state of this program.
+    // The command can be undone in this state of this program.
     ghost MayGoBack: { Self → tree.Program → ModelState → Type 0 };
 
-    // The state to which that leads.
+    // The state after it is undone in this state.
     ghost before: { Self → ModelState → ModelState };
 
-    /// What it is to do, or did. It takes no memory.
+    /// The plan that the command gives, or gave. It does not allocate.
     fn plan(&self) -> &Plan
         ensures { order_of result.now ≡ order self.now };
 
-    /// Whether it was not applied yet. It takes no memory.
+    /// Whether the command was not applied yet. It does not allocate.
     fn fresh(&self) -> bool
         ensures { IsTrue result ↔ IsFresh self.now };
 
-    /// Gives the command. It is refused, and changes nothing that any call shows, as its kind says, or as `Memory`, where that runs out;
-    /// clear, arm and pass take none. A command that sets a breakpoint may be given the scan of its conjuncts over the table's world; no other looks at one.
+    /// Gives the command. On an error no call shows a change. The errors depend on its kind. `Memory` if an allocation fails; clear, arm
+    /// and pass do not allocate. A command that sets a breakpoint may be given the scan of its conjuncts in the table's world; other
+    /// commands ignore it.
     fn apply(
         &mut self,
         alloc: Global,
@@ -52,14 +54,13 @@ pub trait Command: Drop + Send {
         ensures of { IsTableOf (program_of program.now) table.new }
         ensures acts { FollowsOrRefuses (program_of program.now) (order self.old) (state_of table.old) result (state_of table.new) }
         ensures same { order self.new ≡ order self.old }
-        ensures leads { OnOk result (LeadsBack (MayGoBack self.new (program_of program.now)) (before self.new) (state_of table.old)
-            (state_of table.new)) }
+        ensures leads { OnOk result ((IsFresh self.new → ⊥) × LeadsBack (MayGoBack self.new (program_of program.now)) (before self.new)
+            (state_of table.old) (state_of table.new)) }
         ensures memory { IfErr result (λ refusal. refusal ≡ Memory → takes_memory (order self.old) ≡ true) }
-        ensures kept { OnErr result (shown table.new ≡ shown table.old) }
-        ensures unchanged { OnErr result (self.new ≡ self.old) };
+        ensures refused { OnErr result ((shown table.new ≡ shown table.old) × (self.new ≡ self.old)) };
 
-    /// Takes the command back, in the state in which it left the table: the table is as before it. It is refused only as `Memory`,
-    /// where that runs out, and then changes nothing that any call shows; break, arm, pass and a batch are never refused.
+    /// Undoes the command, in the state in which it left the table: the table is as before the command. Error: `Memory`, if an allocation
+    /// fails; then no call shows a change. break, arm, pass and a batch never fail.
     fn revert(&mut self, table: &mut Table) -> Result<(), Refusal>
         requires { (P : tree.Program) × IsTableOf P table.old × MayGoBack self.old P (state_of table.old) }
         ensures of { (P : tree.Program) → IsTableOf P table.old → MayGoBack self.old P (state_of table.old) → IsTableOf P table.new }

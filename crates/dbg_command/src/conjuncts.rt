@@ -16,8 +16,8 @@ fn is_named(conjuncts: &[Conjunct], pid: Pid) -> bool
     conjuncts.iter().any(|conjunct| conjunct.pid == pid)
 }
 
-// Refuses conjuncts from left to right: of a process that the program does not have as `UnknownProcess`, and what is no truth expression
-// of its process, or is of a process that stood before, as `BadPredicate`.
+// Checks the conjuncts from left to right. Errors: `UnknownProcess` for a process that the program does not have. `BadPredicate` for an
+// expression that is not a truth expression of its process, or for a process that an earlier conjunct names.
 pub(crate) fn fitting(program: &Program, conjuncts: &[Conjunct]) -> Result<(), Refusal>
     ensures fit { OnOk result (conjuncts_refusal (program_of program.now) [] (map conjunct_of conjuncts.now) ≡ None) }
     ensures refuses { IfErr result (λ refusal. conjuncts_refusal (program_of program.now) [] (map conjunct_of conjuncts.now)

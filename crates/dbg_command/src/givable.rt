@@ -5,8 +5,8 @@ ghost use Rattle.dbg_command.specs.Tables.{IsGivable};
 
 use dbg_base::Plan;
 
-/// A plan that may be given: where it is a batch, it is one of at most 32 commands, none of which is a batch. So whoever makes commands
-/// of plans, each of its kind, may make a batch of it.
+/// A plan that may be given: if it is a batch, it has at most 32 commands, none of which is a batch. So code that makes a command of each
+/// plan by its kind can make a batch of it.
 #[derive(Debug, Drop)]
 pub struct Givable {
     pub plan: Plan,
@@ -14,7 +14,7 @@ pub struct Givable {
 }
 
 impl Givable {
-    /// The plan, as one that may be given. It takes no memory.
+    /// The plan, as one that may be given. It does not allocate.
     pub fn new(plan: Plan) -> Givable
         requires { IsGivable plan }
         ensures { result.plan ≡ plan }

@@ -1,4 +1,4 @@
-//! The kinds of commands, each with what it keeps once it was accepted, and with an inverse of its own.
+//! The kinds of commands. Each keeps something once it was accepted, and has its own inverse.
 
 pub(crate) mod arm;
 pub(crate) mod batch;

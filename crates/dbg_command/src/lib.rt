@@ -1,5 +1,4 @@
-//! A table: a world and the breakpoints in it, which stay together; what each command does to it, what takes that back, and what the
-//! table tells.
+//! A table: a world and the breakpoints in it. What each command does to it, how the command is undone, and the answers to queries.
 #![tactic(auto)]
 
 mod asking;
@@ -15,6 +14,7 @@ mod returning;
 mod scanning;
 mod table;
 mod undoing;
+mod view;
 
 pub use command::Command;
 pub use givable::Givable;
@@ -30,3 +30,4 @@ pub use kinds::set_break::BreakCmd;
 pub use kinds::step::StepCmd;
 pub use kinds::undo::UndoCmd;
 pub use table::Table;
+pub use view::SessionView;

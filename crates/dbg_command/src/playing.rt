@@ -17,7 +17,7 @@ use proc_lang::Program;
 use std::alloc::Global;
 
 impl Table {
-    // The detectors go on with the world, in which the process has made this choice.
+    // The detectors follow the world, in which the process has made this choice.
     fn grown(&mut self, pid: Pid, choice: Choice) -> Reply
         requires grown { AreGrown self.old.book pid.0 self.old.world }
         requires room { HaveRoomUpTo self.old.book self.old.world.state.places }
@@ -30,7 +30,7 @@ impl Table {
         self.reply(Done::Played(pid, choice))
     }
 
-    // The process makes this command. What was cut off its line is handed out.
+    // Makes the process fire this command. Returns the choices that were cut off its line.
     pub(crate) fn step(
         &mut self,
         alloc: Global,
@@ -51,7 +51,7 @@ impl Table {
         Ok((self.grown(pid, choice), cutoff))
     }
 
-    // The process makes its first command that fires. What was cut off its line is handed out.
+    // Makes the process fire its first command that can fire. Returns the choices that were cut off its line.
     pub(crate) fn next(
         &mut self,
         alloc: Global,
@@ -70,7 +70,7 @@ impl Table {
         Ok((self.grown(pid, choice), cutoff))
     }
 
-    // The process makes the choice at its place again.
+    // Makes the process fire the choice at its place again.
     pub(crate) fn redo(
         &mut self,
         alloc: Global,

@@ -1,4 +1,4 @@
-//! What takes commands back.
+//! How commands are undone.
 
 ghost use Rattle.std.specs.Prelude.{◌≡◌, false, true, IfErr, OnOk, OnErr};
 ghost use Rattle.dbg_base.specs.declared.refusal.Refusal.TheVariants.{Memory};
@@ -14,7 +14,7 @@ use causal_world::Cutoff;
 use dbg_base::{Name, Pid, Refusal};
 
 impl Table {
-    // A step of the process is taken back, which cut these choices off. Where memory runs out they are handed back.
+    // Undoes a step of the process that cut these choices off. If an allocation fails, it returns them.
     pub(crate) fn unstep(&mut self, pid: Pid, cutoff: Cutoff) -> Result<(), (Refusal, Cutoff)>
         requires { (P : tree.Program) × IsTableOf P self.old × HasStepped P pid.0 cutoff (state_of self.old) }
         ensures of { (P : tree.Program) → IsTableOf P self.old → HasStepped P pid.0 cutoff (state_of self.old) → IsTableOf P self.new }
@@ -27,7 +27,7 @@ impl Table {
         Ok(())
     }
 
-    // A redo of the process is taken back.
+    // Undoes a redo of the process.
     pub(crate) fn unredo(&mut self, pid: Pid) -> Result<(), Refusal>
         requires { (P : tree.Program) × IsTableOf P self.old × HasRedone P pid.0 (state_of self.old) }
         ensures of { (P : tree.Program) → IsTableOf P self.old → HasRedone P pid.0 (state_of self.old) → IsTableOf P self.new }
@@ -40,7 +40,7 @@ impl Table {
         Ok(())
     }
 
-    // Events that were taken back are made again. Where memory runs out they are still there.
+    // Makes undone events again. If an allocation fails, they are still in `taken`.
     pub(crate) fn forth(&mut self, taken: &mut TakenBack) -> Result<(), Refusal>
         requires { (P : tree.Program) × IsTableOf P self.old × HasRolled P taken.old.rolled taken.old.places (state_of self.old) }
         ensures of { (P : tree.Program) → IsTableOf P self.old → HasRolled P taken.old.rolled taken.old.places (state_of self.old)
@@ -56,7 +56,7 @@ impl Table {
         Ok(())
     }
 
-    // The breakpoint of this name is removed.
+    // Removes the breakpoint of this name.
     pub(crate) fn unset_break(&mut self, name: Name)
         requires { HasNamed name (state_of self.old) }
         ensures of { (P : tree.Program) → IsTableOf P self.old → IsTableOf P self.new }
@@ -67,7 +67,7 @@ impl Table {
         };
     }
 
-    // The breakpoint of this name is no longer armed.
+    // Disarms the breakpoint of this name.
     pub(crate) fn disarm(&mut self, name: Name)
         requires { HasNamed name (state_of self.old) }
         ensures of { (P : tree.Program) → IsTableOf P self.old → IsTableOf P self.new }
@@ -76,7 +76,7 @@ impl Table {
         self.book.disarm(name);
     }
 
-    // The breakpoint of this name, which is not armed, is armed again.
+    // Arms the breakpoint of this name, which is not armed, again.
     pub(crate) fn rearm(&mut self, name: Name)
         requires { HasUnarmed name (state_of self.old) }
         ensures of { (P : tree.Program) → IsTableOf P self.old → IsTableOf P self.new }
@@ -87,7 +87,7 @@ impl Table {
         };
     }
 
-    // The breakpoint that was taken out at this position is put back. Where memory runs out it is handed back.
+    // Restores the breakpoint that was removed from this position. If an allocation fails, it returns the breakpoint.
     pub(crate) fn restore_break(
         &mut self,
         position: usize,

@@ -1,4 +1,4 @@
-//! Where the conjuncts of a breakpoint are true, looked at before it is set.
+//! Where the conjuncts of a breakpoint are true, evaluated before the breakpoint is set.
 
 ghost use Rattle.std.specs.Prelude.{◌≡◌, map, IfOk, IfErr};
 ghost use Rattle.dbg_base.specs.declared.refusal.Refusal.TheVariants.{Memory};
@@ -18,7 +18,7 @@ use std::sync::Wait;
 use std::thread::Threads;
 
 impl Table {
-    // The scan of these conjuncts, where a breakpoint may have them.
+    // The scan of these conjuncts, or None if a breakpoint may not have them.
     fn scan_fitting<R: Threads + Wait + Sync, G: Gate>(
         &self,
         rt: &R,
@@ -39,9 +39,9 @@ impl Table {
         Ok(Some(scan))
     }
 
-    /// The scan that a command may be given: that of a breakpoint's conjuncts, where there is at least one and they are not refused, and
-    /// for all other commands None. Each conjunct is looked at by a worker of its own, as in `Scan::wide`. It is refused only as
-    /// `Memory`, where that runs out.
+    /// The scan that a command may be given. For a breakpoint it is that of its conjuncts, if there is at least one and they are not
+    /// refused; for all other commands None. Each conjunct has a worker of its own, as in `Scan::wide`. Error: `Memory`, if an allocation
+    /// fails.
     pub fn scan<R: Threads + Wait + Sync, G: Gate>(
         &self,
         rt: &R,

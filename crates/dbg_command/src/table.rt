@@ -17,7 +17,7 @@ use proc_lang::Program;
 use std::alloc::Global;
 use std::marker::Model;
 
-/// A world and the breakpoints in it, whose detectors follow the world. Contracts see it as these two.
+/// A world and the breakpoints in it. Their detectors follow the world. Contracts see these two.
 #[derive(Debug, Drop)]
 pub struct Table {
     pub(crate) world: World,
@@ -49,8 +49,8 @@ pub(crate) fn known(program: &Program, pid: Pid) -> Result<(), Refusal>
 }
 
 impl Table {
-    /// The table of a program at its start: empty lines, initial values, no message, no breakpoint. It is refused only as `Memory`,
-    /// where that runs out.
+    /// The table of a program at its start: empty lines, initial values, no messages, no breakpoints. Error: `Memory`, if an allocation
+    /// fails.
     pub fn new(alloc: Global, program: &Program) -> Result<Table, Refusal>
         ensures of { IfOk result (IsTableOf (program_of program.now)) }
         ensures opens { IfOk result (λ table. state_of table ≡ opening (program_of program.now)) }
@@ -75,7 +75,7 @@ impl Table {
         &self.book
     }
 
-    /// The same table once more, with as much room. It is refused only as `Memory`, where that runs out.
+    /// Copies the table, with as much room. Error: `Memory`, if an allocation fails.
     pub fn copy(&self) -> Result<Table, Refusal>
         ensures { IsCopy result (λ made. made ≡ self.now) }
     {
@@ -85,7 +85,7 @@ impl Table {
         })
     }
 
-    /// The answer to a command that was accepted and did this. It takes no memory.
+    /// The reply to an accepted command with this result. It does not allocate.
     pub fn reply(&self, done: Done) -> Reply
         ensures { (P : tree.Program) → IsTableOf P self.now → Replies P (state_of self.now) done result }
     {
@@ -95,8 +95,8 @@ impl Table {
         }
     }
 
-    /// The place of the breakpoint that halts the session, counted from 1 in the order in which they were set, or 0 where none does. It
-    /// takes no memory.
+    /// The position of the breakpoint that halts the session, from 1 in the order in which they were set, or 0 if none does. It does not
+    /// allocate.
     pub fn halt_place(&self) -> u32
         ensures place { (P : tree.Program) → IsTableOf P self.now → IsHaltPlace P (state_of self.now) result }
         ensures few { result ≤ BREAKPOINTS }
@@ -104,7 +104,7 @@ impl Table {
         self.book.halt_place()
     }
 
-    // Refuses to go on where a breakpoint halts the session.
+    // Error: `Halted`, if a breakpoint halts the session.
     fn unhalted(&self) -> Result<(), Refusal>
         ensures goes_on { OnOk result ((P : tree.Program) → IsTableOf P self.now → IsHalted P (state_of self.now) None) }
         ensures refuses { IfErr result (λ refusal. (P : tree.Program) → IsTableOf P self.now → HaltedAt P (state_of self.now) refusal) }
@@ -115,7 +115,8 @@ impl Table {
         }
     }
 
-    // Gets ready for an event of the process: it is there, no breakpoint halts the session, and there is room in each detector.
+    // Prepares for an event of the process: checks that the process exists and that no breakpoint halts the session, and makes room in each
+    // detector.
     pub(crate) fn ready(
         &mut self,
         alloc: Global,

@@ -1,4 +1,4 @@
-//! The commands that take events back: undo, rollback, goto.
+//! The commands that undo events: undo, rollback, goto.
 
 ghost use Rattle.std.specs.Prelude.{◌≡◌, IfOk, OnErr};
 ghost use Rattle.dbg_base.specs.Trees as tree;
@@ -14,7 +14,7 @@ use dbg_base::{Cut, Done, Name, Pid, Refusal, Reply};
 use proc_lang::Program;
 use std::alloc::Global;
 
-// Events that were taken back, and the places before that.
+// Events that were undone, and the places before that.
 #[derive(Debug, Drop)]
 pub(crate) struct TakenBack {
     pub(crate) rolled: Rolled,
@@ -22,7 +22,7 @@ pub(crate) struct TakenBack {
 }
 
 impl Table {
-    // The last event of the process is taken back, and handed out.
+    // Undoes the last event of the process, and returns it.
     pub(crate) fn undo(
         &mut self,
         alloc: Global,
@@ -45,7 +45,7 @@ impl Table {
         Ok((reply, TakenBack { rolled, places }))
     }
 
-    // The events behind this consistent cut are taken back, and handed out.
+    // Undoes the events beyond this consistent cut, and returns them.
     fn roll_to(&mut self, alloc: Global, cut: Cut) -> Result<(Reply, TakenBack), Refusal>
         requires of { (P : tree.Program) × IsTableOf P self.old }
         requires cut { IsConsistentCut self.old.world.kinds cut }
@@ -63,7 +63,7 @@ impl Table {
         Ok((reply, TakenBack { rolled, places }))
     }
 
-    // The process goes back to this count of events, and the others no further than they must.
+    // Takes the process back to this count of events, and the others no further than they must go.
     pub(crate) fn rollback(
         &mut self,
         alloc: Global,
@@ -87,7 +87,7 @@ impl Table {
         self.roll_to(alloc, cut)
     }
 
-    // All processes go back to the breakpoint's cut.
+    // Takes all processes back to the breakpoint's cut.
     pub(crate) fn go_to(
         &mut self,
         alloc: Global,

@@ -1,3 +1,3 @@
 mod Turns
-mod Barring
-mod Sending
+mod BarredWorkerLemmas
+mod SendableWorkerLemmas

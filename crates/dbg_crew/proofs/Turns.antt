@@ -8,14 +8,14 @@ use Rattle.dbg_base.specs.Calls.{Order, Give}
 use Rattle.dbg_desk.specs.Desks.{SeatState, Records}
 use Rattle.dbg_crew.specs.Crews.{WorkerState, Gives, Works, AreOrders}
 
--- one order more
+-- one more order
 pub gives_more : (seat between after : SeatState) (orders : List Order) (order : Order) → Gives seat orders between
     → Gives between (order ∷ []) after → Gives seat (orders ++ order ∷ []) after
 gives_more seat between after [] order gives more = subst (λ (s : SeatState). Gives s (order ∷ []) after) gives more
 gives_more seat between after (first ∷ orders) order (said, next, records, gives) more =
     (said, next, records, gives_more next between after orders order gives more)
 
--- behind so many turns
+-- the state after so many turns
 pub record HasGiven (old : WorkerState) (seat : SeatState) (left : List Order) (barred : Option ℕ) (turn : ℕ) : Type 0 where
   pub gives : Gives old.seat (take turn old.orders) seat
   pub left_is : left ≡ drop turn old.orders
@@ -23,7 +23,7 @@ pub record HasGiven (old : WorkerState) (seat : SeatState) (left : List Order) (
 
 module _ (MayBar : ℕ → Type 0) (old : WorkerState) (seat : SeatState) (left : List Order) (barred : Option ℕ) (turn : ℕ)
     (has : HasGiven old seat left barred turn) where
-  -- one turn more
+  -- one more turn
   pub given_more : (after : SeatState) (order : Order) → turn < length old.orders → order ≡ get_or old.orders turn order
       → Gives seat (order ∷ []) after → (more : List Order) → more ≡ drop 1 left → HasGiven old after more barred (turn + 1)
   given_more after order here is gives more rest = record {
@@ -60,7 +60,7 @@ module _ (MayBar : ℕ → Type 0) (old : WorkerState) (seat : SeatState) (left 
 
 module _ {C : Type 0} (order_of : C → Order) (old : WorkerState) (seat after : SeatState) (barred : Option ℕ) (turn : ℕ)
     (within : turn < length old.orders) where
-  -- the first of those that are left was given
+  -- the first of the orders that were left was given
   pub turn_more : (items more : List C) → HasGiven old seat (map order_of items) barred turn
       → Gives seat (map order_of (take 1 items)) after → more ≡ drop 1 items → HasGiven old after (map order_of more) barred (turn + 1)
   turn_more [] more has gives rest =
@@ -74,7 +74,7 @@ module _ {C : Type 0} (order_of : C → Order) (old : WorkerState) (seat after :
       given_more (λ n. ⊥) old seat (order_of item ∷ map order_of items) barred turn has after (order_of item) within is gives
       (map order_of more) (ap (λ (l : List C). map order_of l) rest)
 
--- orders that may be given stay so without the first
+-- orders that may be given still may be without the first one
 pub fewer_orders : {C : Type 0} (IsFresh : C → Type 0) (items more : List C) → AllByRecursion IsFresh more → more ≡ drop 1 items
     → AreOrders IsFresh items → AreOrders IsFresh more
 fewer_orders IsFresh items more fresh rest are = record {

@@ -13,13 +13,13 @@ pub record WorkerState : Type 0 where
   pub orders : List Order
   pub barred : Option ℕ
 
--- The seat gave these orders, one after the other: each is behind the seat's own calls, or was not entered.
+-- The seat gave these orders, one after the other. Each was appended to the seat's own calls, or was not entered.
 abbrev pub Gives : SeatState → List Order → SeatState → Type 0
 Gives seat [] after = after ≡ seat
 Gives seat (order ∷ orders) after =
     (said : Said) × (between : SeatState) × Records seat (Give order) said between × Gives between orders after
 
--- What a worker does in a crew: it gives its orders in turn, all of them, or those before the turn from which it is barred.
+-- What a worker does in a crew: it gives all its orders one after the other, or those before the turn from which it is barred.
 pub record Works (MayBar : ℕ → Type 0) (old new : WorkerState) : Type 0 where
   pub given : ℕ
   pub few : given ≤ length old.orders
@@ -27,7 +27,7 @@ pub record Works (MayBar : ℕ → Type 0) (old new : WorkerState) : Type 0 wher
   pub left : new.orders ≡ drop given old.orders
   pub ended : MatchOption new.barred (given ≡ length old.orders) (λ turn. (turn ≡ given) × (given < length old.orders) × MayBar turn)
 
--- the number by which a gate knows the worker at this place: the place, which no crew of less than 4,294,967,295 workers passes
+-- the number by which a gate knows the worker at this position: the position, up to 4,294,967,295
 abbrev pub worker_number : ℕ → ℕ
 worker_number place = min place 4294967295
 
@@ -45,7 +45,7 @@ IsFirstBarred workers (Gate worker turn) =
 abbrev pub MayBarAt : (ℕ → ℕ → Type 0) → CrewFault → Type 0
 MayBarAt may_bar (Gate worker turn) = may_bar worker turn
 
--- Commands that a worker may have to give: none was applied yet, and a turn can be told of each.
+-- Commands that a worker may have to give: none was applied yet, and each turn has a number.
 pub record AreOrders {C : Type 0} (IsFresh : C → Type 0) (orders : List C) : Type 0 where
   pub fresh : AllByRecursion IsFresh orders
   pub few : length orders ≤ 4294967295

@@ -1,4 +1,4 @@
-//! Workers that give their commands at once, each in a thread of its own.
+//! Workers that give their commands at once, each in its own thread.
 
 ghost use Rattle.std.specs.Prelude.{◌≡◌, ℕ, ◌<◌, length, slice_index_or, OnOk, IfErr};
 ghost use Rattle.dbg_crew.specs.Crews.{WorkerState, Works, worker_number, NoneBarred, IsFirstBarred, MayBarAt};
@@ -15,11 +15,11 @@ use std::thread::Threads;
 /// Why not all commands of a crew were given.
 #[derive(Clone, Copy, Debug, PartialEq, Eq)]
 pub enum CrewFault {
-    /// The gate barred this worker, the first that it did, from this turn on.
+    /// The gate barred this worker from this turn on. It is the first worker that was barred.
     Gate { worker: u32, turn: u32 },
 }
 
-// The number by which a gate knows the worker at this place.
+// The number by which a gate knows the worker at this position.
 fn number_of(place: usize) -> u32
     ensures { result ≡ worker_number place }
 {
@@ -42,7 +42,7 @@ fn first_barred<L: Run, C: Command>(workers: &[Worker<L, C>]) -> Result<(), Crew
     Ok(())
 }
 
-// Each worker gives its commands in turn, in a thread of its own where one can be made.
+// Each worker gives its commands one after the other, in its own thread if one can be made.
 fn work_each<L: Run + Send + Sync, C: Command, R: Threads + Wait + Sync, G: Gate>(
     rt: &R,
     alloc: Global,
@@ -63,9 +63,9 @@ fn work_each<L: Run + Send + Sync, C: Command, R: Threads + Wait + Sync, G: Gate
     thread::for_each_mut(rt, workers, workers.len(), &work);
 }
 
-/// Each worker gives its commands in turn, in a thread of its own where one can be made. It asks the gate before each turn, which is the
-/// command's place in this call, from 0, and tells it after; where the gate bars it, it stops, and keeps that command and the others. A
-/// command that is refused is no fault. The fault names the first worker that was barred.
+/// Each worker gives its commands one after the other, in its own thread if one can be made. It calls the gate before and after each turn.
+/// The turn is the position of the command in this call, from 0. If the gate bars the worker, the worker stops, and keeps that command and
+/// the ones after it. A refused command is not a fault. Error: `CrewFault::Gate` with the first worker that was barred.
 pub fn crew<L: Run + Send + Sync, C: Command, R: Threads + Wait + Sync, G: Gate>(
     rt: &R,
     alloc: Global,

@@ -1,7 +1,7 @@
 //! Workers that give commands to one session at once.
 //!
-//! A `Worker` has a seat and the commands that it gives for it. A `crew` lets each worker give its own in turn, in a thread of its own,
-//! and asks a gate before each.
+//! A `Worker` has a seat and the commands that it gives for it. In a `crew` each worker gives its commands one after the other, in its own
+//! thread, and calls a gate before each.
 #![tactic(auto)]
 
 mod crews;

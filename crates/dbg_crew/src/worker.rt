@@ -13,8 +13,8 @@ use std::marker::Model;
 use std::sync::Wait;
 use std::thread::Threads;
 
-/// A seat, and the commands that a worker has to give for it, the first one first. Contracts see it as these, and the turn from which a
-/// gate barred it, if one did.
+/// A seat, and the commands that a worker has to give for it, in order. Contracts see these, and the turn from which a gate barred the
+/// worker, if one did.
 #[derive(Drop)]
 pub struct Worker<L: Run, C: Command> {
     seat: Seat<L>,
@@ -38,7 +38,7 @@ impl<L: Run, C: Command> Model for Worker<L, C> {
     ghost invariant = { λ worker. AreOrders C.IsFresh worker.orders.items };
 }
 
-// The seat gives the first of these orders, whatever is said to it.
+// The seat gives the first of these orders, whatever the answer is.
 fn give_first<L: Run, C: Command, R: Threads + Wait + Sync>(
     rt: &R,
     alloc: Global,
@@ -57,7 +57,7 @@ fn give_first<L: Run, C: Command, R: Threads + Wait + Sync>(
 }
 
 impl<L: Run, C: Command> Worker<L, C> {
-    /// A worker with these commands to give, none of which was applied yet. It takes no memory.
+    /// A worker with these commands to give, none of which was applied yet. It does not allocate.
     pub fn new(seat: Seat<L>, orders: VecDeque<C>) -> Worker<L, C>
         requires fresh { AllByRecursion C.IsFresh orders.items }
         requires few { length orders.items ≤ 4294967295 }
@@ -72,14 +72,14 @@ impl<L: Run, C: Command> Worker<L, C> {
         }
     }
 
-    /// The seat. It takes no memory.
+    /// The seat. It does not allocate.
     pub fn seat(&self) -> &Seat<L>
         ensures { result.now ≡ self.now.seat }
     {
         &self.seat
     }
 
-    /// The seat, without what is left to give. It takes no memory.
+    /// The seat, without the commands that are left. It does not allocate.
     pub fn into_seat(self) -> Seat<L>
         ensures { result ≡ self.seat }
     {
@@ -87,7 +87,8 @@ impl<L: Run, C: Command> Worker<L, C> {
         seat
     }
 
-    // Gives the commands in turn, and asks the gate before each: where that bars it, the turn is noted, and the others are left.
+    // Gives the commands one after the other, and calls the gate before and after each. If the gate bars the worker, the turn is noted, and
+    // the other commands are left.
     pub(crate) fn work<R: Threads + Wait + Sync, G: Gate>(
         &mut self,
         rt: &R,

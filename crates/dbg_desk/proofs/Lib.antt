@@ -1,10 +1,10 @@
-mod Pairs
-mod Making
-mod Matching
-mod Sharing
-mod Recorded
-mod Kept
-mod Finding
-mod Settled
-mod Scanned
-pub mod Sending
+mod BoardPairLemmas
+mod EnteredCallLemmas
+mod CallMatchLemmas
+mod SeatShareLemmas
+mod RecordLemmas
+mod KeptCallLemmas
+mod JournalSearchLemmas
+mod SettleLemmas
+mod ScanLemmas
+pub mod SendableEntryLemmas

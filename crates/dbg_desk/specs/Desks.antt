@@ -1,4 +1,4 @@
--- What contracts see of a journal under its lock, and of a seat, and what a seat's call makes of both.
+-- What contracts see of a journal under its lock, and of a seat, and how a seat's call changes both.
 use Rattle.std.specs.Prelude.{◌≡◌, ◌⊎◌, ℕ, zero, suc, ◌<◌, ◌≤◌, Bool, true, false, List, [], ◌∷◌, ◌++◌, length}
 use Rattle.std.specs.Bool.{MatchBool}
 use Rattle.std.specs.List.{AllByRecursion}
@@ -10,24 +10,24 @@ use Rattle.dbg_base.specs.Calls.{Call, call_of}
 use Rattle.dbg_base.specs.ModelStates.{ModelState, IsHaltPlace}
 use Rattle.dbg_base.specs.Journals as model
 use Rattle.dbg_base.specs.Journals.{Journal, StandsAt, IsLegal, effective}
-use Rattle.kept_calls.specs.Small.{small_call_of, small_said_of}
+use Rattle.dbg_calls.specs.Small.{small_call_of, small_said_of}
 use Rattle.dbg_board.specs.declared.glance.Glance.{Glance}
 use Rattle.dbg_board.specs.Boards.{BoardId, Listing}
 use Rattle.dbg_board.specs.Pairs.{Begins}
 use Rattle.dbg_session.specs.Sessions.{SessionState}
 use Rattle.dbg_desk.specs.declared.entry.Entry as entry
-use Rattle.dbg_desk.specs.declared.entry.Own as own
+use Rattle.dbg_desk.specs.declared.entry.RecordedCall as own
 
--- an entry of the journal, as the model has it
+-- an entry of the journal, as an entry of the model
 abbrev pub entry_of : entry.Entry → model.Entry
 entry_of kept = record { seat = kept.seat; call = call_of kept.call; said = kept.said }
 
--- a call of a seat's own, and what was said to it
-pub record Own : Type 0 where
+-- a call of a seat's own, and its answer
+pub record RecordedCall : Type 0 where
   pub call : Call
   pub said : Said
 
-abbrev pub own_of : own.Own → Own
+abbrev pub own_of : own.RecordedCall → RecordedCall
 own_of kept = record { call = small_call_of kept.call; said = small_said_of kept.said }
 
 -- the calls that were entered, and what was published of them
@@ -38,33 +38,33 @@ pub record Standing : Type 0 where
 -- a seat's number, its own calls, and what it has seen of the board
 pub record SeatState : Type 0 where
   pub number : ℕ
-  pub own : List Own
+  pub own : List RecordedCall
   pub seen : List Glance
 
--- the board of a run that nobody started
+-- the board of a run that was not started
 abbrev pub no_board : BoardId
 no_board = record { words = 0; slots = 0; views_name = 0; atom = 0; block = 0; offset = 0; slot_names = [] }
 
--- this seat was made, of so many
+-- the run has so many seats, and this is the number of one of them
 abbrev pub IsAmong : ℕ → ℕ → Type 0
 IsAmong seats number = (0 < number) × (number ≤ seats)
 
--- What is told of the journal J: how many calls it has, and the place of the breakpoint that halts the session where they leave it, or 0.
+-- What the board shows after the journal J: how many calls it has, and the position of the breakpoint that halts the session then, or 0.
 pub record Shows (P : Program) (J : Journal) (pair : Glance) : Type 0 where
   pub calls : pair.calls ≡ length J
   pub state : ModelState
   pub stands : StandsAt P (effective J) state
   pub halt : IsHaltPlace P state pair.halt
 
--- Behind the journal J these calls were made, and of each one it was told in turn.
+-- After the journal J these calls were made, and for each of them one of these pairs was published.
 abbrev pub ArePairs : Program → Journal → Journal → List Glance → Type 0
 ArePairs P J [] [] = Unit {0}
 ArePairs P J (entry ∷ others) (pair ∷ pairs) =
     Shows P (J ++ entry ∷ []) pair × ArePairs P (J ++ entry ∷ []) others pairs
 ArePairs P J others pairs = ⊥
 
--- What lies under the lock: the session stands where its journal leads, which is a legal one, and names the run's seats alone. All of it
--- was told.
+-- The value under the lock: the journal is legal and names only the run's seats, the session is in the state to which it leads, and all of
+-- it was published.
 pub record IsLocked (P : Program) (seats : ℕ) (session : SessionState) (J : Journal) (pairs : List Glance) : Type 0 where
   pub program : session.program ≡ P
   pub legal : IsLegal P J
@@ -73,7 +73,7 @@ pub record IsLocked (P : Program) (seats : ℕ) (session : SessionState) (J : Jo
   pub among : AllByRecursion (λ entry. IsAmong seats entry.seat) J
   pub shown : ArePairs P [] J pairs
 
--- A seat of a run has one part of its ledger, in which its own calls count, and has seen as many pairs, at least, of the run's board.
+-- A seat of a run has one part of its ledger, which counts its own calls. It has seen at least as many pairs of the run's board.
 pub record IsSeat (board : BoardId) (seats number own parts amount : ℕ) (view : Listing) : Type 0 where
   pub among : IsAmong seats number
   pub one : parts ≡ 1
@@ -81,7 +81,7 @@ pub record IsSeat (board : BoardId) (seats number own parts amount : ℕ) (view 
   pub of : view.board ≡ board
   pub seen : own ≤ length view.pairs
 
--- A seat's call was entered: it is the last of its own, it was told on the board, and the seat has seen all that was.
+-- A seat's call was entered: it is the last of the seat's own calls, it was published, and the seat has seen all that was published.
 pub record IsNoted (P : Program) (old : Standing) (seat : SeatState) (call : Call) (said : Said) (new : Standing)
     (after : SeatState) : Type 0 where
   pub number : after.number ≡ seat.number
@@ -92,25 +92,25 @@ pub record IsNoted (P : Program) (old : Standing) (seat : SeatState) (call : Cal
   pub seen : after.seen ≡ new.pairs
   pub begins : Begins seat.seen after.seen
 
--- What a seat's call leaves beside the journal: it was entered there, and noted, or nothing was changed.
+-- The state after a seat's call: the call was entered and published, or nothing changed.
 abbrev pub Notes : Program → Standing → SeatState → Call → Said → Standing → SeatState → Type 0
 Notes P old seat call said new after =
     ((length new.journal ≡ suc (length old.journal)) × IsNoted P old seat call said new after)
     ⊎ ((new ≡ old) × (after ≡ seat))
 
--- A seat's call was entered: it is the last of its own.
+-- A seat's call was entered: it is the last of the seat's own calls.
 pub record IsRecorded (seat : SeatState) (call : Call) (said : Said) (after : SeatState) : Type 0 where
   pub number : after.number ≡ seat.number
   pub own : after.own ≡ seat.own ++ record { call = call; said = said } ∷ []
   pub begins : Begins seat.seen after.seen
 
--- what is said to a call that is not entered: memory ran out, or as many calls were entered as may be
+-- the answer to a call that is not entered: memory ran out, or the journal is full
 abbrev pub is_left_out : Said → Bool
 is_left_out (Refused Memory) = true
 is_left_out (Refused JournalFull) = true
 is_left_out said = false
 
--- what a seat's call leaves of the seat
+-- the state of the seat after its call
 abbrev pub Records : SeatState → Call → Said → SeatState → Type 0
 Records seat call said after = MatchBool (is_left_out said) (after ≡ seat) (IsRecorded seat call said after)
 

@@ -1,4 +1,5 @@
 pub mod Desks
 pub mod Finding
-pub mod Rooms
+pub mod Openings
+pub mod Reserved
 pub mod Settling

@@ -1,4 +1,4 @@
-//! What is said to a question, for the journal.
+//! Copies of answers to queries, for the journal.
 
 ghost use Rattle.std.specs.Prelude.{◌≡◌, ◌≢◌, ◌↔◌, IfOk, IfErr, OnOk, Err, IsTrue};
 ghost use Rattle.dbg_base.specs.declared.refusal.Refusal.TheVariants.{Memory};
@@ -6,14 +6,14 @@ ghost use Rattle.dbg_command.specs.Tables.{told_of};
 
 use dbg_base::{Answer, Refusal, Said};
 
-/// Whether memory ran out in a call.
+/// Whether the call was refused because memory ran out.
 pub(crate) fn ran_out<T>(outcome: &Result<T, Refusal>) -> bool
     ensures { IsTrue result ↔ (outcome.now ≡ Err Memory) }
 {
     matches!(outcome, Err(Refusal::Memory))
 }
 
-/// What is said to a question. It is refused only as `Memory`, where that runs out, or ran out already.
+/// A copy of the answer to a query. Error: `Memory`, if an allocation fails, or if the query was refused with it.
 pub(crate) fn said_to_question(outcome: &Result<Answer, Refusal>) -> Result<Said, Refusal>
     ensures said { IfOk result (λ made. made ≡ told_of outcome.now) }
     ensures there { OnOk result (outcome.now ≢ Err Memory) }

@@ -1,4 +1,4 @@
-//! A session that seats on threads share.
+//! A session that seats on several threads share.
 
 ghost use Rattle.std.specs.Prelude.{◌≡◌, ◌≤◌, [], length, replicate, IfOk, IfErr};
 ghost use Rattle.dbg_base.specs.declared.refusal.Refusal.TheVariants.{Memory};
@@ -25,8 +25,8 @@ use std::sync::ledger::Blank;
 use std::sync::{Mutex, Wait};
 use std::thread::Threads;
 
-/// A session under its lock, with the board beside it. Whenever the lock is got, the journal behind it is one that a single caller could
-/// have made, with calls of the run's seats alone, and as many as the ledger counts.
+/// A session under its lock, with the board next to it. Whenever a thread holds the lock, the journal is one that a single caller could
+/// have made. All its calls are of the run's seats, and the ledger counts as many.
 #[derive(Drop)]
 pub struct Desk<L: Run, C: Command> {
     shared: Mutex<Locked<L, C>>,
@@ -35,8 +35,8 @@ pub struct Desk<L: Run, C: Command> {
 }
 
 impl<L: Run, C: Command> Desk<L, C> {
-    /// The session of this program with an empty journal, and a seat for each view of the board, numbered from 1. It is refused only as
-    /// `Memory`, where that runs out.
+    /// The session of this program with an empty journal, and a seat for each view of the board, numbered from 1. Error: `Memory`, if an
+    /// allocation fails.
     pub fn begin(
         alloc: Global,
         blank: Blank,
@@ -45,10 +45,8 @@ impl<L: Run, C: Command> Desk<L, C> {
         views: Vec<SeatView>,
         program: Program,
     ) -> Result<(Desk<L, C>, Vec<Seat<L>>), Refusal>
-        requires name { blank.name ≡ L.name }
-        requires parts { (blank.parts ≡ L.parts) × (blank.parts ≡ L.seats) }
-        requires board { board ≡ L.board }
-        requires publisher { publisher ≡ listing L.board [] }
+        requires ledger { (blank.name ≡ L.name) × (blank.parts ≡ L.parts) × (blank.parts ≡ L.seats) }
+        requires board { (board ≡ L.board) × (publisher ≡ listing L.board []) }
         requires views { views.items ≡ replicate L.seats (listing L.board []) }
         requires few { L.seats ≤ SEATS }
         requires program { program_of program ≡ L.program }
@@ -60,10 +58,9 @@ impl<L: Run, C: Command> Desk<L, C> {
         Ok((Desk { shared, board }, seats))
     }
 
-    /// Gives a command for a seat. The scan of the conjuncts of a breakpoint is made by several threads, which ask the gate, while the
-    /// session waits. As `JournalFull`, where as many calls were entered as may be, and as `Memory`, where that runs out, it is refused,
-    /// not entered, and nothing is changed.
-    #[tactic(auto, using(crate::proofs::Recorded::recorded))]
+    /// Gives a command for a seat. Several threads, which ask the gate, scan the conjuncts of a breakpoint, while the session waits. Error:
+    /// `JournalFull`, if the journal is full, and `Memory`, if an allocation fails. Then the call is not entered, and nothing changes.
+    #[tactic(auto, using(crate::proofs::RecordLemmas::recorded))]
     pub fn call<R: Threads + Wait + Sync, G: Gate>(
         &self,
         rt: &R,
@@ -78,18 +75,18 @@ impl<L: Run, C: Command> Desk<L, C> {
         self.shared.lock(rt).call(rt, alloc, seat, command, gate)
     }
 
-    /// Takes back, for a seat, the last command that counts. As `JournalFull`, where as many calls were entered as may be, and as
-    /// `Memory`, where that runs out, it is refused, not entered, and nothing is changed.
-    #[tactic(auto, using(crate::proofs::Recorded::recorded))]
+    /// Takes back, for a seat, the last command that counts. Error: `JournalFull`, if the journal is full, and `Memory`, if an allocation
+    /// fails. Then the call is not entered, and nothing changes.
+    #[tactic(auto, using(crate::proofs::RecordLemmas::recorded))]
     pub fn back<R: Wait>(&self, rt: &R, seat: &mut Seat<L>) -> Result<Reply, Refusal>
         ensures records { Records seat.old model.Back (said_of result) seat.new }
     {
         self.shared.lock(rt).enter_back(seat)
     }
 
-    /// Answers a question of a seat. As `JournalFull`, where as many calls were entered as may be, and as `Memory`, where that runs out,
-    /// it is refused, not entered, and nothing is changed.
-    #[tactic(auto, using(crate::proofs::Recorded::recorded))]
+    /// Answers a query of a seat. Error: `JournalFull`, if the journal is full, and `Memory`, if an allocation fails. Then the call is not
+    /// entered, and nothing changes.
+    #[tactic(auto, using(crate::proofs::RecordLemmas::recorded))]
     pub fn ask<R: Wait>(
         &self,
         rt: &R,
@@ -102,20 +99,21 @@ impl<L: Run, C: Command> Desk<L, C> {
         self.shared.lock(rt).enter_ask(alloc, seat, query)
     }
 
-    /// Whether the calls of each of these seats are those that the journal has of it, in order. It takes no memory.
+    /// Checks that each of these seats has recorded exactly its calls in the journal, in order. It does not allocate.
     pub fn settle<R: Wait>(&self, rt: &R, seats: &[Seat<L>]) -> Result<Closing, Mismatch>
-        // They are: they stand in one history of a single caller, each once and in the seat's order, which has so many calls in all.
+        // They have: the recorded calls are in one history of a single caller, each once and in the seat's order. It has so many calls in
+        // all.
         ensures settles { IfOk result (λ closing. Settles L.program L.seats seats.now closing.calls) }
-        // Of all seats these are all the calls that there are.
+        // If these are all seats, they have recorded all calls of the history.
         ensures all { IfOk result (λ closing. AreAll L.seats seats.now → closing.calls ≡ own_calls seats.now) }
-        // They are not, of this seat.
+        // They have not: the journal has other calls of this seat than its record.
         ensures differs { IfErr result (λ mismatch. Differs L.program L.seats seats.now mismatch.seat) }
     {
         self.shared.lock(rt).settle(seats)
     }
 
-    /// How many calls were entered, and the place of the breakpoint that halts the session behind them: at least as many as the seat's
-    /// own, and no fewer than it has seen before. It takes no memory, and waits for nobody.
+    /// How many calls were entered, and the position of the breakpoint that halts the session after them, or 0. The calls are at least as
+    /// many as the seat's own, and no fewer than it has seen before. It does not allocate, and does not wait.
     pub fn look(&self, seat: &mut Seat<L>) -> Glance
         ensures number { seat.new.number ≡ seat.old.number }
         ensures own { seat.new.own ≡ seat.old.own }
@@ -127,7 +125,7 @@ impl<L: Run, C: Command> Desk<L, C> {
         self.board.look(&mut seat.view)
     }
 
-    /// What lies under the lock. It takes no memory, and waits for nobody.
+    /// The value under the lock. It does not allocate, and does not wait.
     pub fn into_locked(self) -> Locked<L, C> {
         let Desk { shared, .. } = self;
         shared.into_inner()

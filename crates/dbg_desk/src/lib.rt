@@ -1,24 +1,27 @@
-//! A session that seats share, under its lock, with the journal of all calls that were entered, and the board beside it.
+//! A session that seats share, under its lock, with the journal of all calls that were entered, and the board next to the lock.
 //!
-//! A `Desk` has the lock: seats on threads make calls of one session, and `settle` compares their records with the journal.
-//! A `Locked` enters each call of a `Seat` in its journal, keeps it in the seat's own record, and shows the journal's length and the
-//! breakpoint that halts the session on the board. Its journal is one that a single caller could have made: each call was told what is
-//! due where those before it leave the session.
+//! A `Desk` has the lock. Seats on threads make calls of one session, and `settle` compares their records with the journal. A `Locked`
+//! enters each call of a `Seat` in its journal, and appends it to the seat's own record. It shows on the board the journal's length and the
+//! breakpoint that halts the session. Its journal is one that a single caller could have made: the answer to each call is the one due in
+//! the state to which the calls before it lead.
 #![tactic(auto)]
 
+mod begin;
 mod copies;
 mod desk;
 mod entry;
 mod locked;
 mod log;
+mod opening;
 mod rooms;
 mod run;
 mod seat;
 mod settling;
 
 pub use desk::Desk;
-pub use entry::{Entry, Own};
+pub use entry::{Entry, RecordedCall};
 pub use locked::Locked;
+pub use opening::Opening;
 pub use run::Run;
 pub use seat::Seat;
 pub use settling::{Closing, Mismatch};

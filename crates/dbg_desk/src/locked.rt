@@ -9,7 +9,7 @@ ghost use Rattle.dbg_base.specs.ModelStates.{ModelState};
 ghost use Rattle.dbg_base.specs.Journals.{Makes, StandsAt, IsLegal, effective};
 ghost use Rattle.dbg_base.specs.Fits.{FitsCall};
 ghost use Rattle.proc_lang.specs.Programs.{program_of};
-ghost use Rattle.dbg_command.specs.Tables.{said_of, told_of, state_of, IsTableOf};
+ghost use Rattle.dbg_command.specs.Tables.{said_of, told_of, state_of};
 ghost use Rattle.dbg_command.specs.Boxes.{IsScanFor};
 ghost use Rattle.dbg_board.specs.Boards.{listing};
 ghost use Rattle.std.specs.List.{AllByRecursion};
@@ -17,18 +17,18 @@ ghost use Rattle.dbg_desk.specs.Desks.{entry_of, ArePairs, Notes, new_seats};
 ghost use Rattle.dbg_desk.specs.Settling.{IsKeptIn, IsRunJournal, HasOther};
 
 use crate::copies::{ran_out, said_to_question};
-use crate::entry::{Entry, Own};
-use crate::log::Log;
-use crate::rooms::Rooms;
+use crate::entry::{Entry, RecordedCall};
+use crate::log::CallLog;
+use crate::rooms::Reserved;
 use crate::run::Run;
 use crate::seat::Seat;
 use crate::settling::{Closing, Mismatch, are_kept};
 use dbg_base::limits::CALLS;
 use dbg_base::{Answer, Call, Gate, Query, Refusal, Reply};
 use dbg_board::{Publisher, SeatView};
-use dbg_command::{Command, Table};
+use dbg_calls::{SmallCall, SmallSaid, call_that_gives};
+use dbg_command::{Command, SessionView};
 use dbg_session::Session;
-use kept_calls::{SmallCall, SmallSaid, call_that_gives};
 use least_cut::Scan;
 use proc_lang::Program;
 use std::alloc::Global;
@@ -37,14 +37,14 @@ use std::sync::Wait;
 use std::sync::ledger::{Blank, Share};
 use std::thread::Threads;
 
-/// A session, the journal of all calls that were entered, and the publisher of the board beside it. Its type keeps that the journal is one
-/// that a single caller could have made, that the session stands where the journal leads, and that all of it was told on the board.
-/// Contracts see it as the journal, and what was published of it.
+/// A session, the journal of all calls that were entered, and the publisher of the board. The type guarantees that a single caller could
+/// have made the journal, that the session is in the state to which the journal leads, and that the board showed each call. Contracts see
+/// the journal, and what was published of it.
 #[derive(Drop)]
 pub struct Locked<L: Run, C: Command> {
     session: Session<C>,
-    log: Log<L>,
-    rooms: Rooms,
+    log: CallLog<L>,
+    rooms: Reserved,
 }
 
 impl<L: Run, C: Command> Model for Locked<L, C> {
@@ -93,8 +93,8 @@ fn make_seats<L: Run>(
 }
 
 impl<L: Run, C: Command> Locked<L, C> {
-    /// The session of this program with an empty journal, and a seat for each view of the board, numbered from 1. It is refused only as
-    /// `Memory`, where that runs out.
+    /// The session of this program with an empty journal, and a seat for each view of the board, numbered from 1. Error: `Memory`, if an
+    /// allocation fails.
     pub fn new(
         alloc: Global,
         blank: Blank,
@@ -102,10 +102,8 @@ impl<L: Run, C: Command> Locked<L, C> {
         views: Vec<SeatView>,
         program: Program,
     ) -> Result<(Locked<L, C>, Vec<Seat<L>>), Refusal>
-        requires name { blank.name ≡ L.name }
-        requires parts { (blank.parts ≡ L.parts) × (blank.parts ≡ L.seats) }
-        requires board { publisher ≡ listing L.board [] }
-        requires views { views.items ≡ replicate L.seats (listing L.board []) }
+        requires ledger { (blank.name ≡ L.name) × (blank.parts ≡ L.parts) × (blank.parts ≡ L.seats) }
+        requires board { (publisher ≡ listing L.board []) × (views.items ≡ replicate L.seats (listing L.board [])) }
         requires few { L.seats ≤ SEATS }
         requires program { program_of program ≡ L.program }
         ensures journal { IfOk result (λ made. made.0.journal ≡ []) }
@@ -116,8 +114,8 @@ impl<L: Run, C: Command> Locked<L, C> {
         let session = Session::new(alloc, program)?;
         let (book, share) = blank.open::<L>();
         let seats = make_seats::<L>(alloc, views, share)?;
-        let log = Log::new(Vec::new(alloc), book, publisher);
-        let rooms = Rooms::new(alloc);
+        let log = CallLog::new(Vec::new(alloc), book, publisher);
+        let rooms = Reserved::new(alloc);
         Ok((
             Locked {
                 session,
@@ -128,22 +126,23 @@ impl<L: Run, C: Command> Locked<L, C> {
         ))
     }
 
-    /// The program. It takes no memory.
+    /// The program. It does not allocate.
     pub fn program(&self) -> &Program
         ensures { program_of result.now ≡ L.program }
     {
         self.session.program()
     }
 
-    /// The table where the calls that were entered have led. It takes no memory.
-    pub fn table(&self) -> &Table
-        ensures of { IsTableOf L.program result.now }
-        ensures stands { StandsAt L.program (effective self.now.journal) (state_of result.now) }
+    /// The session, in the state to which the entered calls lead. It does not allocate.
+    pub fn view(&self) -> SessionView<'_>
+        ensures program { program_of result.program.now ≡ L.program }
+        ensures stands { StandsAt L.program (effective self.now.journal)
+            (state_of (record { world = result.world.now; book = result.book.now })) }
     {
-        self.session.table()
+        self.session.table().view(self.session.program())
     }
 
-    /// How many calls were entered. They are a legal journal, and each was told on the board. It takes no memory.
+    /// How many calls were entered. They are a legal journal, and the board showed each of them. It does not allocate.
     pub fn calls(&self) -> usize
         ensures calls { result ≡ length self.now.journal }
         ensures legal { IsLegal L.program self.now.journal }
@@ -152,7 +151,7 @@ impl<L: Run, C: Command> Locked<L, C> {
         self.log.journal.len()
     }
 
-    /// The call that was entered at this place, from 0, or None where there are not so many. It takes no memory.
+    /// The entered call at this position, from 0, or None if there are fewer calls. It does not allocate.
     pub fn entry(&self, place: usize) -> Option<&Entry>
         ensures { MatchOption result (length self.now.journal ≤ place)
             (λ found. slice_get self.now.journal place ≡ Some (entry_of found.now)) }
@@ -160,9 +159,9 @@ impl<L: Run, C: Command> Locked<L, C> {
         self.log.journal.get(place)
     }
 
-    /// Gives a command for a seat, and enters the call with what is said to it. The command may be given the scan of its conjuncts where
-    /// the session stands. As `JournalFull`, where as many calls were entered as may be, and as `Memory`, where that runs out, it is
-    /// refused, not entered, and nothing is changed.
+    /// Gives a command for a seat, and enters the call with its answer. The command may be given the scan of its conjuncts in the present
+    /// state. Error: `JournalFull`, if the journal is full, and `Memory`, if an allocation fails. Then the call is not entered, and nothing
+    /// changes.
     pub fn enter(
         &mut self,
         alloc: Global,
@@ -198,12 +197,12 @@ impl<L: Run, C: Command> Locked<L, C> {
             return outcome;
         }
         let entry = Entry::new(*number, call, rooms.say(&outcome));
-        let kept = Own::new(own_call, rooms.say_own(&outcome));
+        let kept = RecordedCall::new(own_call, rooms.say_own(&outcome));
         log.enter(own, share, view, entry, kept, session.halt_at());
         outcome
     }
 
-    // The scan that the command may be given where the session stands, made by several threads.
+    // The scan of the command's conjuncts in the present state, made by several threads.
     fn scan<R: Threads + Wait + Sync, G: Gate>(
         &self,
         rt: &R,
@@ -218,8 +217,7 @@ impl<L: Run, C: Command> Locked<L, C> {
         self.session.scan(rt, alloc, command.plan(), gate)
     }
 
-    /// Gives a command for a seat, as `enter` does, where the scan of the conjuncts of a breakpoint is made by several threads, which ask
-    /// the gate. A full journal is looked for first.
+    /// Gives a command for a seat, as `enter` does. Several threads, which ask the gate, scan the conjuncts of a breakpoint.
     pub(crate) fn call<R: Threads + Wait + Sync, G: Gate>(
         &mut self,
         rt: &R,
@@ -233,14 +231,15 @@ impl<L: Run, C: Command> Locked<L, C> {
             self.new.journal }
         ensures notes { Notes L.program self.old seat.old (model.Give (C.order command)) (said_of result) self.new seat.new }
     {
-        if self.calls() >= CALLS {
-            return Err(Refusal::JournalFull);
+        match self.scan(rt, alloc, &command, gate) {
+            Ok(scan) => self.enter(alloc, seat, command, scan),
+            // A full journal is reported also if memory ran out.
+            Err(_) if self.calls() >= CALLS => Err(Refusal::JournalFull),
+            Err(refusal) => Err(refusal),
         }
-        let scan = self.scan(rt, alloc, &command, gate)?;
-        self.enter(alloc, seat, command, scan)
     }
 
-    /// Whether the calls of each of these seats are those that the journal has of it, in order. It takes no memory.
+    /// Checks that each of these seats has recorded exactly its calls in the journal, in order. It does not allocate.
     pub fn settle(&self, seats: &[Seat<L>]) -> Result<Closing, Mismatch>
         ensures run { IsRunJournal L.program L.seats self.now.journal }
         ensures calls { IfOk result (λ closing. closing.calls ≡ length self.now.journal) }
@@ -253,8 +252,8 @@ impl<L: Run, C: Command> Locked<L, C> {
         })
     }
 
-    /// Takes back, for a seat, the last command that counts, and enters the call with what is said to it. As `JournalFull`, where as many
-    /// calls were entered as may be, and as `Memory`, where that runs out, it is refused, not entered, and nothing is changed.
+    /// Takes back, for a seat, the last command that counts, and enters the call with its answer. Error: `JournalFull`, if the journal is
+    /// full, and `Memory`, if an allocation fails. Then the call is not entered, and nothing changes.
     pub fn enter_back(&mut self, seat: &mut Seat<L>) -> Result<Reply, Refusal>
         ensures makes { Makes L.program self.old.journal seat.old.number model.Back (said_of result) self.new.journal }
         ensures notes { Notes L.program self.old seat.old model.Back (said_of result) self.new seat.new }
@@ -278,13 +277,13 @@ impl<L: Run, C: Command> Locked<L, C> {
             return taken;
         }
         let entry = Entry::new(*number, Call::Back, rooms.say(&taken));
-        let kept = Own::new(SmallCall::Back, rooms.say_own(&taken));
+        let kept = RecordedCall::new(SmallCall::Back, rooms.say_own(&taken));
         log.enter(own, share, view, entry, kept, session.halt_at());
         taken
     }
 
-    /// Answers a question of a seat, and enters the call with what is said to it. As `JournalFull`, where as many calls were entered as
-    /// may be, and as `Memory`, where that runs out, it is refused, not entered, and nothing is changed.
+    /// Answers a query of a seat, and enters the call with its answer. Error: `JournalFull`, if the journal is full, and `Memory`, if an
+    /// allocation fails. Then the call is not entered, and nothing changes.
     pub fn enter_ask(
         &mut self,
         alloc: Global,
@@ -310,7 +309,7 @@ impl<L: Run, C: Command> Locked<L, C> {
         let own_call = SmallCall::new(alloc, &asked)?;
         let own_said = SmallSaid::new(alloc, &said)?;
         let entry = Entry::new(*number, asked, said);
-        let kept = Own::new(own_call, own_said);
+        let kept = RecordedCall::new(own_call, own_said);
         log.enter(own, share, view, entry, kept, session.halt_at());
         answered
     }

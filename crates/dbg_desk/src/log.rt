@@ -1,22 +1,22 @@
-//! The calls that were entered, and what tells how many they are.
+//! The calls that were entered, with their count and the board that shows it.
 
 ghost use Rattle.std.specs.Prelude.{◌≡◌, ◌+◌, ◌<◌, ◌≤◌, ◌++◌, ◌∷◌, [], length, OnOk, IfErr};
 ghost use Rattle.std.specs.Vec.{vec_len, vec_capacity};
 ghost use Rattle.dbg_base.specs.declared.limits.TheConstants.{BREAKPOINTS, CALLS};
 ghost use Rattle.dbg_board.specs.Pairs.{Begins};
 ghost use Rattle.dbg_board.specs.Boards.{listing};
-ghost use Rattle.dbg_desk.specs.Rooms.{IsUnready};
+ghost use Rattle.dbg_desk.specs.Reserved.{IsUnready};
 
-use crate::entry::{Entry, Own};
+use crate::entry::{Entry, RecordedCall};
 use crate::run::Run;
 use dbg_base::Refusal;
 use dbg_base::limits::CALLS;
 use dbg_board::{Publisher, SeatView};
 use std::sync::ledger::{Book, Share};
 
-/// The journal, the book that counts its entries, and the publisher that tells of each. All three go on together.
+/// The journal, the ledger's book that counts its entries, and the publisher that shows each. All three advance together.
 #[derive(Drop)]
-pub(crate) struct Log<L: Run> {
+pub(crate) struct CallLog<L: Run> {
     // The oldest first.
     pub(crate) journal: Vec<Entry>,
     pub(crate) book: Book<L>,
@@ -27,25 +27,25 @@ pub(crate) struct Log<L: Run> {
     ghost few: { vec_len journal ≤ CALLS },
 }
 
-impl<L: Run> Log<L> {
+impl<L: Run> CallLog<L> {
     /// The log of a run in which no call was entered.
-    pub(crate) fn new(journal: Vec<Entry>, book: Book<L>, publisher: Publisher) -> Log<L>
+    pub(crate) fn new(journal: Vec<Entry>, book: Book<L>, publisher: Publisher) -> CallLog<L>
         requires empty { journal.items ≡ [] }
         requires counted { book.total ≡ 0 }
         requires posted { publisher ≡ listing L.board [] }
         ensures journal { result.journal ≡ journal }
         ensures publisher { result.publisher ≡ publisher }
     {
-        Log {
+        CallLog {
             journal,
             book,
             publisher,
         }
     }
 
-    /// Makes room for one call more, in the journal and in a seat's own. It is refused as `JournalFull`, where as many calls were
-    /// entered as may be, and else only as `Memory`, where that runs out.
-    pub(crate) fn make_room(&mut self, own: &mut Vec<Own>) -> Result<(), Refusal>
+    /// Makes room for one more call, in the journal and in a seat's own record. Error: `JournalFull`, if the journal is full, and otherwise
+    /// `Memory`, if an allocation fails.
+    pub(crate) fn make_room(&mut self, own: &mut Vec<RecordedCall>) -> Result<(), Refusal>
         ensures journal { self.new.journal.items ≡ self.old.journal.items }
         ensures publisher { self.new.publisher ≡ self.old.publisher }
         ensures own { own.new.items ≡ own.old.items }
@@ -62,32 +62,29 @@ impl<L: Run> Log<L> {
         Ok(())
     }
 
-    /// Enters a call, in the journal and in the record of the seat that made it, and tells of it and of the breakpoint that halts the
-    /// session, first the board and then the seat. It takes no memory.
+    /// Enters a call in the journal and in the record of the seat that made it. Shows the call and the breakpoint that halts the session,
+    /// first on the board and then to the seat. It does not allocate.
     pub(crate) fn enter(
         &mut self,
-        own: &mut Vec<Own>,
+        own: &mut Vec<RecordedCall>,
         share: &mut Share<L>,
         view: &mut SeatView,
         entry: Entry,
-        kept: Own,
+        kept: RecordedCall,
         halt: u32,
     )
-        requires room { vec_len self.old.journal < vec_capacity self.old.journal }
-        requires few { vec_len self.old.journal < CALLS }
-        requires record_room { vec_len own.old < vec_capacity own.old }
+        requires room { (vec_len self.old.journal < CALLS) × (vec_len self.old.journal < vec_capacity self.old.journal)
+            × (vec_len own.old < vec_capacity own.old) }
         requires part { 0 < share.old.parts }
         requires board { view.old.board ≡ L.board }
         requires halt { halt ≤ BREAKPOINTS }
         ensures journal { self.new.journal.items ≡ self.old.journal.items ++ entry ∷ [] }
         ensures own { own.new.items ≡ own.old.items ++ kept ∷ [] }
-        ensures parts { share.new.parts ≡ share.old.parts }
-        ensures amount { share.new.amount ≡ share.old.amount + 1 }
-        ensures bound { share.new.amount ≤ vec_len self.new.journal }
+        ensures counts { (share.new.parts ≡ share.old.parts) × (share.new.amount ≡ share.old.amount + 1)
+            × (share.new.amount ≤ vec_len self.new.journal) }
         ensures pairs { self.new.publisher.pairs
             ≡ self.old.publisher.pairs ++ record { calls = vec_len self.new.journal; halt = halt } ∷ [] }
-        ensures told { view.new ≡ self.new.publisher }
-        ensures begins { Begins view.old.pairs view.new.pairs }
+        ensures seen { (view.new ≡ self.new.publisher) × Begins view.old.pairs view.new.pairs }
     {
         self.journal.push_reserved(entry);
         own.push_reserved(kept);

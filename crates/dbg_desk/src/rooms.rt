@@ -1,4 +1,4 @@
-//! Memory for what is said to a command.
+//! Memory that is reserved for the answer to a command.
 
 ghost use Rattle.std.specs.Prelude.{◌≡◌, ◌≤◌, [], IfOk, IfErr, IfSome, IsSome, OnOk};
 ghost use Rattle.std.specs.Vec.{vec_capacity};
@@ -6,19 +6,19 @@ ghost use Rattle.dbg_base.specs.declared.refusal.Refusal.TheVariants.{Memory};
 ghost use Rattle.dbg_base.specs.Copies.{counts_in};
 ghost use Rattle.proc_lang.specs.Programs.{program_of};
 ghost use Rattle.dbg_command.specs.Tables.{said_of};
-ghost use Rattle.kept_calls.specs.Small.{small_said_of};
-ghost use Rattle.dbg_desk.specs.Rooms.{HaveRoom};
+ghost use Rattle.dbg_calls.specs.Small.{small_said_of};
+ghost use Rattle.dbg_desk.specs.Reserved.{HaveRoom};
 
 use dbg_base::{Done, Refusal, Reply, Said};
-use kept_calls::SmallSaid;
+use dbg_calls::SmallSaid;
 use proc_lang::Program;
 use std::alloc::Global;
 use std::mem;
 
-/// Memory for the places that a command may tell: for the journal, and for the seat's own record. And memory for what may be said apart
-/// from that record. It stays for the next command, where this one tells no places, and where what is said to it does not stand apart.
+/// Memory for the places in the answer to a command, for the journal and for the seat's own record, and memory for an answer that the
+/// record keeps in a box of its own. If an answer has no places, or needs no box, the memory stays for the next command.
 #[derive(Drop)]
-pub(crate) struct Rooms {
+pub(crate) struct Reserved {
     pub(crate) entry: Vec<u32>,
     pub(crate) own: Vec<u32>,
     pub(crate) apart: Option<Box<Said>>,
@@ -26,7 +26,7 @@ pub(crate) struct Rooms {
     ghost own_empty: { own.items ≡ [] },
 }
 
-// The same reply once more. Where it tells places, they are in the memory of this list, which is then left without any.
+// A copy of the reply. If the reply has places, the copy has them in the memory of this list, which is then left without memory.
 fn reply_again(reply: &Reply, room: &mut Vec<u32>) -> Reply
     requires empty { room.old.items ≡ [] }
     requires room { counts_in reply.now.done ≤ vec_capacity room.old }
@@ -40,7 +40,7 @@ fn reply_again(reply: &Reply, room: &mut Vec<u32>) -> Reply
     }
 }
 
-// What is said to a command, once more.
+// A copy of the answer to a command.
 fn said_again(outcome: &Result<Reply, Refusal>, room: &mut Vec<u32>) -> Said
     requires empty { room.old.items ≡ [] }
     requires room { IfOk outcome.now (λ reply. counts_in reply.done ≤ vec_capacity room.old) }
@@ -53,7 +53,7 @@ fn said_again(outcome: &Result<Reply, Refusal>, room: &mut Vec<u32>) -> Said
     }
 }
 
-// What is said to a command, where it does not stand apart.
+// The answer to a command in its small form, if it needs no box of its own.
 fn small_said(outcome: &Result<Reply, Refusal>) -> Option<SmallSaid>
     ensures { IfSome result (λ small. small_said_of small ≡ said_of outcome.now) }
 {
@@ -63,18 +63,17 @@ fn small_said(outcome: &Result<Reply, Refusal>) -> Option<SmallSaid>
     }
 }
 
-impl Rooms {
+impl Reserved {
     /// No memory yet.
-    pub(crate) fn new(alloc: Global) -> Rooms {
-        Rooms {
+    pub(crate) fn new(alloc: Global) -> Reserved {
+        Reserved {
             entry: Vec::new(alloc),
             own: Vec::new(alloc),
             apart: None,
         }
     }
 
-    /// Makes room for a place of each process, twice, and for what may be said apart. It is refused only as `Memory`, where that runs
-    /// out.
+    /// Makes room for a place of each process, twice, and for a box of its own. Error: `Memory`, if an allocation fails.
     pub(crate) fn make(&mut self, program: &Program) -> Result<(), Refusal>
         ensures room { OnOk result (HaveRoom (program_of program.now) (vec_capacity self.new.entry) (vec_capacity self.new.own)) }
         ensures apart { OnOk result (IsSome self.new.apart) }
@@ -90,7 +89,7 @@ impl Rooms {
         Ok(())
     }
 
-    /// What is said to a command, for the journal. It takes no memory.
+    /// The answer to a command, for the journal. It does not allocate.
     pub(crate) fn say(&mut self, outcome: &Result<Reply, Refusal>) -> Said
         requires { IfOk outcome.now (λ reply. counts_in reply.done ≤ vec_capacity self.old.entry) }
         ensures said { result ≡ said_of outcome.now }
@@ -100,7 +99,7 @@ impl Rooms {
         said_again(outcome, &mut self.entry)
     }
 
-    /// The same, for the seat's own record. It takes no memory.
+    /// The same answer, for the seat's own record. It does not allocate.
     pub(crate) fn say_own(&mut self, outcome: &Result<Reply, Refusal>) -> SmallSaid
         requires room { IfOk outcome.now (λ reply. counts_in reply.done ≤ vec_capacity self.old.own) }
         requires apart { IsSome self.old.apart }

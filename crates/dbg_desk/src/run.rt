@@ -1,10 +1,10 @@
-//! Which run a seat is of.
+//! The run to which a seat belongs.
 
 use std::marker::Brand;
 use std::sync::ledger::Ledger;
 
-/// One run of a session: the ledger of its calls, its program, its board, and how many seats it has. Who starts a run calls a function
-/// over this trait at `Brand`, and picks all of them at the call.
+/// One run of a session: the ledger of its calls, its program, its board, and how many seats it has. Code that starts a run calls a
+/// function over this trait at `Brand`, and picks all of them at the call.
 pub trait Run: Ledger {
     ghost use Rattle.dbg_base.specs.Trees.{Program};
     ghost use Rattle.dbg_board.specs.Boards.{BoardId};

@@ -3,18 +3,18 @@
 ghost use Rattle.std.specs.Prelude.{◌≡◌, map};
 ghost use Rattle.dbg_desk.specs.Desks.{own_of};
 
-use crate::entry::Own;
+use crate::entry::RecordedCall;
 use crate::run::Run;
 use dbg_board::SeatView;
 use std::marker::Model;
 use std::sync::ledger::Share;
 
 /// A numbered caller of a session, with the record of its own calls, its share of the run's ledger, and its view of the board. Contracts
-/// see it as its number, its own, and what it has seen of the board.
+/// see its number, its own calls, and what it has seen of the board.
 #[derive(Drop)]
 pub struct Seat<L: Run> {
     pub(crate) number: u32,
-    pub(crate) own: Vec<Own>,
+    pub(crate) own: Vec<RecordedCall>,
     pub(crate) share: Share<L>,
     pub(crate) view: SeatView,
 }
@@ -37,15 +37,15 @@ impl<L: Run> Model for Seat<L> {
 }
 
 impl<L: Run> Seat<L> {
-    /// The seat's number, from 1. It takes no memory.
+    /// The seat's number, from 1. It does not allocate.
     pub fn number(&self) -> u32
         ensures { result ≡ self.now.number }
     {
         self.number
     }
 
-    /// The calls that the seat made and that were entered, in order, each with what was said to it. It takes no memory.
-    pub fn own_calls(&self) -> &[Own]
+    /// The calls that the seat made and that were entered, in order, each with its answer. It does not allocate.
+    pub fn own_calls(&self) -> &[RecordedCall]
         ensures { map own_of result.now ≡ self.now.own }
     {
         self.own.as_slice()

@@ -1,4 +1,4 @@
-//! Whether the journal has of each seat just the calls of its own.
+//! Checks that each seat has recorded exactly its calls in the journal.
 
 ghost use Rattle.std.specs.Prelude.{◌≡◌, ◌≤◌, ◌↔◌, IsTrue, IfOk, IfErr, OnOk, Some, length, map, slice_get};
 ghost use Rattle.std.specs.List.{AllByRecursion};
@@ -6,34 +6,34 @@ ghost use Rattle.dbg_desk.specs.Desks.{entry_of, own_of};
 ghost use Rattle.dbg_desk.specs.Settling.{IsKeptIn, HasOther, as_own};
 ghost use Rattle.dbg_desk.specs.Finding.{IsFound, IsOther, AreFound, HasOtherNext, HaveEnded, HasMore};
 
-use crate::entry::{Entry, Own};
+use crate::entry::{Entry, RecordedCall};
 use crate::run::Run;
 use crate::seat::Seat;
 
-// The calls of so many seats are looked for in the journal at once.
+// The journal is searched for the calls of so many seats at once.
 const TOGETHER: usize = 16;
 
-/// All seats' calls stand in one journal, which has so many.
+/// All seats' calls are in one journal, which has so many calls.
 #[derive(Clone, Copy, Debug, PartialEq, Eq)]
 pub struct Closing {
     pub calls: usize,
 }
 
-/// The journal has other calls of this seat than the seat's own.
+/// The journal has other calls of this seat than the seat's own record.
 #[derive(Clone, Copy, Debug, PartialEq, Eq)]
 pub struct Mismatch {
     pub seat: u32,
 }
 
-// Whether a call of a seat's own is that of the entry, and the same was said to it.
-fn is_same(entry: &Entry, own: &Own) -> bool
+// Whether a recorded call is that of the entry, with the same answer.
+fn is_same(entry: &Entry, own: &RecordedCall) -> bool
     ensures { IsTrue result ↔ (own_of own.now ≡ as_own (entry_of entry.now)) }
 {
     own.call.is_call(&entry.call) && own.said.is_said(&entry.said)
 }
 
-// Whether the call at this place of a seat's own is there, and is that of the entry.
-fn is_next(own: &[Own], place: usize, entry: &Entry) -> bool
+// Whether a recorded call is at this position, and is that of the entry.
+fn is_next(own: &[RecordedCall], place: usize, entry: &Entry) -> bool
     ensures { IsTrue result ↔ (slice_get (map own_of own.now) place ≡ Some (as_own (entry_of entry.now))) }
 {
     match own.get(place) {
@@ -42,7 +42,8 @@ fn is_next(own: &[Own], place: usize, entry: &Entry) -> bool
     }
 }
 
-// How many of a seat's own calls are found behind this entry, where so many were before: one more, where it is of this seat.
+// How many recorded calls of a seat were found up to this entry, given how many were found before it: one more if the entry is of this
+// seat.
 fn find<L: Run>(entry: &Entry, seat: &Seat<L>, found: usize) -> Result<usize, Mismatch>
     ensures found { IfOk result (λ after. IsFound (entry_of entry.now) seat.now found after) }
     ensures other { IfErr result (λ mismatch. IsOther (entry_of entry.now) seat.now found mismatch.seat) }
@@ -58,7 +59,7 @@ fn find<L: Run>(entry: &Entry, seat: &Seat<L>, found: usize) -> Result<usize, Mi
     Ok(found + 1)
 }
 
-// The same of each of these seats.
+// The same for each of these seats.
 fn find_all<L: Run>(entry: &Entry, seats: &[Seat<L>], found: &mut [usize]) -> Result<(), Mismatch>
     requires { length found.old ≡ length seats.now }
     ensures found { OnOk result (AreFound (entry_of entry.now) seats.now found.old found.new) }
@@ -70,7 +71,7 @@ fn find_all<L: Run>(entry: &Entry, seats: &[Seat<L>], found: &mut [usize]) -> Re
     Ok(())
 }
 
-// Whether each seat has no calls of its own but those that were found.
+// Checks that each seat has recorded no calls besides those that were found.
 fn have_ended<L: Run>(seats: &[Seat<L>], found: &[usize]) -> Result<(), Mismatch>
     requires { length found.now ≡ length seats.now }
     ensures ended { OnOk result (HaveEnded seats.now found.now) }
@@ -86,8 +87,7 @@ fn have_ended<L: Run>(seats: &[Seat<L>], found: &[usize]) -> Result<(), Mismatch
     Ok(())
 }
 
-// Whether the calls that the journal has of each of these seats, which are few, are those of its own, in order. The journal is gone
-// through once.
+// Checks that each of these few seats has recorded exactly its calls in the journal, in order. The journal is read once.
 fn few_are_kept<L: Run>(journal: &[Entry], seats: &[Seat<L>]) -> Result<(), Mismatch>
     requires { length seats.now ≤ TOGETHER }
     ensures kept { OnOk result (AllByRecursion (IsKeptIn (map entry_of journal.now)) seats.now) }
@@ -101,7 +101,7 @@ fn few_are_kept<L: Run>(journal: &[Entry], seats: &[Seat<L>]) -> Result<(), Mism
     have_ended(seats, found)
 }
 
-/// Whether the calls that the journal has of each of these seats are those of its own, in order. It takes no memory.
+/// Checks that each of these seats has recorded exactly its calls in the journal, in order. It does not allocate.
 pub(crate) fn are_kept<L: Run>(journal: &[Entry], seats: &[Seat<L>]) -> Result<(), Mismatch>
     ensures kept { OnOk result (AllByRecursion (IsKeptIn (map entry_of journal.now)) seats.now) }
     ensures other { IfErr result (λ mismatch. HasOther (map entry_of journal.now) seats.now mismatch.seat) }

@@ -1,3 +1,3 @@
 pub mod Stacks
-pub mod Unwinding
-pub mod Fitting
+pub mod StackUndoLemmas
+pub mod AnswerFitLemmas

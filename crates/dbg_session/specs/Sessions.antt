@@ -16,7 +16,7 @@ pub record SessionState : Type 0 where
   pub effective : List Given
   pub state : ModelState
 
--- The order led to M from the state before, and may be taken back there.
+-- The order led to M from the state before, and can be undone there.
 pub record GoesBack (P : Program) (MayGoBack : Program → ModelState → Type 0) (before : ModelState → ModelState) (order : Order)
     (M : ModelState) : Type 0 where
   pub may : MayGoBack P M
@@ -26,20 +26,20 @@ pub record GoesBack (P : Program) (MayGoBack : Program → ModelState → Type 0
 abbrev pub given_of : {C : Type 0} → (C → Order) → Stacked C → Given
 given_of order one = record { seat = one.seat; order = order one.command }
 
--- the state before the first of these commands, where they led to M one after the other
+-- the state before the first of these commands, which led to M one after the other
 abbrev pub start_of : {C : Type 0} → (C → ModelState → ModelState) → List (Stacked C) → ModelState → ModelState
 start_of before [] M = M
 start_of before (one ∷ stack) M = before one.command (start_of before stack M)
 
--- what is known of the commands of a type: what each is to do, where it may be taken back, and the state to which this leads
+-- what is known of the commands of a type: the order of each, when it can be undone, and the state to which that leads
 module _ {C : Type 0} (order : C → Order) (MayGoBack : C → Program → ModelState → Type 0) (before : C → ModelState → ModelState) where
-  -- each of them may be taken back once those behind it are
+  -- each of them can be undone once those after it are
   abbrev pub Unwinds : Program → List (Stacked C) → ModelState → Type 0
   Unwinds P [] M = Unit {0}
   Unwinds P (one ∷ stack) M =
       GoesBack P (MayGoBack one.command) (before one.command) (order one.command) (start_of before stack M) × Unwinds P stack M
 
-  -- The table is of the program, and where all commands of the stack are taken back, the last one first, the opening state is left.
+  -- The table is of the program. Undoing all commands of the stack, the last one first, leads to the opening state.
   pub record IsSession (P : Program) (t : TableState) (stack : List (Stacked C)) : Type 0 where
     pub table : IsTableOf P t
     pub unwinds : Unwinds P stack (state_of t)

@@ -1,4 +1,4 @@
-//! A session: the commands that count, the state to which they lead, and the way back, one command after the other.
+//! A session: the commands that count, the state to which they lead, and how they are taken back one after the other.
 #![tactic(auto)]
 
 mod session;

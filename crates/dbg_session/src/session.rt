@@ -27,8 +27,8 @@ struct Stacked<C> {
     command: C,
 }
 
-/// A program, the commands that were accepted and are not taken back, and the state to which they lead. Each of them can be taken back,
-/// the last one first. Contracts see it as the program, the orders that count with the seats that gave them, and the state.
+/// A program, the commands that were accepted and are not taken back, and the state to which they lead. Each of them can be taken back, the
+/// last one first. Contracts see the program, the orders that count with the seats that gave them, and the state.
 #[derive(Drop)]
 pub struct Session<C: Command> {
     program: Program,
@@ -59,7 +59,7 @@ impl<C: Command> Model for Session<C> {
 }
 
 impl<C: Command> Session<C> {
-    /// A session of this program, in its opening state, in which no command counts. It is refused only as `Memory`, where that runs out.
+    /// A session of this program in its opening state. No command counts. Error: `Memory`, if an allocation fails.
     pub fn new(alloc: Global, program: Program) -> Result<Session<C>, Refusal>
         ensures program { IfOk result (λ session. session.program ≡ program_of program) }
         ensures effective { IfOk result (λ session. session.effective ≡ []) }
@@ -74,14 +74,14 @@ impl<C: Command> Session<C> {
         })
     }
 
-    /// The program. It takes no memory.
+    /// The program. It does not allocate.
     pub fn program(&self) -> &Program
         ensures { program_of result.now ≡ self.now.program }
     {
         &self.program
     }
 
-    /// The table: the world of the program, and the breakpoints. It takes no memory.
+    /// The table: the world of the program, and the breakpoints. It does not allocate.
     pub fn table(&self) -> &Table
         ensures of { IsTableOf self.now.program result.now }
         ensures state { state_of result.now ≡ self.now.state }
@@ -89,9 +89,9 @@ impl<C: Command> Session<C> {
         &self.table
     }
 
-    /// Gives a command for the seat, which counts from then on where it is accepted. A command that sets a breakpoint may be given the
-    /// scan of its conjuncts; no other looks at one. It is refused, and changes nothing, as its kind says, or as `Memory`, where that
-    /// runs out.
+    /// Gives a command for the seat. If it is accepted, it counts from then on. A command that sets a breakpoint may be given the scan of
+    /// its conjuncts; other commands ignore it. On an error nothing changes. The errors depend on its kind, and `Memory` if an allocation
+    /// fails.
     pub fn perform(
         &mut self,
         alloc: Global,
@@ -115,9 +115,9 @@ impl<C: Command> Session<C> {
         Ok(reply)
     }
 
-    /// Takes back, for the seat, the last command that counts: the session stands as though it had never been given. It is refused, and
-    /// changes nothing, as `NothingBack`, where no command counts, as `OtherSeat`, where another seat gave the last one, or as
-    /// `Memory`, where that runs out.
+    /// Takes back, for the seat, the last command that counts: the session is as if that command had never been given. On an error nothing
+    /// changes. Errors: `NothingBack` if no command counts, `OtherSeat` if another seat gave the last one, and `Memory` if an allocation
+    /// fails.
     pub fn back(&mut self, seat: u32) -> Result<Reply, Refusal>
         ensures program { self.new.program ≡ self.old.program }
         ensures due { AnswersBack self.old.program self.old.effective seat (last_given self.old.effective) (said_of result)
@@ -138,9 +138,9 @@ impl<C: Command> Session<C> {
         Ok(self.table.reply(Done::Plain))
     }
 
-    /// The scan that `perform` may be given with a command of this plan: that of a breakpoint's conjuncts, where there is at least one
-    /// and they are not refused, and for all other plans None. Each conjunct is looked at by a worker of its own, as in `Scan::wide`. It
-    /// is refused only as `Memory`, where that runs out.
+    /// The scan that `perform` may be given with a command of this plan. For a breakpoint it is that of its conjuncts, if there is at least
+    /// one and they are not refused; for all other plans None. Each conjunct has a worker of its own, as in `Scan::wide`. Error: `Memory`,
+    /// if an allocation fails.
     pub fn scan<R: Threads + Wait + Sync, G: Gate>(
         &self,
         rt: &R,
@@ -154,8 +154,8 @@ impl<C: Command> Session<C> {
         self.table.scan(rt, alloc, &self.program, plan, gate)
     }
 
-    /// Answers a question, which changes nothing. It is refused as its kind says, or as `Memory`, where that runs out; `place` and `can`
-    /// take none.
+    /// Answers a query, which changes nothing. The errors depend on its kind. `Memory` if an allocation fails; `place` and `can` do not
+    /// allocate.
     pub fn ask(&self, alloc: Global, query: &Query) -> Result<Answer, Refusal>
         ensures answers { AnswersOrRefuses self.now.program self.now.state (query_of query.now) result }
         ensures memory { IfErr result (λ refusal. refusal ≡ Memory → asks_memory (query_of query.now) ≡ true) }
@@ -164,8 +164,8 @@ impl<C: Command> Session<C> {
         self.table.ask(alloc, &self.program, query)
     }
 
-    /// The place of the breakpoint that halts the session, counted from 1 in the order in which they were set, or 0 where none does. It
-    /// takes no memory.
+    /// The position of the breakpoint that halts the session, from 1 in the order in which they were set, or 0 if none does. It does not
+    /// allocate.
     pub fn halt_at(&self) -> u32
         ensures place { IsHaltPlace self.now.program self.now.state result }
         ensures few { result ≤ BREAKPOINTS }

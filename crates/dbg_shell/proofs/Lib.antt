@@ -1,1 +1,1 @@
-mod CheckTexts
+mod CheckTextLemmas

@@ -1,34 +1,31 @@
--- What the check of a program text writes.
-use Rattle.std.specs.Prelude.{◌≡◌, ℕ, List, Option, Some, None, sum_by, length, ◌⊎◌}
+-- The output of the check of a program text.
+use Rattle.std.specs.Prelude.{◌≡◌, ℕ, List, Option, Some, None, ◌⊎◌}
 use Rattle.dbg_base.specs.Trees.{Program}
 use Rattle.dbg_base.specs.declared.fault.ProgFault.{ProgFault}
 use Rattle.dbg_base.specs.Checks.{Reads, IsFault}
-use Rattle.dbg_base.specs.Shell.{too_long_text, fault_text, size_text}
-use Rattle.reply_lines.specs.declared.outcome.Served.{Served}
-use Rattle.reply_lines.specs.declared.outcome.Served.TheVariants.{Done, Refused, TooLong}
+use Rattle.dbg_base.specs.Shell.{too_long_text, fault_text}
+use Rattle.shell_print.specs.Closings.{program_size_text}
+use Rattle.shell_print.specs.declared.outcome.Served.{Served}
+use Rattle.shell_print.specs.declared.outcome.Served.TheVariants.{Done, Refused, TooLong}
 use Rattle.shell_input.specs.ProgramTexts.{alone_text}
 
--- how many commands all its processes have
-abbrev pub command_count : Program → ℕ
-command_count P = sum_by (λ process. length process.commands) P
-
--- the text is a program, and its size is told
+-- the text is a program, and its size was written
 abbrev pub TellsSize : List ℕ → Served → List ℕ → Type 0
 TellsSize text served out =
-    (P : Program) × Reads text P × (served ≡ Done) × (out ≡ size_text (length P) (command_count P))
+    (P : Program) × Reads text P × (served ≡ Done) × (out ≡ program_size_text P)
 
--- the text is no program, and its first fault is told
+-- the text is not a program, and its first fault was written
 abbrev pub TellsFault : List ℕ → Served → List ℕ → Type 0
 TellsFault text served out = (fault : ProgFault) × IsFault text fault × (served ≡ Refused) × (out ≡ fault_text fault)
 
--- what the check of a text writes
+-- the output of the check of a text
 abbrev pub ChecksText : List ℕ → Served → List ℕ → Type 0
 ChecksText text served out = TellsSize text served out ⊎ TellsFault text served out
 
 abbrev pub TellsTooLong : Served → List ℕ → Type 0
 TellsTooLong served out = (served ≡ TooLong) × (out ≡ too_long_text)
 
--- what the check of a text writes, or of too much input
+-- the output of the check of a text, or of input that is too long
 abbrev pub ChecksAlone : Option (List ℕ) → Served → List ℕ → Type 0
 ChecksAlone (Some text) served out = ChecksText text served out
 ChecksAlone None served out = TellsTooLong served out

@@ -1,41 +1,36 @@
-//! What the program can be asked to do.
+//! The jobs of the program.
 
-/// What the program is to do.
+use ui_diagram::PictureForm;
+
+/// A job whose output is for programs.
 #[derive(Clone, Copy, Debug, PartialEq, Eq)]
 pub enum Job {
-    /// Answer the command lines behind a program text.
+    /// Answer the command lines after a program text.
     Run,
-    /// Look at a program text.
+    /// Check a program text.
     Check,
-    /// Look at a program text, and tell what is wrong.
-    Explain,
-    /// Give `next` for each process of a program text so many times, from threads.
+    /// Give `next` so many times for each process of a program, from threads.
     Crew(u32),
-    /// Answer the lines of a person, and tell what happened.
-    Talk,
-    /// Play sessions, and look whether each reply is as it has to be.
-    Test,
-    /// Play a session, and draw it.
-    Draw(Picture),
 }
 
-/// How a session is drawn.
+/// The work on an input.
 #[derive(Clone, Copy, Debug, PartialEq, Eq)]
-pub enum Picture {
-    /// A diagram of characters.
-    Text,
-    /// A drawing.
-    Svg,
-    /// A page to go through the session.
-    Html,
-    /// A log that ShiViz reads.
-    Shiviz,
+pub enum Work {
+    /// A job whose output is for programs.
+    Job(Job),
+    /// Check a program text, and explain what is wrong.
+    Explain,
+    /// Answer and explain the lines of a person.
+    Talk,
+    /// Play a session, and draw it.
+    Draw(PictureForm),
 }
 
-/// What the program is to do, and with what its input begins.
+/// What the arguments ask for.
 #[derive(Debug, Drop)]
-pub struct Asked<'a> {
-    pub job: Job,
-    /// The names of files: at least one for `Test`, and else one or none. Where there is none, all input is standard input.
-    pub files: Vec<&'a str>,
+pub enum Request<'a> {
+    /// This work, with the file of this name, or with standard input.
+    Work(Work, Option<&'a str>),
+    /// Play the sessions of these files, at least one, and compare their replies.
+    Test(Vec<&'a str>),
 }

@@ -1,7 +1,7 @@
-//! The shell: bytes of input become lines, lines become calls of a session, and what the session says becomes bytes of output.
+//! The shell: bytes of input become lines, lines become calls of a session, and the answers become bytes of output.
 //!
-//! `serve` answers a program text and the command lines behind it, `check` looks at a program text alone, `run_crew` has workers give
-//! its processes their turns, and `asked` reads the words of the program's own command line.
+//! `serve` answers a program text and the command lines after it. `check` checks a program text alone. In `run_crew`, workers give `next`
+//! for each process. `asked` parses the program's own arguments.
 #![tactic(auto)]
 
 mod checking;
@@ -9,10 +9,10 @@ mod jobs;
 mod usage;
 
 pub use checking::check;
-pub use command_line::{Line, parse_line};
-pub use crew_runs::{Closing, Crewed, Mismatch, crew_status, fits_turns, print_closing, run_crew};
-pub use devices::{Health, Noted, Sink, Source};
-pub use jobs::{Asked, Job, Picture};
-pub use line_runs::serve;
-pub use reply_lines::{ServeFault, Served, print_reply, status};
+pub use jobs::{Job, Request, Work};
+pub use shell_crew::{Closing, Crewed, Mismatch, crew_status, fits_turns, print_closing, run_crew};
+pub use shell_io::{Health, Noted, Sink, Source};
+pub use shell_parse::{Line, parse_line};
+pub use shell_print::{ServeFault, Served, print_reply, status};
+pub use shell_serve::serve;
 pub use usage::{asked, job};

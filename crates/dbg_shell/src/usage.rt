@@ -1,18 +1,19 @@
-//! The program's own command line.
+//! The arguments of the program.
 
 ghost use Rattle.std.specs.Prelude.{IfOk};
-ghost use Rattle.dbg_shell.specs.Jobs.{MayBeAsked};
+ghost use Rattle.dbg_shell.specs.Jobs.{IsJob, IsWork, IsRequest};
 
-use crate::jobs::{Asked, Job, Picture};
+use crate::jobs::{Job, Request, Work};
 use clap::builder::ValueParser;
 use clap::error::ErrorKind;
 use clap::{Arg, ArgAction, ArgMatches, Command, Error};
 use dbg_base::limits::CALLS;
 use std::alloc::{AllocError, Global};
 use std::convert::AsStr;
+use ui_diagram::PictureForm;
 
 static ABOUT: &str =
-    "A debugger for processes that send each other messages: steps them, takes events back, halts at bad global states";
+    "A debugger for processes that send each other messages: steps them, undoes events, halts at bad global states";
 
 // The most turns of a crew.
 const TURNS: u32 = 100_000;
@@ -20,48 +21,48 @@ const TURNS: u32 = 100_000;
 const _: () = prove!(TURNS as usize == CALLS);
 
 static GUIDE: &str =
-    "The text is a program, a line `%%`, and for `talk`, `run` and `draw` command lines behind it. Where no line is `%%`, all of it is
-the program of `check` and `crew`. It comes from FILE, where one is named, and for these three goes on with standard
-input; else it all comes from standard input. A talk answers `help`, too.
+    "The input is a program, a line `%%`, and for `talk`, `run` and `draw` command lines after it. For `check` and `crew`, all of it is
+the program if no line is `%%`. The input comes from FILE, if one is named; for `talk`, `run` and `draw` it continues with
+standard input. Otherwise all of it comes from standard input. An interactive session answers `help`, too.
 
-Command lines, each behind a seat from 1 to 16:
+Command lines, each after a seat from 1 to 16:
   step P K, next P, redo P       make an event of the process P
-  undo P, rollback P N, goto B   take events back
-  break B P E [P E ..]           set the breakpoint B, which halts where E holds in P, and so on for each pair
-  arm B, pass B, clear B         let B halt again, let it halt no longer, remove it
+  undo P, rollback P N, goto B   undo events
+  break B P E [P E ..]           set the breakpoint B, which halts if E holds in P, and so on for each pair
+  arm B, pass B, clear B         let B halt again, let it no longer halt, remove it
   batch C ; C ..                 give these commands as one, all or none
   back                           take back the last accepted command, if the same seat gave it
   vars P, chan P Q, clock P, place P, can P, cut B, why B, breaks
-                                 show what there is
+                                 show something, and change nothing
 
-Refusals: `no`, a number, for 7 and 9 a name, for 17 a seat, and for 25 two numbers. A refused line changes nothing.
-  1   no process has the name
+Refusals: `no` and a number; then for 7 a process, for 9 a breakpoint, for 17 a seat, for 25 two numbers. They change nothing.
+  1   no process has this name
   2   the process has no such command
   3   the guard of the command is false
-  4   an evaluation faults: a number out of range, a division by 0
+  4   an evaluation faults: a number out of range, or a division by 0
   5   there is no message to receive
-  6   the process has no event to take back
-  7   the message of the event was received, by this process
-  8   the process has nothing to make again
-  9   this breakpoint halts the session
-  10  the process has not so many events
-  11  a breakpoint has the name
-  12  no breakpoint has the name
+  6   the process has no event to undo
+  7   a process has received the message that the event sent
+  8   the process has nothing to redo
+  9   a breakpoint halts the session
+  10  the process has fewer events
+  11  a breakpoint already has this name
+  12  no breakpoint has this name
   13  the breakpoint has no cut
   14  the breakpoint is not armed
-  15  the breakpoint is armed
+  15  the breakpoint is already armed
   16  no command is left to take back
-  17  this seat gave the last command
-  18  the process has 20,000 events, the most there may be
-  19  there are 64 breakpoints, the most there may be
-  20  100,000 calls were entered, the most there may be
-  21  memory ran out
-  22  the line has no form of a command line
-  23  a predicate is none of its process, or the process has one already
-  24  no command of the process fires
-  25  the command of a batch at this place, from 1, is refused with this number
+  17  another seat gave the last command
+  18  the process has 20,000 events, the maximum
+  19  there are 64 breakpoints, the maximum
+  20  100,000 calls were entered, the maximum
+  21  out of memory
+  22  syntax error
+  23  a predicate is not a truth expression of its process, or the process already has one
+  24  no command of the process can fire
+  25  a command of the batch is refused: the numbers are its position, from 1, and its refusal
 
-Example of a text for `run`:
+Example of an input for `run`:
   process a { var x = 0; when (x < 3) : x := (x + 1); }
   %%
   1 break two a (x = 2)
@@ -70,12 +71,12 @@ Example of a text for `run`:
   1 undo a
   1 vars a";
 
-// The file that a job may be given.
+// The file of a job, if it has one.
 fn file<'a>(alloc: Global) -> Arg<'a> {
     Arg::new(alloc, "file").value_name("FILE")
 }
 
-// The subcommand of this name, to which a file may be given.
+// The subcommand of this name, which may have a file.
 fn with_file<'a>(
     alloc: Global,
     name: &'a str,
@@ -91,8 +92,8 @@ fn talk<'a>(alloc: Global) -> Result<Command<'a>, AllocError> {
     with_file(
         alloc,
         "talk",
-        "Is `run` for a person: tells behind each reply what happened, or what stands in the way",
-        "The program and the first lines; those of standard input come behind them",
+        "Interactive session: like `run`, with an explanation after each reply",
+        "The program and the first lines; those of standard input follow",
     )
 }
 
@@ -101,7 +102,7 @@ fn run<'a>(alloc: Global) -> Result<Command<'a>, AllocError> {
         alloc,
         "run",
         "Reads a program, a line `%%` and command lines, and answers each line",
-        "The program and the first lines; those of standard input come behind them",
+        "The program and the first lines; those of standard input follow",
     )
 }
 
@@ -109,14 +110,14 @@ fn check<'a>(alloc: Global) -> Result<Command<'a>, AllocError> {
     with_file(
         alloc,
         "check",
-        "Reads a program and says how many processes and commands it has, or what is wrong",
+        "Reads a program and prints how many processes and commands it has, or what is wrong",
         "The program, in place of standard input",
     )?
     .arg(
         Arg::new(alloc, "explain")
             .long("explain")
             .action(ArgAction::SetTrue)
-            .help("Tells the line, the place and the likely mend of what is wrong"),
+            .help("Prints the line and the place of what is wrong, and the likely correction"),
     )
 }
 
@@ -124,7 +125,7 @@ fn crew<'a>(alloc: Global) -> Result<Command<'a>, AllocError> {
     with_file(
         alloc,
         "crew",
-        "Reads a program, gives `next` for each process so many times, from threads, and says how many calls there were",
+        "Reads a program, gives `next` for each process N times, from threads, and prints how many calls there were",
         "The program, in place of standard input",
     )?
     .arg(
@@ -133,14 +134,14 @@ fn crew<'a>(alloc: Global) -> Result<Command<'a>, AllocError> {
             .value_name("N")
             .required(true)
             .value_parser(clap::value_parser!(u32).range(1..=i64::from(TURNS)))
-            .help("How often each process is given `next`, from 1 to 100000"),
+            .help("How often to give `next` for each process, from 1 to 100000"),
     )
 }
 
 fn test<'a>(alloc: Global) -> Result<Command<'a>, AllocError> {
     Command::new(alloc, "test")
         .about(
-            "Plays sessions, and looks whether each command line is answered as a line `> REPLY` behind it says",
+            "Plays sessions, and compares the reply to each command line with the line `> REPLY` after it",
         )
         .arg(
             file(alloc)
@@ -156,8 +157,8 @@ fn draw<'a>(alloc: Global) -> Result<Command<'a>, AllocError> {
     with_file(
         alloc,
         "draw",
-        "Plays a session, and draws where it ends; or, as html, a page to go through it",
-        "The program and the first lines; those of standard input come behind them",
+        "Plays a session, and draws its end; or, as html, a page to go through it",
+        "The program and the first lines; those of standard input follow",
     )?
     .arg(
         Arg::new(alloc, "as")
@@ -165,17 +166,17 @@ fn draw<'a>(alloc: Global) -> Result<Command<'a>, AllocError> {
             .value_name("FORM")
             .default_value("text")
             .value_parser(ValueParser::Names(&PICTURES))
-            .help("How it is drawn"),
+            .help("The form of the picture"),
     )
 }
 
-// The picture of this name.
-fn named_picture(name: Option<&str>) -> Picture {
+// The form of this name.
+fn named_form(name: Option<&str>) -> PictureForm {
     match name {
-        Some("svg") => Picture::Svg,
-        Some("html") => Picture::Html,
-        Some("shiviz") => Picture::Shiviz,
-        _ => Picture::Text,
+        Some("svg") => PictureForm::Svg,
+        Some("html") => PictureForm::Html,
+        Some("shiviz") => PictureForm::Shiviz,
+        _ => PictureForm::Text,
     }
 }
 
@@ -192,26 +193,29 @@ fn command<'a>(alloc: Global) -> Result<Command<'a>, AllocError> {
         .subcommand(draw(alloc)?)
 }
 
-// The job of the subcommand of this name.
-fn named_job(command: &mut Command<'_>, name: &str, matches: &ArgMatches<'_>) -> Result<Job, Error>
-    ensures { IfOk result MayBeAsked }
+// The work of the subcommand of this name.
+fn named_work(
+    command: &mut Command<'_>,
+    name: &str,
+    matches: &ArgMatches<'_>,
+) -> Result<Work, Error>
+    ensures { IfOk result IsWork }
 {
     match name {
-        "talk" => Ok(Job::Talk),
-        "test" => Ok(Job::Test),
-        "draw" => Ok(Job::Draw(named_picture(matches.get_str("as")))),
-        "check" if matches.get_flag("explain") => Ok(Job::Explain),
-        "check" => Ok(Job::Check),
+        "talk" => Ok(Work::Talk),
+        "draw" => Ok(Work::Draw(named_form(matches.get_str("as")))),
+        "check" if matches.get_flag("explain") => Ok(Work::Explain),
+        "check" => Ok(Work::Job(Job::Check)),
         "crew" => match matches.get_one::<u32>("turns") {
-            Some(turns) if 1 <= turns && turns <= TURNS => Ok(Job::Crew(turns)),
-            // The command has looked at the number already.
+            Some(turns) if 1 <= turns && turns <= TURNS => Ok(Work::Job(Job::Crew(turns))),
+            // The parser has already checked the number.
             _ => Err(command.error(ErrorKind::ValueValidation, "a crew has 1 to 100000 turns")?),
         },
-        _ => Ok(Job::Run),
+        _ => Ok(Work::Job(Job::Run)),
     }
 }
 
-// The files that the words name.
+// The files that the arguments name.
 fn named_files<'a>(alloc: Global, matches: &ArgMatches<'a>) -> Result<Vec<&'a str>, AllocError> {
     match matches.get_strs("file") {
         Some(names) => Vec::from_slice(alloc, names),
@@ -219,30 +223,33 @@ fn named_files<'a>(alloc: Global, matches: &ArgMatches<'a>) -> Result<Vec<&'a st
     }
 }
 
-/// What the words ask for, of which the first is the program's own name: a job, and the files that they name. The error is a request for
-/// help, or words that ask for no job; it has the text to print and the status to end with. A crew has 1 to 100,000 turns.
-pub fn asked<'a, S: AsStr>(alloc: Global, words: &'a [S]) -> Result<Asked<'a>, Error>
-    ensures { IfOk result (λ asked. MayBeAsked asked.job) }
+/// What the arguments ask for; the first is the program's own name. The error is a request for help, or wrong arguments. It has the text to
+/// print and the exit status. A crew has 1 to 100,000 turns.
+pub fn asked<'a, S: AsStr>(alloc: Global, words: &'a [S]) -> Result<Request<'a>, Error>
+    ensures { IfOk result IsRequest }
 {
     let mut command = command(alloc)?;
     let matches = command.try_get_matches_from_mut(words)?;
     match matches.subcommand() {
+        Some(("test", own)) => Ok(Request::Test(named_files(alloc, own)?)),
         Some((name, own)) => {
-            let job = named_job(&mut command, name, own)?;
-            let files = named_files(alloc, own)?;
-            Ok(Asked { job, files })
+            let work = named_work(&mut command, name, own)?;
+            Ok(Request::Work(work, own.get_str("file")))
         }
-        // The command has asked for one.
-        None => Ok(Asked {
-            job: Job::Run,
-            files: Vec::new(alloc),
-        }),
+        // The parser has required a subcommand.
+        None => Ok(Request::Work(Work::Job(Job::Run), None)),
     }
 }
 
-/// The job that the words ask for, as `asked` tells it.
+/// The job that the arguments ask for. If they ask for something else, the error is of the kind `InvalidSubcommand`.
 pub fn job<'a, S: AsStr>(alloc: Global, words: &'a [S]) -> Result<Job, Error>
-    ensures { IfOk result MayBeAsked }
+    ensures { IfOk result IsJob }
 {
-    Ok(asked(alloc, words)?.job)
+    match asked(alloc, words)? {
+        Request::Work(Work::Job(job), _) => Ok(job),
+        _ => Err(command(alloc)?.error(
+            ErrorKind::InvalidSubcommand,
+            "the subcommand is not run, check or crew",
+        )?),
+    }
 }

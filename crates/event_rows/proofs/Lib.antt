@@ -1,3 +1,3 @@
-pub mod Undone
-pub mod Pasts
-pub mod Gathering
+pub mod UndoneEventLemmas
+pub mod PastStateLemmas
+pub mod GatheredListLemmas

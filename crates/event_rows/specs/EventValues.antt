@@ -4,18 +4,18 @@ use Rattle.dbg_base.specs.LocalStates.{LocalState}
 use Rattle.event_rows.specs.declared.setting.Setting.{Setting}
 use Rattle.event_rows.specs.declared.exchange.Exchange.{Exchange}
 
--- the command that the process made, what it set, in order, and what it sent or received
+-- the command that the process made, its settings in order, and what it sent or received
 pub record EventValue : Type 0 where
   pub choice : ℕ
   pub settings : List Setting
   pub exchange : Exchange
 
--- the events of one process, and how many more are taken without memory
+-- the events of one process, and how many more fit without allocation
 pub record LineState : Type 0 where
   pub events : List EventValue
   pub room : ℕ
 
--- for each process its start, its events, and how many more are taken without memory
+-- for each process its start, its events, and how many more fit without allocation
 pub record RowsState : Type 0 where
   pub starts : List LocalState
   pub events : List (List EventValue)

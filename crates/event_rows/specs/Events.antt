@@ -10,8 +10,8 @@ use Rattle.event_rows.specs.EventValues.{EventValue}
 abbrev pub after_event : EventValue → LocalState → LocalState
 after_event event state = counted_to event.exchange (with_set state (new_values event.settings))
 
--- the local state before the event, from that after it: the old values are put back, from the last to the first, and the message is
--- not counted
+-- the local state before the event, from that after it: the old values are restored, from the last to the first, and the message is not
+-- counted
 abbrev pub before_event : EventValue → LocalState → LocalState
 before_event event state = counted_to (earlier event.exchange) (with_old_values state event.settings)
 
@@ -20,7 +20,7 @@ abbrev pub after_events : LocalState → List EventValue → LocalState
 after_events state [] = state
 after_events state (event ∷ events) = after_events (after_event event state) events
 
--- the local state after the first n events, or after all where there are fewer
+-- the local state after the first n events, or after all if there are fewer
 abbrev pub past_of : LocalState → List EventValue → ℕ → LocalState
 past_of start events n = after_events start (take n events)
 
@@ -29,12 +29,12 @@ abbrev pub advanced : Option EventValue → LocalState → LocalState
 advanced None state = state
 advanced (Some event) state = after_event event state
 
--- and taken back
+-- the event, if there is one, is undone
 abbrev pub retreated : Option EventValue → LocalState → LocalState
 retreated None state = state
 retreated (Some event) state = before_event event state
 
--- the event may come in this local state: its old values are those that its variables have, and its message is the next that counts
+-- the event fits this local state: its old values are those of its variables, and its message is the next to be counted
 pub record Fits (event : EventValue) (state : LocalState) : Type 0 where
   pub old_values : HasOldValues state.values event.settings
   pub next_count : IsNextCount event.exchange state

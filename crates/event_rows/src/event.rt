@@ -29,7 +29,7 @@ impl Model for Event {
     ghost view = { λ event. record { choice = event.choice.0; settings = event.settings.items; exchange = event.exchange } };
 }
 
-// What this local state has for the variables, and what they are set to.
+// The settings of these variables: their values in this local state, and their new values.
 fn settings_from(
     alloc: Global,
     env: &Env,
@@ -49,7 +49,7 @@ fn settings_from(
 }
 
 impl Event {
-    /// The event with these settings, in order. It is refused only where memory runs out.
+    /// The event with these settings, in order. Error: out of memory.
     pub fn new(
         alloc: Global,
         choice: Choice,
@@ -65,8 +65,8 @@ impl Event {
         })
     }
 
-    /// The event that sets these variables in this local state of its process, in order, each from the value that it has there (0
-    /// where it is not there). It is refused only where memory runs out.
+    /// The event that sets these variables in this local state of its process, in order. The old value of a variable is its value there, or
+    /// 0 if it does not exist. Error: out of memory.
     pub fn of(
         alloc: Global,
         choice: Choice,
@@ -84,7 +84,7 @@ impl Event {
         })
     }
 
-    /// The same event once more. It is refused only where memory runs out.
+    /// Copies the event. Error: out of memory.
     pub fn copy(&self) -> Result<Event, AllocError>
         ensures { IfOk result (λ event. event ≡ self.now) }
     {
@@ -95,7 +95,7 @@ impl Event {
         })
     }
 
-    /// The command that the process made. It takes no memory, as all readers do.
+    /// The command that the process made. Like all methods that only read, it does not allocate.
     pub fn choice(&self) -> Choice
         ensures { result.0 ≡ self.now.choice }
     {
@@ -116,8 +116,8 @@ impl Event {
         self.exchange
     }
 
-    /// The local state before the event becomes that after it: the variables have their new values, and the message is counted. What
-    /// is not there is left out. It takes no memory.
+    /// Changes the local state before the event into that after it: the variables get their new values, and the message is counted.
+    /// Variables and processes that do not exist are left out. It does not allocate.
     pub fn redo(&self, env: &mut Env)
         ensures { env.new ≡ after_event self.now env.old }
     {
@@ -125,8 +125,8 @@ impl Event {
         put_count(env, &self.exchange);
     }
 
-    /// The local state after the event becomes that before it: the variables have their old values, put back from the last to the
-    /// first, and the message is not counted. What is not there is left out. It takes no memory.
+    /// Changes the local state after the event into that before it: the variables get their old values, from the last setting to the first,
+    /// and the message is no longer counted. Variables and processes that do not exist are left out. It does not allocate.
     pub fn undo(&self, env: &mut Env)
         ensures { env.new ≡ before_event self.now env.old }
     {

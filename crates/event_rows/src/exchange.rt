@@ -6,8 +6,8 @@ ghost use Rattle.event_rows.specs.Exchanges.{counted_to, earlier};
 use dbg_base::{Direction, Pid};
 use local_eval::Env;
 
-/// What an event does beside its settings. The count tells the how-many-th message to the target, or from the source, it is: it is
-/// what the process counts after the event.
+/// What an event does besides its settings. The count is what the process counts after the event: 1 for its first message to the target, or
+/// from the source.
 #[derive(Clone, Copy, Debug, PartialEq, Eq)]
 pub enum Exchange {
     /// Nothing.
@@ -26,7 +26,7 @@ pub enum Exchange {
     },
 }
 
-// The process counts the messages up to this one, where the other process is there.
+// Counts the messages up to this one, if the other process exists.
 pub(crate) fn put_count(env: &mut Env, exchange: &Exchange)
     ensures { env.new ≡ counted_to exchange.now env.old }
 {

@@ -1,7 +1,7 @@
-//! The events of each process in order, with what takes one back and makes it again.
+//! The events of each process in order. Events can be undone and made again.
 //!
-//! An event keeps the values that it replaced and set, and what was sent or taken, so that neither way needs the program. Contracts
-//! see the rows as their starts, their events, and the room of each: how many events more it takes without memory.
+//! An event keeps the values that it replaced and set, and what it sent or received, so neither direction needs the program. Contracts see
+//! the starts and the events of each process, and its room: how many more events fit without allocation.
 #![tactic(auto)]
 
 mod event;

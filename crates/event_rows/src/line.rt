@@ -9,11 +9,11 @@ use std::marker::Model;
 
 /// The events of one process, in order.
 #[derive(Debug, Drop)]
-pub(crate) struct Line {
+pub(crate) struct EventLine {
     events: Vec<Event>,
 }
 
-impl Model for Line {
+impl Model for EventLine {
     ghost use Rattle.std.specs.Prelude.{◌-◌};
     ghost use Rattle.std.specs.Vec.{vec_len, vec_capacity};
     ghost use Rattle.event_rows.specs.EventValues.{LineState};
@@ -23,7 +23,7 @@ impl Model for Line {
     ghost view = { λ line. record { events = line.events.items; room = vec_capacity line.events - vec_len line.events } };
 }
 
-// The same events once more.
+// Copies the events.
 fn copy_events(events: &Vec<Event>) -> Result<Vec<Event>, AllocError>
     ensures { IfOk result (λ made. made.items ≡ events.now.items) }
 {
@@ -34,21 +34,21 @@ fn copy_events(events: &Vec<Event>) -> Result<Vec<Event>, AllocError>
     Ok(made)
 }
 
-impl Line {
-    /// No event. It takes no memory.
-    pub(crate) fn new(alloc: Global) -> Line
+impl EventLine {
+    /// No events. It does not allocate.
+    pub(crate) fn new(alloc: Global) -> EventLine
         ensures { result.events ≡ [] }
     {
-        Line {
+        EventLine {
             events: Vec::new(alloc),
         }
     }
 
-    /// The same events once more.
-    pub(crate) fn copy(&self) -> Result<Line, AllocError>
+    /// Copies the events.
+    pub(crate) fn copy(&self) -> Result<EventLine, AllocError>
         ensures { IfOk result (λ line. line.events ≡ self.now.events) }
     {
-        Ok(Line {
+        Ok(EventLine {
             events: copy_events(&self.events)?,
         })
     }
@@ -90,7 +90,7 @@ impl Line {
         self.events.reserve(more)
     }
 
-    /// The event goes to the end. It takes no memory.
+    /// Appends the event. It does not allocate.
     pub(crate) fn push(&mut self, event: Event)
         requires { 0 < self.old.room }
         ensures events { self.new.events ≡ self.old.events ++ event ∷ [] }
@@ -99,7 +99,7 @@ impl Line {
         self.events.push_reserved(event);
     }
 
-    /// The last event is taken out, if there is one. It takes no memory.
+    /// Removes and returns the last event, if there is one. It does not allocate.
     pub(crate) fn pop(&mut self) -> Option<Event>
         ensures last { self.old.events ≡ self.new.events ++ option_to_list result }
         ensures events { self.new.events ≡ take (length self.old.events - 1) self.old.events }

@@ -11,19 +11,19 @@ ghost use Rattle.event_rows.specs.Truths as model;
 ghost use Rattle.dbg_base.specs.Predicates.{holds};
 
 use crate::event::Event;
-use crate::line::Line;
+use crate::line::EventLine;
 use dbg_base::{Expr, Pid, Sequence};
 use local_eval::{Env, guard};
 use proc_lang::Program;
 use std::alloc::{AllocError, Global};
 use std::marker::Model;
 
-/// For each process its start and its events, in order. Contracts see it as these, and as the room of each process: how many events
-/// more it takes without memory.
+/// For each process its start and its events, in order. Contracts see these, and the room of each process: how many more events fit without
+/// allocation.
 #[derive(Debug, Drop)]
 pub struct Rows {
     starts: Vec<Env>,
-    lines: Vec<Line>,
+    lines: Vec<EventLine>,
 }
 
 impl Model for Rows {
@@ -39,19 +39,19 @@ impl Model for Rows {
     } };
 }
 
-// No event of any of so many processes.
-fn empty_lines(alloc: Global, processes: u32) -> Result<Vec<Line>, AllocError>
+// No events of each of so many processes.
+fn empty_lines(alloc: Global, processes: u32) -> Result<Vec<EventLine>, AllocError>
     ensures { IfOk result (λ lines. map (λ line. line.events) lines.items ≡ replicate processes []) }
 {
     let mut lines = Vec::new(alloc);
     for _ in 0..processes {
-        lines.push(Line::new(alloc))?;
+        lines.push(EventLine::new(alloc))?;
     }
     Ok(lines)
 }
 
-// The events of all processes once more.
-fn copy_lines(lines: &Vec<Line>) -> Result<Vec<Line>, AllocError>
+// Copies the events of all processes.
+fn copy_lines(lines: &Vec<EventLine>) -> Result<Vec<EventLine>, AllocError>
     ensures { IfOk result (λ made. map (λ line. line.events) made.items ≡ map (λ line. line.events) lines.now.items) }
 {
     let mut made = Vec::new(*lines.allocator());
@@ -68,7 +68,7 @@ fn is_true(expr: &Expr, env: &Env) -> bool
     matches!(guard(expr, env), Ok(true))
 }
 
-// The local state becomes that after these events.
+// Changes the local state into that after these events.
 fn redo_all(env: &mut Env, events: &[Event])
     ensures { env.new ≡ after_events env.old events.now }
 {
@@ -77,7 +77,7 @@ fn redo_all(env: &mut Env, events: &[Event])
     }
 }
 
-// Whether the expression is true in this local state, and behind each of these events in turn.
+// Whether the expression is true in this local state, and after each of these events.
 fn truths_along(
     alloc: Global,
     env: &mut Env,
@@ -96,7 +96,7 @@ fn truths_along(
 }
 
 impl Rows {
-    /// The start of each process, and no event. It is refused only where memory runs out.
+    /// The start of each process, and no events. Error: out of memory.
     pub fn new(alloc: Global, program: &Program) -> Result<Rows, AllocError>
         ensures starts { IfOk result (λ rows. rows.starts ≡ map (start_among (length (program_of program.now))) (program_of program.now)) }
         ensures events { IfOk result (λ rows. rows.events ≡ replicate (length (program_of program.now)) []) }
@@ -107,7 +107,7 @@ impl Rows {
         })
     }
 
-    /// The same starts and events once more, with room of their own. It is refused only where memory runs out.
+    /// Copies the starts and events; the copy has its own room. Error: out of memory.
     pub fn copy(&self) -> Result<Rows, AllocError>
         ensures starts { IfOk result (λ rows. rows.starts ≡ self.now.starts) }
         ensures events { IfOk result (λ rows. rows.events ≡ self.now.events) }
@@ -118,14 +118,14 @@ impl Rows {
         })
     }
 
-    /// Whether the process is there. It takes no memory, as all readers but `past` and `truths` do.
+    /// Whether the process exists. Like all methods that only read, except `past` and `truths`, it does not allocate.
     pub fn has(&self, pid: Pid) -> bool
         ensures { IsTrue result ↔ (pid.0 < length self.now.events) }
     {
         (pid.0 as usize) < self.lines.len()
     }
 
-    /// How many events the process has, which is none where it is not there.
+    /// How many events the process has, 0 if it does not exist.
     pub fn len(&self, pid: Pid) -> usize
         ensures { result ≡ length (slice_index_or self.now.events pid.0 []) }
     {
@@ -135,7 +135,7 @@ impl Rows {
         }
     }
 
-    /// The n-th event of the process, from 0, or None where there is none.
+    /// The n-th event of the process, from 0, or None if there is none.
     pub fn event(&self, pid: Pid, n: usize) -> Option<&Event>
         ensures { option_map (λ event. event.now) result ≡ slice_get (slice_index_or self.now.events pid.0 []) n }
     {
@@ -145,7 +145,7 @@ impl Rows {
         }
     }
 
-    /// The last event of the process, or None where there is none.
+    /// The last event of the process, or None if there is none.
     pub fn last(&self, pid: Pid) -> Option<&Event>
         ensures { option_map (λ event. event.now) result
             ≡ slice_get (slice_index_or self.now.events pid.0 []) (length (slice_index_or self.now.events pid.0 []) - 1) }
@@ -156,8 +156,8 @@ impl Rows {
         }
     }
 
-    /// Makes room for so many more events of the process, and does nothing where it is not there. No room is lost, and no event
-    /// changes, also where it is refused, which is only where memory runs out.
+    /// Makes room for so many more events of the process. It does nothing if the process does not exist. No event changes, and no room is
+    /// lost, also on an error. Error: out of memory.
     #[tactic(auto, using(dbg_base::proofs::Places::one_place))]
     pub fn reserve(&mut self, pid: Pid, more: usize) -> Result<(), AllocError>
         ensures starts { self.new.starts ≡ self.old.starts }
@@ -172,7 +172,7 @@ impl Rows {
         line.reserve(more)
     }
 
-    /// The event goes to the end of those of the process, where there is room. It takes no memory.
+    /// Appends the event to those of the process, for which there must be room. It does not allocate.
     #[tactic(auto, using(dbg_base::proofs::Places::one_place))]
     pub fn push(&mut self, pid: Pid, event: Event)
         requires { 0 < slice_index_or self.old.room pid.0 0 }
@@ -184,7 +184,7 @@ impl Rows {
         line.push(event);
     }
 
-    /// The last event of the process is taken out. Where there is none, nothing changes. It takes no memory.
+    /// Removes and returns the last event of the process. If there is none, it changes nothing. It does not allocate.
     #[tactic(auto, using(dbg_base::proofs::Places::one_place))]
     pub fn pop(&mut self, pid: Pid) -> Option<Event>
         ensures starts { self.new.starts ≡ self.old.starts }
@@ -201,7 +201,7 @@ impl Rows {
         line.pop()
     }
 
-    // The start of the process once more; where the process is not there, a local state without variables.
+    // Copies the start of the process, or a local state without variables if the process does not exist.
     fn start(&self, pid: Pid) -> Result<Env, AllocError>
         ensures { IfOk result (λ env. env ≡ slice_index_or self.now.starts pid.0 no_state) }
     {
@@ -221,8 +221,8 @@ impl Rows {
         }
     }
 
-    /// The local state of the process after its first n events, or after all where there are fewer; of a process that is not there, a
-    /// local state without variables. It is refused only where memory runs out.
+    /// The local state of the process after its first n events, or after all if there are fewer. For a process that does not exist it is a
+    /// local state without variables. Error: out of memory.
     pub fn past(&self, pid: Pid, n: usize) -> Result<Env, AllocError>
         ensures { IfOk result (λ env. env
             ≡ past_of (slice_index_or self.now.starts pid.0 no_state) (slice_index_or self.now.events pid.0 []) n) }
@@ -233,8 +233,8 @@ impl Rows {
         Ok(env)
     }
 
-    /// The local state after n events of the process becomes that after one more. Where there is no such event, nothing changes. It
-    /// takes no memory.
+    /// Changes the local state after n events of the process into that after one more. If there is no such event, it changes nothing. It
+    /// does not allocate.
     pub fn advance(&self, pid: Pid, n: usize, env: &mut Env)
         ensures { env.new ≡ advanced (slice_get (slice_index_or self.now.events pid.0 []) n) env.old }
     {
@@ -243,8 +243,8 @@ impl Rows {
         }
     }
 
-    /// The local state after n + 1 events of the process becomes that after n. Where there is no such event, nothing changes. It takes
-    /// no memory.
+    /// Changes the local state after n + 1 events of the process into that after n. If there is no such event, it changes nothing. It does
+    /// not allocate.
     pub fn retreat(&self, pid: Pid, n: usize, env: &mut Env)
         ensures { env.new ≡ retreated (slice_get (slice_index_or self.now.events pid.0 []) n) env.old }
     {
@@ -253,9 +253,9 @@ impl Rows {
         }
     }
 
-    /// For each n from 0 to the number of the process's events, whether the expression is true after the first n of them; where its
-    /// evaluation faults it is not. A process that is not there has no event, and a start without variables. It is refused only where
-    /// memory runs out.
+    /// For each n from 0 to the number of the process's events, whether the expression is true after the first n of them. An expression
+    /// whose evaluation faults is not true. A process that does not exist has no events, and a start without variables. Error: out of
+    /// memory.
     pub fn truths(&self, alloc: Global, pid: Pid, expr: &Expr) -> Result<Sequence<bool>, AllocError>
         ensures { IfOk result (λ truths. truths ≡ model.truths_along (tree_of expr.now) (slice_index_or self.now.starts pid.0 no_state)
             (slice_index_or self.now.events pid.0 [])) }

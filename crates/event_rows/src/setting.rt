@@ -6,7 +6,7 @@ ghost use Rattle.event_rows.specs.Settings.{new_values, with_old_values};
 
 use local_eval::Env;
 
-/// A variable that is set, with the value that it had and the one that it then has.
+/// A variable that is set, with its old value and its new one.
 #[derive(Clone, Copy, Debug, Default, PartialEq, Eq)]
 pub struct Setting {
     pub variable: u32,
@@ -14,7 +14,7 @@ pub struct Setting {
     pub new: i64,
 }
 
-// The variable has this value, where it is there.
+// Sets the variable to this value, if the variable exists.
 fn put(env: &mut Env, variable: u32, value: i64)
     ensures { env.new ≡ with_set env.old ((variable, value) ∷ []) }
 {
@@ -23,7 +23,7 @@ fn put(env: &mut Env, variable: u32, value: i64)
     }
 }
 
-// The variables have their new values, set in order.
+// Sets the variables to their new values, in order.
 pub(crate) fn put_new(env: &mut Env, settings: &[Setting])
     ensures { env.new ≡ with_set env.old (new_values settings.now) }
 {
@@ -32,7 +32,7 @@ pub(crate) fn put_new(env: &mut Env, settings: &[Setting])
     }
 }
 
-// The variables have their old values, put back from the last to the first.
+// Sets the variables to their old values, from the last setting to the first.
 pub(crate) fn put_old(env: &mut Env, settings: &[Setting])
     ensures { env.new ≡ with_old_values env.old settings.now }
 {

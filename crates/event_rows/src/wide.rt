@@ -1,4 +1,4 @@
-//! Where several expressions are true, each looked at in a thread of its own.
+//! Where several expressions are true. Each is evaluated in a thread of its own.
 
 ghost use Rattle.std.specs.Prelude.{◌≡◌, ℕ, ◌<◌, length, IfOk, slice_index_or, vec_len};
 ghost use Rattle.event_rows.specs.Truths.{list_in, lists_in, IsMade, IsMadeAt};
@@ -10,11 +10,11 @@ use std::sync::Wait;
 use std::thread;
 use std::thread::Threads;
 
-// A list that a worker has made, or None where it was not let through.
+// A list that a worker has made, or None if the worker did not start.
 type Made = Option<Result<Sequence<bool>, AllocError>>;
 
 impl Rows {
-    // The list at this place, where its worker is let through. A place that fits no worker's number is left to the caller.
+    // Makes the list at this position, if the gate lets its worker start. A position that is no worker's number is left to the caller.
     fn truths_behind<G: Gate>(
         &self,
         alloc: Global,
@@ -37,7 +37,7 @@ impl Rows {
         Some(made)
     }
 
-    // The list that was made, or else it is made here.
+    // The list that was made. If there is none, it is made here.
     fn list_or(
         &self,
         alloc: Global,
@@ -75,10 +75,9 @@ impl Rows {
         Ok(lists)
     }
 
-    /// For each of these pairs of a process and an expression what `truths` tells, in order. Each list is made by a worker of its own,
-    /// in a thread where one can be made: the worker of the i-th list, from 0, asks the gate for its turn 0 and tells when it has ended.
-    /// A list whose worker the gate bars is made once all workers have ended, so the lists are the same whatever the gate says. It is
-    /// refused only where memory runs out.
+    /// The result of `truths` for each of these pairs of a process and an expression, in order. Each list has a worker of its own, in a
+    /// thread if one can be made. The worker of the i-th list, from 0, calls the gate before and after its turn 0. A list whose worker the
+    /// gate bars is made after all workers have ended, so the lists do not depend on the gate. Error: out of memory.
     pub fn truths_par<R: Threads + Wait + Sync, G: Gate>(
         &self,
         rt: &R,

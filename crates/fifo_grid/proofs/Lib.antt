@@ -1,2 +1,2 @@
 pub mod Cells
-pub mod Restored
+pub mod RestoredChannelLemmas

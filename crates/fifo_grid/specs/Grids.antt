@@ -1,8 +1,7 @@
 -- The messages on their way between processes.
 use Rattle.std.specs.Prelude.{ℕ, ℤ, List, [], slice_index_or, slice_set}
 
--- for each ordered pair of processes the messages from the first to the second, the front first, and how many more are taken without
--- memory
+-- for each ordered pair of processes the messages from the first to the second, the head first, and how many more fit without allocation
 pub record GridState : Type 0 where
   pub channels : List (List (List ℤ))
   pub room : List (List ℕ)
@@ -11,14 +10,14 @@ pub record GridState : Type 0 where
 abbrev pub messages_at : List (List (List ℤ)) → ℕ → ℕ → List ℤ
 messages_at channels i j = slice_index_or (slice_index_or channels i []) j []
 
--- with other messages from process i to process j
+-- the channels with other messages from process i to process j
 abbrev pub with_messages : List (List (List ℤ)) → ℕ → ℕ → List ℤ → List (List (List ℤ))
 with_messages channels i j messages = slice_set channels i (slice_set (slice_index_or channels i []) j messages)
 
--- how many more messages from process i to process j are taken without memory
+-- how many more messages from process i to process j fit without allocation
 abbrev pub room_at : List (List ℕ) → ℕ → ℕ → ℕ
 room_at room i j = slice_index_or (slice_index_or room i []) j 0
 
--- with room for so many from process i to process j
+-- the rooms with room for so many from process i to process j
 abbrev pub with_room : List (List ℕ) → ℕ → ℕ → ℕ → List (List ℕ)
 with_room room i j more = slice_set room i (slice_set (slice_index_or room i []) j more)

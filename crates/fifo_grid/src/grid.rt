@@ -10,8 +10,8 @@ use dbg_base::{Pid, Sequence};
 use std::alloc::{AllocError, Global};
 use std::marker::Model;
 
-/// For each ordered pair of processes the messages from the first to the second. Contracts see it as these lists, and as the room of
-/// each: how many messages more it takes without memory.
+/// For each ordered pair of processes the messages from the first to the second. Contracts see these lists, and the room of each: how many
+/// more messages it can take without allocation.
 #[derive(Debug, Drop)]
 pub struct Grid {
     rows: Vec<Vec<Queue>>,
@@ -29,7 +29,7 @@ impl Model for Grid {
     } };
 }
 
-// No message to any of so many processes.
+// Empty lists of messages to each of so many processes.
 fn empty_row(alloc: Global, processes: u32) -> Result<Vec<Queue>, AllocError>
     ensures { IfOk result (λ row. map (λ queue. queue.messages) row.items ≡ replicate processes []) }
 {
@@ -40,7 +40,7 @@ fn empty_row(alloc: Global, processes: u32) -> Result<Vec<Queue>, AllocError>
     Ok(row)
 }
 
-// No message from any of so many processes to any of so many.
+// Empty lists of messages from each of so many processes to each of so many.
 fn empty_rows(alloc: Global, processes: u32) -> Result<Vec<Vec<Queue>>, AllocError>
     ensures { IfOk result (λ rows. map (λ row. map (λ queue. queue.messages) row.items) rows.items
         ≡ replicate processes (replicate processes [])) }
@@ -52,7 +52,7 @@ fn empty_rows(alloc: Global, processes: u32) -> Result<Vec<Vec<Queue>>, AllocErr
     Ok(rows)
 }
 
-// The messages of one row once more.
+// Copies the messages of one row.
 fn copy_row(row: &Vec<Queue>) -> Result<Vec<Queue>, AllocError>
     ensures { IfOk result (λ made. map (λ queue. queue.messages) made.items ≡ map (λ queue. queue.messages) row.now.items) }
 {
@@ -63,7 +63,7 @@ fn copy_row(row: &Vec<Queue>) -> Result<Vec<Queue>, AllocError>
     Ok(made)
 }
 
-// The messages of all rows once more.
+// Copies the messages of all rows.
 fn copy_rows(rows: &Vec<Vec<Queue>>) -> Result<Vec<Vec<Queue>>, AllocError>
     ensures { IfOk result (λ made. map (λ row. map (λ queue. queue.messages) row.items) made.items
         ≡ map (λ row. map (λ queue. queue.messages) row.items) rows.now.items) }
@@ -76,7 +76,7 @@ fn copy_rows(rows: &Vec<Vec<Queue>>) -> Result<Vec<Vec<Queue>>, AllocError>
 }
 
 impl Grid {
-    /// No message between any two of so many processes. It is refused only where memory runs out.
+    /// A grid of so many processes, with no messages. Error: out of memory.
     pub fn new(alloc: Global, processes: u32) -> Result<Grid, AllocError>
         ensures { IfOk result (λ grid. grid.channels ≡ replicate processes (replicate processes [])) }
     {
@@ -85,7 +85,7 @@ impl Grid {
         })
     }
 
-    /// The same messages once more, with room of its own. It is refused only where memory runs out.
+    /// Copies the messages; the copy has its own room. Error: out of memory.
     pub fn copy(&self) -> Result<Grid, AllocError>
         ensures { IfOk result (λ grid. grid.channels ≡ self.now.channels) }
     {
@@ -94,7 +94,7 @@ impl Grid {
         })
     }
 
-    /// Whether both processes are there. It takes no memory, as all readers but `items` do.
+    /// Whether both processes exist. Like all methods that only read, except `items`, it does not allocate.
     pub fn has(&self, from: Pid, to: Pid) -> bool
         ensures { IsTrue result
             ↔ ((from.0 < length self.now.channels) × (to.0 < length (slice_index_or self.now.channels from.0 []))) }
@@ -105,7 +105,7 @@ impl Grid {
         }
     }
 
-    // The messages from the first process to the second, where both are there.
+    // The messages from the first process to the second, if both exist.
     fn queue(&self, from: Pid, to: Pid) -> Option<&Queue>
         ensures { MatchOption result (messages_at self.now.channels from.0 to.0 ≡ [])
             (λ queue. queue.now.messages ≡ messages_at self.now.channels from.0 to.0) }
@@ -116,7 +116,7 @@ impl Grid {
         }
     }
 
-    /// How many messages are on their way from the first process to the second, which is none where either is not there.
+    /// How many messages are on their way from the first process to the second, 0 if either does not exist.
     pub fn len(&self, from: Pid, to: Pid) -> usize
         ensures { result ≡ length (messages_at self.now.channels from.0 to.0) }
     {
@@ -126,7 +126,7 @@ impl Grid {
         }
     }
 
-    /// The front message from the first process to the second, or None where there is none.
+    /// The head of the channel from the first process to the second, or None if it is empty.
     pub fn front(&self, from: Pid, to: Pid) -> Option<i64>
         ensures { result ≡ slice_get (messages_at self.now.channels from.0 to.0) 0 }
     {
@@ -136,7 +136,7 @@ impl Grid {
         }
     }
 
-    /// The messages from the first process to the second, the front first. It is refused only where memory runs out.
+    /// The messages from the first process to the second, the head first. Error: out of memory.
     pub fn items(&self, alloc: Global, from: Pid, to: Pid) -> Result<Sequence<i64>, AllocError>
         ensures { IfOk result (λ messages. messages ≡ messages_at self.now.channels from.0 to.0) }
     {
@@ -146,8 +146,8 @@ impl Grid {
         }
     }
 
-    /// Makes room for so many more messages from the first process to the second, and does nothing where either is not there. No
-    /// room is lost, and no message changes, also where it is refused, which is only where memory runs out.
+    /// Makes room for so many more messages from the first process to the second. It does nothing if either does not exist. No message
+    /// changes, and no room is lost, also on an error. Error: out of memory.
     #[tactic(auto, using(crate::proofs::Cells::one_cell))]
     pub fn reserve(&mut self, from: Pid, to: Pid, more: usize) -> Result<(), AllocError>
         ensures messages { self.new.channels ≡ self.old.channels }
@@ -162,7 +162,7 @@ impl Grid {
         queue.reserve(more)
     }
 
-    /// The message goes to the back of those from the first process to the second, where there is room. It takes no memory.
+    /// Appends the message to the channel from the first process to the second, which must have room. It does not allocate.
     #[tactic(auto, using(crate::proofs::Cells::one_cell))]
     pub fn push_back(&mut self, from: Pid, to: Pid, message: i64)
         requires { 0 < room_at self.old.room from.0 to.0 }
@@ -174,8 +174,8 @@ impl Grid {
         queue.push_back(message);
     }
 
-    /// The message goes to the front of those from the first process to the second, where there is room: it takes a `pop_front` back.
-    /// It takes no memory.
+    /// Puts the message at the head of the channel from the first process to the second, which must have room. It undoes a `pop_front`, and
+    /// does not allocate.
     #[tactic(auto, using(crate::proofs::Cells::one_cell))]
     pub fn unpop_front(&mut self, from: Pid, to: Pid, message: i64)
         requires { 0 < room_at self.old.room from.0 to.0 }
@@ -187,7 +187,8 @@ impl Grid {
         queue.unpop_front(message);
     }
 
-    /// The front message from the first process to the second is taken. Where there is none, nothing changes. It takes no memory.
+    /// Removes and returns the head of the channel from the first process to the second. If there is none, it changes nothing. It does not
+    /// allocate.
     #[tactic(auto, using(crate::proofs::Cells::one_cell))]
     pub fn pop_front(&mut self, from: Pid, to: Pid) -> Option<i64>
         ensures front { result ≡ slice_get (messages_at self.old.channels from.0 to.0) 0 }
@@ -202,8 +203,8 @@ impl Grid {
         queue.pop_front()
     }
 
-    /// The back message from the first process to the second is taken: it takes a `push_back` back. Where there is none, nothing
-    /// changes. It takes no memory.
+    /// Removes and returns the tail of the channel from the first process to the second: it undoes a `push_back`. If there is none, it
+    /// changes nothing. It does not allocate.
     #[tactic(auto, using(crate::proofs::Cells::one_cell))]
     pub fn unpush_back(&mut self, from: Pid, to: Pid) -> Option<i64>
         ensures back { messages_at self.old.channels from.0 to.0

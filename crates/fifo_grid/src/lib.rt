@@ -1,6 +1,6 @@
-//! The messages on their way: for each ordered pair of processes a list of them, first in, first out.
+//! The messages on their way: a list for each ordered pair of processes, first in, first out.
 //!
-//! Contracts see a grid as these lists, and as the room of each: how many messages more it takes without memory.
+//! Contracts see a grid as these lists, and the room of each: how many more messages it can take without allocation.
 #![tactic(auto)]
 
 mod grid;

@@ -8,7 +8,7 @@ use std::alloc::{AllocError, Global};
 use std::collections::VecDeque;
 use std::marker::Model;
 
-/// The messages from one process to another, the front first.
+/// The messages from one process to another, the head first.
 #[derive(Debug, Drop)]
 pub(crate) struct Queue {
     messages: VecDeque<i64>,
@@ -25,7 +25,7 @@ impl Model for Queue {
 }
 
 impl Queue {
-    /// No message. It takes no memory.
+    /// An empty queue. It does not allocate.
     pub(crate) fn new(alloc: Global) -> Queue
         ensures { result.messages ≡ [] }
     {
@@ -41,14 +41,14 @@ impl Queue {
         self.messages.len()
     }
 
-    /// The front message.
+    /// The head, if there is one.
     pub(crate) fn front(&self) -> Option<i64>
         ensures { result ≡ slice_get self.now.messages 0 }
     {
         self.messages.front().copied()
     }
 
-    /// The messages once more, the front first.
+    /// Copies the messages, the head first.
     pub(crate) fn items(&self, alloc: Global) -> Result<Sequence<i64>, AllocError>
         ensures { IfOk result (λ messages. messages ≡ self.now.messages) }
     {
@@ -67,7 +67,7 @@ impl Queue {
         self.messages.reserve(more)
     }
 
-    /// The message goes to the back. It takes no memory.
+    /// Appends the message. It does not allocate.
     pub(crate) fn push_back(&mut self, message: i64)
         requires { 0 < self.old.room }
         ensures messages { self.new.messages ≡ self.old.messages ++ message ∷ [] }
@@ -76,7 +76,7 @@ impl Queue {
         self.messages.push_back_reserved(message);
     }
 
-    /// The message goes to the front. It takes no memory.
+    /// Puts the message at the head. It does not allocate.
     pub(crate) fn unpop_front(&mut self, message: i64)
         requires { 0 < self.old.room }
         ensures messages { self.new.messages ≡ message ∷ self.old.messages }
@@ -85,7 +85,7 @@ impl Queue {
         self.messages.push_front_reserved(message);
     }
 
-    /// The front message is taken, if there is one. It takes no memory.
+    /// Removes the head, if there is one. It does not allocate.
     pub(crate) fn pop_front(&mut self) -> Option<i64>
         ensures front { result ≡ slice_get self.old.messages 0 }
         ensures messages { self.new.messages ≡ drop 1 self.old.messages }
@@ -94,7 +94,7 @@ impl Queue {
         self.messages.pop_front()
     }
 
-    /// The back message is taken, if there is one. It takes no memory.
+    /// Removes the tail, if there is one. It does not allocate.
     pub(crate) fn unpush_back(&mut self) -> Option<i64>
         ensures back { self.old.messages ≡ self.new.messages ++ option_to_list result }
         ensures messages { self.new.messages ≡ take (length self.old.messages - 1) self.old.messages }
@@ -104,7 +104,7 @@ impl Queue {
         self.messages.pop_back()
     }
 
-    /// The same messages once more.
+    /// Copies the queue.
     pub(crate) fn copy(&self) -> Result<Queue, AllocError>
         ensures { IfOk result (λ queue. queue.messages ≡ self.now.messages) }
     {

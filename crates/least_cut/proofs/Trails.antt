@@ -1,4 +1,4 @@
--- Eliminations one after the other, and the same in a world with more events or fewer.
+-- Eliminations one after the other, and the same in a world with more or fewer events.
 use Rattle.std.proofs.Common.{◌≡◌, ◌≢◌, ℕ, zero, suc, ◌⊎◌, ◌<◌, ◌≤◌, min, false, List, [], ◌∷◌, ◌++◌, length, get_or, set}
 use Rattle.std.proofs.Common.{refl, sym, ap, ◌∙◌, subst}
 use Rattle.std.proofs.Common.{⊎_elim, inl, inr, arith}
@@ -21,7 +21,7 @@ pub reach_push : (tuple : List ℕ) (steps : List Elimination) (step : Eliminati
 reach_push tuple [] step = refl
 reach_push tuple (first ∷ steps) step = reach_push (eliminated tuple first) steps step
 
--- a component that is set to no less
+-- a component that is set to at least its value
 pub raised : (tuple : List ℕ) (p n : ℕ) → get_or tuple p 0 ≤ n → IsAtMost tuple (set tuple p n)
 raised tuple p n le q =
     ⊎_elim
@@ -58,7 +58,7 @@ module _ (w : Scene) (lines : List TruthLine) where
       let rest = trail_raises (eliminated tuple step) steps trail.1 q in
       omega (arith, first, rest)
 
-  -- nothing is left of a process whose component stays, where others are raised
+  -- a process stays settled while its component stays and others are raised
   pub still_settled : (tuple more : List ℕ) (q : ℕ) → IsSettledAt w lines tuple q → IsAtMost tuple more → get_or more q 0 ≡ get_or tuple q 0
       → IsSettledAt w lines more q
   still_settled tuple more q is most same = record {
@@ -69,7 +69,7 @@ module _ (w : Scene) (lines : List TruthLine) where
         subst (λ (n : ℕ). get_or (row_at w.clocks q (min n (place_at w.state q))) p 0 ≤ get_or more p 0) (sym same) (omega arith);
   }
 
--- The local states that are in both of two worlds have the same truths and clocks.
+-- The local states that exist in both worlds have the same truths and clocks.
 pub record Agree (v w : Scene) (before after : List TruthLine) : Type 0 where
   pub processes : length v.state.places ≡ length w.state.places
   pub truths : (p n : ℕ) → n ≤ place_at v.state p → n ≤ place_at w.state p → is_false_in after p n ≡ is_false_in before p n
@@ -93,7 +93,7 @@ module _ (v w : Scene) (before after : List TruthLine) (agree : Agree v w before
       (kept q.0) in
       (there, component, inside, ap (λ (row : List ℕ). get_or row p 0) (agree.rows q.0 n there event inside) ∙ due.3, due.4)
 
-  -- eliminations that lead to local states which are still there may be made in the other world
+  -- eliminations that lead to local states which still exist are justified in the other world
   pub trail_moved : (tuple : List ℕ) (steps : List Elimination) → IsTrailFrom v before tuple steps
       → length tuple ≡ length v.state.places
       → ((q : ℕ) → IsLimit v w q (get_or (reach_from tuple steps) q 0)) → IsTrailFrom w after tuple steps
@@ -125,7 +125,7 @@ module _ (v w : Scene) (before after : List TruthLine) (agree : Agree v w before
         trail_moved next steps trail.1 (length-set tuple p step.to ∙ size) limit,
       )
 
-  -- and nothing is left of a process whose last component that counts is the same
+  -- and a process stays settled if its component, or its last event if that comes first, is the same in both worlds
   pub settled_moved : (tuple : List ℕ) (q : ℕ) → IsSettledAt v before tuple q → q < length w.state.places
       → min (get_or tuple q 0) (place_at v.state q) ≡ min (get_or tuple q 0) (place_at w.state q)
       → (get_or tuple q 0 ≤ place_at w.state q → get_or tuple q 0 ≤ place_at v.state q) → IsSettledAt w after tuple q

@@ -1,4 +1,4 @@
--- Where a conjunct is true along the events of a process, and what is kept of it as events are made and taken back.
+-- The truths of a conjunct along the events of a process, and what is kept of them as events are made and undone.
 use Rattle.std.proofs.Common.{◌≡◌, ℕ, zero, suc, ◌+◌, ◌-◌, ◌<◌, ◌≤◌, ℤ, Bool, true, List, [], ◌∷◌, ◌++◌, length, get_or, set, take}
 use Rattle.std.proofs.Common.{refl, sym, ap, ◌∙◌, subst, ⊎_elim, arith, take_all, Option, Some, None, map}
 use Rattle.std.specs.Prelude.{◌&&◌, ◌==◌, not, nat_le, slice_get}
@@ -15,21 +15,21 @@ use Rattle.event_rows.specs.Exchanges.{counted_to}
 use Rattle.event_rows.specs.EventValues.{EventValue}
 use Rattle.event_rows.specs.Events.{after_event, after_events, past_of, advanced}
 use Rattle.event_rows.specs.Truths.{truths_along}
-use Rattle.event_rows.proofs.Pasts.{past_more, truths_more}
+use Rattle.event_rows.proofs.PastStateLemmas.{past_more, truths_more}
 use Rattle.causal_world.specs.Scenes.{Scene, IsEarlier}
 use Rattle.causal_world.specs.Worlds.{IsSomeWorld}
-use Rattle.causal_world.proofs.Calls.{kinds_placed}
-use Rattle.causal_world.proofs.Sames.{events_numbered}
+use Rattle.causal_world.proofs.WorldCallLemmas.{kinds_placed}
+use Rattle.causal_world.proofs.SameWorldLemmas.{events_numbered}
 use Rattle.least_cut.specs.Watches.{TruthLine, WatchState, conjunct_in, IsWatchOf, IsAdvanced, AreAlong}
 
--- what is looked for in one line
+-- the test that one line is searched with
 abbrev pub is_false_at : ℕ → ℕ → TruthLine → Bool
 is_false_at p n line = (line.process == p) && not (get_or line.truths n true)
 
 abbrev pub is_past_at : ℕ → ℕ → TruthLine → Bool
 is_past_at p n line = (line.process == p) && nat_le (length line.truths) n
 
--- one truth more than events
+-- one more truth than events
 pub length_truths : (tree : Tree) (start : LocalState) (events : List EventValue)
     → length (truths_along tree start events) ≡ length events + 1
 length_truths tree start [] = refl
@@ -38,7 +38,7 @@ length_truths tree start (event ∷ events) =
     length_truths tree (after_event event start) events in
     omega arith
 
--- those of the first n events
+-- the truths of the first n events
 front : (tree : Tree) (start : LocalState) (events : List EventValue) (n : ℕ)
     → take (suc n) (truths_along tree start events) ≡ truths_along tree start (take n events)
 front tree start [] zero = refl
@@ -53,7 +53,7 @@ truths_front tree start events n =
     let same : n + 1 ≡ suc n = omega arith in
     ap (λ (k : ℕ). take k (truths_along tree start events)) same ∙ front tree start events n
 
--- the truth behind the n-th event
+-- the truth after the n-th event
 pub truth_there : (tree : Tree) (start : LocalState) (events : List EventValue) (n : ℕ) (d : Bool) → n ≤ length events
     → get_or (truths_along tree start events) n d ≡ holds tree (past_of start events n)
 truth_there tree start [] zero d le = refl
@@ -61,7 +61,7 @@ truth_there tree start [] (suc n) d le = absurd (omega arith)
 truth_there tree start (event ∷ events) zero d le = refl
 truth_there tree start (event ∷ events) (suc n) d le = truth_there tree (after_event event start) events n d (omega arith)
 
--- The lists of a local state keep their lengths.
+-- The lists of both local states have the same lengths.
 pub record AreAlike (a b : LocalState) : Type 0 where
   pub values : length a.values ≡ length b.values
   pub sent : length a.sent ≡ length b.sent
@@ -88,11 +88,11 @@ alike_after state (event ∷ events) =
       got = rest.got ∙ one.got;
     }
 
--- a world has as many events of a process as its place
+-- a world has as many events of a process as its place says
 pub events_placed : (w : Scene) (p : ℕ) → IsSomeWorld w → p < length w.state.places → length (get_or w.events p []) ≡ place_at w.state p
 events_placed w p some here = events_numbered some.0 w p some.1 (omega (arith, here, some.1.state.places))
 
--- two worlds that are along each other have the same processes
+-- two worlds, one of which has the events of the other, have the same processes
 pub same_places : (v w : Scene) → IsSomeWorld v → IsSomeWorld w → AreAlong v w → length v.state.places ≡ length w.state.places
 same_places v w some other along =
     ⊎_elim
@@ -107,7 +107,7 @@ own w conjunct = get_or w.events conjunct.process []
 abbrev start : Scene → Conjunct → LocalState
 start w conjunct = get_or w.starts conjunct.process no_state
 
--- what is kept is that of the first m events of the world
+-- the watch is that of the first m events of the world
 pub record IsWatchTo (w : Scene) (conjunct : Conjunct) (watch : WatchState) (m : ℕ) : Type 0 where
   pub of : conjunct_in watch ≡ conjunct
   pub within : m ≤ length (own w conjunct)
@@ -122,19 +122,19 @@ module _ (v w : Scene) (watch : WatchState) (is : IsWatchOf v watch) where
   truths_counted =
       ap (λ (l : TruthLine). length l.truths) is.line ∙ length_truths conjunct.expression (start v conjunct) (own v conjunct)
 
-  -- both begin with the same local state
+  -- both worlds begin with the same local state
   pub same_start : AreAlong v w → start v conjunct ≡ start w conjunct
   same_start along =
       ⊎_elim (λ (e : IsEarlier v w). ap (λ (l : List LocalState). get_or l conjunct.process no_state) e.starts)
       (λ (e : IsEarlier w v). sym (ap (λ (l : List LocalState). get_or l conjunct.process no_state) e.starts)) along
 
-  -- the first n events of both are the same, where both have them
+  -- the first n events of both are the same, if both have n events
   same_front : AreAlong v w → (n : ℕ) → n ≤ length (own v conjunct) → n ≤ length (own w conjunct)
       → take n (own v conjunct) ≡ take n (own w conjunct)
   same_front along n le within =
       ⊎_elim (λ (e : IsEarlier v w). sym (e.events conjunct.process n le)) (λ (e : IsEarlier w v). e.events conjunct.process n within) along
 
-  -- where no event that is known was taken back
+  -- if no known event was undone
   pub kept_to : AreAlong v w → length watch.line.truths ≤ length (own w conjunct) + 1
       → IsWatchTo w conjunct watch (length watch.line.truths - 1)
   kept_to along few =
@@ -152,7 +152,7 @@ module _ (v w : Scene) (watch : WatchState) (is : IsWatchOf v watch) where
         env = is.env ∙ ap (λ (s : LocalState). past_of s (own v conjunct) m) (same_start along) ∙ ap (after_events (start w conjunct)) same;
       })
 
-  -- where some were taken back, and the rest is let go
+  -- if known events were undone, and their truths are dropped
   pub cut_to : AreAlong v w → (states : ℕ) (env : LocalState) (new : WatchState) → states ≡ length (own w conjunct) + 1
       → states < length watch.line.truths → env ≡ past_of (start w conjunct) (own w conjunct) (length (own w conjunct))
       → new ≡ record watch { line = record watch.line { truths = take states watch.line.truths }; env = env }
@@ -178,7 +178,7 @@ module _ (v w : Scene) (watch : WatchState) (is : IsWatchOf v watch) where
       (record { of = refl; within = omega arith; truths = truths; env = is_env }))
 
 module _ (w : Scene) (conjunct : Conjunct) (old : WatchState) (is : IsWatchTo w conjunct old (length old.line.truths - 1)) where
-  -- at least one truth is known, and not more than there are
+  -- at least one truth is known, and at most as many as there are
   pub truths_within : (0 < length old.line.truths) × (length old.line.truths ≤ length (own w conjunct) + 1)
   truths_within =
       let m : ℕ = length old.line.truths - 1 in
@@ -186,7 +186,7 @@ module _ (w : Scene) (conjunct : Conjunct) (old : WatchState) (is : IsWatchTo w 
       ap (λ (l : List Bool). length l) is.truths ∙ length_truths conjunct.expression (start w conjunct) (take m (own w conjunct)) in
       (omega arith, omega (arith, is.within))
 
-  -- one event more
+  -- one more event
   pub watched_more : (new : WatchState) → length old.line.truths < length (own w conjunct) + 1 → IsAdvanced w old new
       → IsWatchTo w conjunct new (length new.line.truths - 1)
   watched_more new more step =

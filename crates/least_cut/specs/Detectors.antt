@@ -1,4 +1,4 @@
--- What contracts see of a detector, and what it is of a world.
+-- What contracts see of a detector, and how it agrees with a world.
 use Rattle.std.specs.Prelude.{◌≡◌, ℕ, ◌+◌, ◌<◌, ◌≤◌, ◌⊎◌, ◌&&◌, ◌==◌, Bool, List, [], length, map, take, nat_le, slice_index}
 use Rattle.std.specs.Prelude.{if◌then◌else◌, slice_index_or, slice_set}
 use Rattle.std.specs.List.{AllByRecursion, list_any}
@@ -17,8 +17,8 @@ use Rattle.causal_world.specs.Scenes.{Scene, IsWorldOf}
 use Rattle.least_cut.specs.Watches.{TruthLine, WatchState, WatchRoom, conjunct_in, IsWatchOf}
 use Rattle.least_cut.specs.Searches.{IsTrailFrom, IsSettledAt, none_of, steps_up_to}
 
--- its conjuncts as they are watched, a candidate for each process, and the eliminations that led to them; and how many of these there
--- may be without memory
+-- its conjuncts with their truths, a candidate for each process, the eliminations that led to these, and how many eliminations fit without
+-- allocation
 pub record DetectorState : Type 0 where
   pub watches : List WatchRoom
   pub candidates : List ℕ
@@ -46,50 +46,50 @@ AreWatchesOf w watches = AllByRecursion (λ watch. IsWatchOf w watch.state) watc
 abbrev pub HasTruthRoom : List ℕ → WatchRoom → Type 0
 HasTruthRoom places watch = slice_index places watch.state.line.process + 1 ≤ watch.room
 
--- they are the same, and no room was lost
+-- the watches are the same, and no room was lost
 pub record AreRoomier (old new : List WatchRoom) : Type 0 where
   pub states : map (λ watch. watch.state) new ≡ map (λ watch. watch.state) old
   pub grows : (places : List ℕ) → AllByRecursion (HasTruthRoom places) old → AllByRecursion (HasTruthRoom places) new
 
--- what is kept is that of the world, of the same conjuncts, and with the same room
+-- the watches are those of the world, of the same conjuncts, and with the same room
 pub record AreWatched (w : Scene) (old new : List WatchRoom) : Type 0 where
   pub watches : AreWatchesOf w new
   pub conjuncts : map (λ watch. conjunct_in watch.state) new ≡ map (λ watch. conjunct_in watch.state) old
   pub rooms : map (λ watch. watch.room) new ≡ map (λ watch. watch.room) old
 
--- with these places it needs no memory
+-- with these places it needs no allocation
 pub record HasRoomUpTo (d : DetectorState) (places : List ℕ) : Type 0 where
   pub truths : AllByRecursion (HasTruthRoom places) d.watches
   pub trail : steps_up_to places ≤ d.trail_room
 
--- its candidates are where its eliminations lead in the world
+-- its eliminations lead to its candidates in the world
 pub record IsSearchOf (w : Scene) (d : DetectorState) : Type 0 where
   pub watches : AreWatchesOf w d.watches
   pub sound : IsTrailFrom w (lines_of d) (none_of w) d.trail
   pub reached : reach_from (none_of w) d.trail ≡ d.candidates
   pub room : HasRoomUpTo d w.state.places
 
--- and nothing is left to rule out
+-- the same, and nothing is left to rule out
 pub record IsDetectorOf (w : Scene) (d : DetectorState) : Type 0 where
   pub search : IsSearchOf w d
   pub settled : (q : ℕ) → q < length w.state.places → IsSettledAt w (lines_of d) d.candidates q
 
--- Its candidates went on in the world, and its conjuncts and its room stayed.
+-- Its candidates moved in the world, and its conjuncts and its room stayed.
 pub record GoesOn (w : Scene) (old new : DetectorState) : Type 0 where
   pub search : IsSearchOf w new
   pub watches : new.watches ≡ old.watches
   pub trail_room : new.trail_room ≡ old.trail_room
   pub most : IsAtMost old.candidates new.candidates
 
--- Process p is named by a conjunct, and has fewer events than these, as far as it is known.
+-- A conjunct names process p, and the process has fewer than n events, by the truths that are known.
 abbrev pub is_past_in : List TruthLine → ℕ → ℕ → Bool
 is_past_in lines p n = list_any (λ line. (line.process == p) && nat_le (length line.truths) n) lines
 
--- a component as it is told where so much is known
+-- a component as the frontier has it, by the truths that are known
 abbrev pub told_head : List TruthLine → ℕ → ℕ → Head
 told_head lines p n = if is_past_in lines p n then Past else At n
 
--- What is known of the conjuncts is that of the world, and all else stayed.
+-- The watches are those of the world, and all else stayed.
 pub record Watches (w : Scene) (old new : DetectorState) : Type 0 where
   pub watches : AreWatchesOf w new.watches
   pub conjuncts : conjuncts_of new ≡ conjuncts_of old
@@ -106,30 +106,30 @@ pub record DropsTo (p limit : ℕ) (old new : DetectorState) : Type 0 where
   pub below : (v : Scene) → IsSearchOf v old → slice_index new.candidates p ≤ limit
   pub most : (v : Scene) → IsSearchOf v old → IsAtMost new.candidates old.candidates
 
--- The eliminations up to this component of process p stay, where the world was v before: it is at most one behind the last event, and
--- behind it only where no event was taken back.
+-- The eliminations up to this component of process p stay valid as the world v becomes w. The component is at most one more than the
+-- events, and is one more only if no event was undone.
 pub record IsLimit (v w : Scene) (p n : ℕ) : Type 0 where
   pub most : n ≤ place_at w.state p + 1
   pub kept : (n ≤ place_at w.state p) ⊎ (place_at v.state p ≤ place_at w.state p)
 
--- the frontier is told, component by component
+-- these are the components of the frontier
 pub record TellsFrontier (P : Program) (H : History) (conjuncts : List Conjunct) (heads : List Head) : Type 0 where
   pub tuple : List ℕ
   pub is : IsFrontier P H conjuncts tuple
   pub told : heads ≡ heads_of H tuple
 
--- The same, and no less room.
+-- The detectors differ at most in their room, and the second has no less.
 pub record IsSameButRoom (old new : DetectorState) : Type 0 where
   pub states : states_of new ≡ states_of old
   pub candidates : new.candidates ≡ old.candidates
   pub trail : new.trail ≡ old.trail
   pub room : (places : List ℕ) → HasRoomUpTo old places → HasRoomUpTo new places
 
--- the places with one event more of process p
+-- the places with one more event of process p
 abbrev pub one_more : Scene → ℕ → List ℕ
 one_more w p = slice_set w.state.places p (place_at w.state p + 1)
 
--- The detector was that of a world before, and both worlds are of one program.
+-- The detector was that of the world `before`, and both worlds are of one program.
 pub record WasOf (P : Program) (before : Scene) (d : DetectorState) (w : Scene) : Type 0 where
   pub detector : IsDetectorOf before d
   pub of : IsWorldOf P before
@@ -146,13 +146,13 @@ abbrev pub IsShrunk : DetectorState → ℕ → Scene → Type 0
 IsShrunk d p w =
     (P : Program) × (before : Scene) × WasOf P before d w × (history_of w.state ≡ without_last (history_of before.state) p)
 
--- the second history begins with the first one, process by process
+-- the first history is a prefix of the second, process by process
 abbrev pub Begins : History → History → Type 0
 Begins H more =
     (length H ≡ length more)
     × ((p : ℕ) → take (length (slice_index_or H p [])) (slice_index_or more p []) ≡ slice_index_or H p [])
 
--- Events were made since, or taken back.
+-- Events were made or undone since.
 abbrev pub IsMoved : DetectorState → Scene → Type 0
 IsMoved d w =
     (P : Program) × (before : Scene) × WasOf P before d w

@@ -1,4 +1,4 @@
--- How values with expressions are told apart: the tree of an expression is stored as an expression whose boxes lie nowhere.
+-- How values with expressions are encoded: the tree of an expression is stored as an expression whose boxes have no address.
 use Rattle.std.specs.Prelude.{◌≡◌, ℕ, Box, refl}
 use Rattle.std.specs.Coded.{Coded, code_by}
 use Rattle.std.specs.declared.alloc.Global.{Global}

@@ -16,7 +16,7 @@ pub record TruthLine : Type 0 where
   pub process : ℕ
   pub truths : List Bool
 
--- and how many there may be without memory
+-- the same, and how many truths fit without allocation
 pub record TruthsState : Type 0 where
   pub line : TruthLine
   pub room : ℕ
@@ -27,7 +27,7 @@ pub record WatchState : Type 0 where
   pub expression : Tree
   pub env : LocalState
 
--- and how many truths there may be without memory
+-- the same, and how many truths fit without allocation
 pub record WatchRoom : Type 0 where
   pub state : WatchState
   pub room : ℕ
@@ -50,30 +50,30 @@ scan_of w conjuncts = map (truth_line w) conjuncts
 abbrev pub named_in : Pid × Bor Expr → Conjunct
 named_in named = record { process = named.0.0; expression = tree_of named.1.now }
 
--- each conjunct's process with the list of the same place
+-- each conjunct's process, with the list at the same position
 abbrev pub lines_with : List Conjunct → List (List Bool) → List TruthLine
 lines_with [] lists = []
 lines_with (conjunct ∷ conjuncts) [] = []
 lines_with (conjunct ∷ conjuncts) (truths ∷ lists) =
     record { process = conjunct.process; truths = truths } ∷ lines_with conjuncts lists
 
--- what is kept is that of the world
+-- the watch is that of the world
 pub record IsWatchOf (w : Scene) (watch : WatchState) : Type 0 where
   pub here : watch.line.process < length w.state.places
   pub line : watch.line ≡ truth_line w (conjunct_in watch)
   pub env : watch.env ≡ past_of (slice_index_or w.starts watch.line.process no_state)
       (slice_index_or w.events watch.line.process []) (length (slice_index_or w.events watch.line.process []))
 
--- the next event of its process is there, if there is one
+-- the next event of its process was added, if there is one
 pub record IsAdvanced (w : Scene) (old new : WatchState) : Type 0 where
   pub expression : new.expression ≡ old.expression
   pub env : new.env ≡ advanced (slice_get (slice_index_or w.events old.line.process []) (length old.line.truths - 1)) old.env
   pub line : new.line ≡ record old.line { truths = old.line.truths ++ holds new.expression new.env ∷ [] }
 
--- of two worlds the one has the events of the other, and perhaps more
+-- one of two worlds has the events of the other, and perhaps more
 abbrev pub AreAlong : Scene → Scene → Type 0
 AreAlong v w = IsEarlier v w ⊎ IsEarlier w v
 
--- What is kept was that of a world before, and events were made or taken back since.
+-- The watch was that of an earlier world, and events were made or undone since.
 abbrev pub WasWatchOf : WatchState → Scene → Type 0
 WasWatchOf watch w = (v : Scene) × IsSomeWorld v × IsWatchOf v watch × AreAlong v w

@@ -18,7 +18,7 @@ use causal_world::World;
 use dbg_base::{Cause, Conjunct, Cut, Elimination, Refusal};
 use std::alloc::Global;
 
-// Whether the reason of this elimination holds at the candidates.
+// Whether the cause of this elimination holds at the candidates.
 fn is_due(world: &World, scan: &Scan, candidates: &Cut, step: &Elimination) -> bool
     requires { IsSomeWorld world.now }
     ensures { IsTrue result ↔ IsDue world.now scan.now candidates.now step.now.pid.0 step.now.from step.now.to step.now.cause }
@@ -41,7 +41,7 @@ fn is_due(world: &World, scan: &Scan, candidates: &Cut, step: &Elimination) -> b
     }
 }
 
-// Whether the elimination may be made at the candidates.
+// Whether the elimination is justified at the candidates.
 fn is_step(world: &World, scan: &Scan, candidates: &Cut, step: &Elimination) -> bool
     requires { IsSomeWorld world.now }
     ensures { IsTrue result ↔ IsStep world.now scan.now candidates.now step.now }
@@ -52,9 +52,9 @@ fn is_step(world: &World, scan: &Scan, candidates: &Cut, step: &Elimination) -> 
         && is_due(world, scan, candidates, step)
 }
 
-/// Whether the list of eliminations is sound for these conjuncts, whose processes are there: each may be made in its turn, from no event
-/// of any process on. Where it is, each cut that satisfies the conjuncts is at least what the list reaches. It is refused only as
-/// `Memory`, where that runs out.
+/// Whether the list of eliminations is sound for these conjuncts, whose processes must exist: each elimination is justified after those
+/// before it, from no event of any process on. Every cut that satisfies the conjuncts is at least the tuple that a sound list reaches.
+/// Error: `Memory`, if an allocation fails.
 pub fn check_why(
     alloc: Global,
     world: &World,

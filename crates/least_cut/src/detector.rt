@@ -1,4 +1,4 @@
-//! A detector: the least cut that satisfies a breakpoint, as far as the events go.
+//! A detector: the least cut of the events so far that satisfies a breakpoint.
 
 ghost use Rattle.std.specs.Prelude.{◌≡◌, ◌<◌, ◌≤◌, ◌+◌, length, map, IfOk, IfErr, IfSome, OnOk, MatchOption};
 ghost use Rattle.std.specs.Prelude.{slice_index, slice_get};
@@ -33,7 +33,9 @@ use std::alloc::{AllocError, Global};
 use std::marker::Model;
 
 /// The conjuncts of a breakpoint, where each is true, a candidate for each process, and the eliminations that led to the candidates. It
-/// belongs to a world, which it follows as events are made and taken back. Contracts see it as these, and as the room that it has.
+/// belongs to a world, and follows it as events are made and undone. Contracts see these, and its room.
+///
+/// The algorithm eliminates candidates, as Garg and Waldecker (1994) do for weak conjunctive predicates.
 #[derive(Debug, Drop)]
 pub struct Detector {
     watches: Vec<Watch>,
@@ -59,7 +61,7 @@ impl Model for Detector {
     } };
 }
 
-// What is kept of each conjunct.
+// The watch of each conjunct.
 fn watches_of(
     alloc: Global,
     conjuncts: Sequence<Conjunct>,
@@ -79,7 +81,7 @@ fn watches_of(
     Ok(watches)
 }
 
-// The same watches once more, with as much room.
+// Copies the watches, with as much room.
 fn copy_watches(watches: &Vec<Watch>) -> Result<Vec<Watch>, Refusal>
     ensures { IsCopy result (λ made. made.items ≡ watches.now.items) }
 {
@@ -90,8 +92,8 @@ fn copy_watches(watches: &Vec<Watch>) -> Result<Vec<Watch>, Refusal>
     Ok(made)
 }
 
-/// No fewer than the eliminations that there can be where the processes, at most so many, have as many events as the cut: one for each
-/// event, and one for each process. It takes no memory.
+/// At least as many as there can be eliminations if the processes, at most so many, have as many events as the cut: one for each event, and
+/// one for each process. It does not allocate.
 pub fn steps_up_to(cut: &Cut, processes: u32) -> usize
     ensures { length cut.now ≤ processes → model.steps_up_to cut.now ≤ result }
 {
@@ -102,7 +104,7 @@ pub fn steps_up_to(cut: &Cut, processes: u32) -> usize
     steps
 }
 
-// The watches of this process get room for the truths of so many local states.
+// Makes room in the watches of this process for the truths of so many local states.
 fn reserve_at(watches: &mut Vec<Watch>, pid: Pid, states: usize) -> Result<(), AllocError>
     ensures each { AreRoomier watches.old.items watches.new.items }
     ensures ok { OnOk result (AllByRecursion (λ watch. watch.state.line.process ≡ pid.0 → states ≤ watch.room) watches.new.items) }
@@ -116,7 +118,7 @@ fn reserve_at(watches: &mut Vec<Watch>, pid: Pid, states: usize) -> Result<(), A
     Ok(())
 }
 
-// Each watch gets room for the truths of as many events of its process as the cut has.
+// Makes room in each watch for the truths of as many events of its process as the cut has.
 fn reserve_each(watches: &mut Vec<Watch>, cut: &Cut) -> Result<(), AllocError>
     ensures each { AreRoomier watches.old.items watches.new.items }
     ensures ok { OnOk result (AllByRecursion (HasTruthRoom cut.now) watches.new.items) }
@@ -129,7 +131,7 @@ fn reserve_each(watches: &mut Vec<Watch>, cut: &Cut) -> Result<(), AllocError>
     Ok(())
 }
 
-// What is known of each conjunct is that of the world.
+// Makes what is kept of each conjunct that of the world.
 fn watch_each(watches: &mut Vec<Watch>, world: &World)
     requires world { IsSomeWorld world.now }
     requires was { AllByRecursion (λ watch. WasWatchOf watch.state world.now) watches.old.items }
@@ -143,8 +145,8 @@ fn watch_each(watches: &mut Vec<Watch>, world: &World)
 }
 
 impl Detector {
-    /// The detector of these conjuncts, at least one, in a world that has their processes, where they are true as the scan says. It is
-    /// refused only as `Memory`, where that runs out.
+    /// The detector of these conjuncts, at least one, in a world that has their processes. The scan says where the conjuncts are true.
+    /// Error: `Memory`, if an allocation fails.
     pub fn new(
         alloc: Global,
         conjuncts: Sequence<Conjunct>,
@@ -172,7 +174,7 @@ impl Detector {
         Ok(detector)
     }
 
-    /// The same detector once more, with as much room. It is refused only as `Memory`, where that runs out.
+    /// Copies the detector, with as much room. Error: `Memory`, if an allocation fails.
     pub fn copy(&self) -> Result<Detector, Refusal>
         ensures { IsCopy result (λ made. made ≡ self.now) }
     {
@@ -190,7 +192,7 @@ impl Detector {
         self.candidates.count(pid)
     }
 
-    // Whether one of the conjuncts is false behind the n-th event of the process.
+    // Whether one of the conjuncts is false after the n-th event of the process.
     fn is_false(&self, pid: Pid, n: u32) -> bool
         ensures { result ≡ is_false_in (lines_of self.now) pid.0 n }
     {
@@ -202,7 +204,7 @@ impl Detector {
         false
     }
 
-    // Whether the process is named by a conjunct and has fewer events than these.
+    // Whether a conjunct names the process, and the process has fewer than n events.
     fn is_past(&self, pid: Pid, n: u32) -> bool
         ensures { result ≡ is_past_in (lines_of self.now) pid.0 n }
     {
@@ -214,8 +216,8 @@ impl Detector {
         false
     }
 
-    /// Makes room for one event more of the process, after which there are at most so many eliminations. No room is lost, and nothing
-    /// changes that is seen, also where it is refused, which is only where memory runs out.
+    /// Makes room for one more event of the process. `steps` is at least the number of eliminations that there can be then. No room is
+    /// lost, and contracts see no other change, also on an error. Error: out of memory.
     pub fn reserve(&mut self, world: &World, pid: Pid, steps: usize) -> Result<(), AllocError>
         ensures same { IsSameButRoom self.old self.new }
         ensures ok { OnOk result (HasRoomUpTo self.old world.now.state.places → model.steps_up_to (one_more world.now pid.0) ≤ steps
@@ -225,8 +227,8 @@ impl Detector {
         self.trail.reserve(steps.saturating_sub(self.trail.len()))
     }
 
-    /// Makes room for as many events as the cut has, at which there are at most so many eliminations. No room is lost, and nothing
-    /// changes that is seen, also where it is refused, which is only where memory runs out.
+    /// Makes room for as many events as the cut has. `steps` is at least the number of eliminations that there can be then. No room is
+    /// lost, and contracts see no other change, also on an error. Error: out of memory.
     pub fn reserve_to(&mut self, cut: &Cut, steps: usize) -> Result<(), AllocError>
         ensures same { IsSameButRoom self.old self.new }
         ensures ok { OnOk result (model.steps_up_to cut.now ≤ steps → HasRoomUpTo self.new cut.now) }
@@ -235,7 +237,7 @@ impl Detector {
         self.trail.reserve(steps.saturating_sub(self.trail.len()))
     }
 
-    // What is known of the conjuncts is that of the world.
+    // Makes what is kept of the conjuncts that of the world.
     fn watch(&mut self, world: &World)
         requires world { IsSomeWorld world.now }
         requires was { AllByRecursion (λ watch. WasWatchOf watch.state world.now) self.old.watches }
@@ -245,7 +247,7 @@ impl Detector {
         watch_each(&mut self.watches, world);
     }
 
-    // The candidate up to which the eliminations of the process stay: its last event, and also behind that where none was taken back.
+    // The greatest component of the process to which eliminations may still lead: the number of its events, or one more if none was undone.
     fn limit(&self, world: &World, pid: Pid) -> u32
         requires { IsSomeWorld world.now }
         ensures { (v : Scene) → IsSomeWorld v → IsSearchOf v self.now → IsLimit v world.now pid.0 result }
@@ -258,7 +260,7 @@ impl Detector {
         }
     }
 
-    // The last eliminations are dropped, until the candidate of the process is at most this.
+    // Drops the last eliminations, until the candidate of the process is at most this.
     fn drop_to(&mut self, pid: Pid, limit: u32)
         requires { (v : Scene) × IsSearchOf v self.old }
         ensures { DropsTo pid.0 limit self.old self.new }
@@ -271,7 +273,7 @@ impl Detector {
         }
     }
 
-    /// The detector goes on with the world, in which the process has made an event. It takes no memory.
+    /// Follows the world, in which the process has made an event. It does not allocate.
     pub fn grow(&mut self, pid: Pid, world: &World)
         requires grown { IsGrown self.old pid.0 world.now }
         requires room { HasRoomUpTo self.old world.now.state.places }
@@ -287,7 +289,7 @@ impl Detector {
         }
     }
 
-    /// The detector goes back with the world, in which the process has lost its last event. It takes no memory.
+    /// Follows the world, in which the process has lost its last event. It does not allocate.
     pub fn shrink(&mut self, pid: Pid, world: &World)
         requires shrunk { IsShrunk self.old pid.0 world.now }
         ensures of { IsDetectorOf world.now self.new }
@@ -299,7 +301,7 @@ impl Detector {
         self.run(world);
     }
 
-    /// The detector becomes that of the world, in which events were made or taken back. It takes no memory.
+    /// Follows the world, in which events were made or undone. It does not allocate.
     pub fn follow(&mut self, world: &World)
         requires moved { IsMoved self.old world.now }
         requires room { HasRoomUpTo self.old world.now.state.places }
@@ -314,7 +316,7 @@ impl Detector {
         self.run(world);
     }
 
-    /// A conjunct, by its place from 0: its process and its expression, or None where there are not so many. It takes no memory.
+    /// The process and the expression of a conjunct, by its position from 0, or None if there are fewer conjuncts. It does not allocate.
     pub fn conjunct(&self, at: usize) -> Option<(Pid, &Expr)>
         ensures { option_map (λ found. conjunct_with found.0.0 (tree_of found.1.now)) result ≡ slice_get (conjuncts_of self.now) at }
     {
@@ -322,7 +324,7 @@ impl Detector {
         Some((watch.pid(), watch.expr()))
     }
 
-    /// The least cut that satisfies the conjuncts, or None where none does. It takes no memory.
+    /// The least cut that satisfies the conjuncts, or None if no cut does. It does not allocate.
     pub fn cut(&self) -> Option<&Cut>
         ensures { (w : Scene) (P : tree.Program) → IsDetectorOf w self.now → IsWorldOf P w
             → MatchOption result (NoCut P (history_of w.state) (conjuncts_of self.now))
@@ -337,7 +339,7 @@ impl Detector {
         Some(&self.candidates)
     }
 
-    // The component of a process as it is told: this count, or that it is past.
+    // The component of a process as the frontier has it: this count, or past.
     fn head(&self, p: usize, n: u32) -> Head
         ensures { result ≡ told_head (lines_of self.now) p n }
     {
@@ -350,7 +352,7 @@ impl Detector {
         Head::At(n)
     }
 
-    /// The frontier: for each process its candidate, or that it is past. It is refused only as `Memory`, where that runs out.
+    /// The frontier: for each process its candidate, or that it is past. Error: `Memory`, if an allocation fails.
     pub fn frontier(&self, alloc: Global) -> Result<Sequence<Head>, Refusal>
         ensures frontier { IfOk result (λ heads. (w : Scene) (P : tree.Program) → IsDetectorOf w self.now → IsWorldOf P w
             → TellsFrontier P (history_of w.state) (conjuncts_of self.now) heads) }
@@ -363,7 +365,7 @@ impl Detector {
         Ok(Sequence::new(heads))
     }
 
-    /// The eliminations that led to the frontier, in order. It takes no memory.
+    /// The eliminations that led to the frontier, in order. It does not allocate.
     pub fn why(&self) -> &[Elimination]
         ensures sound { (w : Scene) (P : tree.Program) → IsDetectorOf w self.now → IsWorldOf P w
             → IsSound P (history_of w.state) (conjuncts_of self.now) result.now }

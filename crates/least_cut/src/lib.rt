@@ -1,5 +1,5 @@
-//! The least cut that satisfies a conjunction of local predicates, or that there is none, kept as events are made and taken back; and
-//! the list of eliminations behind it, which anyone can check.
+//! The least cut that satisfies a conjunction of local predicates, or that there is none. It is kept up to date as events are made and
+//! undone, with a list of eliminations that proves it and that anyone can check.
 #![tactic(auto)]
 
 mod checking;

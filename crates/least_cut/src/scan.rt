@@ -15,8 +15,8 @@ use std::marker::Model;
 use std::sync::Wait;
 use std::thread::Threads;
 
-/// In which local states of a process its conjunct is true, from the start on. Contracts see this, and how many truths there may be
-/// without memory.
+/// In which local states of a process its conjunct is true, from the start on. Contracts see this, and how many truths fit without
+/// allocation.
 #[derive(Debug, Drop)]
 pub(crate) struct Truths {
     pid: Pid,
@@ -36,7 +36,7 @@ impl Model for Truths {
 }
 
 impl Truths {
-    // Where the conjunct is true in the world. It is refused only as `Memory`, where that runs out.
+    // Where the conjunct is true in the world. Error: `Memory`, if an allocation fails.
     fn of(alloc: Global, world: &World, conjunct: &Conjunct) -> Result<Truths, Refusal>
         ensures line { IfOk result (λ made. made.line ≡ truth_line world.now (conjunct_of conjunct.now)) }
         ensures refuses { IfErr result (λ refusal. refusal ≡ Memory) }
@@ -48,7 +48,7 @@ impl Truths {
         })
     }
 
-    /// The same truths once more, with as much room. It is refused only where memory runs out.
+    /// Copies the truths, with as much room. Error: out of memory.
     pub(crate) fn copy(&self) -> Result<Truths, AllocError>
         ensures { IfOk result (λ made. made ≡ self.now) }
     {
@@ -72,7 +72,7 @@ impl Truths {
         self.truths.len()
     }
 
-    /// Whether the conjunct is known to be false behind the n-th event of this process.
+    /// Whether the conjunct is known to be false after the n-th event of this process.
     pub(crate) fn is_false(&self, pid: Pid, n: u32) -> bool
         ensures { result ≡ ((self.now.line.process == pid.0) && not (slice_index_or self.now.line.truths n true)) }
     {
@@ -85,7 +85,7 @@ impl Truths {
         }
     }
 
-    /// Only so many local states are there.
+    /// Keeps the truths of only so many local states.
     pub(crate) fn truncate(&mut self, len: usize)
         ensures line { self.new.line ≡ record self.old.line { truths = take len self.old.line.truths } }
         ensures room { self.new.room ≡ self.old.room }
@@ -93,7 +93,7 @@ impl Truths {
         self.truths.truncate(len);
     }
 
-    /// One local state more is there. It takes no memory.
+    /// Appends the truth of one more local state. It does not allocate.
     pub(crate) fn push(&mut self, truth: bool)
         requires { length self.old.line.truths < self.old.room }
         ensures line { self.new.line ≡ record self.old.line { truths = self.old.line.truths ++ truth ∷ [] } }
@@ -102,7 +102,7 @@ impl Truths {
         self.truths.push_reserved(truth);
     }
 
-    /// Makes room for so many local states in all. No room is lost, and the truths stay, also where it is refused.
+    /// Makes room for so many local states in total. No room is lost, and the truths stay, also on an error.
     pub(crate) fn reserve_to(&mut self, len: usize) -> Result<(), AllocError>
         ensures line { self.new.line ≡ self.old.line }
         ensures grows { self.old.room ≤ self.new.room }
@@ -123,7 +123,7 @@ fn named(alloc: Global, conjuncts: &[Conjunct]) -> Result<Vec<(Pid, &Expr)>, All
     Ok(named)
 }
 
-// Each conjunct's process with the list of the same place.
+// Each conjunct's process, with the list at the same position.
 fn lines_of(
     alloc: Global,
     conjuncts: &[Conjunct],
@@ -162,8 +162,8 @@ impl Model for Scan {
 }
 
 impl Scan {
-    /// Evaluates each conjunct in each local state of its process; a process that is not there has one, without variables. One that
-    /// faults is not true. It is refused only as `Memory`, where that runs out.
+    /// Evaluates each conjunct in each local state of its process. A process that does not exist has one local state, without variables. A
+    /// conjunct that faults is not true. Error: `Memory`, if an allocation fails.
     pub fn of(alloc: Global, world: &World, conjuncts: &[Conjunct]) -> Result<Scan, Refusal>
         ensures scan { IfOk result (λ scan. scan ≡ scan_of world.now (map conjunct_of conjuncts.now)) }
         ensures refuses { IfErr result (λ refusal. refusal ≡ Memory) }
@@ -175,9 +175,8 @@ impl Scan {
         Ok(Scan { lines })
     }
 
-    /// The same scan as `of` makes, by one call of `truths_par`: a worker for each conjunct, in a thread where one can be made, asks the
-    /// gate for its turn 0, and tells when it has ended. The scan is the same whatever the gate says. It is refused only as `Memory`,
-    /// where that runs out.
+    /// The same scan as that of `of`, by one call of `truths_par`: each conjunct has a worker, in a thread if one can be made. The worker
+    /// calls the gate before and after its turn 0. The scan does not depend on the gate. Error: `Memory`, if an allocation fails.
     pub fn wide<R: Threads + Wait + Sync, G: Gate>(
         rt: &R,
         alloc: Global,
@@ -194,7 +193,7 @@ impl Scan {
         Ok(Scan { lines })
     }
 
-    /// Whether one of the conjuncts is false behind the n-th event of the process.
+    /// Whether one of the conjuncts is false after the n-th event of the process.
     pub(crate) fn is_false(&self, pid: Pid, n: u32) -> bool
         ensures { result ≡ is_false_in self.now pid.0 n }
     {

@@ -1,4 +1,4 @@
-//! A conjunct that is watched as its process makes events and takes them back.
+//! A conjunct with its truths, kept up to date as its process makes and undoes events.
 
 ghost use Rattle.std.specs.Prelude.{◌≡◌, ◌<◌, ◌≤◌, ◌+◌, ◌&&◌, ◌==◌, not, true, length, IfOk, IfErr, OnOk, nat_le, slice_index_or};
 ghost use Rattle.dbg_base.specs.Trees.{tree_of};
@@ -16,8 +16,7 @@ use local_eval::{Env, guard};
 use std::alloc::AllocError;
 use std::marker::Model;
 
-/// A conjunct, where it is true, and the last local state of its process. Contracts see this, and how many truths there may be without
-/// memory.
+/// A conjunct, where it is true, and the last local state of its process. Contracts see this, and how many truths fit without allocation.
 #[derive(Debug, Drop)]
 pub(crate) struct Watch {
     truths: Truths,
@@ -42,7 +41,7 @@ impl Model for Watch {
 }
 
 impl Watch {
-    /// Watches a conjunct, where this is known of it in the world. It is refused only as `Memory`, where that runs out.
+    /// The watch of a conjunct with these truths in the world. Error: `Memory`, if an allocation fails.
     pub(crate) fn new(conjunct: Conjunct, truths: Truths, world: &World) -> Result<Watch, Refusal>
         requires here { conjunct.pid.0 < length world.now.state.places }
         requires line { truths.line ≡ truth_line world.now (conjunct_of conjunct) }
@@ -55,7 +54,7 @@ impl Watch {
         Ok(Watch { truths, expr, env })
     }
 
-    /// The same once more, with as much room. It is refused only as `Memory`, where that runs out.
+    /// Copies the watch, with as much room. Error: `Memory`, if an allocation fails.
     pub(crate) fn copy(&self) -> Result<Watch, Refusal>
         ensures { IsCopy result (λ made. made ≡ self.now) }
     {
@@ -80,22 +79,22 @@ impl Watch {
         &self.expr
     }
 
-    /// Whether the process has fewer events than these, as far as it is known.
+    /// Whether the process has fewer than n events, by the truths that are known.
     pub(crate) fn is_past(&self, pid: Pid, n: u32) -> bool
         ensures { result ≡ ((self.now.state.line.process == pid.0) && nat_le (length self.now.state.line.truths) n) }
     {
         self.truths.pid() == pid && self.truths.len() <= n as usize
     }
 
-    /// Whether the conjunct is known to be false behind the n-th event of this process.
+    /// Whether the conjunct is known to be false after the n-th event of this process.
     pub(crate) fn is_false(&self, pid: Pid, n: u32) -> bool
         ensures { result ≡ ((self.now.state.line.process == pid.0) && not (slice_index_or self.now.state.line.truths n true)) }
     {
         self.truths.is_false(pid, n)
     }
 
-    /// Makes room for the truths of so many local states of the process. No room is lost, and nothing changes that is seen, also where
-    /// it is refused.
+    /// Makes room for the truths of so many local states of the process. No room is lost, and contracts see no other change, also on an
+    /// error.
     pub(crate) fn reserve_to(&mut self, states: usize) -> Result<(), AllocError>
         ensures state { self.new.state ≡ self.old.state }
         ensures grows { self.old.room ≤ self.new.room }
@@ -104,7 +103,7 @@ impl Watch {
         self.truths.reserve_to(states)
     }
 
-    // The next event of the process is there.
+    // Adds the next event of the process.
     fn advance(&mut self, world: &World)
         requires some { 0 < length self.old.state.line.truths }
         requires room { length self.old.state.line.truths < self.old.room }
@@ -119,7 +118,7 @@ impl Watch {
             .push(matches!(guard(&self.expr, &self.env), Ok(true)));
     }
 
-    /// What was known in a world is known in this one, where events were made or taken back since. It takes no memory.
+    /// Makes what was known in an earlier world that of this one, in which events were made or undone since. It does not allocate.
     pub(crate) fn follow(&mut self, world: &World)
         requires world { IsSomeWorld world.now }
         requires was { WasWatchOf self.old.state world.now }

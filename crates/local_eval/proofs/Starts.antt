@@ -16,12 +16,12 @@ take_suc_past f [] (suc i) here = refl
 take_suc_past f (x ∷ xs) zero here = cc
 take_suc_past f (x ∷ xs) (suc i) here = ap (λ rest. f x ∷ rest) (take_suc_past f xs i here)
 
--- one more, where it is there
+-- one more value, if there is such a variable
 pub take_one_more : {A B : Type 0} (f : A → B) (xs : List A) (i : ℕ) (y : B) → Some y ≡ option_map f (slice_get xs i)
     → take i (map f xs) ++ y ∷ [] ≡ take (i + 1) (map f xs)
 take_one_more f xs i y here = rw add-one (take_suc_there f xs i y here)
 
--- nothing more, where it is not there
+-- no more values, if there is no such variable
 pub take_no_more : {A B : Type 0} (f : A → B) (xs : List A) (i : ℕ) → None ≡ option_map f (slice_get xs i)
     → take i (map f xs) ≡ take (i + 1) (map f xs)
 take_no_more f xs i here = rw add-one (take_suc_past f xs i here)

@@ -1,15 +1,15 @@
--- What a command did, as the model says it.
+-- The effect of a command, in terms of the model.
 use Rattle.std.specs.Prelude.{◌≡◌, Option, Some, None, Result, Ok, Err}
 use Rattle.dbg_base.specs.Firing.{Effect}
 use Rattle.local_eval.specs.declared.change.Change.{Change}
 use Rattle.local_eval.specs.declared.fault.EvalError.{EvalError}
 use Rattle.local_eval.specs.declared.fault.EvalError.TheVariants.{Fault, Memory}
 
--- a change of the code
+-- the effect of a change of the code
 abbrev pub effect_of_change : Change → Effect
 effect_of_change change = record { sets = change.sets; message = change.message }
 
--- What a function returned is this effect, or a fault exactly where there is none, unless memory ran out.
+-- The result is this effect, or a fault exactly if there is no effect, unless memory ran out.
 abbrev pub Gives : Result Change EvalError → Option Effect → Type 0
 Gives (Ok change) known = known ≡ Some (effect_of_change change)
 Gives (Err Fault) known = known ≡ None

@@ -1,4 +1,4 @@
-//! What a command does to its process.
+//! The effect of a command on its process.
 
 ghost use Rattle.std.specs.Prelude.{◌≡◌, [], ◌∷◌, IfOk};
 ghost use Rattle.dbg_base.specs.Firing.{with_set, assigned, effect_with, effect_of};
@@ -13,16 +13,16 @@ use dbg_base::Sequence;
 use proc_lang::{Action, Assignment, Guarded};
 use std::alloc::{AllocError, Global};
 
-/// What a command does where it fires.
+/// The effect of a command that fires.
 #[derive(Debug, Drop)]
 pub struct Change {
-    /// The variables that are set, each with its new value, in the order in which they are set.
+    /// The variables that are set, each with its new value, in this order.
     pub sets: Sequence<(u32, i64)>,
     /// The value that is sent, if any.
     pub message: Option<i64>,
 }
 
-// The local state with one variable set, where it is there.
+// The local state with one variable set. A variable that does not exist is left out.
 fn with_value(env: &Env, index: u32, value: i64) -> Result<Env, AllocError>
     ensures { IfOk result (λ taken. taken ≡ with_set env.now ((index, value) ∷ [])) }
 {
@@ -33,7 +33,7 @@ fn with_value(env: &Env, index: u32, value: i64) -> Result<Env, AllocError>
     Ok(taken)
 }
 
-// The assignments, each evaluated in this local state, behind the variables that are set already.
+// Evaluates the assignments in this local state, and appends them to the variables that are set already.
 fn assign(
     mut sets: Vec<(u32, i64)>,
     message: Option<i64>,
@@ -52,11 +52,12 @@ fn assign(
     })
 }
 
-/// What the command does in this local state of its process, where it takes this message if it receives (with none it takes none,
-/// and any other command does without it): the variables that it sets and the value that it sends. A value to send is evaluated at
-/// the old values, an assignment at the old values with the message already taken, both with the counts as they stand, before this
-/// message is counted, and the guard not at all. It is refused as a fault exactly where an evaluation faults, and as memory where
-/// that runs out, which may come in place of either.
+/// The effect of a command in this local state of its process: the variables that it sets, and the value that it sends. If the command
+/// receives, it receives `message`, or nothing if that is None. Other commands ignore `message`. The value to send is evaluated with the
+/// old values. Assignments are evaluated with the old values and the received message. Both use the counts before this message. The guard
+/// is not evaluated.
+///
+/// Errors: `EvalError::Fault` exactly if an evaluation faults, unless an allocation fails. `EvalError::Memory` if an allocation fails.
 pub fn effect(
     alloc: Global,
     command: &Guarded,

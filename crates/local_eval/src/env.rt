@@ -11,8 +11,8 @@ use proc_lang::Program;
 use std::alloc::{AllocError, Global};
 use std::marker::Model;
 
-/// The local state of a process: the values of its variables, by their places from 0, and for each process how many messages it
-/// has sent to it and how many it has received from it. Contracts see it as these three lists.
+/// The local state of a process: the values of its variables, by their numbers from 0, and for each process how many messages it has sent
+/// to that process and received from it. Contracts see these three lists.
 #[derive(Debug, Drop)]
 pub struct Env {
     values: Vec<i64>,
@@ -41,7 +41,7 @@ fn initial_values(alloc: Global, program: &Program, pid: Pid) -> Result<Vec<i64>
     Ok(values)
 }
 
-// No message for each of so many processes.
+// Counts of no messages, for so many processes.
 fn no_messages(alloc: Global, processes: u32) -> Result<Vec<u32>, AllocError>
     ensures { IfOk result (λ counts. counts.items ≡ replicate processes 0) }
 {
@@ -49,7 +49,7 @@ fn no_messages(alloc: Global, processes: u32) -> Result<Vec<u32>, AllocError>
 }
 
 impl Env {
-    /// The local state of a process that is not there: no variable, and no count. It takes no memory.
+    /// The local state of a process that does not exist: no variables, and no counts. It does not allocate.
     pub fn none(alloc: Global) -> Env
         ensures { result ≡ no_state }
     {
@@ -60,8 +60,8 @@ impl Env {
         }
     }
 
-    /// The start of a process: its initial values, none where the program has no such process, and no message sent to or received
-    /// from any process of the program. It is refused only where memory runs out.
+    /// The start of a process: its initial values, and no messages sent or received. If the program has no such process, there are no
+    /// values. Error: out of memory.
     pub fn start(alloc: Global, program: &Program, pid: Pid) -> Result<Env, AllocError>
         ensures { IfOk result (λ env. env ≡ start_state (program_of program.now) pid.0) }
     {
@@ -71,7 +71,7 @@ impl Env {
         Ok(Env { values, sent, got })
     }
 
-    /// The start of each process of the program. It is refused only where memory runs out.
+    /// The start of each process of the program. Error: out of memory.
     pub fn starts(alloc: Global, program: &Program) -> Result<Vec<Env>, AllocError>
         ensures { IfOk result (λ states. states.items ≡ (start_of (program_of program.now)).states) }
     {
@@ -82,21 +82,21 @@ impl Env {
         Ok(states)
     }
 
-    /// How many variables there are. It takes no memory, as all readers do.
+    /// How many variables there are. Like all methods that only read, it does not allocate.
     pub fn len(&self) -> usize
         ensures { result ≡ length self.now.values }
     {
         self.values.len()
     }
 
-    /// Whether there is no variable.
+    /// Whether there are no variables.
     pub fn is_empty(&self) -> bool
         ensures { IsTrue result ↔ (self.now.values ≡ []) }
     {
         self.values.is_empty()
     }
 
-    /// The value of a variable that is there.
+    /// The value of a variable, which must exist.
     pub fn value(&self, index: u32) -> i64
         requires { index < length self.now.values }
         ensures { slice_get self.now.values index ≡ Some result }
@@ -104,14 +104,14 @@ impl Env {
         self.values()[index as usize]
     }
 
-    /// The values, by the variables' places.
+    /// The values, in the order of the variables.
     pub fn values(&self) -> &[i64]
         ensures { result.now ≡ self.now.values }
     {
         self.values.as_slice()
     }
 
-    /// How many messages the process has sent to one that is there.
+    /// How many messages the process has sent to an existing process.
     pub fn sent(&self, pid: Pid) -> u32
         requires { pid.0 < length self.now.sent }
         ensures { slice_get self.now.sent pid.0 ≡ Some result }
@@ -119,7 +119,7 @@ impl Env {
         self.counts(Direction::Sent)[pid.0 as usize]
     }
 
-    /// How many messages the process has received from one that is there.
+    /// How many messages the process has received from an existing process.
     pub fn got(&self, pid: Pid) -> u32
         requires { pid.0 < length self.now.got }
         ensures { slice_get self.now.got pid.0 ≡ Some result }
@@ -127,7 +127,7 @@ impl Env {
         self.counts(Direction::Got)[pid.0 as usize]
     }
 
-    /// How many messages the process has sent to each process, or has received from each, by their places.
+    /// How many messages the process has sent to each process, or has received from each, in program order.
     pub fn counts(&self, direction: Direction) -> &[u32]
         ensures { result.now ≡ counts_of direction self.now }
     {
@@ -137,7 +137,7 @@ impl Env {
         }
     }
 
-    /// Takes over the values and counts of another local state of the same process. It takes no memory.
+    /// Copies the values and counts of another local state of the same process into this one. It does not allocate.
     pub fn assign(&mut self, other: &Env)
         requires values { length self.old.values ≡ length other.now.values }
         requires sent { length self.old.sent ≡ length other.now.sent }
@@ -153,7 +153,7 @@ impl Env {
             .copy_from_slice(other.counts(Direction::Got));
     }
 
-    /// Sets a variable that is there. It takes no memory.
+    /// Sets an existing variable. It does not allocate.
     pub fn set(&mut self, index: u32, value: i64)
         requires { index < length self.old.values }
         ensures { self.new ≡ record self.old { values = slice_set self.old.values index value } }
@@ -161,7 +161,7 @@ impl Env {
         self.values[index as usize] = value;
     }
 
-    /// Sets how many messages the process has sent to one that is there. It takes no memory.
+    /// Sets how many messages the process has sent to an existing process. It does not allocate.
     pub fn set_sent(&mut self, pid: Pid, count: u32)
         requires { pid.0 < length self.old.sent }
         ensures { self.new ≡ record self.old { sent = slice_set self.old.sent pid.0 count } }
@@ -169,7 +169,7 @@ impl Env {
         self.sent[pid.0 as usize] = count;
     }
 
-    /// Sets how many messages the process has received from one that is there. It takes no memory.
+    /// Sets how many messages the process has received from an existing process. It does not allocate.
     pub fn set_got(&mut self, pid: Pid, count: u32)
         requires { pid.0 < length self.old.got }
         ensures { self.new ≡ record self.old { got = slice_set self.old.got pid.0 count } }
@@ -177,7 +177,7 @@ impl Env {
         self.got[pid.0 as usize] = count;
     }
 
-    /// The same local state once more. It is refused only where memory runs out.
+    /// Copies the local state. Error: out of memory.
     pub fn copy(&self) -> Result<Env, AllocError>
         ensures { IfOk result (λ env. env ≡ self.now) }
     {
@@ -187,7 +187,7 @@ impl Env {
         Ok(Env { values, sent, got })
     }
 
-    /// The same local states once more. It is refused only where memory runs out.
+    /// Copies the local states. Error: out of memory.
     pub fn copy_all(states: &Vec<Env>) -> Result<Vec<Env>, AllocError>
         ensures { IfOk result (λ made. made.items ≡ states.now.items) }
     {

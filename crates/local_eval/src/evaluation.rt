@@ -1,4 +1,4 @@
-//! Expressions, evaluated.
+//! The evaluation of expressions.
 
 ghost use Rattle.std.specs.Prelude.{◌≡◌, pos, ◌-ℤ◌, slice_get};
 ghost use Rattle.std.specs.Option.{option_map};
@@ -13,7 +13,7 @@ use crate::fault::EvalFault;
 use crate::value::{Value, number, truth};
 use dbg_base::{Direction, Expr, Operator, Pid};
 
-// The number, or a fault where it left its range.
+// The number, or a fault if it is out of range.
 fn in_range(number: Option<i64>) -> Result<Value, EvalFault>
     ensures { outcome value_of result ≡ option_map Num number }
 {
@@ -23,14 +23,14 @@ fn in_range(number: Option<i64>) -> Result<Value, EvalFault>
     }
 }
 
-// The value of a variable, or a fault where it is not there.
+// The value of a variable, or a fault if there is no such variable.
 fn variable(env: &Env, index: u32) -> Result<Value, EvalFault>
     ensures { outcome value_of result ≡ option_map Num (slice_get env.now.values index) }
 {
     in_range(env.values().get(index as usize).copied())
 }
 
-// A count of messages, or a fault where there is no such process.
+// A count of messages, or a fault if there is no such process.
 fn count(env: &Env, direction: Direction, other: Pid) -> Result<Value, EvalFault>
     ensures { outcome value_of result ≡ option_map (λ n. Num (pos n)) (slice_get (counts_of direction env.now) other.0) }
 {
@@ -40,7 +40,7 @@ fn count(env: &Env, direction: Direction, other: Pid) -> Result<Value, EvalFault
     }
 }
 
-// The negative of a number, or a fault where it leaves its range.
+// The negative of a number, or a fault if it is out of range.
 fn negate(number: i64) -> Result<Value, EvalFault>
     ensures { outcome value_of result ≡ ranged (pos 0 -ℤ number) }
 {
@@ -67,9 +67,9 @@ fn calculate(operator: Operator, x: i64, y: i64) -> Result<Value, EvalFault>
     }
 }
 
-/// The value of the expression in this local state, or a fault: a number that leaves its range, a divisor 0, an operand of the
-/// wrong type, or a variable or a process that is not there. Of `and` and `or` the right operand is evaluated only where the left
-/// one does not decide, and is then the value, whatever its type. It takes no memory.
+/// The value of the expression in this local state. It is a fault if a number leaves its range, a divisor is 0, an operand has the wrong
+/// type, or a variable or process does not exist. `and` and `or` evaluate the right operand only if the left one does not decide, and then
+/// return its value, whatever its type. It does not allocate.
 pub fn eval(expr: &Expr, env: &Env) -> Result<Value, EvalFault>
     ensures { outcome value_of result ≡ evaluate (tree_of expr.now) env.now }
 {
@@ -103,7 +103,7 @@ pub fn eval(expr: &Expr, env: &Env) -> Result<Value, EvalFault>
     }
 }
 
-/// Whether the guard is true in this local state, or a fault: its evaluation faults, or it is no truth value. It takes no memory.
+/// Whether the guard is true in this local state. It is a fault if the evaluation faults or the value is a number. It does not allocate.
 pub fn guard(expr: &Expr, env: &Env) -> Result<bool, EvalFault>
     ensures { outcome (λ b. b) result ≡ truth_of (evaluate (tree_of expr.now) env.now) }
 {

@@ -1,21 +1,21 @@
-//! Why an evaluation gives nothing.
+//! Why an evaluation has no value.
 
 ghost use Rattle.std.specs.Prelude.{◌≡◌};
 ghost use Rattle.local_eval.specs.declared.fault.EvalError.TheVariants.{Fault, Memory};
 
 use std::alloc::{AllocError, AllocFailed};
 
-/// An evaluation faulted: a number left its range, a divisor was 0, a variable or a process was not there, or an operand had the
-/// wrong type (but for the right one of `and` and `or`, which is passed on as it is).
+/// An evaluation faulted: a number left its range, a divisor was 0, a variable or a process did not exist, or an operand had the wrong
+/// type. (The right operand of `and` and `or` may have any type.)
 #[derive(Clone, Copy, Debug, PartialEq, Eq)]
 pub struct EvalFault;
 
-/// Why there is no effect.
+/// Why a command has no effect.
 #[derive(Debug, Drop)]
 pub enum EvalError {
     /// An evaluation faulted.
     Fault,
-    /// Memory ran out.
+    /// An allocation failed.
     Memory,
 }
 

@@ -1,6 +1,6 @@
-//! What one process computes: its values and its counts of messages, its expressions, and what its commands do.
+//! The computations of one process: its values, its counts of messages, its expressions, and the effects of its commands.
 //!
-//! Each function here is equal to its definition in the model, `specs/` of the crate `dbg_base`.
+//! Each function equals its definition in the model, in `specs/` of the crate `dbg_base`.
 #![tactic(auto)]
 
 mod change;

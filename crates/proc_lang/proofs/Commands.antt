@@ -1,5 +1,4 @@
--- Initial values, variables, assignments, bodies and commands: what is read from the front is what the grammar derives, and the other
--- way round.
+-- Initial values, variables, assignments, bodies and commands: what is read is what the grammar derives, and conversely.
 use Rattle.std.proofs.Common.{◌≡◌, ℕ, ℤ, pos, neg_ℤ, false, cond, List, [], ◌∷◌, ◌++◌, length, Ok, refl, sym, ap, ◌∙◌}
 use Rattle.std.proofs.Common.{subst, codes, arith, append_assoc, length-append, inl, inr}
 use Rattle.std.specs.Str.{bytes_eq}
@@ -12,14 +11,14 @@ use Rattle.proc_lang.specs.Parsing.{Read, Body, is_word_token, is_sign_token, be
 use Rattle.proc_lang.specs.Parsing.{read_name, read_number, read_expression, read_negative, read_positive, read_start, read_variable}
 use Rattle.proc_lang.specs.Parsing.{read_assignment, read_further, read_all_further, read_send, read_receive, read_local, read_body}
 use Rattle.proc_lang.specs.Parsing.{read_command}
-use Rattle.proc_lang.proofs.Steps.{IsReader, Completes, Anything, Takes, Then, Last, bind_to, derives_more, both_reader, last_reader}
-use Rattle.proc_lang.proofs.Steps.{either_reader, either_second}
-use Rattle.proc_lang.proofs.Singles.{WordAt, SignAt, NumberAt, word_reader, word_here, sign_reader, sign_here, name_reader, name_completes}
-use Rattle.proc_lang.proofs.Singles.{name_is_not, number_reader, number_completes}
+use Rattle.proc_lang.proofs.ReaderLemmas.{IsReader, Completes, Anything, Takes, Then, Last, bind_to, derives_more, both_reader, last_reader}
+use Rattle.proc_lang.proofs.ReaderLemmas.{either_reader, either_second}
+use Rattle.proc_lang.proofs.TokenReaderLemmas.{WordAt, SignAt, NumberAt, word_reader, word_here, sign_reader, sign_here, name_reader, name_completes}
+use Rattle.proc_lang.proofs.TokenReaderLemmas.{name_is_not, number_reader, number_completes}
 use Rattle.proc_lang.proofs.Phrases.{expression_reader, expression_completes}
-use Rattle.proc_lang.proofs.Repeats.{many_reader, many_complete}
+use Rattle.proc_lang.proofs.RepetitionLemmas.{many_reader, many_complete}
 
--- what derives something with a token takes that token
+-- a relation that derives only nonempty tokens has a reader that takes a token
 pub takes_by : {A : Type 0} (Derives : List Placed → A → Type 0) (read : List Placed → Read A) → IsReader Derives read
     → ((front : List Placed) (x : A) → Derives front x → (p : Placed) × (more : List Placed) × (front ≡ p ∷ more)) → Takes read
 takes_by Derives read reader first tokens found e =
@@ -149,7 +148,7 @@ assignment_completes front rest x d any =
     ∙ bind_to _ _ _ _ (name_completes d.0 (sign_at d.2 Becomes ∷ (d.1 ++ rest)) x.variable d.3 tt)
     (bind_to _ _ _ _ (sign_here Becomes d.2 (d.1 ++ rest)) (bind_to _ _ _ _ (expression_completes d.1 rest x.value d.4 tt) refl))
 
--- an assignment behind a comma
+-- an assignment after a comma
 pub further_reader : IsReader DerivesFurther read_further
 unfolding read_further
 further_reader =
@@ -174,7 +173,7 @@ all_further_completes =
     many_complete DerivesFurther (is_sign_token Comma) read_further further_reader further_takes further_completes
     (λ front rest x d. ap (λ (l : List Placed). begins_sign Comma (l ++ rest)) d.3)
 
--- a body, as one thing
+-- a body, as one value
 abbrev WholeBody : List Placed → Body → Type 0
 WholeBody tokens body = DerivesBody tokens body.0 body.1
 
@@ -270,7 +269,7 @@ receive_completes front rest source variable xs d stop =
     (bind_to _ _ _ _ (name_completes d.1 last variable d.5 tt)
     (bind_to _ _ _ _ (all_further_completes d.2 rest xs d.6 stop) refl)))
 
--- an assignment begins with no reserved word
+-- an assignment does not begin with a reserved word
 assignment_begins : (word : List ℕ) (front more : List Placed) (x : WrittenAssignment)
     → ((name : List ℕ) → IsName name → bytes_eq name word ≡ false) → DerivesAssignment front x → begins_word word (front ++ more) ≡ false
 assignment_begins word front more x differs d =
@@ -278,7 +277,7 @@ assignment_begins word front more x differs d =
     ap (λ (l : List Placed). l ++ more) (d.5 ∙ ap (λ (l : List Placed). l ++ sign_at d.2 Becomes ∷ d.1) d.3.0) in
     ap (begins_word word) same ∙ differs x.variable.name d.3.1
 
--- where neither a send nor a receive stands, assignments do
+-- if neither a send nor a receive comes first, assignments do
 abbrev read_rest : List Placed → Read Body
 read_rest tokens = cond (begins_word (codes "recv") tokens) (read_receive tokens) (read_local tokens)
 

@@ -1,11 +1,11 @@
--- The number that digits write, one digit at a time.
+-- The number of some digits, one digit at a time.
 use Rattle.std.proofs.Common.{◌≡◌, ℕ, zero, suc, ◌+◌, ◌-◌, ◌*◌, ◌<◌, ◌≤◌, true, List, [], ◌∷◌, ◌++◌, length, get_or, take, drop, refl, sym}
 use Rattle.std.proofs.Common.{ap, ◌∙◌, arith, take-append-drop}
 use Rattle.std.specs.Char.{digit_value}
 use Rattle.std.specs.List.{list_all}
 use Rattle.std.proofs.Math.Dec.{leb}
 use Rattle.std.proofs.lemmas.Bool.{leb-true}
-use Rattle.proc_lang.proofs.Runs.{and_first, and_second}
+use Rattle.proc_lang.proofs.PassingPrefixLemmas.{and_first, and_second}
 use Rattle.dbg_base.specs.Tokens.{is_digit}
 use Rattle.std.specs.Str.Parse.{digits_value, digits_value_after}
 use Rattle.std.proofs.lemmas.Int.Digits.{digits_value_more}
@@ -19,7 +19,7 @@ after_grows : (n : ℕ) (xs : List ℕ) → n ≤ digits_value_after 10 n xs
 after_grows n [] = omega arith
 after_grows n (x ∷ xs) = omega (arith, after_grows (n * 10 + digit_value x) xs)
 
--- the first digits write no more than all
+-- the number of a prefix of the digits is at most that of all
 pub front_is_less : (k : ℕ) (digits : List ℕ) → digits_value 10 (take k digits) ≤ digits_value 10 digits
 front_is_less k digits =
     let whole : digits_value 10 digits ≡ digits_value_after 10 (digits_value 10 (take k digits)) (drop k digits) =
@@ -36,7 +36,7 @@ digit_at [] i h lt = absurd (omega arith)
 digit_at (b ∷ digits) zero h lt = digit_range b (and_first (is_digit b) (list_all is_digit digits) h)
 digit_at (b ∷ digits) (suc i) h lt = digit_at digits i (and_second (is_digit b) (list_all is_digit digits) h) (omega arith)
 
--- one digit more
+-- one more digit
 pub value_more : (digits : List ℕ) (i value digit : ℕ) → list_all is_digit digits ≡ true → i < length digits
     → digit ≡ get_or digits i 0 - 48
     → value ≡ digits_value 10 (take i digits) → value * 10 + digit ≡ digits_value 10 (take (i + 1) digits)

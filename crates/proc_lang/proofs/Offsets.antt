@@ -1,4 +1,4 @@
--- Where the token stands from which on so many are left.
+-- The offset of the token from which on so many are left.
 use Rattle.std.proofs.Common.{◌≡◌, ℕ, ◌-◌, ◌≤◌, List, [], ◌∷◌, length, get_or, take, drop, map, refl, sym, ap, ◌∙◌, arith}
 use Rattle.std.proofs.lemmas.List.{length-drop, length-map, drop-map, take_all}
 use Rattle.proc_lang.specs.declared.token.Placed as code

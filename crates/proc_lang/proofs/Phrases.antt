@@ -1,4 +1,4 @@
--- Expressions: what is read from the front is what the grammar derives, and the other way round.
+-- Expressions: what is read is what the grammar derives, and conversely.
 use Rattle.std.proofs.Common.{◌≡◌, ℕ, ◌<◌, ◌≤◌, Bool, true, false, cond, List, [], ◌∷◌, ◌++◌, length, Some, None, Ok, refl, sym, ap, ◌∙◌}
 use Rattle.std.proofs.Common.{subst, codes, arith, append_assoc}
 use Rattle.std.specs.Option.{is_some}
@@ -13,16 +13,16 @@ use Rattle.dbg_base.specs.Grammar.{operator_token, direction_word, DerivesName, 
 use Rattle.proc_lang.specs.Parsing.{Read, ◌>>=◌, is_word_token, is_sign_token, begins_word, begins_sign, begins_count, direction_in}
 use Rattle.proc_lang.specs.Parsing.{read_word, read_sign, read_name, read_operator, read_direction, phrase_in, read_operand, read_count}
 use Rattle.proc_lang.specs.Parsing.{read_not, read_negate, read_binary, read_group, read_parentheses, read_by, read_expression}
-use Rattle.proc_lang.proofs.Steps.{IsReader, Completes, Anything, Then, Last, bind_to, bind_same, bind_agree, leaves, derives_more}
-use Rattle.proc_lang.proofs.Steps.{both_reader}
-use Rattle.proc_lang.proofs.Steps.{last_reader, either_reader, either_first, either_second}
-use Rattle.proc_lang.proofs.Turns.{fixed_parts, fixed_reader}
-use Rattle.proc_lang.proofs.Singles.{WordAt, SignAt, OperatorAt, DirectionAt, word_reader, word_here, word_takes, sign_reader}
-use Rattle.proc_lang.proofs.Singles.{sign_here, sign_takes, name_reader, name_completes, name_is_not, operator_reader, operator_completes}
-use Rattle.proc_lang.proofs.Singles.{operator_takes, direction_reader, direction_completes, direction_found, name_phrase, operand_reader}
-use Rattle.proc_lang.proofs.Singles.{operand_completes}
+use Rattle.proc_lang.proofs.ReaderLemmas.{IsReader, Completes, Anything, Then, Last, bind_to, bind_same, bind_agree, leaves, derives_more}
+use Rattle.proc_lang.proofs.ReaderLemmas.{both_reader}
+use Rattle.proc_lang.proofs.ReaderLemmas.{last_reader, either_reader, either_first, either_second}
+use Rattle.proc_lang.proofs.RecursiveReaderLemmas.{fixed_parts, fixed_reader}
+use Rattle.proc_lang.proofs.TokenReaderLemmas.{WordAt, SignAt, OperatorAt, DirectionAt, word_reader, word_here, word_takes, sign_reader}
+use Rattle.proc_lang.proofs.TokenReaderLemmas.{sign_here, sign_takes, name_reader, name_completes, name_is_not, operator_reader, operator_completes}
+use Rattle.proc_lang.proofs.TokenReaderLemmas.{operator_takes, direction_reader, direction_completes, direction_found, name_phrase, operand_reader}
+use Rattle.proc_lang.proofs.TokenReaderLemmas.{operand_completes}
 
--- tokens that are put together of parts
+-- tokens that consist of several parts
 four : (tokens a r b s c t : List Placed) (p q x y : Placed) → tokens ≡ a ++ r → a ≡ p ∷ [] → r ≡ b ++ s → b ≡ q ∷ [] → s ≡ c ++ t
     → c ≡ x ∷ [] → t ≡ y ∷ [] → tokens ≡ p ∷ q ∷ x ∷ y ∷ []
 four tokens a r b s c t p q x y e f g h i j k = rw (e, f, g, h, i, j, k) refl
@@ -72,7 +72,7 @@ count_completes at direction other front rest d =
     (bind_to _ _ _ _ (name_completes (word_at other.at other.name ∷ []) _ other (refl, d.2) tt)
     (bind_to _ _ _ _ (sign_here CloseParenthesis d.1 rest) refl)))
 
--- what derives an expression in parentheses of which the first opened at this offset, behind it
+-- what derives an expression in parentheses, after the first parenthesis, which opened at this offset
 abbrev Group : ℕ → List Placed → Phrase → Type 0
 Group at tokens e = DerivesExpression (sign_at at OpenParenthesis ∷ tokens) e
 
@@ -130,7 +130,7 @@ module _ (at : ℕ) (tokens : List Placed) (e : Phrase) where
             (between tokens d.1 d.2 operator.1 operator.2 right.1 right.2 _ _ d.5 operator.5 operator.3.1 right.5 close.1),
       )
 
--- an expression in parentheses, where what is within them is read so
+-- an expression in parentheses, if `inner` reads expressions
 module _ (inner : List Placed → Read Phrase) (reader : IsReader DerivesExpression inner) where
   closes : (f : ℕ → Phrase) →
       IsReader (Last f (SignAt CloseParenthesis)) (λ tokens. read_sign CloseParenthesis tokens >>= λ x. Ok (f x.0, x.1))
@@ -175,7 +175,7 @@ module _ (inner : List Placed → Read Phrase) (reader : IsReader DerivesExpress
       either_reader DerivesExpression (is_sign_token OpenParenthesis) (read_parentheses inner) _ parentheses_reader
       (either_reader DerivesExpression (λ token. is_some (direction_in token)) read_count read_operand count_reader operand_reader)
 
-  -- what is within is read from fewer tokens
+  -- what is in parentheses has fewer tokens
   module _ (other : List Placed → Read Phrase) (tokens : List Placed) where
     not_agree : (at : ℕ) → ((us : List Placed) → length us < length tokens → inner us ≡ other us)
         → read_not inner at tokens ≡ read_not other at tokens
@@ -227,15 +227,15 @@ expression_reader = fixed_reader DerivesExpression read_by some_expression by_re
 pub expression_parts : (tokens : List Placed) → read_expression tokens ≡ read_by read_expression tokens
 expression_parts = fixed_parts DerivesExpression read_by some_expression by_reader (λ read other reader. by_agree read reader other)
 
--- an expression without parentheses around it
+-- an expression that is not in parentheses
 abbrev read_bare : List Placed → Read Phrase
 read_bare tokens = cond (begins_count tokens) (read_count tokens) (read_operand tokens)
 
--- behind a parenthesis that opens, where `not` does not stand
+-- after an opening parenthesis, if `not` does not follow
 abbrev read_signed : ℕ → List Placed → Read Phrase
 read_signed at tokens = cond (begins_sign Minus tokens) (read_negate read_expression at tokens) (read_binary read_expression at tokens)
 
--- no expression begins with `not` or with a minus
+-- an expression begins neither with `not` nor with a minus
 first_of_expression : (e : Phrase) (front more : List Placed) → DerivesExpression front e
     → (begins_word (codes "not") (front ++ more) ≡ false) × (begins_sign Minus (front ++ more) ≡ false)
 first_of_expression (Number at value) front more d =
@@ -307,7 +307,7 @@ alone p e rest no_sign no_count reads =
     (either_second DerivesExpression (λ token. is_some (direction_in token)) read_count read_operand (p ∷ rest) _ no_count
     (operand_completes (p ∷ []) rest e (p, refl, reads) tt))
 
--- a name begins no count
+-- a name does not begin a count
 name_counts_not : (name : List ℕ) → IsName name → is_some (direction_in (Word name)) ≡ false
 name_counts_not name is =
     ap (λ (b : Bool). is_some (cond b (Some Sent) (cond (bytes_eq name (codes "got")) (Some Got) None)))

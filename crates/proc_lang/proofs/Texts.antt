@@ -1,4 +1,4 @@
--- What a text reads as and its first fault: one thing in all, whatever the start symbol, the checks and the meaning are.
+-- A text reads as at most one thing and has at most one first fault, for any start symbol, checks and meaning. It has one of the two.
 use Rattle.std.proofs.Common.{◌≡◌, ℕ, ◌<◌, List, [], ◌∷◌, ◌++◌, length, get_or, Some, Result, Ok, Err, refl, sym, ap, ◌∙◌}
 use Rattle.std.proofs.Common.{subst, arith, append_assoc, ◌⊎◌, inl, inr}
 use Rattle.std.specs.Prelude.{Contains, IfOk, slice_get}
@@ -25,14 +25,14 @@ use Rattle.proc_lang.specs.Checking.{Checks}
 use Rattle.proc_lang.specs.Answering.{Writes, IfBad, Accepts, Refuses}
 use Rattle.proc_lang.proofs.TokenLaws.{one_token_list, no_token_fault}
 use Rattle.proc_lang.proofs.TokenFaults.{one_token_fault, fault_same}
-use Rattle.proc_lang.proofs.EachText.{lexed}
+use Rattle.proc_lang.proofs.TokenExistenceLemmas.{lexed}
 
--- an error is passed on, whatever else could have been answered
+-- an error is forwarded, with a result of any type
 pub passed_on : (X Y : Type 0) (e : ProgError) (is_so : ProgFault → Type 0) → IfBad {X = X} (Err e) is_so → IfBad {X = Y} (Err e) is_so
 passed_on X Y errors.Memory is_so bad = tt
 passed_on X Y (Bad f) is_so bad = bad
 
--- a kind is known by its number
+-- the number of a kind determines the kind
 kind_from : ℕ → FaultKind
 kind_from n =
     get_or (kinds.Byte ∷ kinds.Byte ∷ kinds.Token ∷ kinds.Grammar ∷ kinds.NameTaken ∷ kinds.NameUnknown ∷ kinds.TypeWrong ∷ kinds.Limit
@@ -50,7 +50,7 @@ kind_known kinds.Limit = refl
 kind_known kinds.SelfSend = refl
 kind_known kinds.SetTwice = refl
 
--- two faults of which neither is behind the other
+-- two faults are equal if each is not after the other
 same_order : (f g : ProgFault) → IsNotAfter f g → IsNotAfter g f → f ≡ g
 same_order f g (inl x) (inl y) = absurd (omega (arith, x, y))
 same_order f g (inl x) (inr y) = absurd (omega (arith, x, y.0))
@@ -66,7 +66,7 @@ one_first : (faults : List ProgFault) (f g : ProgFault) → IsFirstFault faults 
 one_first faults f g x y =
     same_order f g (contained (IsNotAfter f) faults g x.1 y.0) (contained (IsNotAfter g) faults f y.1 x.0)
 
--- a longer front of the same tokens goes on with the token behind the shorter one
+-- a longer prefix of the same tokens has the token after the shorter one
 longer_front : (a b l m : List Placed) (p : Placed) → a ++ p ∷ l ≡ b ++ m → length a < length b
     → (c : List Placed) × (b ≡ (a ++ p ∷ []) ++ c)
 longer_front [] [] l m p e lt = absurd (omega (arith, lt))
@@ -88,18 +88,18 @@ same_front (x ∷ a) (y ∷ b) l m p q e same =
 
 module _ {W M : Type 0} (Derives : List Placed → W → Type 0) (faults : W → List ProgFault) (says : W → M)
     (once : (tokens : List Placed) (x y : W) → Derives tokens x → Derives tokens y → x ≡ y) where
-  -- a front of what begins begins
+  -- a prefix of what can be continued can be continued
   shorter_begins : (front more : List Placed) → Begins Derives (front ++ more) → Begins Derives front
   shorter_begins front more b =
       (more ++ b.0, b.1, subst (λ (l : List Placed). Derives l b.1) (append_assoc front more b.0) b.2)
 
-  -- what derives something has no fault of grammar
+  -- tokens that derive something have no grammar fault
   no_grammar_fault : (end : ℕ) (tokens : List Placed) (w : W) (f : ProgFault) → Derives tokens w → IsGrammarFault Derives end tokens f → ⊥
   no_grammar_fault end tokens w f d (kind, inl g) =
       g.5 (g.1, w, subst (λ (l : List Placed). Derives l w) (g.3 ∙ sym (append_assoc g.0 (g.2 ∷ []) g.1)) d)
   no_grammar_fault end tokens w f d (kind, inr g) = g.1 w d
 
-  -- two places at which the tokens cannot go on
+  -- two positions at which the tokens cannot be continued
   later_front : {A : Type 0} (a b l m : List Placed) (p : Placed) (tokens : List Placed) → tokens ≡ a ++ p ∷ l → tokens ≡ b ++ m
       → ¬ Begins Derives (a ++ p ∷ []) → Begins Derives b → length a < length b → A
   later_front a b l m p tokens whole also stuck viable lt =
@@ -130,7 +130,7 @@ module _ {W M : Type 0} (Derives : List Placed → W → Type 0) (faults : W →
       (subst (λ (t : List Placed). Begins Derives t) (y.3 ∙ sym (append_assoc y.0 (y.2 ∷ []) y.1)) x.0)))
   one_grammar_fault end tokens f g (kind, inr x) (other, inr y) = fault_same f g (kind ∙ sym other) (x.2 ∙ sym y.2)
 
-  -- a text says one thing at most
+  -- a text reads as at most one thing
   pub reads_once : (text : List ℕ) (P Q : M) → ReadsAs Derives faults says text P → ReadsAs Derives faults says text Q → P ≡ Q
   reads_once text P Q x y =
       let tokens = one_token_list text x.tokens y.tokens x.has_tokens y.has_tokens in
@@ -138,7 +138,7 @@ module _ {W M : Type 0} (Derives : List Placed → W → Type 0) (faults : W →
       once y.tokens x.written y.written (subst (λ (ts : List Placed). Derives ts x.written) tokens x.derives) y.derives in
       x.said ∙ ap says written ∙ sym y.said
 
-  -- and has then no fault
+  -- and then it has no fault
   pub reads_well : (text : List ℕ) (P : M) (f : ProgFault) → ReadsAs Derives faults says text P → IsFaultOf Derives faults text f → ⊥
   reads_well text P f x (inl y) = omega (arith, y.0, x.has_tokens.0)
   reads_well text P f x (inr (inl y)) = no_token_fault text x.tokens f x.has_tokens y.1
@@ -151,7 +151,7 @@ module _ {W M : Type 0} (Derives : List Placed → W → Type 0) (faults : W →
       let none : Contains [] f = subst (λ (fs : List ProgFault). Contains fs f) (ap faults (sym written) ∙ x.checks) y.4.0 in
       omega (arith, none.1)
 
-  -- a text has one first fault at most
+  -- a text has at most one first fault
   pub fault_once : (text : List ℕ) (f g : ProgFault) → IsFaultOf Derives faults text f → IsFaultOf Derives faults text g → f ≡ g
   fault_once text f g (inl x) (inl y) = x.1 ∙ sym y.1
   fault_once text f g (inl x) (inr (inl y)) = absurd (omega (arith, x.0, y.0))
@@ -181,7 +181,7 @@ module _ {W M : Type 0} (Derives : List Placed → W → Type 0) (faults : W →
       let written = once y.0 x.1 y.1 (subst (λ (ts : List Placed). Derives ts x.1) tokens x.3) y.3 in
       one_first (faults y.1) f g (subst (λ (w : W). IsFirstFault (faults w) f) written x.4) y.4
 
-  -- what the checks say of the first of their faults, and what the grammar says of tokens
+  -- the first fault of the checks, and the grammar's outcome for tokens
   module _ (first : (text : List ℕ) (tokens : List Placed) (w : W) (f : ProgFault) → HasTokens text tokens → Derives tokens w
       → slice_get (faults w) 0 ≡ Some f → IsFirstFault (faults w) f) where
     checks_fault : (text : List ℕ) (tokens : List Placed) (w : W) (f : ProgFault) → HasTokens text tokens → Derives tokens w
@@ -196,7 +196,7 @@ module _ {W M : Type 0} (Derives : List Placed → W → Type 0) (faults : W →
     checked_text text tokens w has d (f ∷ others) some =
         inr (f, checks_fault text tokens w f has d (ap (λ (fs : List ProgFault). slice_get fs 0) some))
 
-    -- each text says something or has a first fault
+    -- each text reads as something or has a first fault
     pub each_text : ((end : ℕ) (tokens : List Placed) →
         ((w : W) × Derives tokens w) ⊎ ((f : ProgFault) × IsGrammarFault Derives end tokens f))
         → (text : List ℕ) → ((P : M) × ReadsAs Derives faults says text P) ⊎ ((f : ProgFault) × IsFaultOf Derives faults text f)
@@ -215,7 +215,7 @@ module _ {W M : Type 0} (Derives : List Placed → W → Type 0) (faults : W →
               ]
         ]
 
-    -- what reading a text answered, where the checks were made
+    -- the result of reading a text whose checks were made
     module _ {X : Type 0} (view : X → M) (text : List ℕ) (w : W) (writes : Writes Derives text w) where
       pub checked_accepted : (r : Result X ProgError) → Checks r (faults w) (λ x. view x ≡ says w)
           → IfOk r (λ x. ReadsAs Derives faults says text (view x))
@@ -235,7 +235,7 @@ module _ {W M : Type 0} (Derives : List Placed → W → Type 0) (faults : W →
   no_tokens text (Bad f) (inl long) X = inl long
   no_tokens text (Bad f) (inr found) X = inr (inl found)
 
-  -- a text whose tokens can't go on
+  -- a text whose tokens cannot be continued
   pub stopped_refused : {B Z : Type 0} (read : List Placed → Read B) (view : Z → B) (text : List ℕ) (tokens rest : List Placed)
       (stop : Stop)
       (e : ProgError) (X : Type 0)
@@ -249,7 +249,7 @@ module _ {W M : Type 0} (Derives : List Placed → W → Type 0) (faults : W →
       subst (λ (x : ProgError). IfBad {X = X} (Err x) (IsFaultOf Derives faults text)) (sym is)
       (inr (inr (inl (tokens, has, fails (length text) n tokens _ given refl refl))))
 
-  -- what is so is answered, since what is answered is so
+  -- what holds is returned, since what is returned holds
   module _ {X : Type 0} (view : X → M) (text : List ℕ) where
     pub accepts : (r : Result X ProgError) → IfOk r (λ x. ReadsAs Derives faults says text (view x))
         → IfBad r (IsFaultOf Derives faults text) → (P : M) → ReadsAs Derives faults says text P → Accepts view r P

@@ -9,7 +9,7 @@ use Rattle.dbg_base.specs.declared.fault.FaultKind.{FaultKind}
 use Rattle.dbg_base.specs.declared.fault.FaultKind.TheVariants as kinds
 use Rattle.proc_lang.proofs.TokenLaws.{spells_first, gap_once, begins_append, step_once, moved_begins, fault_begins, opens, clear_front}
 
--- the three kinds of what can be wrong at the front
+-- the three kinds of faults at the beginning
 record Form (kind : FaultKind) (depth : ℕ) (rest : List ℕ) : Type 0 where
   form : ((kind ≡ kinds.Byte) × BeginsWithNoToken rest)
       ⊎ (((kind ≡ kinds.Token) × BeginsWithTooLarge rest) ⊎ ((kind ≡ kinds.Limit) × OpensTooDeep depth rest))
@@ -65,14 +65,14 @@ kind_once a b depth rest x y =
       ]
     ]
 
--- what is wrong behind these tokens, at this offset
+-- a fault after these tokens, at this offset
 record Wrong (tokens : List Placed) (at depth : ℕ) (text : List ℕ) (end : ℕ) (rest : List ℕ) (kind : FaultKind) : Type 0 where
   begins : BeginsWith at text tokens end rest
   within : AllByRecursion (λ p. IsWithinLimits p.token) tokens
   shallow : StaysShallow depth tokens
   found : FaultsInFront kind (open_after depth tokens) rest
 
--- a fault where the first token of another list stands
+-- a fault at the first token of another list
 in_front : {A : Type 0} (p : Placed) (tokens : List Placed) (at depth : ℕ) (text : List ℕ) (end stop : ℕ) (rest more : List ℕ)
     (kind other : FaultKind) → Wrong (p ∷ tokens) at depth text end rest kind → Wrong [] at depth text stop more other → A
 in_front p tokens at depth text end stop rest more kind other x y =

@@ -18,10 +18,10 @@ use Rattle.dbg_base.specs.declared.sign.Sign.TheVariants.{Minus, Star, Slash, Pe
 use Rattle.dbg_base.specs.declared.fault.ProgFault.{ProgFault}
 use Rattle.dbg_base.specs.declared.fault.FaultKind.{FaultKind}
 use Rattle.dbg_base.specs.declared.fault.FaultKind.TheVariants as kinds
-use Rattle.proc_lang.proofs.Runs.{and_first, and_second}
-use Rattle.proc_lang.proofs.Fronts.{sign_first, letter_is_no_digit, word_first}
+use Rattle.proc_lang.proofs.PassingPrefixLemmas.{and_first, and_second}
+use Rattle.proc_lang.proofs.FirstTokenLemmas.{sign_first, letter_is_no_digit, word_first}
 
--- a sign is known by how it is written
+-- the bytes of a sign determine it
 pub all_signs : List Sign
 all_signs =
     OpenBrace ∷ CloseBrace ∷ OpenParenthesis ∷ CloseParenthesis ∷ Semicolon ∷ Colon ∷ Becomes ∷ Comma ∷ Equals ∷ NotEquals ∷ LessThan
@@ -95,7 +95,7 @@ number_is_no_sign (b ∷ bytes) sign x y =
     let digit = and_first (is_digit b) (list_all is_digit bytes) x in
     absurd (false≢true (sym (sign_first sign b bytes [] (append-nil (sign_bytes sign) ∙ sym y)).1 ∙ digit))
 
--- what writes a token has a first byte, which is no space
+-- the text of a token has a first byte, which is not a space
 abbrev pub BeginsOther : List ℕ → Type 0
 BeginsOther [] = ⊥
 BeginsOther (b ∷ bytes) = is_space b ≡ false
@@ -116,7 +116,7 @@ spells_first (Number value) (b ∷ bytes) writes =
 spells_first (Symbol sign) [] writes = let e : sign_from [] ≡ Some sign = ap sign_from writes ∙ sign_known sign in no_sign_empty sign e
 spells_first (Symbol sign) (b ∷ bytes) writes = (sign_first sign b bytes [] (append-nil (sign_bytes sign) ∙ sym writes)).2
 
--- a piece writes one token
+-- bytes are the text of at most one token
 spells_once : (a b : Token) (piece : List ℕ) → Spells a piece → Spells b piece → a ≡ b
 spells_once (Word v) (Word w) piece x y = ap Word (sym x.0 ∙ y.0)
 spells_once (Number v) (Number w) piece x y = ap Number (x.1 ∙ sym y.1)
@@ -128,7 +128,7 @@ spells_once (Symbol t) (Word v) piece x y = word_is_no_sign piece v t y x
 spells_once (Number v) (Symbol t) piece x y = number_is_no_sign piece t x.0 y
 spells_once (Symbol t) (Number v) piece x y = number_is_no_sign piece t y.0 x
 
--- spaces before what begins with none: they are the same
+-- two runs of spaces before the same bytes, which begin with another byte, are the same
 pub gap_once : (gap other left right : List ℕ) → list_all is_space gap ≡ true → list_all is_space other ≡ true → BeginsOther left
     → BeginsOther right
     → gap ++ left ≡ other ++ right → (gap ≡ other) × (left ≡ right)
@@ -153,7 +153,7 @@ pub begins_append : (piece more : List ℕ) → BeginsOther piece → BeginsOthe
 begins_append [] more h = absurd h
 begins_append (b ∷ piece) more h = h
 
--- two fronts of one length are the same
+-- two prefixes of the same length are equal
 front_once : (a b more others : List ℕ) → length a ≡ length b → a ++ more ≡ b ++ others → (a ≡ b) × (more ≡ others)
 front_once [] [] more others l e = (refl, e)
 front_once [] (y ∷ b) more others l e = absurd (omega arith)
@@ -164,7 +164,7 @@ front_once (x ∷ a) (y ∷ b) more others l e =
     let rest = front_once a b more others (omega arith) tails in
     (cc, rest.1)
 
--- the first token of a text, and what is before and behind it, are known
+-- the first token of a text, and what is before and after it, are determined
 pub record IsSameStep (gap other piece second more others : List ℕ) (a b : Token) : Type 0 where
   pub gaps : gap ≡ other
   pub pieces : piece ≡ second
@@ -196,7 +196,7 @@ no_other [] [] all begins = begins
 no_other [] (b ∷ rest) all begins = false≢true (sym begins ∙ and_first (is_space b) (list_all is_space rest) all)
 no_other (b ∷ gap) rest all begins = no_other gap rest (and_second (is_space b) (list_all is_space (gap ++ rest)) all) begins
 
--- a text of spaces has no token
+-- a text of only spaces has no token
 no_token : {A : Type 0} (gap text left piece more : List ℕ) → list_all is_space left ≡ true → text ≡ left ++ []
     → text ≡ gap ++ piece ++ more → list_all is_space gap ≡ true → BeginsOther piece → A
 no_token gap text left piece more all same whole spaces begins =
@@ -211,7 +211,7 @@ pub moved_begins : (tokens : List Placed) (at other : ℕ) (text same : List ℕ
 moved_begins tokens at other text same end rest places texts begins =
     subst (λ t. BeginsWith other t tokens end rest) texts (subst (λ k. BeginsWith k text tokens end rest) places begins)
 
--- a text has one list of tokens
+-- a text has at most one list of tokens
 one_list : (tokens others : List Placed) (at : ℕ) (text : List ℕ) (end stop : ℕ) → BeginsWith at text tokens end []
     → BeginsWith at text others stop [] → tokens ≡ others
 one_list [] [] at text end stop x y = refl
@@ -229,7 +229,7 @@ one_list (p ∷ tokens) (q ∷ others) at text end stop x y =
 pub one_token_list : (text : List ℕ) (tokens others : List Placed) → HasTokens text tokens → HasTokens text others → tokens ≡ others
 one_token_list text tokens others x y = one_list tokens others 0 text (length text) (length text) x.1 y.1
 
--- what is at fault is no space
+-- bytes with a fault do not begin with a space
 pub fault_begins : (kind : FaultKind) (depth : ℕ) (rest : List ℕ) → FaultsInFront kind depth rest → BeginsOther rest
 fault_begins kinds.Byte depth [] found = found.0
 fault_begins kinds.Byte depth (b ∷ rest) found = found.0
@@ -264,7 +264,7 @@ open_only Star more others e = let h : ◌≡◌ {A = ℕ} 42 40 = ap (λ z. sli
 open_only Slash more others e = let h : ◌≡◌ {A = ℕ} 47 40 = ap (λ z. slice_index z 0) e in absurd (omega arith)
 open_only Percent more others e = let h : ◌≡◌ {A = ℕ} 37 40 = ap (λ z. slice_index z 0) e in absurd (omega arith)
 
--- the token that begins with a parenthesis that opens
+-- the token that begins with an opening parenthesis
 pub opens : (token : Token) (piece more others : List ℕ) → Spells token piece → piece ++ more ≡ 40 ∷ others → token ≡ Symbol OpenParenthesis
 opens (Word word) [] more others writes e = absurd (spells_first (Word word) [] writes)
 opens (Word word) (b ∷ piece) more others writes e =
@@ -280,7 +280,7 @@ opens (Number value) (b ∷ piece) more others writes e =
     absurd (false≢true bad)
 opens (Symbol sign) piece more others writes e = ap Symbol (open_only sign more others (ap (λ z. z ++ more) (sym writes) ∙ e))
 
--- a token with nothing wrong where something is at fault
+-- bytes with a fault do not begin with a token without a fault
 pub clear_front : (kind : FaultKind) (depth : ℕ) (token : Token) (piece more rest : List ℕ) → rest ≡ piece ++ more → Spells token piece
     → IsLongest piece more → IsWithinLimits token
     → open_behind depth token ≤ OPEN_PARENTHESES → FaultsInFront kind depth rest → ⊥

@@ -1,4 +1,4 @@
--- The tokens at the front of a text, one more at a time.
+-- The tokens at the beginning of a text, one more at a time.
 use Rattle.std.proofs.Common.{◌≡◌, ℕ, ◌+◌, ◌≤◌, Bool, true, List, [], ◌∷◌, ◌++◌, length, map, refl, sym, ap, ◌∙◌, subst, arith}
 use Rattle.std.proofs.Common.{append_assoc, append-nil}
 use Rattle.std.specs.List.{list_all, AllByRecursion}
@@ -10,7 +10,7 @@ use Rattle.dbg_base.specs.declared.fault.ProgFault.{ProgFault}
 use Rattle.std.proofs.lemmas.List.{map-append}
 use Rattle.proc_lang.specs.declared.token.Placed as code
 use Rattle.proc_lang.specs.Scanning.{placed_of, TakesToken, MeetsFault}
-use Rattle.proc_lang.proofs.Runs.{both_true, and_first, and_second}
+use Rattle.proc_lang.proofs.PassingPrefixLemmas.{both_true, and_first, and_second}
 
 all_append : (p : ℕ → Bool) (xs ys : List ℕ) → list_all p xs ≡ true → list_all p ys ≡ true → list_all p (xs ++ ys) ≡ true
 all_append p [] ys all_xs all_ys = all_ys
@@ -18,7 +18,7 @@ all_append p (x ∷ xs) ys all_xs all_ys =
     both_true (p x) (list_all p (xs ++ ys)) (and_first (p x) (list_all p xs) all_xs)
     (all_append p xs ys (and_second (p x) (list_all p xs) all_xs) all_ys)
 
--- spaces behind the tokens belong to them as well
+-- spaces after the tokens may be added
 pub begins_with_gap : (tokens : List Placed) (at : ℕ) (text : List ℕ) (end : ℕ) (left gap rest : List ℕ)
     → BeginsWith at text tokens end left
     → list_all is_space gap ≡ true → left ≡ gap ++ rest → BeginsWith at text tokens (end + length gap) rest
@@ -43,7 +43,7 @@ begins_with_gap (p ∷ tokens) at text end left gap rest begins spaces whole = (
 regroup : (a b c d : List ℕ) → a ++ (b ++ c ++ d) ≡ (a ++ b) ++ c ++ d
 regroup a b c d = simp append_assoc
 
--- one token more
+-- one more token
 pub begins_with_more : (tokens : List Placed) (at : ℕ) (text : List ℕ) (end depth : ℕ) (left : List ℕ) (p : Placed) (rest : List ℕ)
     (stop behind : ℕ)
     → BeginsWith at text tokens end left → TakesToken left end depth p rest stop behind → BeginsWith at text (tokens ++ p ∷ []) stop rest
@@ -86,7 +86,7 @@ pub shallow_more : (depth : ℕ) (tokens : List Placed) (p : Placed) → StaysSh
 shallow_more depth [] p all one = (one, tt)
 shallow_more depth (q ∷ tokens) p all one = (all.0, shallow_more (open_behind depth q.token) tokens p all.1 one)
 
--- where the lexer is: behind these tokens of the text
+-- the position of the lexer: after these tokens of the text
 pub record IsBehind (text : List ℕ) (tokens : List Placed) (at depth : ℕ) (rest : List ℕ) : Type 0 where
   pub begins : BeginsWith 0 text tokens at rest
   pub within : AllByRecursion (λ q. IsWithinLimits q.token) tokens
@@ -104,7 +104,7 @@ behind_more text tokens at depth left p rest stop behind is step =
       counted = sym (open_after_more 0 tokens p ∙ count);
     }
 
--- the last of the text are spaces
+-- the text ends after the tokens and the spaces that follow
 begins_length : (tokens : List Placed) (at : ℕ) (text : List ℕ) (end : ℕ) → BeginsWith at text tokens end [] → end ≡ at + length text
 begins_length [] at text end begins = omega (arith, begins.3, ap length (begins.2 ∙ append-nil begins.0))
 begins_length (p ∷ tokens) at text end begins =
@@ -139,7 +139,7 @@ has_fault text tokens at depth rest fault is met =
       subst (λ d. FaultsInFront fault.kind d met.rest) is.counted met.faults,
     )
 
--- the list of the code with one token more
+-- the code's list with one more token
 pub behind_pushed : (text : List ℕ) (old new : List code.Placed) (at depth : ℕ) (left : List ℕ) (p : code.Placed) (rest : List ℕ)
     (stop behind : ℕ) → new ≡ old ++ p ∷ []
     → IsBehind text (map placed_of old) at depth left → TakesToken left at depth (placed_of p) rest stop behind

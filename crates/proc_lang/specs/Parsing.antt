@@ -1,5 +1,5 @@
--- What the parser reads from the front of some tokens: what is written there and the tokens behind it; or, where the tokens can't go on
--- so, how many are left from the first that cannot stand where it stands, and none where they end too early.
+-- What the parser reads at the beginning of some tokens: the value and the tokens after it. If the tokens cannot be read, the result is how
+-- many are left from the first that cannot follow, or none if they end too early.
 use Rattle.std.specs.Prelude.{ℕ, zero, suc, ℤ, pos, neg_ℤ, Bool, true, false, List, [], ◌∷◌, length, Option, Some, None, codes}
 use Rattle.std.specs.Prelude.{if◌then◌else◌, Result, Ok, Err}
 use Rattle.std.specs.Option.{option_map, is_some}
@@ -22,17 +22,17 @@ use Rattle.dbg_base.specs.Grammar.{Named, Phrase, Name, Truth, Count, Not, Negat
 use Rattle.dbg_base.specs.Grammar.{Receives, WrittenAssignment, WrittenCommand, WrittenProcess, reserved_words}
 use Rattle.dbg_base.specs.Grammar as phrase
 
--- what was read and the tokens behind it, or how many are left where nothing can be read
+-- the value and the tokens after it, or how many tokens are left when reading fails
 abbrev pub Read : Type 0 → Type 0
 Read A = Result (A × List Placed) ℕ
 
--- goes on behind what was read
+-- continues after a value was read
 infixl 10 ◌>>=◌
 abbrev pub ◌>>=◌ : {A B : Type 0} → Result A ℕ → (A → Result B ℕ) → Result B ℕ
 Ok x >>= f = f x
 Err left >>= f = Err left
 
--- one token, where it is such a one
+-- one token, if it has a value
 abbrev pub picked : {A : Type 0} → Option A → List Placed → Read A
 picked (Some x) tokens = Ok (x, tokens)
 picked None tokens = Err (suc (length tokens))
@@ -46,12 +46,12 @@ abbrev pub begins : (Token → Bool) → List Placed → Bool
 begins test [] = false
 begins test (p ∷ tokens) = test p.token
 
--- So many turns of a reader that reads parts of what it reads by itself.
+-- So many turns of a reader that calls itself for parts of what it reads.
 abbrev pub unrolled : {A : Type 0} → ((List Placed → Read A) → List Placed → Read A) → ℕ → List Placed → Read A
 unrolled step zero tokens = Err (length tokens)
 unrolled step (suc n) tokens = step (unrolled step n) tokens
 
--- such a reader: its parts have fewer tokens, so there are turns enough
+-- such a reader: its parts have fewer tokens, so the turns suffice
 unfoldable pub fixed : {A : Type 0} → ((List Placed → Read A) → List Placed → Read A) → List Placed → Read A
 fixed step tokens = unrolled step (suc (length tokens)) tokens
 
@@ -59,35 +59,35 @@ fixed step tokens = unrolled step (suc (length tokens)) tokens
 abbrev pub same_sign : Sign → Sign → Bool
 same_sign = sameb the_type
 
--- is the token this word
+-- whether the token is this word
 abbrev pub is_word_token : List ℕ → Token → Bool
 is_word_token word (Word found) = bytes_eq found word
 is_word_token word token = false
 
--- is the token this sign
+-- whether the token is this sign
 abbrev pub is_sign_token : Sign → Token → Bool
 is_sign_token sign (Symbol found) = same_sign found sign
 is_sign_token sign token = false
 
--- does this word stand at the front
+-- whether this word is the first token
 abbrev pub begins_word : List ℕ → List Placed → Bool
 begins_word word = begins (is_word_token word)
 
 abbrev pub begins_sign : Sign → List Placed → Bool
 begins_sign sign = begins (is_sign_token sign)
 
--- where the token stands, if the test passes
+-- the offset of the token, if the test passes
 abbrev pub place_where : (Token → Bool) → Placed → Option ℕ
 place_where test p = if test p.token then Some p.at else None
 
--- this word, by the offset at which it stands
+-- this word, with its offset as the value
 unfoldable pub read_word : List ℕ → List Placed → Read ℕ
 read_word word = read_one (place_where (is_word_token word))
 
 unfoldable pub read_sign : Sign → List Placed → Read ℕ
 read_sign sign = read_one (place_where (is_sign_token sign))
 
--- the name that a token is
+-- the name of a token, if it is one
 abbrev pub name_in : Token → Option (List ℕ)
 name_in (Word word) = if list_any (bytes_eq word) reserved_words then None else Some word
 name_in token = None
@@ -105,7 +105,7 @@ number_in token = None
 unfoldable pub read_number : List Placed → Read ℕ
 read_number = read_one (λ p. number_in p.token)
 
--- the operator that a sign is
+-- the operator of a sign, if it is one
 abbrev pub sign_operator : Sign → Option Operator
 sign_operator Plus = Some Add
 sign_operator Minus = Some Subtract
@@ -124,7 +124,7 @@ abbrev pub word_operator : List ℕ → Option Operator
 word_operator word =
     if bytes_eq word (codes "and") then Some And else (if bytes_eq word (codes "or") then Some Or else None)
 
--- the operator that a token is
+-- the operator of a token, if it is one
 abbrev pub operator_in : Token → Option Operator
 operator_in (Symbol sign) = sign_operator sign
 operator_in (Word word) = word_operator word
@@ -133,7 +133,7 @@ operator_in token = None
 unfoldable pub read_operator : List Placed → Read Operator
 read_operator = read_one (λ p. operator_in p.token)
 
--- what a word counts
+-- what a word counts, if it is the word of a count
 abbrev pub word_direction : List ℕ → Option Direction
 word_direction word =
     if bytes_eq word (codes "sent") then Some Sent else (if bytes_eq word (codes "got") then Some Got else None)
@@ -142,15 +142,15 @@ abbrev pub direction_in : Token → Option Direction
 direction_in (Word word) = word_direction word
 direction_in token = None
 
--- the word of a count, and the offset at which it stands
+-- the word of a count, with its offset
 unfoldable pub read_direction : List Placed → Read (ℕ × Direction)
 read_direction = read_one (λ p. option_map (λ direction. (p.at, direction)) (direction_in p.token))
 
--- does a count stand at the front
+-- whether a count begins here
 abbrev pub begins_count : List Placed → Bool
 begins_count = begins (λ token. is_some (direction_in token))
 
--- the expression that a word at this offset is
+-- the expression of a word at this offset
 abbrev pub word_phrase : ℕ → List ℕ → Option Phrase
 word_phrase at word =
     if bytes_eq word (codes "true") then Some (Truth at true)
@@ -162,7 +162,7 @@ phrase_by at (Word word) = word_phrase at word
 phrase_by at (token.Number value) = Some (phrase.Number at value)
 phrase_by at (Symbol sign) = None
 
--- the expression that a token alone is
+-- the expression of a single token, if it is one
 abbrev pub phrase_in : Placed → Option Phrase
 phrase_in p = phrase_by p.at p.token
 
@@ -178,7 +178,7 @@ read_count tokens = do
   close ← read_sign CloseParenthesis other.1
   Ok (Count word.0.0 word.0.1 other.0, close.1)
 
--- an expression in parentheses of which the first opened at this offset: `not e`, `- e` or `e op e`, and the one that closes
+-- an expression in parentheses, of which the first opened at this offset: `not e`, `- e` or `e op e`, and the closing one
 unfoldable pub read_not : (List Placed → Read Phrase) → ℕ → List Placed → Read Phrase
 read_not inner at tokens = do
   word ← read_word (codes "not") tokens
@@ -207,11 +207,11 @@ read_group inner at tokens =
     else (if begins_sign Minus tokens then read_negate inner at tokens
     else read_binary inner at tokens)
 
--- the first parenthesis, and what it opens
+-- the first parenthesis, and the expression in it
 unfoldable pub read_parentheses : (List Placed → Read Phrase) → List Placed → Read Phrase
 read_parentheses inner tokens = read_sign OpenParenthesis tokens >>= λ first. read_group inner first.0 first.1
 
--- an expression, where what is within its parentheses is read so
+-- an expression; `inner` reads the expressions in its parentheses
 abbrev pub read_by : (List Placed → Read Phrase) → List Placed → Read Phrase
 read_by inner tokens =
     if begins_sign OpenParenthesis tokens then read_parentheses inner tokens
@@ -226,7 +226,7 @@ abbrev pub read_end : List Placed → Read (Unit {0})
 read_end [] = Ok (tt, [])
 read_end (p ∷ tokens) = Err (suc (length tokens))
 
--- what one reader reads, and nothing behind it
+-- what one reader reads, and then the end
 unfoldable pub read_whole : {A : Type 0} → (List Placed → Read A) → List Placed → Read A
 read_whole one tokens = do
   found ← one tokens
@@ -262,28 +262,28 @@ read_assignment tokens = do
   value ← read_expression becomes.1
   Ok (record { variable = variable.0; value = value.0 }, value.1)
 
--- one, and then the others
+-- one element, and then the others
 unfoldable pub read_several : {A : Type 0} → (List Placed → Read A) → (List Placed → Read (List A)) → List Placed → Read (List A)
 read_several one rest tokens = do
   first ← one tokens
   others ← rest first.1
   Ok (first.0 ∷ others.0, others.1)
 
--- one after the other, as long as the test passes
+-- elements one after the other, as long as the test passes
 abbrev pub many_by : {A : Type 0} → (Token → Bool) → (List Placed → Read A) → (List Placed → Read (List A)) → List Placed → Read (List A)
 many_by test one rest tokens = if begins test tokens then read_several one rest tokens else Ok ([], tokens)
 
 abbrev pub read_many : {A : Type 0} → (Token → Bool) → (List Placed → Read A) → List Placed → Read (List A)
 read_many test one = fixed (many_by test one)
 
--- an assignment behind a comma
+-- an assignment after a comma
 unfoldable pub read_further : List Placed → Read WrittenAssignment
 read_further tokens = read_sign Comma tokens >>= λ comma. read_assignment comma.1
 
 abbrev pub read_all_further : List Placed → Read (List WrittenAssignment)
 read_all_further = read_many (is_sign_token Comma) read_further
 
--- a body: what is done beside assignments, and these
+-- a body: the action, and the assignments
 abbrev pub Body : Type 0
 Body = WrittenAction × List WrittenAssignment
 
@@ -340,7 +340,7 @@ read_process tokens = do
   end ← read_sign CloseBrace commands.1
   Ok (record { name = name.0; variables = variables.0; commands = commands.0 }, end.1)
 
--- one process or more
+-- at least one process
 abbrev pub read_processes : List Placed → Read (List WrittenProcess)
 read_processes = read_several read_process (read_many (is_word_token (codes "process")) read_process)
 

@@ -1,4 +1,4 @@
--- The tree that a program of the code is.
+-- The tree of a program of the code.
 use Rattle.dbg_base.specs.Trees as tree
 use Rattle.proc_lang.specs.ProcessTrees.{process_trees}
 use Rattle.proc_lang.specs.declared.program.Program.{Program}

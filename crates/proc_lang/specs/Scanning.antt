@@ -17,9 +17,9 @@ use Rattle.dbg_base.specs.declared.sign.Sign.{Sign}
 use Rattle.proc_lang.specs.declared.token.Token.{Token}
 use Rattle.proc_lang.specs.declared.token.Token.TheVariants.{Word, Number, Symbol}
 use Rattle.proc_lang.specs.declared.token.Placed.{Placed}
-use Rattle.proc_lang.specs.declared.scan.Kind.{Kind}
-use Rattle.proc_lang.specs.declared.scan.Kind.TheVariants as kind
-use Rattle.proc_lang.specs.declared.scan.Piece.{Piece}
+use Rattle.proc_lang.specs.declared.scan.TokenKind.{TokenKind}
+use Rattle.proc_lang.specs.declared.scan.TokenKind.TheVariants as kind
+use Rattle.proc_lang.specs.declared.scan.ScannedToken.{ScannedToken}
 
 abbrev pub token_of : Token → model.Token
 token_of (Word name) = model.Word name
@@ -29,51 +29,51 @@ token_of (Symbol sign) = model.Symbol sign
 abbrev pub placed_of : Placed → model.Placed
 placed_of p = record { at = p.at; token = token_of p.token }
 
--- no sign is written so
+-- these bytes are not the text of a sign
 abbrev pub IsNoSign : List ℕ → Type 0
 IsNoSign bytes = (sign : Sign) → sign_bytes sign ≡ bytes → ⊥
 
--- no sign stands at the front
+-- the bytes do not begin with a sign
 abbrev pub BeginsWithNoSign : List ℕ → Type 0
 BeginsWithNoSign bytes = (sign : Sign) (more : List ℕ) → sign_bytes sign ++ more ≡ bytes → ⊥
 
--- the token that takes so many bytes stands at the front, and no longer one
+-- the token of so many bytes begins the bytes, and no longer one does
 pub record StandsInFront (token : model.Token) (n : ℕ) (bytes : List ℕ) : Type 0 where
   pub within : n ≤ length bytes
   pub spelled : Spells token (take n bytes)
   pub longest : IsLongest (take n bytes) (drop n bytes)
 
--- the sign stands at the front, and no longer one
+-- the sign begins the bytes, and no longer one does
 pub record IsSignInFront (sign : Sign) (n : ℕ) (bytes : List ℕ) : Type 0 where
   pub within : n ≤ length bytes
   pub spelled : take n bytes ≡ sign_bytes sign
   pub longest : (other : Sign) (more : List ℕ) → sign_bytes other ++ more ≡ bytes → length (sign_bytes other) ≤ n
 
--- the token that these bytes write, by its kind
-abbrev pub token_by : Kind → List ℕ → model.Token
+-- the token of these bytes, by its kind
+abbrev pub token_by : TokenKind → List ℕ → model.Token
 token_by kind.Word bytes = model.Word bytes
 token_by kind.Number bytes = model.Number (digits_value 10 bytes)
 token_by (kind.Symbol sign) bytes = model.Symbol sign
 
-abbrev pub token_in : Piece → List ℕ → model.Token
+abbrev pub token_in : ScannedToken → List ℕ → model.Token
 token_in piece bytes = token_by piece.kind (take piece.length bytes)
 
--- the piece is a sign that stands at the front
-abbrev pub IsSignPiece : Piece → List ℕ → Type 0
+-- the piece is a sign that begins the bytes
+abbrev pub IsSignPiece : ScannedToken → List ℕ → Type 0
 IsSignPiece piece bytes = (sign : Sign) × (piece.kind ≡ kind.Symbol sign) × IsSignInFront sign piece.length bytes
 
--- the token stands at the front, takes so many bytes and meets its limit
+-- the token begins the bytes, has so many bytes and is within its limit
 abbrev pub IsFrontToken : Token → ℕ → List ℕ → Type 0
 IsFrontToken token n bytes = StandsInFront (token_of token) n bytes × IsWithinLimits (token_of token)
 
--- what is wrong at the front
+-- the kind of the fault at the beginning
 abbrev pub IsFrontFault : FaultKind → List ℕ → Type 0
 IsFrontFault Byte bytes = BeginsWithNoToken bytes
 IsFrontFault fault.Token bytes = BeginsWithTooLarge bytes
 IsFrontFault kind bytes = ⊥
 
--- From where so much of the text is left, at this offset and with so many parentheses open, the lexer passed spaces and a token, and
--- came to where that much is left.
+-- The lexer had `left` left of the text, at this offset and with so many parentheses open. It skipped spaces, passed a token, and has
+-- `rest` left.
 pub record TakesToken (left : List ℕ) (at depth : ℕ) (p : model.Placed) (rest : List ℕ) (end behind : ℕ) : Type 0 where
   pub gap : List ℕ
   pub piece : List ℕ
@@ -87,7 +87,7 @@ pub record TakesToken (left : List ℕ) (at depth : ℕ) (p : model.Placed) (res
   pub counted : behind ≡ open_behind depth p.token
   pub shallow : behind ≤ OPEN_PARENTHESES
 
--- from there it passed spaces and met a fault
+-- there the lexer skipped spaces and met a fault
 pub record MeetsFault (left : List ℕ) (at depth : ℕ) (found : ProgFault) : Type 0 where
   pub gap : List ℕ
   pub rest : List ℕ
@@ -96,7 +96,7 @@ pub record MeetsFault (left : List ℕ) (at depth : ℕ) (found : ProgFault) : T
   pub place : found.at ≡ at + length gap
   pub faults : FaultsInFront found.kind depth rest
 
--- the parentheses that a token leaves open were counted, or they are too many
+-- the parentheses that are open after a token were counted, or they are too many
 abbrev pub Counts : ℕ → model.Token → ℕ → Result (Unit {0}) ProgFault → ℕ → Type 0
 Counts depth token at (Ok done) behind = (behind ≡ open_behind depth token) × (behind ≤ OPEN_PARENTHESES)
 Counts depth token at (Err found) behind =

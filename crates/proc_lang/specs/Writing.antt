@@ -1,4 +1,4 @@
--- What the parser wrote, as the model says it.
+-- Parsed programs of the code as those of the model.
 use Rattle.std.specs.Prelude.{List, map}
 use Rattle.dbg_base.specs.Grammar as model
 use Rattle.proc_lang.specs.declared.syntax.Named.{Named}

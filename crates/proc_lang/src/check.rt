@@ -1,4 +1,4 @@
-//! The checks of a written program, in text order, so that the first that fails is the first fault; and the program that passes.
+//! The checks of a parsed program, in text order, so that the first that fails is the first fault; and the program that passes them.
 
 ghost use Rattle.std.specs.Prelude.{◌≡◌, ◌<◌, ◌≤◌, ◌^◌, ◌++◌, ◌||◌, [], length, map, IfOk, vec_len};
 ghost use Rattle.std.specs.List.{list_any};
@@ -51,7 +51,7 @@ fn action(alloc: Global, scope: &Scope, written: &WrittenAction) -> Result<Actio
     }
 }
 
-// Does the action set the variable of this name?
+// Whether the action sets the variable of this name.
 fn action_sets(action: &WrittenAction, name: &Name) -> bool
     ensures { result ≡ is_among name.now (set_by_action (action_of action.now)) }
 {
@@ -61,7 +61,7 @@ fn action_sets(action: &WrittenAction, name: &Name) -> bool
     }
 }
 
-// Does one of these assignments set the variable of this name?
+// Whether one of these assignments sets the variable of this name.
 fn assignments_set(assignments: &[WrittenAssignment], name: &Name) -> bool
     ensures { result ≡ list_any (λ a. bytes_eq name.now a.variable.name) assignments.now }
 {
@@ -70,7 +70,7 @@ fn assignments_set(assignments: &[WrittenAssignment], name: &Name) -> bool
         .any(|assignment| *name == assignment.variable.name)
 }
 
-// Does the action set the variable of this name, or one of the assignments before?
+// Whether the action or one of the earlier assignments sets the variable of this name.
 fn already_set(action: &WrittenAction, before: &[WrittenAssignment], name: &Name) -> bool
     ensures { result ≡ (is_among name.now (set_by_action (action_of action.now))
         || list_any (λ a. bytes_eq name.now a.variable.name) before.now) }
@@ -153,14 +153,14 @@ fn commands(
     Ok(commands)
 }
 
-// Is the name one of these?
+// Whether the name is one of these.
 fn is_taken(names: &[Name], name: &Name) -> bool
     ensures { result ≡ is_among name.now names.now }
 {
     names.iter().any(|other| *name == *other)
 }
 
-// A name that stands behind these, which it is none of, and which are not as many as may be.
+// A name after these names: it must not be one of them, and they must be fewer than the limit.
 fn fresh(named: Named, earlier: &[Name], limit: usize) -> Result<Name, ProgError>
     requires { length earlier.now ≤ limit }
     ensures faults { Checks result (name_faults limit earlier.now (named_of named)) (λ name. name ≡ named.name) }
@@ -255,7 +255,7 @@ fn process_names(alloc: Global, written: &[WrittenProcess]) -> Result<Vec<Name>,
         .collect(alloc)
 }
 
-/// The program that these processes write, or the first check that fails. A text has no more processes than bytes.
+/// The program of these parsed processes, or the first check that fails. A text has at most as many processes as bytes.
 pub(crate) fn checked(alloc: Global, written: &[WrittenProcess]) -> Result<Program, ProgError>
     requires { length written.now < 2 ^ 32 }
     ensures { Checks result (check_faults (processes_of written.now))

@@ -15,7 +15,7 @@ use crate::syntax::{Named, Phrase};
 use dbg_base::{Direction, Expr, FaultKind, Name, Pid, Sort};
 use std::alloc::Global;
 
-// The place of a name that has to be among these.
+// The position of a name that must be among these.
 fn known(names: &[Name], named: Named) -> Result<usize, ProgError>
     ensures { Checks result (unknown names.now (named_of named))
         (λ index. (index ≡ index_of names.now named.name) × (index < length names.now)) }
@@ -26,7 +26,7 @@ fn known(names: &[Name], named: Named) -> Result<usize, ProgError>
     }
 }
 
-// The place of a process that has to be among these.
+// The position of a process that must be among these.
 fn known_process(processes: &ProcessNames, named: Named) -> Result<usize, ProgError>
     ensures { Checks result (unknown processes.now.all.now (named_of named))
         (λ index. (index ≡ index_of processes.now.all.now named.name) × (index < length processes.now.all.now)) }
@@ -37,7 +37,7 @@ fn known_process(processes: &ProcessNames, named: Named) -> Result<usize, ProgEr
     }
 }
 
-/// The place of a variable.
+/// The position of a variable.
 pub(crate) fn variable(scope: &Scope, named: Named) -> Result<u32, ProgError>
     ensures { Checks result (unknown (scope_of scope.now).variables (named_of named))
         (λ index. index ≡ index_of (scope_of scope.now).variables named.name) }
@@ -46,7 +46,7 @@ pub(crate) fn variable(scope: &Scope, named: Named) -> Result<u32, ProgError>
     Ok(index as u32)
 }
 
-/// The place of another process.
+/// The position of another process.
 pub(crate) fn target(scope: &Scope, named: Named) -> Result<Pid, ProgError>
     ensures { Checks result (target_faults (scope_of scope.now) (named_of named))
         (λ pid. pid.0 ≡ index_of (scope_of scope.now).processes named.name) }
@@ -58,7 +58,7 @@ pub(crate) fn target(scope: &Scope, named: Named) -> Result<Pid, ProgError>
     Ok(Pid(index as u32))
 }
 
-// The place asks what stands there.
+// Checks that the found type is the wanted one.
 fn want(wanted: Sort, found: Sort, at: usize) -> Result<(), ProgError>
     ensures { Checks result (wrong_sort wanted found at) (λ _. Unit {0}) }
 {
@@ -69,7 +69,7 @@ fn want(wanted: Sort, found: Sort, at: usize) -> Result<(), ProgError>
     }
 }
 
-// How many messages the process has sent to the other one, or received from it.
+// How many messages the process has sent to the other process, or received from it.
 fn count(direction: Direction, other: Pid) -> Expr
     ensures { tree_of result ≡ Count direction other.0 }
 {
@@ -79,7 +79,7 @@ fn count(direction: Direction, other: Pid) -> Expr
     }
 }
 
-/// An expression whose place asks this sort.
+/// Checks an expression that must have the wanted type.
 pub(crate) fn expression(
     alloc: Global,
     scope: &Scope,

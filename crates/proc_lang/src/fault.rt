@@ -1,4 +1,4 @@
-//! Why a text was not read.
+//! Why a text could not be read.
 
 ghost use Rattle.std.specs.Prelude.{◌≡◌};
 ghost use Rattle.proc_lang.specs.declared.fault.ProgError.TheVariants.{Bad, Memory};
@@ -6,15 +6,15 @@ ghost use Rattle.proc_lang.specs.declared.fault.ProgError.TheVariants.{Bad, Memo
 use dbg_base::{FaultKind, ProgFault};
 use std::alloc::{AllocError, AllocFailed};
 
-/// Why a text was not read.
+/// Why a text could not be read.
 #[derive(Clone, Copy, Debug, PartialEq, Eq)]
 pub enum ProgError {
     Bad(ProgFault),
-    /// Memory ran out.
+    /// An allocation failed.
     Memory,
 }
 
-/// What is wrong there.
+/// The error for a fault of this kind at this offset.
 pub(crate) fn bad(kind: FaultKind, at: usize) -> ProgError
     ensures { result ≡ Bad (record { kind = kind; at = at }) }
 {

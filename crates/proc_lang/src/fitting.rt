@@ -12,8 +12,7 @@ use crate::program::Program;
 use crate::sorts::{operand_sort, outcome_sort};
 use dbg_base::{Expr, Pid, Sort};
 
-/// What there is for a process to name: so many processes, of which it is one, and so many variables of its own. `bounds_of` is what
-/// contracts see.
+/// What a process can name: so many processes, of which it is number `own`, and so many variables of its own. Contracts see `bounds_of`.
 #[derive(Clone, Copy)]
 pub(crate) struct Bounds {
     pub(crate) processes: u32,
@@ -21,7 +20,7 @@ pub(crate) struct Bounds {
     pub(crate) variables: u32,
 }
 
-// What the expression gives.
+// The type of the expression.
 fn sort_of(expr: &Expr) -> Sort
     ensures { result ≡ tree_sort (tree_of expr.now) }
 {
@@ -33,21 +32,21 @@ fn sort_of(expr: &Expr) -> Sort
     }
 }
 
-// Does the expression give this?
+// Whether the expression has this type.
 fn gives(expr: &Expr, wanted: Sort) -> bool
     ensures { result ≡ is_same_sort wanted (tree_sort (tree_of expr.now)) }
 {
     wanted == sort_of(expr)
 }
 
-// Is the process there, and not the process itself?
+// Whether the process exists and is not the process itself.
 fn is_other(bounds: Bounds, pid: Pid) -> bool
     ensures { result ≡ is_other (bounds_of bounds) pid.0 }
 {
     pid.0 < bounds.processes && pid != bounds.own
 }
 
-// Does each operand give what is asked of it, and is all there that is named?
+// Whether each operand has the type that it must have, and all that is named exists.
 fn fits_within(bounds: Bounds, expr: &Expr) -> bool
     ensures { result ≡ fits_within (bounds_of bounds) (tree_of expr.now) }
 {
@@ -67,9 +66,9 @@ fn fits_within(bounds: Bounds, expr: &Expr) -> bool
     }
 }
 
-/// Is the expression a predicate of this process? It is where the process is there, the expression gives a truth value, its operands
-/// give what is asked of them, and the variables and processes that it names are there, the processes other than this one. It takes
-/// no memory.
+/// Whether the expression is a predicate of this process. The process must exist, and the expression must be a truth expression. Its
+/// operands must have the right types. The variables that it names must exist, and so must the processes, which must be others than this
+/// one. It does not allocate.
 pub fn fits(program: &Program, pid: Pid, expr: &Expr) -> bool
     ensures { result ≡ is_predicate (program_of program.now) pid.0 (tree_of expr.now) }
 {

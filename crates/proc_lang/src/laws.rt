@@ -9,13 +9,13 @@ ghost use Rattle.dbg_base.specs.Grammar.{WrittenProcess, DerivesProgram};
 ghost use Rattle.dbg_base.specs.Checks.{Reads, IsFault, ReadsPredicate, IsPredicateFault};
 ghost use Rattle.dbg_base.specs.WellFormed.{is_well_formed, is_fit, bounds_of};
 
-/// A text has one list of tokens, and where it has one no fault among them.
+/// A text has at most one list of tokens, and if it has one, no fault among its tokens.
 pub fn one_token_list()
     ensures one { (text : List ℕ) (tokens others : List Placed) → HasTokens text tokens → HasTokens text others → tokens ≡ others }
     ensures no_fault { (text : List ℕ) (tokens : List Placed) (fault : ProgFault) → HasTokens text tokens → IsTokenFault text fault → ⊥ }
 {}
 
-/// Tokens derive one written program.
+/// Tokens derive at most one parsed program.
 pub fn one_derivation()
     ensures { (tokens : List Placed) (written other : List WrittenProcess) → DerivesProgram tokens written → DerivesProgram tokens other
         → written ≡ other }
@@ -41,13 +41,13 @@ pub fn predicate_or_fault()
         → IsPredicateFault P p text fault → IsPredicateFault P p text other → fault ≡ other }
 {}
 
-/// A program that is read is well formed, as `Program` keeps it: all that its commands name is there, no process sends to itself or
-/// counts its own messages to itself, types fit, names differ, no command sets a variable twice, and nothing passes its limit.
+/// An accepted program is well formed, as `Program` keeps it. All that its commands name exists. No process sends to itself or counts
+/// messages with itself. Types fit, names differ, no command sets a variable twice, and all numbers are within the limits.
 pub fn reads_well_formed()
     ensures { (text : List ℕ) (P : Program) → Reads text P → IsTrue (is_well_formed P) }
 {}
 
-/// A predicate that is read fits its process: it is a truth expression, and what it names is there.
+/// An accepted predicate fits its process: it is a truth expression, and all that it names exists.
 pub fn predicate_fits()
     ensures { (P : Program) (p : ℕ) (text : List ℕ) (tree : Tree) → ReadsPredicate P p text tree
         → IsTrue (is_fit (bounds_of P p) sort.Truth tree) }

@@ -38,7 +38,7 @@ impl<'a> Lexer<'a> {
         }
     }
 
-    // Passes so many bytes.
+    // Skips so many bytes.
     fn pass(&mut self, count: usize)
         requires { count ≤ length self.old.rest.now }
         ensures rest { self.new.rest.now ≡ drop count self.old.rest.now }
@@ -49,7 +49,7 @@ impl<'a> Lexer<'a> {
         self.at += count;
     }
 
-    // Counts the parentheses that are open behind a token, which begins here.
+    // Counts the parentheses that are open after a token, which begins here. More than 32 are a fault.
     fn count(&mut self, token: &Token) -> Result<(), ProgFault>
         ensures rest { self.new.rest ≡ self.old.rest }
         ensures at { self.new.at ≡ self.old.at }
@@ -71,7 +71,7 @@ impl<'a> Lexer<'a> {
         Ok(())
     }
 
-    // The next token, or None where only spaces are left.
+    // The next token, or None if only spaces are left.
     fn next_token(&mut self) -> Result<Option<Placed>, ProgFault>
         ensures { MatchResult result
             (λ next. MatchOption next (IsTrue (list_all is_space self.old.rest.now))

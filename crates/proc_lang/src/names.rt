@@ -1,4 +1,4 @@
-//! Where a name stands among others.
+//! The position of a name among others.
 
 ghost use Rattle.std.specs.Prelude.{◌≡◌, ◌<◌, ◌^◌, length, IfOk};
 ghost use Rattle.std.specs.Option.{ForSome};
@@ -11,14 +11,14 @@ use dbg_base::limits::PROCESSES;
 use std::alloc::{AllocError, Global};
 use std::collections::BTreeMap;
 
-/// Where the name is among these, if it is one of them.
+/// The position of the name among these, if it is one of them.
 pub(crate) fn place(names: &[Name], name: &Name) -> Option<usize>
     ensures { result ≡ position (λ other. bytes_eq other name.now) names.now }
 {
     names.iter().position(|other| *other == *name)
 }
 
-// Where each name stands first, kept in the order of the names' bytes: no choice of names makes it slow to look one up.
+// The first position of each name, in the order of the names' bytes. No choice of names makes a look-up slow.
 fn first_places<'a>(alloc: Global, names: &'a [Name]) -> Result<BTreeMap<&'a [u8], u32>, AllocError>
     requires { length names.now < 2 ^ 32 }
     ensures { IfOk result (λ index. Finds index names.now) }
@@ -32,7 +32,7 @@ fn first_places<'a>(alloc: Global, names: &'a [Name]) -> Result<BTreeMap<&'a [u8
     Ok(index)
 }
 
-// An index of these names, where they are more than the processes that a program may have. Fewer take no memory.
+// An index of these names, if they exceed the limit of processes. Otherwise it does not allocate.
 fn index<'a>(
     alloc: Global,
     names: &'a [Name],
@@ -46,8 +46,8 @@ fn index<'a>(
     Ok(Some(first_places(alloc, names)?))
 }
 
-/// The names of all processes that are written. A text that is refused may write many thousands, and ask for them as often: where they
-/// are more than the processes that a program may have, they are found by an index.
+/// The names of all parsed processes. A text that is refused may have many thousands of processes, and use their names as often. If they
+/// exceed the limit of processes, an index finds them.
 #[derive(Drop)]
 pub(crate) struct ProcessNames<'a> {
     pub(crate) all: &'a [Name],
@@ -57,7 +57,7 @@ pub(crate) struct ProcessNames<'a> {
 }
 
 impl<'a> ProcessNames<'a> {
-    /// These names. It takes no memory where they are no more than the processes that a program may have.
+    /// These names. It does not allocate if they are within the limit of processes.
     pub(crate) fn new(alloc: Global, all: &'a [Name]) -> Result<ProcessNames<'a>, AllocError>
         requires { length all.now < 2 ^ 32 }
         ensures { IfOk result (λ names. names.all.now ≡ all.now) }
@@ -66,7 +66,7 @@ impl<'a> ProcessNames<'a> {
         Ok(ProcessNames { all, index })
     }
 
-    /// Where the name is among these, if it is one of them.
+    /// The position of the name among these, if it is one of them.
     pub(crate) fn place(&self, name: &Name) -> Option<usize>
         ensures { result ≡ position (λ other. bytes_eq other name.now) self.now.all.now }
     {

@@ -23,7 +23,7 @@ use crate::token::Placed;
 use dbg_base::{Expr, FaultKind, Pid, ProgFault};
 use std::alloc::Global;
 
-// Where the token stands from which on so many are left, or the end of the text where none is.
+// The offset of the token from which on so many are left, or the end of the text if none is left.
 fn offset_of(tokens: &[Placed], left: usize, end: usize) -> usize
     ensures { result ≡ offset_of end left (map placed_of tokens.now) }
 {
@@ -33,7 +33,7 @@ fn offset_of(tokens: &[Placed], left: usize, end: usize) -> usize
     }
 }
 
-// Why these tokens were not read, where the text ends at this offset.
+// The error for these tokens, in a text that ends at this offset.
 fn stopped(stop: Stop, tokens: &[Placed], end: usize) -> ProgError
     ensures { IsStop stop (map placed_of tokens.now) end result }
 {
@@ -46,7 +46,7 @@ fn stopped(stop: Stop, tokens: &[Placed], end: usize) -> ProgError
     }
 }
 
-// What a program text writes, or its first fault but for the checks.
+// Parses a program text. The error is its first fault before the checks.
 fn written_program(alloc: Global, text: &[u8]) -> Result<Vec<WrittenProcess>, ProgError>
     ensures written { IfOk result (λ written. Writes DerivesProgram text.now (processes_of written.items)) }
     ensures refused { IfBad result (IsFault text.now) }
@@ -58,7 +58,7 @@ fn written_program(alloc: Global, text: &[u8]) -> Result<Vec<WrittenProcess>, Pr
     }
 }
 
-// The program that the text is, or its first fault.
+// The program of the text, or its first fault.
 fn read_program(alloc: Global, text: &[u8]) -> Result<Program, ProgError>
     ensures accepted { IfOk result (λ P. Reads text.now (program_of P)) }
     ensures refused { IfBad result (IsFault text.now) }
@@ -67,7 +67,7 @@ fn read_program(alloc: Global, text: &[u8]) -> Result<Program, ProgError>
     checked(alloc, written.as_slice())
 }
 
-// What the text of a predicate writes, or its first fault but for the checks, whatever its process is.
+// Parses the text of a predicate, of any process. The error is its first fault before the checks.
 fn written_predicate(alloc: Global, text: &[u8]) -> Result<Phrase, ProgError>
     ensures written { IfOk result (λ written. Writes DerivesExpression text.now (phrase_of written)) }
     ensures refused { (P : tree.Program) (p : ℕ) → IfBad result (IsPredicateFault P p text.now) }
@@ -79,7 +79,7 @@ fn written_predicate(alloc: Global, text: &[u8]) -> Result<Phrase, ProgError>
     }
 }
 
-// The predicate that the text is, or its first fault.
+// The predicate of the text, or its first fault.
 fn read_predicate(
     alloc: Global,
     program: &Program,
@@ -94,22 +94,22 @@ fn read_predicate(
     predicate(alloc, program, pid, &written)
 }
 
-/// Reads the text of a program. It answers the program exactly where the text is one, and otherwise exactly the first fault: of the
-/// length, of the tokens, of the grammar, of the checks, each from left to right, and at one offset the lowest kind. Want of memory is
-/// `ProgError::Memory`, which may stand in place of either.
+/// Reads the text of a program. It returns the program exactly if the text is one, and otherwise exactly its first fault. Faults of the
+/// length come first, then those of the tokens, of the grammar, and of the checks, each from left to right, and at one offset the lowest
+/// kind first. In either case it returns `ProgError::Memory` if an allocation fails.
 pub fn parse_program(alloc: Global, text: &[u8]) -> Result<Program, ProgError>
-    // A program that is answered is what the text reads as, and a fault that is answered is its first.
+    // A program that is returned is what the text reads as, and a fault that is returned is its first.
     ensures accepted { IfOk result (λ P. Reads text.now (program_of P)) }
     ensures refused { IfBad result (IsFault text.now) }
-    // What the text reads as is answered, and so is its first fault.
+    // Conversely, what the text reads as is returned, and so is its first fault, unless an allocation failed.
     ensures accepts { (P : tree.Program) → Reads text.now P → Accepts program_of result P }
     ensures refuses { (fault : ProgFault) → IsFault text.now fault → Refuses result fault }
 {
     read_program(alloc, text)
 }
 
-/// Reads the text of a predicate: a truth expression over the variables and the counts of a process of the program, and nothing beside
-/// it. It answers as `parse_program` does, with offsets in this text.
+/// Reads the text of a predicate: one truth expression over the variables and the counts of a process of the program. Results and errors
+/// are as for `parse_program`, with offsets in this text.
 pub fn parse_predicate(
     alloc: Global,
     program: &Program,

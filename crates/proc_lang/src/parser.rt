@@ -1,4 +1,4 @@
-//! From tokens to a written program, one token at a time.
+//! From tokens to a parsed program, one token at a time.
 
 ghost use Rattle.std.specs.Prelude.{◌≡◌, ◌<◌, [], map, length, OnOk};
 ghost use Rattle.std.specs.List.{list_any};
@@ -20,11 +20,11 @@ use dbg_base::{Direction, Name, Operator, Sign};
 pub(crate) use grammar::{predicate, program};
 use std::alloc::{AllocError, AllocFailed, Global};
 
-/// Why tokens were not read.
+/// Why tokens could not be read.
 #[derive(Clone, Copy, PartialEq, Eq)]
 pub(crate) enum Stop {
     Memory,
-    /// A token cannot stand where it stands: so many tokens are left from it on, none where the text ends too early.
+    /// A token cannot follow the tokens before it. So many tokens are left from it on; none, if the text ends too early.
     Unexpected { left: usize },
 }
 
@@ -44,7 +44,7 @@ impl<T: Drop> From<AllocFailed<T>> for Stop {
     }
 }
 
-// Is the word one that is no name?
+// Whether the word is reserved.
 fn is_reserved(name: &Name) -> bool
     ensures { result ≡ list_any (bytes_eq name.now) reserved_words }
 {
@@ -63,7 +63,7 @@ fn is_reserved(name: &Name) -> bool
         || word == b"got".as_slice()
 }
 
-// The operator that a token writes, if it writes one.
+// The operator of a token, if it is one.
 fn operator_of(token: &Token) -> Option<Operator>
     ensures { result ≡ operator_in (token_of token.now) }
 {
@@ -85,7 +85,7 @@ fn operator_of(token: &Token) -> Option<Operator>
     }
 }
 
-// What a token says that is counted, if it says so.
+// The direction of a token that is the word of a count.
 fn direction_of(token: &Token) -> Option<Direction>
     ensures { result ≡ direction_in (token_of token.now) }
 {
@@ -96,7 +96,7 @@ fn direction_of(token: &Token) -> Option<Direction>
     }
 }
 
-// The expression that a token alone is, if it is one.
+// The expression of a single token, if it is one.
 fn operand_of(placed: &Placed) -> Option<Phrase>
     ensures { option_map phrase_of result ≡ phrase_in (placed_of placed.now) }
 {
@@ -110,7 +110,7 @@ fn operand_of(placed: &Placed) -> Option<Phrase>
     }
 }
 
-/// Reads a program from its tokens. Each method reads what it is named for and leaves the tokens behind it.
+/// Reads a program from its tokens. Each method reads what its name says and leaves the tokens after that.
 #[derive(Drop)]
 struct Parser<'a> {
     alloc: Global,
@@ -118,7 +118,7 @@ struct Parser<'a> {
 }
 
 impl Parser<'_> {
-    // The next token cannot stand here.
+    // The next token cannot follow.
     fn unexpected(&self) -> Stop
         ensures { result ≡ Stop.Unexpected (length self.now.rest.now) }
     {
@@ -127,7 +127,7 @@ impl Parser<'_> {
         }
     }
 
-    // Is this word the next token?
+    // Whether the next token is this word.
     fn is_at_word(&self, word: &[u8]) -> bool
         ensures { result ≡ begins_word word.now (map placed_of self.now.rest.now) }
     {
@@ -143,7 +143,7 @@ impl Parser<'_> {
         }
     }
 
-    // Is this sign the next token?
+    // Whether the next token is this sign.
     fn is_at_sign(&self, sign: Sign) -> bool
         ensures { result ≡ begins_sign sign (map placed_of self.now.rest.now) }
     {
@@ -159,7 +159,7 @@ impl Parser<'_> {
         }
     }
 
-    // This word, and the offset of its first byte.
+    // Reads this word, and returns the offset of its first byte.
     #[tactic(auto, unfolding(crate::specs::Parsing::read_word))]
     fn word(&mut self, word: &[u8]) -> Result<usize, Stop>
         ensures shorter { OnOk result (length self.new.rest.now < length self.old.rest.now) }
@@ -181,7 +181,7 @@ impl Parser<'_> {
         }
     }
 
-    // This sign, and its offset.
+    // Reads this sign, and returns its offset.
     #[tactic(auto, unfolding(crate::specs::Parsing::read_sign))]
     fn sign(&mut self, sign: Sign) -> Result<usize, Stop>
         ensures shorter { OnOk result (length self.new.rest.now < length self.old.rest.now) }
@@ -266,7 +266,7 @@ impl Parser<'_> {
         }
     }
 
-    // Is the next token the word of a count?
+    // Whether the next token is the word of a count.
     fn is_at_count(&self) -> bool
         ensures { result ≡ begins_count (map placed_of self.now.rest.now) }
     {
@@ -276,7 +276,7 @@ impl Parser<'_> {
         }
     }
 
-    // The word of a count, with the offset of its first byte.
+    // Reads the word of a count, and returns it with the offset of its first byte.
     #[tactic(auto, unfolding(crate::specs::Parsing::read_direction))]
     fn direction(&mut self) -> Result<(usize, Direction), Stop>
         ensures shorter { OnOk result (length self.new.rest.now < length self.old.rest.now) }
@@ -295,7 +295,7 @@ impl Parser<'_> {
         }
     }
 
-    // An expression of one token: a number, a name, `true` or `false`.
+    // Reads an expression of one token: a number, a name, `true` or `false`.
     #[tactic(auto, unfolding(crate::specs::Parsing::read_operand))]
     fn operand(&mut self) -> Result<Phrase, Stop>
         ensures shorter { OnOk result (length self.new.rest.now < length self.old.rest.now) }
@@ -314,7 +314,7 @@ impl Parser<'_> {
         }
     }
 
-    // The end of the tokens.
+    // Checks that no token is left.
     fn end(&self) -> Result<(), Stop>
         ensures { Gives (λ end. end) result [] (read_end (map placed_of self.now.rest.now)) }
     {

@@ -33,7 +33,7 @@ fn variable_names(alloc: Global, variables: &[Variable]) -> Result<Vec<Name>, Al
         .collect(alloc)
 }
 
-/// The truth expression of process `pid` that this writes, or the first check that fails.
+/// The truth expression of process `pid` for this parsed expression, or the first check that fails.
 pub(crate) fn predicate(
     alloc: Global,
     program: &Program,

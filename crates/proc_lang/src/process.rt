@@ -5,18 +5,18 @@ ghost use Rattle.dbg_base.specs.declared.limits.TheConstants.{VARIABLES, COMMAND
 
 use dbg_base::{Expr, Name, Pid, Sequence};
 
-/// What a command does beside its assignments.
+/// What a command does besides its assignments.
 #[derive(Debug, Drop)]
 pub enum Action {
     /// Nothing.
     Local,
-    /// The value goes to the back of the channel to the target.
+    /// Appends the value to the channel to the target.
     Send { target: Pid, value: Expr },
-    /// The variable takes the front of the channel from the source.
+    /// Sets the variable to the head of the channel from the source, which it removes.
     Receive { source: Pid, variable: u32 },
 }
 
-/// A variable, by its place in the process, and the expression of its new value.
+/// A variable, by its position in the process, and the expression of its new value.
 #[derive(Debug, Drop)]
 pub struct Assignment {
     pub variable: u32,

@@ -1,4 +1,4 @@
-//! Programs, and what can be read of them.
+//! Programs, and their parts.
 
 ghost use Rattle.std.specs.Prelude.{◌≡◌, ◌≤◌, true};
 ghost use Rattle.dbg_base.specs.declared.limits.TheConstants.{PROCESSES, VARIABLES, COMMANDS};
@@ -8,7 +8,7 @@ ghost use Rattle.proc_lang.specs.ProcessTrees.{process_trees};
 use crate::process::{Guarded, Process, Variable};
 use dbg_base::{Choice, Name, Pid};
 
-/// A program that has passed all checks, and is well formed. `program_of` is the tree that contracts see.
+/// A program that has passed all checks, so it is well formed. Contracts see the tree `program_of`.
 #[derive(Debug, Drop)]
 pub struct Program {
     pub(crate) processes: Vec<Process>,
@@ -31,7 +31,8 @@ impl Program {
         self.processes.get(pid.0 as usize)
     }
 
-    /// How many processes the program has, at most 32; one that was read has at least one. It takes no memory, as all readers do.
+    /// How many processes the program has, at most 32. A program from `parse_program` has at least one. Like all methods here it does not
+    /// allocate.
     pub fn processes(&self) -> u32
         ensures value { result ≡ length (program_of self.now) }
         ensures few { result ≤ PROCESSES }
@@ -39,7 +40,7 @@ impl Program {
         self.processes.len() as u32
     }
 
-    /// The name of the process, or None where there is no such process.
+    /// The name of the process, or None if there is no such process.
     pub fn process_name(&self, pid: Pid) -> Option<Name>
         ensures { result ≡ option_map (λ process. process.name) (slice_get (program_of self.now) pid.0) }
     {
@@ -49,7 +50,7 @@ impl Program {
         }
     }
 
-    /// The process of that name, or None where none has it.
+    /// The process of that name, or None if no process has it.
     pub fn find_process(&self, name: Name) -> Option<Pid>
         ensures { option_map (λ pid. pid.0) result ≡ place_of name (names_of (program_of self.now)) }
     {
@@ -61,7 +62,7 @@ impl Program {
         None
     }
 
-    /// How many variables the process has, 0 where there is no such process.
+    /// How many variables the process has, 0 if there is no such process.
     pub fn variables(&self, pid: Pid) -> u32
         ensures value { result ≡ length (process_of (program_of self.now) pid.0).variables }
         ensures few { result ≤ VARIABLES }
@@ -80,7 +81,7 @@ impl Program {
         process.variables.get(index as usize).copied()
     }
 
-    /// The name of a variable, or None where the process has no such variable.
+    /// The name of a variable, or None if the process has no such variable.
     pub fn variable_name(&self, pid: Pid, index: u32) -> Option<Name>
         ensures { result ≡ option_map (λ v. v.0) (slice_get (process_of (program_of self.now) pid.0).variables index) }
     {
@@ -90,7 +91,7 @@ impl Program {
         }
     }
 
-    /// The initial value of a variable, or None where the process has no such variable.
+    /// The initial value of a variable, or None if the process has no such variable.
     pub fn start_value(&self, pid: Pid, index: u32) -> Option<i64>
         ensures { result ≡ option_map (λ v. v.1) (slice_get (process_of (program_of self.now) pid.0).variables index) }
     {
@@ -100,7 +101,7 @@ impl Program {
         }
     }
 
-    /// How many commands the process has, 0 where there is no such process.
+    /// How many commands the process has, 0 if there is no such process.
     pub fn commands(&self, pid: Pid) -> u32
         ensures value { result ≡ length (process_of (program_of self.now) pid.0).commands }
         ensures few { result ≤ COMMANDS }
@@ -111,7 +112,7 @@ impl Program {
         }
     }
 
-    /// A command, or None where the process has no such command.
+    /// A command, or None if the process has no such command.
     pub fn command(&self, pid: Pid, choice: Choice) -> Option<&Guarded>
         ensures { option_map (λ g. command_tree g.now) result
             ≡ command_of (program_of self.now) pid.0 choice.0 }

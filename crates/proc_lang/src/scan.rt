@@ -1,4 +1,4 @@
-//! What stands at the front of some bytes.
+//! The token at the beginning of some bytes.
 
 ghost use Rattle.std.specs.Prelude.{◌≡◌, ◌≤◌, ◌<◌, ◌+◌, ◌^◌, ◌∷◌, [], length, MatchOption, MatchResult, IsTrue};
 ghost use Rattle.std.specs.List.{list_all, prefix_len};
@@ -10,15 +10,15 @@ ghost use Rattle.proc_lang.specs.Scanning.{IsFrontToken, IsFrontFault};
 use crate::token::{Magnitude, Token};
 use dbg_base::{FaultKind, Name, Sign};
 
-/// The longest token at the front of some bytes: its kind, and how many bytes it takes.
+/// The longest token at the beginning of some bytes: its kind and its length in bytes.
 #[derive(Clone, Copy)]
-pub(crate) struct Piece {
-    pub(crate) kind: Kind,
+pub(crate) struct ScannedToken {
+    pub(crate) kind: TokenKind,
     pub(crate) length: usize,
 }
 
 #[derive(Clone, Copy)]
-pub(crate) enum Kind {
+pub(crate) enum TokenKind {
     Word,
     Number,
     Symbol(Sign),
@@ -36,7 +36,7 @@ fn is_word_byte(b: u8) -> bool
     b.is_ascii_lowercase() || b.is_ascii_digit() || b == b'_'
 }
 
-/// How many spaces stand at the front.
+/// The number of spaces at the beginning.
 pub(crate) fn space_length(bytes: &[u8]) -> usize
     ensures { result ≡ prefix_len is_space bytes.now }
 {
@@ -48,7 +48,7 @@ pub(crate) fn space_length(bytes: &[u8]) -> usize
     bytes.len()
 }
 
-// How many bytes at the front may stand in a word.
+// The number of bytes at the beginning that may be in a word.
 fn word_length(bytes: &[u8]) -> usize
     ensures { result ≡ prefix_len is_word_byte bytes.now }
 {
@@ -60,7 +60,7 @@ fn word_length(bytes: &[u8]) -> usize
     bytes.len()
 }
 
-// How many digits stand at the front.
+// The number of digits at the beginning.
 fn digit_length(bytes: &[u8]) -> usize
     ensures { result ≡ prefix_len is_digit bytes.now }
 {
@@ -72,7 +72,7 @@ fn digit_length(bytes: &[u8]) -> usize
     bytes.len()
 }
 
-// The sign of one byte, if it is one.
+// The sign of this byte, if it is one.
 fn single_sign(b: u8) -> Option<Sign>
     ensures { MatchOption result (IsNoSign (b ∷ [])) (λ sign. sign_bytes sign ≡ b ∷ []) }
 {
@@ -96,7 +96,7 @@ fn single_sign(b: u8) -> Option<Sign>
     }
 }
 
-// The sign of this byte and `=`, if it is one.
+// The sign of this byte followed by `=`, if it is one.
 fn double_sign(b: u8) -> Option<Sign>
     ensures { MatchOption result (IsNoSign (b ∷ 61 ∷ [])) (λ sign. sign_bytes sign ≡ b ∷ 61 ∷ []) }
 {
@@ -109,48 +109,48 @@ fn double_sign(b: u8) -> Option<Sign>
     }
 }
 
-// The longest sign at the front, and how many bytes it takes.
-fn front_sign(bytes: &[u8]) -> Option<Piece>
+// The longest sign at the beginning, with its length in bytes.
+fn front_sign(bytes: &[u8]) -> Option<ScannedToken>
     ensures { MatchOption result (BeginsWithNoSign bytes.now) (λ piece. IsSignPiece piece bytes.now) }
 {
     let first = *bytes.first()?;
     if bytes.len() > 1 && bytes[1] == b'=' {
         if let Some(sign) = double_sign(first) {
-            return Some(Piece {
-                kind: Kind::Symbol(sign),
+            return Some(ScannedToken {
+                kind: TokenKind::Symbol(sign),
                 length: 2,
             });
         }
     }
     let sign = single_sign(first)?;
-    Some(Piece {
-        kind: Kind::Symbol(sign),
+    Some(ScannedToken {
+        kind: TokenKind::Symbol(sign),
         length: 1,
     })
 }
 
-// The longest token at the front, if one stands there.
-fn front_piece(bytes: &[u8]) -> Option<Piece>
+// The longest token at the beginning, if there is one.
+fn front_piece(bytes: &[u8]) -> Option<ScannedToken>
     ensures { MatchOption result (BeginsWithNoToken bytes.now)
         (λ piece. StandsInFront (token_in piece bytes.now) piece.length bytes.now) }
 {
     let first = *bytes.first()?;
     if first.is_ascii_lowercase() {
-        return Some(Piece {
-            kind: Kind::Word,
+        return Some(ScannedToken {
+            kind: TokenKind::Word,
             length: word_length(bytes),
         });
     }
     if first.is_ascii_digit() {
-        return Some(Piece {
-            kind: Kind::Number,
+        return Some(ScannedToken {
+            kind: TokenKind::Number,
             length: digit_length(bytes),
         });
     }
     front_sign(bytes)
 }
 
-// The number that these digits write, or None where it is above the largest i64.
+// The number of these digits, or None if it is above the largest i64.
 fn number_value(digits: &[u8]) -> Option<Magnitude>
     requires { IsTrue (list_all is_digit digits.now) }
     ensures { MatchOption result (2 ^ 63 ≤ digits_value 10 digits.now)
@@ -167,26 +167,26 @@ fn number_value(digits: &[u8]) -> Option<Magnitude>
     Some(Magnitude { value })
 }
 
-// The token that these bytes write, or None where it is beyond its limit.
-fn limited_token(kind: Kind, bytes: &[u8]) -> Option<Token>
+// The token of these bytes, or None if it exceeds its limit.
+fn limited_token(kind: TokenKind, bytes: &[u8]) -> Option<Token>
     requires { Spells (token_by kind bytes.now) bytes.now }
     ensures { MatchOption result (¬ IsWithinLimits (token_by kind bytes.now))
         (λ token. (token_of token ≡ token_by kind bytes.now) × IsWithinLimits (token_by kind bytes.now)) }
 {
     match kind {
-        Kind::Word => match Name::new(bytes) {
+        TokenKind::Word => match Name::new(bytes) {
             Some(name) => Some(Token::Word(name)),
             None => None,
         },
-        Kind::Number => match number_value(bytes) {
+        TokenKind::Number => match number_value(bytes) {
             Some(number) => Some(Token::Number(number)),
             None => None,
         },
-        Kind::Symbol(sign) => Some(Token::Symbol(sign)),
+        TokenKind::Symbol(sign) => Some(Token::Symbol(sign)),
     }
 }
 
-/// The token at the front and how many bytes it takes, or what is wrong there.
+/// The token at the beginning with its length in bytes, or the kind of the fault there.
 pub(crate) fn front_token(bytes: &[u8]) -> Result<(Token, usize), FaultKind>
     ensures { MatchResult result (λ found. IsFrontToken found.0 found.1 bytes.now) (λ kind. IsFrontFault kind bytes.now) }
 {

@@ -1,11 +1,11 @@
-//! What operators give, and what they ask of their operands.
+//! The types of operators' results and operands.
 
 ghost use Rattle.std.specs.Prelude.{◌≡◌};
 ghost use Rattle.dbg_base.specs.Sorts.{outcome_sort, operand_sort};
 
 use dbg_base::{Operator, Sort};
 
-/// What the operator gives.
+/// The type of the operator's result.
 pub(crate) fn outcome_sort(operator: Operator) -> Sort
     ensures { result ≡ outcome_sort operator }
 {
@@ -19,7 +19,7 @@ pub(crate) fn outcome_sort(operator: Operator) -> Sort
     }
 }
 
-/// What the operator asks of its operands.
+/// The type of the operator's operands.
 pub(crate) fn operand_sort(operator: Operator) -> Sort
     ensures { result ≡ operand_sort operator }
 {

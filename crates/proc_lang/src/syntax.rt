@@ -1,16 +1,16 @@
-//! A program as it is written: names are not looked up yet, and what a fault may name keeps its offset.
+//! A parsed program: its names are not looked up yet, and all that a fault may name has its offset.
 
 use crate::token::Magnitude;
 use dbg_base::{Direction, Name, Operator};
 
-/// A name where it stands.
+/// A name with its offset.
 #[derive(Clone, Copy)]
 pub(crate) struct Named {
     pub(crate) at: usize,
     pub(crate) name: Name,
 }
 
-/// An expression, each part with the offset of its first byte.
+/// An expression, with the offset of each part.
 #[derive(Drop)]
 pub(crate) enum Phrase {
     Number(usize, Magnitude),

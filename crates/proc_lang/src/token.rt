@@ -4,7 +4,7 @@ ghost use Rattle.std.specs.Prelude.{◌<◌, ◌^◌};
 
 use dbg_base::{Name, Sign};
 
-/// A number as it is written: from 0 to the largest i64.
+/// A number of a text: from 0 to the largest i64.
 #[derive(Clone, Copy)]
 pub(crate) struct Magnitude {
     pub(crate) value: u64,

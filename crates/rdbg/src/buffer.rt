@@ -1,4 +1,4 @@
-//! The bytes that the output has taken and not yet handed on.
+//! The bytes that the output has taken and not yet written.
 
 ghost use Rattle.std.specs.Prelude.{◌≡◌, ◌≤◌, ◌+◌, ◌++◌, [], length, drop};
 
@@ -55,7 +55,7 @@ impl Buffer {
         self.used = end;
     }
 
-    /// Lets go of the first bytes.
+    /// Drops the first bytes.
     pub(crate) fn drop_front(&mut self, count: usize)
         requires { count ≤ length self.old }
         ensures { self.new ≡ drop count self.old }

@@ -1,4 +1,4 @@
-//! The program `rdbg`: its words go to `asked`, its streams to `serve`, `check` or `run_crew`, and the status comes out.
+//! The program `rdbg`: passes its arguments to `asked` and its streams to `serve`, `check` or `run_crew`, and ends with their status.
 #![tactic(auto)]
 
 mod buffer;
@@ -9,10 +9,9 @@ mod typing;
 mod words;
 
 use clap::error::ErrorKind;
-use dbg_shell::{Asked, Job, Picture, asked, check, crew_status, run_crew, serve, status};
-use devices::{Noted, Sink, Source, one_behind_the_other};
-use draw::{Form, draw};
+use dbg_shell::{Job, Request, Work, asked, check, crew_status, run_crew, serve, status};
 use output::Output;
+use shell_io::{Noted, Sink, Source, one_behind_the_other};
 use std::alloc::Global;
 use std::fs;
 use std::fs::File;
@@ -20,64 +19,61 @@ use std::io::Error;
 use std::process::ExitCode;
 use std::sync::Wait;
 use std::thread::Threads;
-use talk::{Tested, explain, talk, test_session};
-use typing::{Shown, Typing, open};
+use typing::{FileInput, Typing, open};
+use ui_repl::{Tested, draw, explain, talk, test_session};
 use ui_session::Typed;
 use words::{WordsFault, words};
 
-// The status where a session was not answered as it has to be.
+// The status if a session did not have the expected replies.
 const DIFFERS: u8 = 1;
 
-// The form of a picture.
-fn form(picture: Picture) -> Form {
-    match picture {
-        Picture::Text => Form::Text,
-        Picture::Svg => Form::Drawing,
-        Picture::Html => Form::Page,
-        Picture::Shiviz => Form::Log,
-    }
-}
-
-// Does the job from this reader to this writer, and says the status with which the program ends.
-fn run<R: Threads + Wait + Sync, I: Source + Typed, W: Sink>(
+// Does this work from this reader to this writer, and returns the exit status.
+fn work_from<R: Threads + Wait + Sync, I: Source + Typed, W: Sink, E: Sink>(
     rt: &R,
     alloc: Global,
-    job: Job,
+    work: Work,
     reader: &mut I,
     writer: &mut W,
+    errors: &mut E,
 ) -> u8 {
-    match job {
-        Job::Run => status(&serve(alloc, reader, writer)),
-        Job::Check => status(&check(alloc, reader, writer)),
-        Job::Explain => status(&explain(alloc, reader, writer)),
-        Job::Crew(turns) => crew_status(&run_crew(rt, alloc, turns, reader, writer)),
-        Job::Draw(picture) => status(&draw(alloc, form(picture), reader, writer)),
-        // A test has files, and reads them itself.
-        Job::Talk | Job::Test => status(&talk(alloc, reader, writer)),
+    match work {
+        Work::Job(Job::Run) => status(&serve(alloc, reader, writer)),
+        Work::Job(Job::Check) => status(&check(alloc, reader, writer)),
+        Work::Job(Job::Crew(turns)) => crew_status(&run_crew(rt, alloc, turns, reader, writer)),
+        Work::Explain => status(&explain(alloc, reader, writer)),
+        Work::Talk => status(&talk(alloc, reader, writer)),
+        Work::Draw(form) => status(&draw(alloc, form, reader, writer)),
     }
 }
 
-// Does a job whose input begins with a file: a run, a talk and a drawing go on with standard input behind it.
-fn run_with_file<R: Threads + Wait + Sync, W: Sink>(
+// Whether standard input follows a file.
+fn reads_on(work: Work) -> bool {
+    matches!(
+        work,
+        Work::Job(Job::Run) | Work::Talk | Work::Draw(_)
+    )
+}
+
+// Does the work with this file.
+fn work_with_file<R: Threads + Wait + Sync, W: Sink, E: Sink>(
     rt: &HostRuntime,
     threads: &R,
-    job: Job,
+    work: Work,
     file: File,
     writer: &mut W,
+    errors: &mut E,
 ) -> u8 {
-    match job {
-        Job::Run | Job::Talk | Job::Draw(_) => {
-            let mut reader = Noted::new(one_behind_the_other(file, Typing::new(rt, job)));
-            run(threads, rt.alloc(), job, &mut reader, writer)
-        }
-        Job::Check | Job::Explain | Job::Crew(_) | Job::Test => {
-            let mut reader = Noted::new(Shown { file });
-            run(threads, rt.alloc(), job, &mut reader, writer)
-        }
+    if reads_on(work) {
+        let input = Typing::new(rt, work == Work::Talk);
+        let mut reader = Noted::new(one_behind_the_other(file, input));
+        work_from(threads, rt.alloc(), work, &mut reader, writer, errors)
+    } else {
+        let mut reader = Noted::new(FileInput { file });
+        work_from(threads, rt.alloc(), work, &mut reader, writer, errors)
     }
 }
 
-// Tells that a file cannot be read, and says the status of a usage fault.
+// Reports that a file cannot be read, and returns the status of a usage error.
 fn tell_unreadable(rt: &HostRuntime, name: &str, error: &Error) -> u8 {
     let _ = eprintln!(rt;
         "error: the file '{name}' cannot be read: {error}\n\nFor more information, try '--help'."
@@ -102,22 +98,41 @@ fn test<W: Sink>(rt: &HostRuntime, files: &[&str], writer: &mut W) -> u8 {
     worst
 }
 
-// Does what the words ask for, and says the status with which the program ends.
-fn do_job<R: Threads + Wait + Sync>(rt: &HostRuntime, threads: &R, asked: &Asked<'_>) -> u8 {
-    let mut writer = Output::new(rt.stdout());
-    if asked.job == Job::Test {
-        return test(rt, asked.files.as_slice(), &mut writer);
-    }
-    match asked.files.first() {
-        // `-` stands for standard input.
-        Some(name) if *name != "-" => match open(rt, name) {
-            Ok(file) => run_with_file(rt, threads, asked.job, file, &mut writer),
+// Does the work, and returns the exit status.
+fn do_work<R: Threads + Wait + Sync, W: Sink, E: Sink>(
+    rt: &HostRuntime,
+    threads: &R,
+    work: Work,
+    file: Option<&str>,
+    writer: &mut W,
+    errors: &mut E,
+) -> u8 {
+    match file {
+        // `-` means standard input.
+        Some(name) if name != "-" => match open(rt, name) {
+            Ok(file) => work_with_file(rt, threads, work, file, writer, errors),
             Err(error) => tell_unreadable(rt, name, &error),
         },
         _ => {
-            let mut reader = Noted::new(Typing::new(rt, asked.job));
-            run(threads, rt.alloc(), asked.job, &mut reader, &mut writer)
+            let mut reader = Noted::new(Typing::new(rt, work == Work::Talk));
+            work_from(threads, rt.alloc(), work, &mut reader, writer, errors)
         }
+    }
+}
+
+// Does what the arguments ask for, and returns the exit status.
+fn do_request<R: Threads + Wait + Sync>(
+    rt: &HostRuntime,
+    threads: &R,
+    request: &Request<'_>,
+) -> u8 {
+    let mut writer = Output::new(rt.stdout());
+    let mut errors = Output::new(rt.stderr());
+    match request {
+        Request::Work(work, file) => {
+            do_work(rt, threads, *work, *file, &mut writer, &mut errors)
+        }
+        Request::Test(files) => test(rt, files.as_slice(), &mut writer),
     }
 }
 
@@ -127,14 +142,14 @@ fn main(rt: HostRuntime) -> ExitCode {
         Err(fault) => {
             if fault == WordsFault::NotText {
                 let _ = eprintln!(rt;
-                    "error: a word of the command line is no text (UTF-8)\n\nFor more information, try '--help'."
+                    "error: an argument is not valid UTF-8\n\nFor more information, try '--help'."
                 );
             }
             return ExitCode::from(fault.status());
         }
     };
     match asked(rt.alloc(), words.as_slice()) {
-        Ok(asked) => ExitCode::from(do_job(&rt, &rt, &asked)),
+        Ok(request) => ExitCode::from(do_request(&rt, &rt, &request)),
         Err(error) => {
             if error.kind() == ErrorKind::OutOfMemory {
                 return ExitCode::from(WordsFault::Memory.status());

@@ -1,14 +1,14 @@
-//! The program's output: a buffer in front of a writer. A write that failed is not tried again, and dropping the output writes nothing.
+//! The program's output: a writer with a buffer. A write that failed is not tried again, and dropping the output writes nothing.
 
 ghost use Rattle.std.specs.Prelude.{◌≡◌, [], OnOk, IfOk};
 ghost use Rattle.std.specs.Io.{WritesAtMost};
 ghost use Rattle.std.specs.Io.KnownBytes.{Keeps, WriteAppends};
-ghost use Rattle.devices.specs.declared.health.Health.TheVariants.{Fine};
-ghost use Rattle.devices.specs.Healths.{behind};
+ghost use Rattle.shell_io.specs.declared.health.Health.TheVariants.{Fine};
+ghost use Rattle.shell_io.specs.Healths.{behind};
 ghost use Rattle.rdbg.specs.Outputs.{output_contents, output_seen};
 
 use crate::buffer::Buffer;
-use devices::{Noted, Sink};
+use shell_io::{Noted, Sink};
 use std::io::{Result, Write};
 
 #[derive(Drop)]
@@ -29,7 +29,7 @@ impl<W: Write> Output<W> {
         }
     }
 
-    // Hands all bytes of the buffer on. A failure of the writer ends it for good.
+    // Writes all bytes of the buffer. A failure of the writer ends the output for good.
     fn hand_on(&mut self) -> Result<()>
         requires { self.old.inner.health ≡ Fine }
         ensures bytes { Keeps (output_contents W.contents self.old) (output_contents W.contents self.new) }
@@ -47,7 +47,7 @@ impl<W: Write> Output<W> {
 impl<W: Write> Sink for Output<W> {
     ghost seen = { output_seen W.contents };
 
-    // Takes as many bytes as there is room for, of a full buffer once it is handed on.
+    // Takes as many bytes as there is room for. A full buffer is written first.
     fn write(&mut self, bytes: &[u8]) -> Result<usize>
         ensures bound { WritesAtMost result bytes.now }
         ensures bytes { WriteAppends (output_contents W.contents self.old) (output_contents W.contents self.new) result bytes.now }

@@ -2,20 +2,20 @@
 
 use crate::output::Output;
 use crate::words::{WordsFault, words};
-use devices::Sink;
+use shell_io::Sink;
 use std::alloc::Global;
 use std::env::{Env, FillError};
 use std::io;
 use std::io::{ErrorKind, Write};
 use std::test::Fail;
 
-// A command line of any bytes.
+// An argument of any bytes.
 #[derive(Drop)]
-struct Line<'a> {
+struct ArgumentLine<'a> {
     words: &'a [&'a [u8]],
 }
 
-impl Env for Line<'_> {
+impl Env for ArgumentLine<'_> {
     fn arg(&self, i: usize, buf: &mut [u8]) -> Result<usize, FillError> {
         let Some(word) = self.words.get(i) else {
             return Err(FillError::NotPresent);
@@ -41,7 +41,7 @@ fn words_that_are_no_text_are_a_usage_fault(rt: HostRuntime) {
     let bad: [&[u8]; 4] = [b"\xff", b"ru\xc3", b"\xed\xa0\x80", b"\xc0\xafrun"];
     for word in bad {
         let line = [b"rdbg".as_slice(), word];
-        let given = words(&(Line { words: &line }, rt.alloc()));
+        let given = words(&(ArgumentLine { words: &line }, rt.alloc()));
         match given {
             Ok(_) => panic!(rt; "{word:?} is no text"),
             Err(fault) => {
@@ -55,7 +55,7 @@ fn words_that_are_no_text_are_a_usage_fault(rt: HostRuntime) {
 #[test]
 fn words_that_are_text_are_given(rt: HostRuntime) {
     let line = [b"rdbg".as_slice(), b"r\xc3\xbcn", b""];
-    match words(&(Line { words: &line }, rt.alloc())) {
+    match words(&(ArgumentLine { words: &line }, rt.alloc())) {
         Ok(words) => {
             assert_eq!(rt; words.len(), 3);
             for (word, given) in words.iter().zip(["rdbg", "r\u{fc}n", ""]) {
@@ -66,7 +66,7 @@ fn words_that_are_text_are_given(rt: HostRuntime) {
     }
 }
 
-// Takes at most four bytes at each write. The `left`-th write fails as `fault` says, or takes nothing, and those behind it go well.
+// Takes at most four bytes at each write. The `left`-th write fails as `fault` says, or takes nothing. The writes after it succeed.
 #[derive(Drop)]
 struct Stumbles {
     taken: Vec<u8>,

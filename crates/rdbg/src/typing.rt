@@ -1,12 +1,11 @@
-//! Where the lines come from.
+//! The readers of the program: standard input and files.
 
-use dbg_shell::Job;
 use std::fs::{File, OpenFile};
 use std::io;
 use std::io::{Error, ErrorKind, IsTerminal, Read, Stdin};
 use ui_session::Typed;
 
-/// Standard input, which at a terminal asks for each line of a talk.
+/// Standard input. At a terminal it prompts for each line of an interactive session.
 #[derive(Drop)]
 pub(crate) struct Typing<'a> {
     rt: &'a HostRuntime,
@@ -14,19 +13,20 @@ pub(crate) struct Typing<'a> {
     // Whether lines are typed.
     is_terminal: bool,
     asks: bool,
-    // Whether a line was asked for.
+    // Whether the prompt for the next line was written.
     is_begun: bool,
 }
 
 impl<'a> Typing<'a> {
-    pub(crate) fn new(rt: &'a HostRuntime, job: Job) -> Typing<'a> {
+    /// Standard input. If `asks` is true and it is a terminal, it prompts for each line.
+    pub(crate) fn new(rt: &'a HostRuntime, asks: bool) -> Typing<'a> {
         let input = rt.stdin();
         let is_terminal = input.is_terminal();
         Typing {
             rt,
             input,
             is_terminal,
-            asks: is_terminal && job == Job::Talk,
+            asks: is_terminal && asks,
             is_begun: false,
         }
     }
@@ -36,7 +36,7 @@ impl Read for Typing<'_> {
     fn read(&mut self, bytes: &mut [u8]) -> io::Result<usize> {
         self.is_begun = true;
         if self.asks {
-            // What cannot be asked is left out.
+            // A prompt that cannot be written is left out.
             let _ = eprint!(self.rt; "> ");
         }
         self.input.read(bytes)
@@ -51,17 +51,17 @@ impl Typed for Typing<'_> {
 
 /// A file, whose lines nobody types.
 #[derive(Drop)]
-pub(crate) struct Shown {
+pub(crate) struct FileInput {
     pub(crate) file: File,
 }
 
-impl Read for Shown {
+impl Read for FileInput {
     fn read(&mut self, bytes: &mut [u8]) -> io::Result<usize> {
         self.file.read(bytes)
     }
 }
 
-impl Typed for Shown {
+impl Typed for FileInput {
     fn is_typed(&self) -> bool {
         false
     }

@@ -1,4 +1,4 @@
-//! The words of the command line.
+//! The arguments of the program.
 
 ghost use Rattle.std.specs.Prelude.{◌≡◌};
 ghost use Rattle.rdbg.specs.declared.words.WordsFault.TheVariants.{NotText, Memory};
@@ -7,16 +7,16 @@ use std::env;
 use std::env::Env;
 use std::io::ErrorKind;
 
-/// Why there are no words.
+/// Why there are no arguments.
 #[derive(Debug, Drop, PartialEq, Eq)]
 pub(crate) enum WordsFault {
-    /// One of them is no text.
+    /// An argument is not valid UTF-8.
     NotText,
     Memory,
 }
 
 impl WordsFault {
-    /// The status that the program ends with: that of a usage fault, or that of want of memory.
+    /// The exit status: that of a usage error, or that of too little memory.
     pub(crate) fn status(&self) -> u8
         ensures text { self.now ≡ NotText → result ≡ 2 }
         ensures memory { self.now ≡ Memory → result ≡ 4 }
@@ -28,14 +28,14 @@ impl WordsFault {
     }
 }
 
-/// The words, of which the first is the program's own name.
+/// The arguments, of which the first is the program's own name.
 pub(crate) fn words<R: Env + AllocGlobal>(rt: &R) -> Result<Vec<String>, WordsFault> {
     match env::args(rt) {
         Ok(words) => match words.collect::<Vec<String>>(rt.alloc()) {
             Ok(words) => Ok(words),
             Err(_) => Err(WordsFault::Memory),
         },
-        // Only a word that is no text makes this error.
+        // Only an argument that is not valid UTF-8 makes this error.
         Err(error) if error.kind() == ErrorKind::InvalidData => Err(WordsFault::NotText),
         Err(_) => Err(WordsFault::Memory),
     }

@@ -1,7 +1,7 @@
-pub mod Reading
+pub mod ReadStepLemmas
 pub mod LineEnds
-pub mod UnderWay
-pub mod Splits
-pub mod ProgramTexts
-pub mod Known
+pub mod UnfinishedInputLemmas
+pub mod TextSplitLemmas
+pub mod ProgramTextLemmas
+pub mod KnownInputLemmas
 pub mod Lists

@@ -15,9 +15,9 @@ use Rattle.dbg_base.specs.Shell.{lines_of, with_front, lines_within, all_lines, 
 use Rattle.shell_input.specs.declared.framing.Next.{Next}
 use Rattle.shell_input.specs.declared.framing.Next.TheVariants.{Line, TooLong}
 use Rattle.shell_input.specs.Spans.{is_inside, is_unended, lines_from, Tells, TellsAny}
-use Rattle.proc_lang.proofs.Runs.{and_first, and_second, front_passes}
+use Rattle.proc_lang.proofs.PassingPrefixLemmas.{and_first, and_second, front_passes}
 
--- the first line is what stands before the first line end
+-- the first line is what is before the first line end
 first_line_of : (w r : List ℕ) → is_unended w ≡ true
     → lines_of (w ++ 10 ∷ r) ≡ record { whole = w ∷ (lines_of r).whole; rest = (lines_of r).rest }
 first_line_of [] r h = refl
@@ -46,7 +46,7 @@ within_by : (w r : List ℕ) (k : ℕ) (t : Bool) → nat_lt k (length r) ≡ t 
 within_by w r k true e h = ap (λ bytes. (lines_of bytes).whole) (take_line w r k) ∙ ap (λ lines. lines.whole) (first_line_of w (take k r) h)
 within_by w r k false e h = ap all_lines (first_line_of w r h)
 
--- the next line, where it ends within the limit
+-- the next line, if it ends within the limit
 next_line_is : (w r : List ℕ) (k limit : ℕ) → limit ≡ length w + 1 + k → is_unended w ≡ true
     → lines_within limit (w ++ 10 ∷ r) ≡ w ∷ lines_within k r
 next_line_is w r k limit e h =
@@ -56,7 +56,7 @@ next_line_is w r k limit e h =
     ∙ ap (λ n. cond (nat_lt k (length r)) (lines_of (take n (w ++ 10 ∷ r))).whole (all_lines (lines_of (w ++ 10 ∷ r)))) e
     ∙ within_by w r k (nat_lt k (length r)) refl h
 
--- the lines that are left where no line end is left within the limit
+-- the lines that are left if no line end is left within the limit
 no_line_within : (bytes : List ℕ) (limit : ℕ) → limit < length bytes → is_unended (take limit bytes) ≡ true → lines_within limit bytes ≡ []
 no_line_within bytes limit lt h =
     let test : nat_lt limit (length bytes) ≡ true = grind (arith, nat_tests) in
@@ -72,7 +72,7 @@ some_last_line : (bytes : List ℕ) → 0 < length bytes → last_line bytes ≡
 some_last_line [] some = absurd (omega arith)
 some_last_line (b ∷ bytes) some = refl
 
--- what is told whatever follows the bytes that were read
+-- the result for each possible input
 any_input : (bytes : List ℕ) (ended : Bool) (at new : ℕ) (next : Next)
     → ((rest : List ℕ) → (ended ≡ true → rest ≡ []) → Tells (bytes ++ rest) bytes at new next)
     → TellsAny bytes ended at new next
@@ -81,7 +81,7 @@ any_input bytes ended at new next told input may = subst (λ (t : List ℕ). Tel
 module _ (bytes : List ℕ) (at seen limit : ℕ) (begun : at ≤ seen) (read : seen ≤ limit) (held : limit ≤ length bytes)
     (within : limit ≤ INPUT_BYTES)
     (so_far : is_unended (slice_range bytes at seen) ≡ true) where
-  -- the bytes that were looked at now have no line end either
+  -- the bytes that were searched now have no line end either
   pub seen_on : (n : ℕ) → n ≤ limit - seen → is_unended (take n (slice_range bytes seen limit)) ≡ true
       → is_unended (slice_range bytes at (seen + n)) ≡ true
   seen_on n le h =
@@ -98,7 +98,7 @@ module _ (bytes : List ℕ) (at seen limit : ℕ) (begun : at ≤ seen) (read : 
   part_length : length (slice_range bytes seen limit) ≡ limit - seen
   part_length = simp (length-take, length-drop) (omega arith)
 
-  -- all that was looked at has no line end
+  -- all bytes that were searched have no line end
   pub seen_all : limit - seen ≤ prefix_len is_inside (slice_range bytes seen limit) → is_unended (slice_range bytes at limit) ≡ true
   seen_all ge =
       let part : List ℕ = slice_range bytes seen limit in
@@ -110,7 +110,7 @@ module _ (bytes : List ℕ) (at seen limit : ℕ) (begun : at ≤ seen) (read : 
   pub run_within : prefix_len is_inside (slice_range bytes seen limit) ≤ limit - seen
   run_within = omega (arith, prefix_len-le-length is_inside (slice_range bytes seen limit), part_length)
 
-  -- where the run ends stands a line end
+  -- there is a line end where the run of other bytes ends
   stands_there : (n : ℕ) → n ≡ prefix_len is_inside (slice_range bytes seen limit) → seen + n < limit
       → drop (seen + n) bytes ≡ 10 ∷ drop (seen + n + 1) bytes
   stands_there n e lt =
@@ -153,7 +153,7 @@ module _ (bytes : List ℕ) (at seen limit : ℕ) (begun : at ≤ seen) (read : 
       ))
 
 module _ (bytes : List ℕ) (at : ℕ) (begun : at ≤ length bytes) where
-  -- there is more than may be, and no line end in what may be
+  -- there are more bytes than the limit, and no line end within the limit
   pub too_long_found : INPUT_BYTES < length bytes → at ≤ INPUT_BYTES → is_unended (slice_range bytes at INPUT_BYTES) ≡ true
       → (ended : Bool) → TellsAny bytes ended at at TooLong
   too_long_found long le run ended =
@@ -189,7 +189,7 @@ module _ (bytes : List ℕ) (at : ℕ) (begun : at ≤ length bytes) where
       ∙ last_line_is [] (INPUT_BYTES - length bytes) (omega arith) refl in
       (first ∙ ap (λ (lines : List (List ℕ)). line ∷ lines) (sym nothing), refl, omega arith, omega arith, inr nothing))
 
--- the same line, said with other words
+-- the same line, with equal values
 pub line_told : (bytes others : List ℕ) (ended : Bool) (at from end to new place : ℕ) → others ≡ bytes → from ≡ at → to ≡ end → place ≡ new
     → TellsAny bytes ended at new (Line (record { from = at; to = end }))
     → TellsAny others ended at place (Line (record { from = from; to = to }))
@@ -198,7 +198,7 @@ line_told bytes others ended at from end to new place e f t p told =
     subst (λ (b : List ℕ). P b from to place) (sym e) (subst (λ (i : ℕ). P bytes i to place) (sym f)
     (subst (λ (j : ℕ). P bytes at j place) (sym t) (subst (λ (k : ℕ). P bytes at end k) (sym p) told)))
 
--- the same is told, said with other words
+-- the same result, with equal values
 pub told_so : (bytes : List ℕ) (ended over : Bool) (at place new : ℕ) (next : Next) → over ≡ ended → at ≡ place
     → TellsAny bytes ended at new next
     → TellsAny bytes over place new next

@@ -1,11 +1,11 @@
--- Lists that are made item by item, and lists that were lent.
+-- Lists that are made item by item, and lists that were borrowed.
 use Rattle.std.proofs.Common.{◌≡◌, ℕ, zero, suc, ◌<◌, Bool, true, false, List, [], ◌∷◌, ◌++◌, length, get_or, take, drop, refl, sym, ap, ◌∙◌, arith}
 use Rattle.std.specs.Prelude.{nat_lt}
 use Rattle.std.proofs.lemmas.Bool.Decides.{nat_tests}
 use Rattle.std.proofs.lemmas.List.{get_or_append_left, length_push}
 use Rattle.std.proofs.Math.Seq.{get_or-append_seam, take-append_seam}
 
--- a list that is made by one item more each time
+-- a list that gets one more item each time
 module _ {A : Type 0} (item : ℕ → A) (made : ℕ → List A) (none : made 0 ≡ []) (more : (n : ℕ) → made (suc n) ≡ made n ++ item n ∷ []) where
   pub so_many : (n : ℕ) → length (made n) ≡ n
   so_many zero = ap length none
@@ -32,7 +32,7 @@ module _ {A : Type 0} (item : ℕ → A) (made : ℕ → List A) (none : made 0 
           let at : i ≡ length (made n) = here ∙ sym size in
           ap (λ (k : ℕ). get_or (made n ++ item n ∷ []) k other) at ∙ get_or-append_seam (made n) (item n) [] other ∙ ap item (sym here)
 
--- what a list is that was lent and comes back
+-- the list after a borrow of a part of it
 pub lent_back : {A : Type 0} (n : ℕ) (old new : List A) → n ≡ length old → length new ≡ length old
     → take n (new ++ drop (length new) old) ≡ new
 lent_back n old new long same =

@@ -9,29 +9,28 @@ use Rattle.shell_input.specs.declared.program_text.TextEnd.TheVariants.{Before, 
 use Rattle.shell_input.specs.declared.program_text.TextEnd.TheVariants as ends
 use Rattle.shell_input.specs.Spans.{lines_from, MayBe}
 
--- At most one byte more than may be was read.
+-- At most one byte more than the limit was read.
 abbrev pub ReadsFew : List ℕ → Option (List ℕ) → Type 0
 ReadsFew input left = (bytes rest : List ℕ) × (left ≡ Some rest) × (input ≡ bytes ++ rest) × (length bytes ≤ INPUT_BYTES + 1)
 
--- The bytes from a place on were read for the program text: each time the reader was asked, no line ended the text yet, and what it gave
--- last is little.
+-- The bytes from a position on were read for the program text: before each read no line ended the text, and the last read gave few bytes.
 abbrev pub ReadsText : List ℕ → ℕ → List ℕ → Type 0
 ReadsText old from new =
     (new ≡ old)
     ⊎ ((front last : List ℕ) × (new ≡ front ++ last) × (length last ≤ CHUNK) × (parts_of (lines_of (drop from front)).whole ≡ None))
 
--- No more of the input was read than its program text asks for: before the last read no line ended the text, and that gave little.
+-- Only the program text was read: before the last read no line ended the text, and the last read gave few bytes.
 abbrev pub ReadsProgram : List ℕ → Option (List ℕ) → Type 0
 ReadsProgram input left =
     (front last rest : List ℕ) × (left ≡ Some rest) × (input ≡ front ++ last ++ rest) × (length last ≤ CHUNK)
     × (parts_of (lines_of front).whole ≡ None)
 
--- a text in front of a program text
+-- the parts with a text before the program text
 abbrev pub with_text : List ℕ → Parts → Parts
 with_text text parts = record parts { program = text ++ parts.program }
 
--- The program text from a place on is what stands in the bytes that were read up to the line that ends it, and the command lines are
--- those from the new place on; or no line ends it.
+-- The program text from a position on is the bytes up to the line that ends it, and the command lines are those from the new position on;
+-- or no line ends it.
 abbrev pub Splits : List ℕ → List ℕ → ℕ → ℕ → TextEnd → Type 0
 Splits input bytes at new (Before span) =
     (parts_of (lines_from at input) ≡ Some (record { program = slice_range bytes at span.from; commands = lines_from new input }))
@@ -39,11 +38,11 @@ Splits input bytes at new (Before span) =
 Splits input bytes at new ends.End = (parts_of (lines_from at input) ≡ None) × (is_too_long input ≡ false)
 Splits input bytes at new ends.TooLong = (parts_of (lines_from at input) ≡ None) × (is_too_long input ≡ true)
 
--- the same, whatever the input may be
+-- the same for each possible input
 abbrev pub SplitsAny : List ℕ → Bool → ℕ → ℕ → TextEnd → Type 0
 SplitsAny bytes ended at new end = (input : List ℕ) → MayBe bytes ended input → Splits input bytes at new end
 
--- A program text alone: what stands in front of the first end line, or all of the input. None where there is too much.
+-- A program text alone: what is before the first end line, or all of the input. None if the input is too long.
 abbrev pub alone_of : List ℕ → Option Parts → Option (List ℕ)
 alone_of input (Some parts) = Some parts.program
 alone_of input None = if is_too_long input then None else Some input
@@ -51,7 +50,7 @@ alone_of input None = if is_too_long input then None else Some input
 abbrev pub alone_text : List ℕ → Option (List ℕ)
 alone_text input = alone_of input (parts_of (read_lines input))
 
--- the same, in the bytes that were read, where the text ends so
+-- the same for the bytes that were read, with this end of the text
 abbrev pub IsTextAt : List ℕ → TextEnd → Option (List ℕ) → Type 0
 IsTextAt bytes (Before span) text = span.from ≤ length bytes → text ≡ Some (take span.from bytes)
 IsTextAt bytes End text = text ≡ Some bytes

@@ -1,4 +1,4 @@
--- Where a line stands in the input, and what is known of the input there.
+-- Where a line is in the input, and what is known of the input there.
 use Rattle.std.specs.Prelude.{◌≡◌, ℕ, ◌-◌, ◌<◌, ◌≤◌, Bool, true, false, not, ◌==◌, List, [], ◌∷◌, ◌++◌, length, drop, slice_range, Option}
 use Rattle.std.specs.Prelude.{◌⊎◌}
 use Rattle.std.specs.List.{list_all}
@@ -9,25 +9,25 @@ use Rattle.shell_input.specs.declared.framing.TheConstants.{CHUNK}
 use Rattle.shell_input.specs.declared.framing.Next.{Next}
 use Rattle.shell_input.specs.declared.framing.Next.TheVariants.{Line, End, TooLong}
 
--- behind a line the place is further on, and else it stays
+-- after a line the position is greater, otherwise it is the same
 abbrev pub AdvancesAt : ℕ → ℕ → Next → Type 0
 AdvancesAt old new (Line span) = old < new
 AdvancesAt old new End = new ≡ old
 AdvancesAt old new TooLong = new ≡ old
 
--- no line end
+-- the byte is not a line end
 abbrev pub is_inside : ℕ → Bool
 is_inside b = not (b == 10)
 
 abbrev pub is_unended : List ℕ → Bool
 is_unended = list_all is_inside
 
--- the lines that are still to be looked at from this place on
+-- the lines that are left from this position on
 abbrev pub lines_from : ℕ → List ℕ → List (List ℕ)
 lines_from at input = lines_within (INPUT_BYTES - at) (drop at input)
 
--- At this place of the input stands this line, and the next line at the new place, which is behind a line end unless no line is
--- left; or no line is left, and the input ends there or is too long.
+-- At this position of the input is this line, and the next line is at the new position, which is after a line end unless no line is left.
+-- Or no line is left, and the input ends there or is too long.
 abbrev pub Tells : List ℕ → List ℕ → ℕ → ℕ → Next → Type 0
 Tells input bytes at new (Line span) =
     (lines_from at input ≡ slice_range bytes span.from span.to ∷ lines_from new input) × (span.from ≡ at) × (span.from ≤ span.to)
@@ -35,42 +35,42 @@ Tells input bytes at new (Line span) =
 Tells input bytes at new End = (lines_from at input ≡ []) × (is_too_long input ≡ false)
 Tells input bytes at new TooLong = (lines_from at input ≡ []) × (is_too_long input ≡ true)
 
--- what the input may be where these bytes of it were read: it begins with them, and where it has ended it is them
+-- an input that is possible after these bytes were read: it begins with them, and is equal to them if its end was read
 abbrev pub MayBe : List ℕ → Bool → List ℕ → Type 0
 MayBe bytes ended input = (rest : List ℕ) × (input ≡ bytes ++ rest) × (ended ≡ true → rest ≡ [])
 
--- the same, whatever the input may be
+-- the same for each possible input
 abbrev pub TellsAny : List ℕ → Bool → ℕ → ℕ → Next → Type 0
 TellsAny bytes ended at new next = (input : List ℕ) → MayBe bytes ended input → Tells input bytes at new next
 
--- more may have been read, so that the input may be less than before
+-- more bytes may have been read, so fewer inputs are possible than before
 abbrev pub Narrows : List ℕ → Bool → List ℕ → Bool → Type 0
 Narrows bytes ended more over = (input : List ℕ) → MayBe more over input → MayBe bytes ended input
 
--- the input has not ended, and no line end stands in the bytes from this place on
+-- the input has not ended, and there is no line end in the bytes from this position on
 pub record IsUnderWay (bytes : List ℕ) (ended : Bool) (at : ℕ) : Type 0 where
   pub unfinished : ended ≡ false
   pub within : length bytes ≤ INPUT_BYTES
   pub begun : at ≤ length bytes
   pub unended : is_unended (drop at bytes) ≡ true
 
--- where the input has ended the reader has nothing left
+-- if the input has ended, the reader has nothing left
 abbrev pub EndsWith : Bool → Option (List ℕ) → Type 0
 EndsWith ended remaining = ended ≡ true → IsAtEnd remaining
 
--- the bytes that were read and those that the reader has left are together what they were
+-- the bytes that were read, followed by those that the reader has left, stay the same
 abbrev pub KeepsInput : List ℕ → Option (List ℕ) → List ℕ → Option (List ℕ) → Type 0
 KeepsInput old before new after = Keeps (prepend_known old before) (prepend_known new after)
 
--- What a step of reading keeps: what was read and what is left are together what they were, where the input has ended the reader has
--- nothing left, and what the input may be it might have been before.
+-- What a step of reading keeps. What was read, followed by what is left, stays the same. If the input has ended, the reader has nothing
+-- left. Each input that is possible now was possible before.
 pub record ReadsOn (old : List ℕ) (was : Bool) (before : Option (List ℕ)) (new : List ℕ) (ended : Bool)
     (after : Option (List ℕ)) : Type 0 where
   pub keeps : KeepsInput old before new after
   pub ends : EndsWith ended after
   pub narrows : Narrows old was new ended
 
--- The last of these bytes came at once: when the reader was asked for them, no line was ready from this place on.
+-- The last of these bytes came with one read: before it no line was complete from this position on.
 pub record LastRead (old : List ℕ) (was : Bool) (new : List ℕ) (at : ℕ) : Type 0 where
   pub front : List ℕ
   pub last : List ℕ
@@ -80,7 +80,7 @@ pub record LastRead (old : List ℕ) (was : Bool) (new : List ℕ) (at : ℕ) : 
   pub under_way : IsUnderWay front over at
   pub narrows : Narrows old was front over
 
--- the reader is asked only where no line is ready
+-- the reader is called only if no line is complete
 abbrev pub ReadsAsNeeded : List ℕ → Bool → List ℕ → ℕ → Type 0
 ReadsAsNeeded old was new at = (new ≡ old) ⊎ LastRead old was new at
 

@@ -1,12 +1,12 @@
--- That a text of some form was written, or a front of one.
+-- The output is a text of some form, or a prefix of one.
 use Rattle.std.specs.Prelude.{ℕ, List}
-use Rattle.devices.specs.Seen.{Seen, Appended}
-use Rattle.reply_lines.specs.Writing.{AppendsFront}
+use Rattle.shell_io.specs.Seen.{Seen, Appended}
+use Rattle.shell_print.specs.Writing.{AppendsFront}
 
 -- a text of this form was written
 abbrev pub WritesSome : Seen → Seen → (List ℕ → Type 0) → Type 0
 WritesSome old new IsOut = (out : List ℕ) × IsOut out × Appended old new out
 
--- a front of a text of this form was written
+-- a prefix of a text of this form was written
 abbrev pub WritesFront : Seen → Seen → (List ℕ → Type 0) → Type 0
 WritesFront old new IsOut = (out : List ℕ) × IsOut out × AppendsFront old new out

@@ -1,4 +1,4 @@
-//! Bytes become lines.
+//! Splits bytes into lines.
 
 ghost use Rattle.std.specs.Prelude.{◌≡◌, ◌+◌, ◌<◌, ◌≤◌, [], true, false, min, take, vec_len, vec_capacity, length, slice_range, OnOk};
 ghost use Rattle.std.specs.Prelude.{OnErr, MatchOption, IfOk, IfErr, IfSome, ◌⊎◌};
@@ -7,30 +7,30 @@ ghost use Rattle.shell_input.specs.Spans.{AdvancesAt, is_inside, is_unended, Tel
 ghost use Rattle.shell_input.specs.Spans.{IsUnderWay};
 ghost use Rattle.shell_input.specs.declared.framing.TheConstants.{ROOM};
 ghost use Rattle.shell_input.specs.declared.framing.Next.TheVariants.{End};
-ghost use Rattle.devices.specs.declared.health.Health.TheVariants.{Fine};
-ghost use Rattle.reply_lines.specs.Outcomes.{source_behind};
-ghost use Rattle.reply_lines.specs.declared.outcome.ServeFault.TheVariants.{Read};
+ghost use Rattle.shell_io.specs.declared.health.Health.TheVariants.{Fine};
+ghost use Rattle.shell_print.specs.Outcomes.{source_behind};
+ghost use Rattle.shell_print.specs.declared.outcome.ServeFault.TheVariants.{Read};
 ghost use Rattle.dbg_base.specs.declared.limits.TheConstants.{INPUT_BYTES};
 
 use dbg_base::limits::INPUT_BYTES;
-use devices::Source;
-use reply_lines::ServeFault;
+use shell_io::Source;
+use shell_print::ServeFault;
 use std::alloc::{AllocError, Global};
 
-// At most one byte more than may be is ever read: it shows that there is too much.
+// At most one byte more than the limit is ever read: it shows that the input is too long.
 const ROOM: usize = 1_048_577;
 
 const _: () = prove!(ROOM == INPUT_BYTES + 1);
 
-// At most this many bytes are asked for at once.
+// At most this many bytes are requested at once.
 const CHUNK: usize = 4_096;
 
-/// The place of a line in the bytes that were read: from the first on, and up to the second.
+/// The position of a line in the bytes that were read: the offset of its first byte, and the offset after its last.
 #[derive(Clone, Copy, Debug, PartialEq, Eq)]
 pub struct Span {
-    /// The place of its first byte.
+    /// The offset of its first byte.
     pub from: usize,
-    /// The place behind its last byte, which is no line end.
+    /// The offset after its last byte, which is not a line end.
     pub to: usize,
 }
 
@@ -41,20 +41,20 @@ pub enum Next {
     Line(Span),
     /// The input's end.
     End,
-    /// No further line ends within the bytes that may be, and there are more bytes.
+    /// No further line ends within the limit, and there are more bytes.
     TooLong,
 }
 
-/// All bytes that were read so far, and how far they were looked at.
+/// All bytes that were read so far, and how far they were searched.
 #[derive(Debug, Drop)]
 pub struct Input {
-    /// What was read.
+    /// The bytes that were read.
     pub bytes: Vec<u8>,
-    /// Where the next line begins.
+    /// The offset at which the next line begins.
     pub at: usize,
-    // No line end stands between `at` and here.
+    // There is no line end between `at` and here.
     seen: usize,
-    /// Whether the reader has told the end.
+    /// Whether the reader has reached its end.
     pub ended: bool,
     ghost room: { ROOM ≤ vec_capacity bytes },
     ghost few: { vec_len bytes ≤ ROOM },
@@ -64,7 +64,7 @@ pub struct Input {
     ghost unended: { is_unended (slice_range bytes.items at seen) ≡ true },
 }
 
-// How many bytes at the front are no line ends.
+// The number of bytes at the beginning that are not line ends.
 fn length_inside(bytes: &[u8]) -> usize
     ensures { result ≡ prefix_len is_inside bytes.now }
 {
@@ -77,7 +77,7 @@ fn length_inside(bytes: &[u8]) -> usize
 }
 
 impl Input {
-    /// Takes the memory for all the input that may be. Nothing after it takes memory.
+    /// Allocates the memory for the largest input. Nothing after it allocates.
     pub fn new(alloc: Global) -> Result<Input, AllocError>
         ensures bytes { IfOk result (λ input. input.bytes.items ≡ []) }
         ensures at { IfOk result (λ input. input.at ≡ 0) }
@@ -113,8 +113,8 @@ impl Input {
         self.bytes.as_slice()
     }
 
-    /// The next line, or why there is none. It reads only where no whole line was read yet, so each line can be answered before
-    /// the next one is asked for. An error of the reader is not tried again.
+    /// The next line, or why there is none. It reads only if no whole line was read yet, so each line can be answered before the next one
+    /// is read. Error: `Read`, if the reader fails; the reader is not called again.
     pub fn next_line<R: Source>(&mut self, reader: &mut R) -> Result<Next, ServeFault>
         requires { EndsWith self.old.ended (R.remaining reader.old) }
         ensures advances { IfOk result (AdvancesAt self.old.at self.new.at) }
@@ -135,7 +135,7 @@ impl Input {
         }
     }
 
-    // What comes next, or None where the bytes that were read do not tell.
+    // What comes next, or None if the bytes that were read do not decide it.
     fn ready(&mut self) -> Option<Next>
         ensures advances { MatchOption result (self.new.at ≡ self.old.at) (AdvancesAt self.old.at self.new.at) }
         ensures bytes { self.new.bytes ≡ self.old.bytes }
@@ -173,7 +173,7 @@ impl Input {
         span
     }
 
-    // What comes next where no line end is left in the bytes that may be.
+    // What comes next if no line end is left within the limit.
     fn without_line_end(&mut self) -> Option<Next>
         requires { self.old.seen ≡ min (vec_len self.old.bytes) INPUT_BYTES }
         ensures advances { MatchOption result (self.new.at ≡ self.old.at) (AdvancesAt self.old.at self.new.at) }

@@ -1,4 +1,4 @@
-//! The input of a run and of a check: its bytes become lines, within the limits, and the program text stands in front of them.
+//! The input of a run and of a check: its bytes are split into lines, within the limits, and the program text comes first.
 #![tactic(auto)]
 
 mod framing;

@@ -1,4 +1,4 @@
-//! The program text, which stands in front of the input.
+//! The program text, which is the first part of the input.
 
 ghost use Rattle.std.specs.Prelude.{◌≡◌, ◌≤◌, true, drop, length, None, IfOk, IfErr, OnErr};
 ghost use Rattle.std.specs.Option.{option_map};
@@ -7,23 +7,23 @@ ghost use Rattle.dbg_base.specs.Shell.{is_end_line, lines_of, parts_of};
 ghost use Rattle.shell_input.specs.Spans.{EndsWith, ReadsOn};
 ghost use Rattle.shell_input.specs.ProgramTexts.{SplitsAny, ReadsText, IsTextAt};
 ghost use Rattle.shell_input.specs.declared.program_text.TextEnd.TheVariants.{End};
-ghost use Rattle.devices.specs.declared.health.Health.TheVariants.{Fine};
-ghost use Rattle.reply_lines.specs.Outcomes.{source_behind};
-ghost use Rattle.reply_lines.specs.declared.outcome.ServeFault.TheVariants.{Read};
+ghost use Rattle.shell_io.specs.declared.health.Health.TheVariants.{Fine};
+ghost use Rattle.shell_print.specs.Outcomes.{source_behind};
+ghost use Rattle.shell_print.specs.declared.outcome.ServeFault.TheVariants.{Read};
 
 use crate::framing::{Input, Next, Span};
-use command_line::without_return;
-use devices::Source;
-use reply_lines::ServeFault;
+use shell_io::Source;
+use shell_parse::without_return;
+use shell_print::ServeFault;
 
 /// Where the program text ends.
 #[derive(Clone, Copy, Debug, PartialEq, Eq)]
 pub enum TextEnd {
-    /// In front of this line, the first that is `%%`.
+    /// Before this line, the first that is `%%`.
     Before(Span),
-    /// At the input's end.
+    /// At the end of the input.
     End,
-    /// Not within the input that may be.
+    /// Not within the limit of the input.
     TooLong,
 }
 
@@ -34,7 +34,7 @@ fn is_end_line(line: &[u8]) -> bool
 }
 
 /// Reads the program text.
-#[tactic(auto, using(crate::proofs::Reading::reads_then))]
+#[tactic(auto, using(crate::proofs::ReadStepLemmas::reads_then))]
 pub fn read_program_text<R: Source>(
     input: &mut Input,
     reader: &mut R,
@@ -63,7 +63,8 @@ pub fn read_program_text<R: Source>(
     }
 }
 
-/// The text where nothing behind it is looked at: it ends before this line, or where the input does. None where the input is too long.
+/// The program text, for callers that ignore what follows it: it ends before this line, or at the end of the input. None if the input is
+/// too long.
 pub fn text_alone(input: &Input, end: TextEnd) -> Option<&[u8]>
     ensures { IsTextAt input.now.bytes.items end (option_map (λ text. text.now) result) }
 {

@@ -1,24 +1,24 @@
--- What an interactive session writes beside the replies.
+-- The output of an interactive session besides the replies.
 use Rattle.std.proofs.Common.{◌≡◌, ℕ, true, List, [], ◌∷◌, ◌++◌, refl, sym, ap, ◌∙◌, inl, inr}
 use Rattle.std.specs.Prelude.{Result, Ok, Err, IsErrAnd}
 use Rattle.std.specs.List.{AllByRecursion}
 use Rattle.std.proofs.lemmas.List.{append-nil}
 use Rattle.std.proofs.lemmas.List.Concat.{flat_map-append}
-use Rattle.devices.specs.Seen.{Seen, Appended}
-use Rattle.devices.proofs.Appending.{appended_none, appended_then}
+use Rattle.shell_io.specs.Seen.{Seen, Appended}
+use Rattle.shell_io.proofs.AppendLemmas.{appended_none, appended_then}
 use Rattle.dbg_base.specs.Shell.{as_line}
-use Rattle.reply_lines.specs.declared.outcome.ServeFault.{ServeFault}
-use Rattle.reply_lines.specs.Writing.{Writes}
-use Rattle.reply_lines.proofs.Writing.{front_then, stopped, writes_then}
+use Rattle.shell_print.specs.declared.outcome.ServeFault.{ServeFault}
+use Rattle.shell_print.specs.Writing.{Writes}
+use Rattle.shell_print.proofs.WriteLemmas.{front_then, stopped, writes_then}
 use Rattle.shell_input.specs.Spans.{is_unended}
-use Rattle.line_runs.specs.Sessions.{MayBeQuiet, WritesForm}
+use Rattle.shell_serve.specs.Sessions.{MayBeQuiet, WritesForm}
 use Rattle.ui_session.specs.Dialogues.{explanation_line, explanation_text, IsExplanation, IsEcho, interactive}
 
 -- nothing is explained
 none_explained : IsExplanation []
 none_explained = ([], tt, refl)
 
--- nothing has to be written besides the replies
+-- the replies may be the only output
 pub quiet : MayBeQuiet interactive
 quiet = record { before = λ line. inl refl; explains = none_explained }
 
@@ -27,7 +27,7 @@ all_more : (lines : List (List ℕ)) (line : List ℕ) → AllByRecursion (λ l.
 all_more [] line all one = (one, tt)
 all_more (x ∷ lines) line all one = (all.0, all_more lines line all.1 one)
 
--- one line more
+-- one more line
 one_more : (text line : List ℕ) → IsExplanation text → is_unended line ≡ true → IsExplanation (text ++ explanation_line line)
 one_more text line h one =
     let lines = h.0 in

@@ -7,7 +7,7 @@ use Rattle.dbg_base.specs.Tokens.{is_digit}
 use Rattle.dbg_base.specs.CommandLines.{next_word, without_return}
 use Rattle.dbg_base.specs.Shell.{as_line}
 use Rattle.shell_input.specs.Spans.{is_unended}
-use Rattle.line_runs.specs.Sessions.{Manner}
+use Rattle.shell_serve.specs.Sessions.{Manner}
 
 -- the words of directives
 abbrev pub directive_words : List (List ℕ)
@@ -33,7 +33,7 @@ is_seat (byte ∷ bytes) = is_digit byte
 abbrev pub needs_seat : List ℕ → Bool
 needs_seat line = not (is_seat (first_word line)) && nat_le (length line) LINE_BYTES
 
--- the line with the seat that it has, and else with the first seat
+-- the line with its own seat, or with the first seat if it has none
 abbrev pub with_seat : List ℕ → List ℕ
 with_seat line = if needs_seat line then codes "1 " ++ line else line
 

@@ -1,1 +1,2 @@
 pub mod Dialogues
+pub mod Verbs

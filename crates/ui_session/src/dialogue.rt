@@ -2,33 +2,33 @@
 
 ghost use Rattle.ui_session.specs.Dialogues.{interactive};
 
-use crate::directives::{is_directive, is_quit, needs_seat};
-use crate::explainer::{Explainer, Stand};
+use crate::directives::{directive, is_directive, is_quit, needs_seat};
 use crate::refusing::{explain_fault, explain_no_end_line};
 use crate::typed::Typed;
 use crate::written::{explain, write_echo};
 use dbg_base::{Call, Refusal, Said};
-use dbg_command::Table;
-use devices::Sink;
-use line_runs::Observer;
+use dbg_command::SessionView;
 use proc_lang::{ProgFault, Program};
-use reply_lines::ServeFault;
+use shell_io::Sink;
+use shell_print::ServeFault;
+use shell_serve::Observer;
 use std::alloc::{AllocError, Global};
+use ui_explain::Explainer;
 
-/// The observer of an interactive session: each line is written if it was not typed, and an explanation follows its reply, or is all that is
-/// written for a directive. A command line without a seat is one of seat 1.
+/// The observer of an interactive session. It writes each line that was not typed, and an explanation after the reply. A directive has only
+/// an explanation. A command line without a seat is one of seat 1.
 #[derive(Drop)]
 pub struct Dialogue<T> {
     explainer: T,
 }
 
 impl<T> Dialogue<T> {
-    /// A session that is explained so.
+    /// A session with this explainer.
     pub fn new(explainer: T) -> Dialogue<T> {
         Dialogue { explainer }
     }
 
-    /// Who explains it.
+    /// The explainer.
     pub fn explainer(&self) -> &T {
         &self.explainer
     }
@@ -67,49 +67,42 @@ impl<T: Explainer, R: Typed> Observer<R> for Dialogue<T> {
     fn direct<W: Sink>(
         &mut self,
         alloc: Global,
-        program: &Program,
-        table: &Table,
+        view: SessionView<'_>,
         line: &[u8],
         writer: &mut W,
     ) -> Result<(), ServeFault> {
         let notes = self
             .explainer
-            .tell_own(alloc, Stand { program, table }, line);
+            .answer_directive(alloc, view, directive(line));
         explain(&notes, writer)
     }
 
-    fn prepare(&mut self, alloc: Global, program: &Program, table: &Table, call: &Call) {
-        self.explainer
-            .prepare(alloc, Stand { program, table }, call);
+    fn prepare(&mut self, alloc: Global, view: SessionView<'_>, call: &Call) {
+        self.explainer.prepare(alloc, view, call);
     }
 
     fn explain_call<W: Sink>(
         &mut self,
         alloc: Global,
-        program: &Program,
-        table: &Table,
+        view: SessionView<'_>,
         said: &Said,
         writer: &mut W,
     ) -> Result<(), ServeFault> {
-        let notes = self
-            .explainer
-            .tell_call(alloc, Stand { program, table }, said);
-        explain(&notes, writer)
+        explain(&self.explainer.explain_call(alloc, view, said), writer)
     }
 
     fn explain_refusal<W: Sink>(
         &mut self,
         alloc: Global,
-        program: &Program,
-        table: &Table,
+        view: SessionView<'_>,
         line: &[u8],
         refusal: &Refusal,
         writer: &mut W,
     ) -> Result<(), ServeFault> {
-        let notes = self
-            .explainer
-            .tell_line(alloc, Stand { program, table }, line, refusal);
-        explain(&notes, writer)
+        explain(
+            &self.explainer.explain_refusal(alloc, view, line, refusal),
+            writer,
+        )
     }
 
     fn explain_fault<W: Sink>(
@@ -130,7 +123,7 @@ impl<T: Explainer, R: Typed> Observer<R> for Dialogue<T> {
         explain_no_end_line(alloc, writer)
     }
 
-    fn end(&mut self, alloc: Global, program: &Program, table: &Table) {
-        self.explainer.end(alloc, Stand { program, table });
+    fn end(&mut self, alloc: Global, view: SessionView<'_>) {
+        self.explainer.end(alloc, view);
     }
 }

@@ -1,10 +1,26 @@
 //! Directives: the lines that an interactive session answers itself.
 
-ghost use Rattle.std.specs.Prelude.{◌≡◌};
-ghost use Rattle.ui_session.specs.Dialogues.{is_remark, first_word, is_directive, is_quit, is_seat, needs_seat};
+ghost use Rattle.std.specs.Prelude.{◌≡◌, is_some};
+ghost use Rattle.std.specs.List.{list_any};
+ghost use Rattle.std.specs.Str.{bytes_eq};
+ghost use Rattle.std.specs.Prelude.{codes};
+ghost use Rattle.ui_session.specs.Dialogues.{is_remark, first_word, is_directive, is_quit, is_seat, needs_seat, directive_words};
+ghost use Rattle.ui_session.specs.Verbs.{is_quit_verb};
 
-use command_line::{next_word, without_return};
 use dbg_base::limits::LINE_BYTES;
+use shell_parse::{next_word, without_return};
+use ui_explain::Directive;
+
+// The first word of each directive that is answered.
+#[derive(Clone, Copy, Debug, PartialEq, Eq)]
+pub(crate) enum Verb {
+    Help,
+    On,
+    State,
+    Line,
+    Draw,
+    Quit,
+}
 
 /// The first word of a line.
 pub(crate) fn first_word(line: &[u8]) -> &[u8]
@@ -23,26 +39,56 @@ fn is_remark(word: &[u8]) -> bool
     }
 }
 
-/// Whether an interactive session answers the line itself: a comment, an expectation, a blank line, or `help`, `on`, `state`, `line`, `draw`,
-/// `quit`.
+// The directive that begins with this word.
+fn verb_of(word: &[u8]) -> Option<Verb>
+    ensures is { is_some result ≡ list_any (bytes_eq word.now) directive_words }
+    ensures quits { is_quit_verb result ≡ bytes_eq word.now (codes "quit") }
+{
+    if word == b"help".as_slice() {
+        Some(Verb::Help)
+    } else if word == b"on".as_slice() {
+        Some(Verb::On)
+    } else if word == b"state".as_slice() {
+        Some(Verb::State)
+    } else if word == b"line".as_slice() {
+        Some(Verb::Line)
+    } else if word == b"draw".as_slice() {
+        Some(Verb::Draw)
+    } else if word == b"quit".as_slice() {
+        Some(Verb::Quit)
+    } else {
+        None
+    }
+}
+
+/// Whether an interactive session answers the line itself.
 pub fn is_directive(line: &[u8]) -> bool
     ensures { result ≡ is_directive line.now }
 {
     let word = first_word(line);
-    is_remark(word)
-        || word == b"help".as_slice()
-        || word == b"on".as_slice()
-        || word == b"state".as_slice()
-        || word == b"line".as_slice()
-        || word == b"draw".as_slice()
-        || word == b"quit".as_slice()
+    is_remark(word) || verb_of(word).is_some()
 }
 
 /// Whether the line ends the session.
 pub(crate) fn is_quit(line: &[u8]) -> bool
     ensures { result ≡ is_quit line.now }
 {
-    first_word(line) == b"quit".as_slice()
+    matches!(verb_of(first_word(line)), Some(Verb::Quit))
+}
+
+/// The directive that a line is, if an interactive session answers it itself.
+pub(crate) fn directive(line: &[u8]) -> Directive<'_> {
+    let (word, rest) = next_word(without_return(line));
+    let argument = next_word(without_return(rest)).0;
+    match verb_of(word) {
+        Some(Verb::Help) => Directive::Help(argument),
+        Some(Verb::On) => Directive::On,
+        Some(Verb::State) => Directive::State,
+        Some(Verb::Line) => Directive::Line(argument),
+        Some(Verb::Draw) => Directive::Draw,
+        Some(Verb::Quit) => Directive::Quit,
+        None => Directive::Remark,
+    }
 }
 
 fn is_seat(word: &[u8]) -> bool
@@ -54,7 +100,7 @@ fn is_seat(word: &[u8]) -> bool
     }
 }
 
-/// Whether the line may be that of a command, and has no seat.
+/// Whether the line may be a command line, and has no seat.
 pub(crate) fn needs_seat(line: &[u8]) -> bool
     ensures { result ≡ needs_seat line.now }
 {

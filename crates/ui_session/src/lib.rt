@@ -3,13 +3,11 @@
 
 mod dialogue;
 mod directives;
-mod explainer;
 mod refusing;
 mod typed;
 mod written;
 
 pub use dialogue::Dialogue;
 pub use directives::is_directive;
-pub use explainer::{Explainer, Stand};
 pub use refusing::explain_fault;
 pub use typed::Typed;

@@ -1,14 +1,14 @@
 //! Programs that are refused.
 
-ghost use Rattle.line_runs.specs.Sessions.{WritesForm};
+ghost use Rattle.shell_serve.specs.Sessions.{WritesForm};
 ghost use Rattle.ui_session.specs.Dialogues.{IsExplanation};
 
 use crate::written::explain;
-use devices::Sink;
 use proc_lang::ProgFault;
-use reply_lines::ServeFault;
+use shell_io::Sink;
+use shell_print::ServeFault;
 use std::alloc::Global;
-use telling::{Notes, tell_no_end_line, tell_program_fault};
+use ui_explain::{Notes, tell_no_end_line, tell_program_fault};
 
 /// Explains why a program is refused: the line and the column, the text of the line with a mark under the place, and the likely correction.
 pub fn explain_fault<W: Sink>(

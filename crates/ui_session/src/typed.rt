@@ -1,11 +1,11 @@
 //! Whether lines are typed.
 
-use devices::Noted;
+use shell_io::Noted;
 use std::io::Chain;
 
-/// What may give lines that are typed.
+/// A reader whose lines may be typed.
 pub trait Typed {
-    /// Whether the line that it gave last was typed at a terminal, which shows it already.
+    /// Whether the last line was typed at a terminal, which shows it already.
     fn is_typed(&self) -> bool;
 }
 

@@ -1,14 +1,14 @@
-//! What is written beside the replies.
+//! Output besides the replies.
 
 ghost use Rattle.std.specs.Prelude.{◌≡◌};
-ghost use Rattle.reply_lines.specs.Writing.{Writes};
+ghost use Rattle.shell_print.specs.Writing.{Writes};
 ghost use Rattle.shell_input.specs.Spans.{is_unended};
-ghost use Rattle.line_runs.specs.Sessions.{WritesForm};
+ghost use Rattle.shell_serve.specs.Sessions.{WritesForm};
 ghost use Rattle.ui_session.specs.Dialogues.{IsExplanation, IsEcho, explanation_line};
 
-use devices::Sink;
-use reply_lines::{ServeFault, hand_on, write_whole};
-use telling::Notes;
+use shell_io::Sink;
+use shell_print::{ServeFault, hand_on, write_whole};
+use ui_explain::Notes;
 
 fn is_unended(line: &[u8]) -> bool
     ensures { result ≡ is_unended line.now }
@@ -39,7 +39,7 @@ fn write_lines<W: Sink>(lines: &[Vec<u8>], writer: &mut W) -> Result<(), ServeFa
     Ok(())
 }
 
-/// Writes an explanation, and hands it on.
+/// Writes an explanation, and flushes it.
 pub(crate) fn explain<W: Sink>(notes: &Notes, writer: &mut W) -> Result<(), ServeFault>
     ensures written { WritesForm IsExplanation (W.seen writer.old) result (W.seen writer.new) }
 {
@@ -47,7 +47,7 @@ pub(crate) fn explain<W: Sink>(notes: &Notes, writer: &mut W) -> Result<(), Serv
     hand_on(written, writer)
 }
 
-/// Writes the line itself, if that is asked for.
+/// Writes the line itself, if it was not typed.
 pub(crate) fn write_echo<W: Sink>(
     echoes: bool,
     line: &[u8],

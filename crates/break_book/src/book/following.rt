@@ -1,4 +1,4 @@
-//! What the breakpoints do as events of their world are made and taken back.
+//! The breakpoints follow their world as events are made and undone.
 
 ghost use Rattle.std.specs.Prelude.{◌≡◌, ◌<◌, ◌≤◌, length, IfOk, IfErr, OnOk};
 ghost use Rattle.dbg_base.specs.declared.refusal.Refusal.TheVariants.{Memory};
@@ -17,7 +17,7 @@ use indexmap::IndexMap;
 use least_cut::steps_up_to;
 use std::alloc::{AllocError, Global};
 
-// No fewer than the eliminations that there can be behind one event more of the process.
+// At least as many as there can be eliminations after one more event of the process.
 fn steps_after(alloc: Global, world: &World, pid: Pid) -> Result<usize, AllocError>
     requires world { IsSomeWorld world.now }
     requires process { pid.0 < length world.now.state.places }
@@ -29,7 +29,7 @@ fn steps_after(alloc: Global, world: &World, pid: Pid) -> Result<usize, AllocErr
     Ok(steps_up_to(&places, tally.processes()))
 }
 
-// Each detector gets room for one event more of the process.
+// Makes room in each detector for one more event of the process.
 fn reserve_each(
     breaks: &mut IndexMap<Name, Breakpoint>,
     world: &World,
@@ -47,7 +47,7 @@ fn reserve_each(
     Ok(())
 }
 
-// Each detector gets room for as many events as the cut has.
+// Makes room in each detector for as many events as the cut has.
 fn reserve_each_to(
     breaks: &mut IndexMap<Name, Breakpoint>,
     cut: &Cut,
@@ -63,7 +63,7 @@ fn reserve_each_to(
     Ok(())
 }
 
-// Each detector goes on with the world, in which the process has made an event.
+// Each detector follows the world, in which the process has made an event.
 fn grow_each(breaks: &mut IndexMap<Name, Breakpoint>, pid: Pid, world: &World)
     requires grown { AreGrown breaks.old.entries pid.0 world.now }
     requires room { HaveRoomUpTo breaks.old.entries world.now.state.places }
@@ -74,7 +74,7 @@ fn grow_each(breaks: &mut IndexMap<Name, Breakpoint>, pid: Pid, world: &World)
     }
 }
 
-// Each detector goes back with the world, in which the process has lost its last event.
+// Each detector follows the world, in which the process has lost its last event.
 fn shrink_each(breaks: &mut IndexMap<Name, Breakpoint>, pid: Pid, world: &World)
     requires { AreShrunk breaks.old.entries pid.0 world.now }
     ensures { AreFollowed world.now breaks.old.entries breaks.new.entries }
@@ -84,7 +84,7 @@ fn shrink_each(breaks: &mut IndexMap<Name, Breakpoint>, pid: Pid, world: &World)
     }
 }
 
-// Each detector becomes that of the world.
+// Each detector follows the world, in which events were made or undone.
 fn follow_each(breaks: &mut IndexMap<Name, Breakpoint>, world: &World)
     requires moved { AreMoved breaks.old.entries world.now }
     requires room { HaveRoomUpTo breaks.old.entries world.now.state.places }
@@ -96,8 +96,8 @@ fn follow_each(breaks: &mut IndexMap<Name, Breakpoint>, world: &World)
 }
 
 impl Book {
-    /// Makes room for one event more of the process, which is there. Nothing changes that any call shows, also where it is refused,
-    /// which is only as `Memory`, where that runs out.
+    /// Makes room for one more event of the process, which must exist. No call shows a change, also on an error. Error: `Memory`, if an
+    /// allocation fails.
     pub fn reserve(&mut self, alloc: Global, world: &World, pid: Pid) -> Result<(), Refusal>
         requires world { IsSomeWorld world.now }
         requires process { pid.0 < length world.now.state.places }
@@ -115,8 +115,8 @@ impl Book {
         Ok(())
     }
 
-    /// Makes room for as many events as the cut has, which counts those of this world's processes. Nothing changes that any call shows,
-    /// also where it is refused, which is only as `Memory`, where that runs out.
+    /// Makes room for as many events as the cut has, which has counts of this world's processes. No call shows a change, also on an error.
+    /// Error: `Memory`, if an allocation fails.
     pub fn reserve_to(&mut self, world: &World, cut: &Cut) -> Result<(), Refusal>
         requires { length cut.now ≤ length world.now.state.places }
         ensures of { (w : Scene) → AreDetectorsOf w self.old → AreDetectorsOf w self.new }
@@ -129,7 +129,7 @@ impl Book {
         Ok(())
     }
 
-    /// The detectors go on with the world, in which the process has made an event, for which there is room. It takes no memory.
+    /// The detectors follow the world, in which the process has made an event. There must be room for it. It does not allocate.
     pub fn grow(&mut self, pid: Pid, world: &World)
         requires grown { AreGrown self.old pid.0 world.now }
         requires room { HaveRoomUpTo self.old world.now.state.places }
@@ -139,7 +139,7 @@ impl Book {
         grow_each(&mut self.breaks, pid, world);
     }
 
-    /// The detectors go back with the world, in which the process has lost its last event. It takes no memory.
+    /// The detectors follow the world, in which the process has lost its last event. It does not allocate.
     pub fn shrink(&mut self, pid: Pid, world: &World)
         requires { AreShrunk self.old pid.0 world.now }
         ensures of { AreDetectorsOf world.now self.new }
@@ -148,7 +148,7 @@ impl Book {
         shrink_each(&mut self.breaks, pid, world);
     }
 
-    /// The detectors become those of the world, in which events were made or taken back. It takes no memory.
+    /// The detectors follow the world, in which events were made or undone. It does not allocate.
     pub fn follow(&mut self, world: &World)
         requires moved { AreMoved self.old world.now }
         requires room { HaveRoomUpTo self.old world.now.state.places }

@@ -1,4 +1,4 @@
-//! Going back: the last event of a process, or all events behind a cut.
+//! Going back: the last event of a process, or all events beyond a cut.
 
 ghost use Rattle.std.specs.Prelude.{◌≡◌, ◌⊎◌, IfOk, IfErr, OnOk, OnErr, Ok};
 ghost use Rattle.dbg_base.specs.declared.refusal.Refusal.TheVariants.{Memory};
@@ -20,15 +20,15 @@ use event_rows::{Event, Exchange};
 use std::alloc::Global;
 
 impl World {
-    // What the last event of the process exchanged, where the event may be undone, or why it may not.
+    // What the last event of the process exchanged, if the event may be undone, or why it may not.
     fn undoable(&self, pid: Pid) -> Result<Exchange, Refusal>
         ensures { Undoable self.now pid.0 result }
     {
         last_exchange(&self.grid, &self.past, pid)
     }
 
-    /// Whether the last event of the process may be undone, or why not: `NothingToUndo` where it has none, and `Consequence` where the
-    /// process that is told has received the message that the event sent.
+    /// Whether the last event of the process may be undone. Errors: `NothingToUndo` if it has no event, and `Consequence` with the process
+    /// that has received the message of the event.
     pub fn can_undo(&self, pid: Pid) -> Result<(), Refusal>
         ensures may { OnOk result ((P : tree.Program) → IsWorldOf P self.now → MayUndo P (history_of self.now.state) pid.0) }
         ensures why { IfErr result (λ refusal. (P : tree.Program) → IsWorldOf P self.now → CannotUndo P self.now.state pid.0 refusal) }
@@ -37,7 +37,7 @@ impl World {
         Ok(())
     }
 
-    // The last event of the process is taken out, where it may be undone. Where memory runs out nothing changes.
+    // Removes the last event of the process, if it may be undone. If an allocation fails, nothing changes.
     fn pop_event(&mut self, pid: Pid) -> Result<Event, Refusal>
         ensures took { IfOk result (λ event. TakesOut self.old pid.0 event self.new) }
         ensures refuses { IfErr result (λ refusal.
@@ -51,9 +51,9 @@ impl World {
         Ok(event)
     }
 
-    /// The last event of the process is taken back: its variables have their old values, a message that it sent leaves the back of its
-    /// channel, and one that it took is at the front again. The place moves back, and the line stays. It is refused, and changes
-    /// nothing, as `can_undo` tells, or as `Memory`, where that runs out.
+    /// Undoes the last event of the process. Its variables get their old values. A message that it sent leaves the tail of its channel, and
+    /// a message that it received returns to the head. The place moves back by one, and the line stays. On an error nothing changes.
+    /// Errors: those of `can_undo`, and `Memory` if an allocation fails.
     pub fn undo(&mut self, alloc: Global, pid: Pid) -> Result<Rolled, Refusal>
         ensures of { (P : tree.Program) → IsWorldOf P self.old → IsWorldOf P self.new }
         ensures may { OnOk result ((P : tree.Program) → IsWorldOf P self.old → MayUndo P (history_of self.old.state) pid.0) }
@@ -69,8 +69,8 @@ impl World {
         Ok(Rolled { taken })
     }
 
-    /// A redo of the process is taken back, which left the world as it is: the world is as it was before. It is refused only as
-    /// `Memory`, where that runs out, and then changes nothing.
+    /// Undoes a redo of the process that led to the present world: the world is as it was before. Error: `Memory`, if an allocation fails;
+    /// then nothing changes.
     pub fn unredo(&mut self, pid: Pid) -> Result<(), Refusal>
         requires { (P : tree.Program) × IsRedone P pid.0 self.old }
         ensures back { (P : tree.Program) (r : IsRedone P pid.0 self.old) → OnOk result (self.new ≡ r.before) }
@@ -83,8 +83,8 @@ impl World {
         }
     }
 
-    /// A step of the process is taken back, which left the world as it is and cut these choices off: the world is as it was before,
-    /// with those choices. It is refused only as `Memory`, where that runs out, and then changes nothing and hands the choices back.
+    /// Undoes a step of the process that led to the present world and cut these choices off: the world is as it was before, with those
+    /// choices. Error: `Memory`, if an allocation fails; then nothing changes, and the choices are returned.
     pub fn unstep(&mut self, pid: Pid, cutoff: Cutoff) -> Result<(), (Refusal, Cutoff)>
         requires { (P : tree.Program) × IsStepped P pid.0 cutoff self.old }
         ensures back { (P : tree.Program) (s : IsStepped P pid.0 cutoff self.old) → OnOk result (self.new ≡ s.before) }
@@ -107,8 +107,8 @@ impl World {
         Ok(())
     }
 
-    /// The events behind this consistent cut are taken back, one by one, each where nothing that is left depends on it: the places are
-    /// those of the cut, and the lines stay. It is refused only as `Memory`, where that runs out, and then changes nothing.
+    /// Undoes the events beyond this consistent cut, one by one; no remaining event depends on an undone one. The places become those of
+    /// the cut, and the lines stay. Error: `Memory`, if an allocation fails; then nothing changes.
     pub fn roll_to(&mut self, alloc: Global, cut: &Cut) -> Result<Rolled, Refusal>
         requires { IsConsistentCut self.old.kinds cut.now }
         ensures of { (P : tree.Program) → IsWorldOf P self.old → IsWorldOf P self.new }

@@ -1,4 +1,4 @@
-//! Going forth again, to where the world was before events were taken back.
+//! Makes undone events again.
 
 ghost use Rattle.std.specs.Prelude.{◌≡◌, [], IfErr, OnOk, OnErr};
 ghost use Rattle.dbg_base.specs.declared.refusal.Refusal.TheVariants.{Memory};
@@ -11,8 +11,8 @@ use crate::world::World;
 use dbg_base::Refusal;
 
 impl World {
-    /// The events that were taken back, which left the world as it is, are made again, the last first: the world is as it was before
-    /// they were taken back. It is refused only as `Memory`, where that runs out; then nothing changes, and the events are still there.
+    /// Makes the events again whose undos led to the present world, the last undone first: the world is as it was before the undos. Error:
+    /// `Memory`, if an allocation fails; then nothing changes, and the events are still in `rolled`.
     pub fn forth(&mut self, rolled: &mut Rolled) -> Result<(), Refusal>
         requires { (P : tree.Program) × IsRolled P rolled.old self.old }
         ensures back { (P : tree.Program) (r : IsRolled P rolled.old self.old) → OnOk result (self.new ≡ r.before) }

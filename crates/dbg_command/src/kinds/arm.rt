@@ -1,4 +1,4 @@
-//! A breakpoint halts the session again.
+//! The command `arm`.
 
 ghost use Rattle.std.specs.Prelude.{◌≡◌, Bool, true, false};
 ghost use Rattle.dbg_base.specs.declared.call.Plan.TheVariants as plans;
@@ -12,7 +12,7 @@ use least_cut::Scan;
 use proc_lang::Program;
 use std::alloc::Global;
 
-/// A breakpoint halts the session again. Nothing is kept: it was not armed before.
+/// Arms a breakpoint. It keeps nothing: the breakpoint was not armed before.
 #[derive(Debug, Drop)]
 pub struct ArmCmd {
     plan: Plan,
@@ -22,7 +22,7 @@ pub struct ArmCmd {
 }
 
 impl ArmCmd {
-    /// The command, which was not applied yet. It takes no memory.
+    /// The command, not applied yet. It does not allocate.
     pub fn new(name: Name) -> ArmCmd
         ensures fresh { ⟦<ArmCmd as Command>⟧.IsFresh result }
         ensures order { ⟦<ArmCmd as Command>⟧.order result ≡ One (Arm name) }

@@ -1,4 +1,4 @@
-//! Commands one after the other, as one.
+//! The command `batch`.
 
 ghost use Rattle.std.specs.Prelude.{◌≡◌, true, None};
 ghost use Rattle.dbg_base.specs.Calls.{Batch, order_of, plans_in, AreCommands};
@@ -13,7 +13,7 @@ use proc_lang::Program;
 use std::alloc::Global;
 use std::mem;
 
-/// Commands of the other kinds, one after the other, which are accepted all or not at all. The table before them is kept, whole.
+/// Commands of the other kinds, one after the other, of which all are accepted or none. It keeps the whole table before them.
 #[derive(Debug, Drop)]
 pub struct BatchCmd {
     plan: Plan,
@@ -23,7 +23,7 @@ pub struct BatchCmd {
 }
 
 impl BatchCmd {
-    /// The batch of these commands, at most 32 and none a batch, which was not applied yet. It takes no memory.
+    /// The batch of these commands, at most 32 and none a batch, not applied yet. It does not allocate.
     pub fn new(plans: Vec<Plan>) -> BatchCmd
         requires { AreCommands plans.items }
         ensures fresh { ⟦<BatchCmd as Command>⟧.IsFresh result }

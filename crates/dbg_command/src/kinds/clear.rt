@@ -1,4 +1,4 @@
-//! A breakpoint is removed.
+//! The command `clear`.
 
 ghost use Rattle.std.specs.Prelude.{◌≡◌, None};
 ghost use Rattle.dbg_base.specs.declared.call.Plan.TheVariants as plans;
@@ -13,7 +13,7 @@ use least_cut::Scan;
 use proc_lang::Program;
 use std::alloc::Global;
 
-/// The breakpoint is removed. It is kept, with its position.
+/// Removes a breakpoint. It keeps the breakpoint, with its position.
 #[derive(Debug, Drop)]
 pub struct ClearCmd {
     plan: Plan,
@@ -23,7 +23,7 @@ pub struct ClearCmd {
 }
 
 impl ClearCmd {
-    /// The command, which was not applied yet. It takes no memory.
+    /// The command, not applied yet. It does not allocate.
     pub fn new(name: Name) -> ClearCmd
         ensures fresh { ⟦<ClearCmd as Command>⟧.IsFresh result }
         ensures order { ⟦<ClearCmd as Command>⟧.order result ≡ One (Clear name) }

@@ -1,4 +1,4 @@
-//! All processes go back to a breakpoint's cut.
+//! The command `goto`.
 
 ghost use Rattle.std.specs.Prelude.{◌≡◌, None};
 ghost use Rattle.dbg_base.specs.declared.call.Plan.TheVariants as plans;
@@ -13,7 +13,7 @@ use least_cut::Scan;
 use proc_lang::Program;
 use std::alloc::Global;
 
-/// All processes go back to a breakpoint's cut. The events that were taken back are kept.
+/// Takes all processes back to a breakpoint's cut. It keeps the undone events.
 #[derive(Debug, Drop)]
 pub struct GotoCmd {
     plan: Plan,
@@ -23,7 +23,7 @@ pub struct GotoCmd {
 }
 
 impl GotoCmd {
-    /// The command, which was not applied yet. It takes no memory.
+    /// The command, not applied yet. It does not allocate.
     pub fn new(name: Name) -> GotoCmd
         ensures fresh { ⟦<GotoCmd as Command>⟧.IsFresh result }
         ensures order { ⟦<GotoCmd as Command>⟧.order result ≡ One (Goto name) }

@@ -1,4 +1,4 @@
-//! A process makes its first command that fires.
+//! The command `next`.
 
 ghost use Rattle.std.specs.Prelude.{◌≡◌, None};
 ghost use Rattle.dbg_base.specs.declared.call.Plan.TheVariants as plans;
@@ -13,7 +13,7 @@ use least_cut::Scan;
 use proc_lang::Program;
 use std::alloc::Global;
 
-/// The process makes its first command that fires. What was cut off its line is kept.
+/// Makes a process fire its first command that can fire. It keeps the choices that were cut off the line.
 #[derive(Debug, Drop)]
 pub struct NextCmd {
     plan: Plan,
@@ -23,7 +23,7 @@ pub struct NextCmd {
 }
 
 impl NextCmd {
-    /// The command, which was not applied yet. It takes no memory.
+    /// The command, not applied yet. It does not allocate.
     pub fn new(pid: Pid) -> NextCmd
         ensures fresh { ⟦<NextCmd as Command>⟧.IsFresh result }
         ensures order { ⟦<NextCmd as Command>⟧.order result ≡ One (Next pid.0) }

@@ -1,4 +1,4 @@
-//! A breakpoint no longer halts the session.
+//! The command `pass`.
 
 ghost use Rattle.std.specs.Prelude.{◌≡◌, Bool, true, false};
 ghost use Rattle.dbg_base.specs.declared.call.Plan.TheVariants as plans;
@@ -12,7 +12,7 @@ use least_cut::Scan;
 use proc_lang::Program;
 use std::alloc::Global;
 
-/// A breakpoint no longer halts the session. Nothing is kept: it was armed before.
+/// Disarms a breakpoint that halts the session. It keeps nothing: the breakpoint was armed before.
 #[derive(Debug, Drop)]
 pub struct PassCmd {
     plan: Plan,
@@ -22,7 +22,7 @@ pub struct PassCmd {
 }
 
 impl PassCmd {
-    /// The command, which was not applied yet. It takes no memory.
+    /// The command, not applied yet. It does not allocate.
     pub fn new(name: Name) -> PassCmd
         ensures fresh { ⟦<PassCmd as Command>⟧.IsFresh result }
         ensures order { ⟦<PassCmd as Command>⟧.order result ≡ One (Pass name) }

@@ -1,4 +1,4 @@
-//! A process makes the choice at its place again.
+//! The command `redo`.
 
 ghost use Rattle.std.specs.Prelude.{◌≡◌, Bool, true, false};
 ghost use Rattle.dbg_base.specs.declared.call.Plan.TheVariants as plans;
@@ -12,7 +12,7 @@ use least_cut::Scan;
 use proc_lang::Program;
 use std::alloc::Global;
 
-/// A process makes the choice at its place again. Nothing is kept: the line stays.
+/// Makes a process fire the choice at its place again. It keeps nothing: the line stays.
 #[derive(Debug, Drop)]
 pub struct RedoCmd {
     plan: Plan,
@@ -22,7 +22,7 @@ pub struct RedoCmd {
 }
 
 impl RedoCmd {
-    /// The command, which was not applied yet. It takes no memory.
+    /// The command, not applied yet. It does not allocate.
     pub fn new(pid: Pid) -> RedoCmd
         ensures fresh { ⟦<RedoCmd as Command>⟧.IsFresh result }
         ensures order { ⟦<RedoCmd as Command>⟧.order result ≡ One (Redo pid.0) }

@@ -1,4 +1,4 @@
-//! A process goes back to a count of events, and the others no further than they must.
+//! The command `rollback`.
 
 ghost use Rattle.std.specs.Prelude.{◌≡◌, None};
 ghost use Rattle.dbg_base.specs.declared.call.Plan.TheVariants as plans;
@@ -13,7 +13,7 @@ use least_cut::Scan;
 use proc_lang::Program;
 use std::alloc::Global;
 
-/// A process goes back to a count of events, and the others no further than they must. The events that were taken back are kept.
+/// Takes a process back to a count of events, and the others no further than they must go. It keeps the undone events.
 #[derive(Debug, Drop)]
 pub struct RollbackCmd {
     plan: Plan,
@@ -24,7 +24,7 @@ pub struct RollbackCmd {
 }
 
 impl RollbackCmd {
-    /// The command, which was not applied yet. It takes no memory.
+    /// The command, not applied yet. It does not allocate.
     pub fn new(pid: Pid, place: u32) -> RollbackCmd
         ensures fresh { ⟦<RollbackCmd as Command>⟧.IsFresh result }
         ensures order { ⟦<RollbackCmd as Command>⟧.order result ≡ One (Rollback pid.0 place) }

@@ -1,4 +1,4 @@
-//! A breakpoint is set.
+//! The command `break`.
 
 ghost use Rattle.std.specs.Prelude.{◌≡◌, map, true, false};
 ghost use Rattle.dbg_base.specs.Calls.{One, Break, order_of, conjunct_of};
@@ -11,7 +11,7 @@ use least_cut::Scan;
 use proc_lang::Program;
 use std::alloc::Global;
 
-/// A breakpoint is set, armed. Its name is all that is kept.
+/// Sets a breakpoint, armed. It keeps only the name.
 #[derive(Debug, Drop)]
 pub struct BreakCmd {
     plan: Plan,
@@ -20,7 +20,7 @@ pub struct BreakCmd {
 }
 
 impl BreakCmd {
-    /// The command, which was not applied yet. It takes no memory.
+    /// The command, not applied yet. It does not allocate.
     pub fn new(name: Name, conjuncts: Sequence<Conjunct>) -> BreakCmd
         ensures fresh { ⟦<BreakCmd as Command>⟧.IsFresh result }
         ensures order { ⟦<BreakCmd as Command>⟧.order result ≡ One (Break name (map conjunct_of conjuncts)) }

@@ -1,4 +1,4 @@
-//! A process makes a command.
+//! The command `step`.
 
 ghost use Rattle.std.specs.Prelude.{◌≡◌, None};
 ghost use Rattle.dbg_base.specs.declared.call.Plan.TheVariants as plans;
@@ -13,7 +13,7 @@ use least_cut::Scan;
 use proc_lang::Program;
 use std::alloc::Global;
 
-/// The process makes this command. What was cut off its line is kept.
+/// Makes a process fire a command. It keeps the choices that were cut off the line.
 #[derive(Debug, Drop)]
 pub struct StepCmd {
     plan: Plan,
@@ -24,7 +24,7 @@ pub struct StepCmd {
 }
 
 impl StepCmd {
-    /// The command, which was not applied yet. It takes no memory.
+    /// The command, not applied yet. It does not allocate.
     pub fn new(pid: Pid, choice: Choice) -> StepCmd
         ensures fresh { ⟦<StepCmd as Command>⟧.IsFresh result }
         ensures order { ⟦<StepCmd as Command>⟧.order result ≡ One (Step pid.0 choice.0) }

@@ -1,4 +1,4 @@
-//! The process's last event is taken back.
+//! The command `undo`.
 
 ghost use Rattle.std.specs.Prelude.{◌≡◌, None};
 ghost use Rattle.dbg_base.specs.declared.call.Plan.TheVariants as plans;
@@ -13,7 +13,7 @@ use least_cut::Scan;
 use proc_lang::Program;
 use std::alloc::Global;
 
-/// The process's last event is taken back. The events that were taken back are kept.
+/// Undoes the last event of a process. It keeps the event.
 #[derive(Debug, Drop)]
 pub struct UndoCmd {
     plan: Plan,
@@ -23,7 +23,7 @@ pub struct UndoCmd {
 }
 
 impl UndoCmd {
-    /// The command, which was not applied yet. It takes no memory.
+    /// The command, not applied yet. It does not allocate.
     pub fn new(pid: Pid) -> UndoCmd
         ensures fresh { ⟦<UndoCmd as Command>⟧.IsFresh result }
         ensures order { ⟦<UndoCmd as Command>⟧.order result ≡ One (Undo pid.0) }

@@ -1,4 +1,5 @@
-//! The search for the least cut: candidates go on past what no satisfying cut has, until nothing is left to rule out.
+//! The search for the least cut (Garg and Waldecker 1994): a candidate moves past a local state that no satisfying cut has, until nothing
+//! is left to rule out.
 
 ghost use Rattle.std.specs.Prelude.{◌≡◌, ◌≢◌, ℕ, ◌<◌, ◌≤◌, length, min, sum, IsTrue, false, slice_index, slice_set};
 ghost use Rattle.dbg_base.specs.Cuts.{IsAtMost};
@@ -13,7 +14,7 @@ use causal_world::World;
 use dbg_base::{Cause, Elimination, Pid};
 
 impl Detector {
-    // The elimination is made.
+    // Makes the elimination.
     fn eliminate(&mut self, world: &World, step: Elimination)
         requires world { IsSomeWorld world.now }
         requires search { IsSearchOf world.now self.old }
@@ -25,7 +26,7 @@ impl Detector {
         self.trail.push_reserved(step);
     }
 
-    // The candidate of this process goes on past the local states in which a conjunct is false.
+    // Moves the candidate of this process past the local states in which a conjunct is false.
     fn pass_false(&mut self, world: &World, pid: Pid)
         requires world { IsSomeWorld world.now }
         requires search { IsSearchOf world.now self.old }
@@ -48,8 +49,8 @@ impl Detector {
         }
     }
 
-    // The candidate of process `of` goes on to its part in the clock of this process behind its last event that its candidate has, and it
-    // is told whether it did.
+    // Moves the candidate of process `of` to its component in the clock of this process at `event`, if that is greater, and returns whether
+    // it was. `event` is the candidate of this process, or its last event if that comes first.
     fn pass_part(&mut self, world: &World, pid: Pid, event: u32, of: Pid) -> bool
         requires world { IsSomeWorld world.now }
         requires search { IsSearchOf world.now self.old }
@@ -76,7 +77,7 @@ impl Detector {
         true
     }
 
-    // All candidates go on to the clock of this process, and it is told whether any did.
+    // Moves each candidate to its component in the clock of this process, if that is greater, and returns whether any moved.
     fn pass_clock(&mut self, world: &World, pid: Pid) -> bool
         requires world { IsSomeWorld world.now }
         requires search { IsSearchOf world.now self.old }
@@ -98,7 +99,7 @@ impl Detector {
         moved
     }
 
-    // Rules out all that this process can by itself, and tells whether others went on.
+    // Rules out all that this process can rule out by itself, and returns whether candidates of others moved.
     pub(crate) fn settle(&mut self, world: &World, pid: Pid) -> bool
         requires world { IsSomeWorld world.now }
         requires search { IsSearchOf world.now self.old }
@@ -112,7 +113,7 @@ impl Detector {
         self.pass_clock(world, pid)
     }
 
-    // Each process does so, one after the other, and it is told whether others went on.
+    // Settles each process, one after the other, and returns whether candidates of others moved.
     fn round(&mut self, world: &World) -> bool
         requires world { IsSomeWorld world.now }
         requires search { IsSearchOf world.now self.old }
@@ -129,7 +130,7 @@ impl Detector {
         moved
     }
 
-    // Rules out all that can be.
+    // Rules out all that can be ruled out.
     pub(crate) fn run(&mut self, world: &World)
         requires world { IsSomeWorld world.now }
         requires search { IsSearchOf world.now self.old }

@@ -1,4 +1,4 @@
-//! What the grammar names: expressions, variables, commands, processes and programs.
+//! The productions of the grammar: expressions, variables, commands, processes and programs.
 
 ghost use Rattle.std.specs.Prelude.{◌<◌, ◌≤◌, [], map, length, codes, OnOk};
 ghost use Rattle.proc_lang.specs.Scanning.{placed_of};
@@ -18,7 +18,7 @@ use dbg_base::Sign;
 use std::alloc::Global;
 
 impl Parser<'_> {
-    // An initial value: a number, with a minus before it or without.
+    // An initial value: a number, perhaps with a minus before it.
     #[tactic(auto, unfolding(crate::specs::Parsing::read_negative, crate::specs::Parsing::read_positive))]
     fn start_value(&mut self) -> Result<i64, Stop>
         ensures shorter { OnOk result (length self.new.rest.now < length self.old.rest.now) }
@@ -96,7 +96,7 @@ impl Parser<'_> {
         self.binary(at)
     }
 
-    // `not` and its operand, behind the parenthesis that opened at this offset, and the one that closes.
+    // `not`, its operand, and the closing parenthesis, after the parenthesis that opened at this offset.
     #[cycle(expressions)]
     #[tactic(auto, unfolding(crate::specs::Parsing::read_not))]
     fn negation(&mut self, at: usize) -> Result<Phrase, Stop>
@@ -110,7 +110,7 @@ impl Parser<'_> {
         Ok(Phrase::Not(at, Box::new(self.alloc, operand)?))
     }
 
-    // A minus and its operand, and the parenthesis that closes.
+    // A minus, its operand, and the closing parenthesis.
     #[cycle(expressions)]
     #[tactic(auto, unfolding(crate::specs::Parsing::read_negate))]
     fn negative(&mut self, at: usize) -> Result<Phrase, Stop>
@@ -124,7 +124,7 @@ impl Parser<'_> {
         Ok(Phrase::Negate(at, Box::new(self.alloc, operand)?))
     }
 
-    // Two operands and the operator between them, and the parenthesis that closes.
+    // Two operands with the operator between them, and the closing parenthesis.
     #[cycle(expressions)]
     #[tactic(auto, unfolding(crate::specs::Parsing::read_binary))]
     fn binary(&mut self, at: usize) -> Result<Phrase, Stop>
@@ -153,7 +153,7 @@ impl Parser<'_> {
         Ok(WrittenAssignment { variable, value })
     }
 
-    // An assignment behind a comma.
+    // An assignment after a comma.
     #[tactic(auto, unfolding(crate::specs::Parsing::read_further))]
     fn further(&mut self) -> Result<WrittenAssignment, Stop>
         ensures shorter { OnOk result (length self.new.rest.now < length self.old.rest.now) }
@@ -164,7 +164,7 @@ impl Parser<'_> {
         self.assignment()
     }
 
-    // All variables that come next.
+    // All variables that follow.
     fn variables(&mut self) -> Result<Vec<WrittenVariable>, Stop>
         ensures shorter { OnOk result (length self.new.rest.now ≤ length self.old.rest.now) }
         ensures read { Gives (λ v. map variable_of v.items) result (map placed_of self.new.rest.now)
@@ -178,7 +178,7 @@ impl Parser<'_> {
         Ok(variables)
     }
 
-    // All assignments that come next, each behind a comma.
+    // All assignments that follow, each after a comma.
     fn all_further(&mut self) -> Result<Vec<WrittenAssignment>, Stop>
         ensures shorter { OnOk result (length self.new.rest.now ≤ length self.old.rest.now) }
         ensures read { Gives (λ v. map assignment_of v.items) result (map placed_of self.new.rest.now)
@@ -264,7 +264,7 @@ impl Parser<'_> {
         })
     }
 
-    // All commands that come next.
+    // All commands that follow.
     fn commands(&mut self) -> Result<Vec<WrittenCommand>, Stop>
         ensures shorter { OnOk result (length self.new.rest.now ≤ length self.old.rest.now) }
         ensures read { Gives (λ v. map command_of v.items) result (map placed_of self.new.rest.now)
@@ -297,7 +297,7 @@ impl Parser<'_> {
         })
     }
 
-    // All processes that come next.
+    // All processes that follow.
     fn further_processes(&mut self) -> Result<Vec<WrittenProcess>, Stop>
         ensures shorter { OnOk result (length self.new.rest.now ≤ length self.old.rest.now) }
         ensures read { Gives (λ v. map process_of v.items) result (map placed_of self.new.rest.now)
@@ -311,7 +311,7 @@ impl Parser<'_> {
         Ok(processes)
     }
 
-    // One process or more.
+    // At least one process.
     #[tactic(auto, unfolding(crate::specs::Parsing::read_several))]
     fn processes(&mut self) -> Result<Vec<WrittenProcess>, Stop>
         ensures { Gives (λ v. map process_of v.items) result (map placed_of self.new.rest.now)
@@ -324,7 +324,7 @@ impl Parser<'_> {
     }
 }
 
-/// The processes that these tokens, all of them, write.
+/// The processes that all of these tokens derive.
 #[tactic(auto, unfolding(crate::specs::Parsing::read_whole))]
 pub(crate) fn program(alloc: Global, tokens: &[Placed]) -> Result<Vec<WrittenProcess>, Stop>
     ensures { Gives (λ v. map process_of v.items) result [] (read_program (map placed_of tokens.now)) }
@@ -338,7 +338,7 @@ pub(crate) fn program(alloc: Global, tokens: &[Placed]) -> Result<Vec<WrittenPro
     Ok(processes)
 }
 
-/// The expression that these tokens, all of them, write.
+/// The expression that all of these tokens derive.
 #[tactic(auto, unfolding(crate::specs::Parsing::read_whole))]
 pub(crate) fn predicate(alloc: Global, tokens: &[Placed]) -> Result<Phrase, Stop>
     ensures { Gives phrase_of result [] (read_predicate (map placed_of tokens.now)) }

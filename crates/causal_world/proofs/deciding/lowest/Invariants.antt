@@ -1,5 +1,5 @@
 use Rattle.proc_lang.specs.Programs.{program_of}
-use Rattle.causal_world.proofs.Happenings.{NoneBefore}
+use Rattle.causal_world.proofs.CommandEventLemmas.{NoneBefore}
 use Rattle.causal_world.proofs.deciding.lowest.Given as goal
 
 abbrev pub invariant-loop-k : goal.invariant-loop-k

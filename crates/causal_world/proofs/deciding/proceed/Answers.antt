@@ -4,7 +4,7 @@ use Rattle.proc_lang.specs.ProcessTrees.{command_tree}
 use Rattle.dbg_base.specs.LocalStates.{no_state}
 use Rattle.dbg_base.specs.Configurations.{Configuration}
 use Rattle.causal_world.specs.Deciding.{CanCount}
-use Rattle.causal_world.proofs.Happenings.{decides}
+use Rattle.causal_world.proofs.CommandEventLemmas.{decides}
 use Rattle.causal_world.proofs.deciding.proceed.Goals as goal
 
 pub event-requires : goal.event-requires

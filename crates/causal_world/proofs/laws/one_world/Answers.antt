@@ -1,4 +1,4 @@
-use Rattle.causal_world.proofs.Sames.{same_world}
+use Rattle.causal_world.proofs.SameWorldLemmas.{same_world}
 use Rattle.causal_world.proofs.laws.one_world.Goals as goal
 
 pub returns : goal.returns

@@ -9,8 +9,8 @@ use Rattle.causal_world.specs.Pasts.{AreClocksOf, kind_done}
 use Rattle.causal_world.specs.Room.{HasRoomForth, HasRoomForEach}
 use Rattle.causal_world.specs.Worlds.{CanMake}
 use Rattle.causal_world.specs.Rollings.{IsRolled, IsRolledFrom, unmade_all}
-use Rattle.causal_world.proofs.Calls.{can_here, can_keep, can_few, can_whole, next_few, same_scene}
-use Rattle.causal_world.proofs.Reversing.{channels_there}
+use Rattle.causal_world.proofs.WorldCallLemmas.{can_here, can_keep, can_few, can_whole, next_few, same_scene}
+use Rattle.causal_world.proofs.RollbackLemmas.{channels_there}
 use Rattle.causal_world.proofs.Inverses.{Again, again, room_for_last, room_behind, room_one, room_each}
 use Rattle.causal_world.proofs.making.roll_forth.Goals as goal
 use Rattle.causal_world.proofs.making.roll_forth.Goals.{In-Some}
@@ -45,13 +45,10 @@ advance-requires-clause-room c =
 
 pub happen-requires-clause-here : goal.happen-requires-clause-here
 happen-requires-clause-here c =
-    let i = (goal.at.happen-requires-clause-here c).In-Some in
-    can_here (now i) c.in-Some.field-0.pid.0 (known i).choice c.in-Some.field-0.event (can i)
-
-pub happen-requires-clause-kept : goal.happen-requires-clause-kept
-happen-requires-clause-kept c =
-    let i = (goal.at.happen-requires-clause-kept c).In-Some in
-    can_keep (now i) c.in-Some.field-0.pid.0 (known i).choice c.in-Some.field-0.event (can i)
+    let i = (goal.at.happen-requires-clause-here c).In-Some in (
+      can_here (now i) c.in-Some.field-0.pid.0 (known i).choice c.in-Some.field-0.event (can i),
+      can_keep (now i) c.in-Some.field-0.pid.0 (known i).choice c.in-Some.field-0.event (can i),
+    )
 
 pub happen-requires-clause-messages : goal.happen-requires-clause-messages
 happen-requires-clause-messages c =
@@ -91,22 +88,22 @@ loop-pid-preserved c =
     let front = c.pop.new.self.items in
     let past = c.happen.new.past in
     let size : length past.kinds ≡ length c.loop-pid.past.kinds =
-    ap (λ (k : List (List Kind)). length k) c.happen.ensures.kinds
+    ap (λ (k : List (List Kind)). length k) c.happen.ensures.appended.kinds
     ∙ length-set c.loop-pid.past.kinds p (get_or c.loop-pid.past.kinds p [] ++ kind_done t.event.exchange ∷ []) in
     record {
       rolled = λ P r.
           let a = made_again i P r in
-          let timed = subst (λ (k : List (List Kind)). AreClocksOf k past.clocks) c.happen.ensures.kinds c.happen.ensures.clocks in
+          let timed = subst (λ (k : List (List Kind)). AreClocksOf k past.clocks) c.happen.ensures.appended.kinds c.happen.ensures.appended.clocks in
           let new : scene c.advance.new.self c.happen.new.envs.items c.happen.new.grid.channels past
           ≡ made (now i) p t.event (after_redo c.loop-pid.lines p) past.clocks =
-          same_scene _ _ _ past _ c.advance.ensures c.happen.ensures.states c.happen.ensures.channels c.happen.ensures.starts
-          c.happen.ensures.events c.happen.ensures.kinds refl in
+          same_scene _ _ _ past _ c.advance.ensures c.happen.ensures.states c.happen.ensures.channels c.happen.ensures.appended.starts
+          c.happen.ensures.appended.events c.happen.ensures.appended.kinds refl in
           subst (IsRolledFrom P r.before front) (sym (new ∙ a.same past.clocks timed)) a.left;
       ways = subst (λ (n : ℕ). HasRoomForth n c.happen.new.grid.room front) (sym size)
           (room_behind (length c.loop-pid.past.kinds) c.loop-pid.grid.room c.happen.new.grid.room front t c.happen.ensures.ways
           (subst (HasRoomForth (length c.loop-pid.past.kinds) c.loop-pid.grid.room) c.in-Some.ensures.items
           c.loop-pid.invariant.ways));
-      room = room_each c.loop-pid.past past front t size c.happen.ensures.own c.happen.ensures.others
+      room = room_each c.loop-pid.past past front t size c.happen.ensures.appended.own c.happen.ensures.appended.others
           (subst (HasRoomForEach c.loop-pid.past) c.in-Some.ensures.items c.loop-pid.invariant.room);
     }
 

@@ -2,7 +2,7 @@ use Rattle.std.proofs.Common.{◌≢◌, ℕ, ◌+◌, refl, subst, sym, ap, ◌
 use Rattle.cut_core.specs.declared.kind.Kind.{Kind}
 use Rattle.cut_core.specs.Tallies.{got_by}
 use Rattle.causal_world.specs.Pasts.{IsWhole, with_kind, IsCause}
-use Rattle.causal_world.proofs.Clocking.{has_sender}
+use Rattle.causal_world.proofs.ClockLemmas.{has_sender}
 use Rattle.causal_world.proofs.ClockRows.{sender, got_few}
 use Rattle.causal_world.proofs.past.cause.Goals as goal
 

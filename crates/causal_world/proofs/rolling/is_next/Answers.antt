@@ -8,7 +8,7 @@ use Rattle.event_rows.specs.declared.exchange.Exchange.{Exchange}
 use Rattle.causal_world.specs.Scenes.{Scene, IsWorldOf}
 use Rattle.causal_world.specs.Worlds.{IsSomeWorld, LastExchange}
 use Rattle.causal_world.specs.Rollings.{IsNextBack}
-use Rattle.causal_world.proofs.Reversing.{next_by, stuck_by}
+use Rattle.causal_world.proofs.RollbackLemmas.{next_by, stuck_by}
 use Rattle.causal_world.proofs.rolling.is_next.Goals as goal
 
 module _ (w : Scene) (cut : List ℕ) (p : ℕ) where

@@ -1,6 +1,6 @@
 use Rattle.std.proofs.Common.{List, length, ap, arith}
 use Rattle.cut_core.specs.declared.kind.Kind.{Kind}
-use Rattle.causal_world.proofs.Reversing.{none_behind}
+use Rattle.causal_world.proofs.RollbackLemmas.{none_behind}
 use Rattle.causal_world.proofs.rolling.next_back.Goals as goal
 
 pub returns : goal.returns

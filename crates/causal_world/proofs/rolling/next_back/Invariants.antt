@@ -1,5 +1,5 @@
 use Rattle.causal_world.specs.Scenes.{scene}
-use Rattle.causal_world.proofs.Reversing.{AreStuck}
+use Rattle.causal_world.proofs.RollbackLemmas.{AreStuck}
 use Rattle.causal_world.proofs.rolling.next_back.Given as goal
 
 abbrev pub invariant-loop-p : goal.invariant-loop-p

@@ -5,8 +5,8 @@ use Rattle.causal_world.specs.Scenes.{Scene, scene, unmade}
 use Rattle.causal_world.specs.Worlds.{IsSomeWorld, last_event}
 use Rattle.causal_world.specs.Rollings.{IsNextBack}
 use Rattle.cut_core.specs.ConsistentCuts.{places}
-use Rattle.causal_world.proofs.Calls.{undo_left}
-use Rattle.causal_world.proofs.Reversing.{some_left, can_back, reverses_on, fewer, more_left, at_rest, Reverses}
+use Rattle.causal_world.proofs.WorldCallLemmas.{undo_left}
+use Rattle.causal_world.proofs.RollbackLemmas.{some_left, can_back, reverses_on, fewer, more_left, at_rest, Reverses}
 use Rattle.causal_world.proofs.rolling.roll_back.Goals as goal
 use Rattle.causal_world.proofs.rolling.roll_back.Goals.{In-Some, After-retreat}
 

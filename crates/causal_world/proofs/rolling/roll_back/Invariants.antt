@@ -2,7 +2,7 @@ use Rattle.std.proofs.Common.{◌+◌, ◌≤◌, sum}
 use Rattle.std.specs.Vec.{vec_len, vec_capacity}
 use Rattle.cut_core.specs.ConsistentCuts.{places}
 use Rattle.causal_world.specs.Scenes.{scene}
-use Rattle.causal_world.proofs.Reversing.{Reverses}
+use Rattle.causal_world.proofs.RollbackLemmas.{Reverses}
 use Rattle.causal_world.proofs.rolling.roll_back.Given as goal
 
 abbrev pub invariant-loop-pid : goal.invariant-loop-pid

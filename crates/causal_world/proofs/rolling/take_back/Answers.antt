@@ -1,7 +1,7 @@
 use Rattle.std.proofs.Common.{◌≡◌, Some, sym, ◌∙◌, subst}
 use Rattle.event_rows.specs.EventValues.{EventValue}
 use Rattle.causal_world.specs.Room.{HasRoomBefore}
-use Rattle.causal_world.proofs.Calls.{popped, undo_here, can_pop}
+use Rattle.causal_world.proofs.WorldCallLemmas.{popped, undo_here, can_pop}
 use Rattle.causal_world.proofs.rolling.take_back.Goals as goal
 use Rattle.causal_world.proofs.rolling.take_back.Goals.{After-unwrap-event}
 

@@ -1,7 +1,7 @@
 use Rattle.std.proofs.Common.{◌≡◌, ℕ, ◌+◌, List, [], ◌++◌, drop, append-nil, set, get_or, ap, sym, refl, ◌∙◌, arith}
 use Rattle.clock_rows.specs.Clocks.{next_row}
 use Rattle.clock_rows.proofs.Joins.{join_none}
-use Rattle.clock_rows.proofs.Appends.{count_fits, own_appended, other_appended}
+use Rattle.clock_rows.proofs.AppendedRowLemmas.{count_fits, own_appended, other_appended}
 use Rattle.clock_rows.proofs.line.append_next.Goals.{then-at-own, else-at-own}
 use Rattle.clock_rows.proofs.line.append_next.Goals as goal
 

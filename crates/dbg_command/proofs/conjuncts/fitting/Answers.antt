@@ -1,6 +1,6 @@
 use Rattle.std.proofs.Common.{sym, ◌∙◌, arith}
 use Rattle.proc_lang.specs.Programs.{program_of}
-use Rattle.dbg_command.proofs.Fitting.{none_fitting, refused_unknown, refused_unfit, refused_twice, more_fitting, all_fitting}
+use Rattle.dbg_command.proofs.ConjunctFitLemmas.{none_fitting, refused_unknown, refused_unfit, refused_twice, more_fitting, all_fitting}
 use Rattle.dbg_command.proofs.conjuncts.fitting.Goals as goal
 
 pub loop-i-init : goal.loop-i-init

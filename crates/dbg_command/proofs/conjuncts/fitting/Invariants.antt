@@ -1,5 +1,5 @@
 use Rattle.proc_lang.specs.Programs.{program_of}
-use Rattle.dbg_command.proofs.Fitting.{AreFitting}
+use Rattle.dbg_command.proofs.ConjunctFitLemmas.{AreFitting}
 use Rattle.dbg_command.proofs.conjuncts.fitting.Given as goal
 
 abbrev pub invariant-loop-i : goal.invariant-loop-i

@@ -1,4 +1,4 @@
-use Rattle.dbg_crew.proofs.Barring.{bars}
+use Rattle.dbg_crew.proofs.BarredWorkerLemmas.{bars}
 use Rattle.dbg_crew.proofs.crews.crew.Goals as goal
 
 pub returns-clause-bars : goal.returns-clause-bars

@@ -8,9 +8,9 @@ use denote.Param.SendFields.{declared_sync}
 use denote.Struct.Tuple.{tuple_type}
 use Rattle.std.proofs.Crossing.{sync}
 use Rattle.std.specs.contracts.alloc.Global as global
-use Rattle.dbg_desk.proofs.Sending.{desk_sync}
+use Rattle.dbg_desk.proofs.SendableEntryLemmas.{desk_sync}
 use Rattle.dbg_desk.specs.contracts.desk.Desk as desk
-use Rattle.dbg_crew.proofs.Sending.{worker_send}
+use Rattle.dbg_crew.proofs.SendableWorkerLemmas.{worker_send}
 use Rattle.dbg_crew.specs.contracts.worker.Worker as worker
 use Rattle.dbg_crew.proofs.crews.work_each.Goals as goal
 
@@ -20,7 +20,7 @@ for_each_mut-requires-send-T g c κs within =
     let w = worker_send (param 0 g.row.L) (param 1 g.row.C) g.L.Run g.L.Ledger g.C.Command c.type_bounds.send-C in
     param_send 1 (arg _ no W) (arg_send _ no W w)
 
--- the closure's row is at its own name, which what it shares does not say
+-- the row of the closure is named after the closure, which the shared values do not determine
 pub for_each_mut-requires-sync-F : goal.for_each_mut-requires-sync-F
 for_each_mut-requires-sync-F g c κs within =
     let R = param 2 g.row.R in

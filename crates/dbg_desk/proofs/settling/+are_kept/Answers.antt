@@ -3,7 +3,7 @@ use Rattle.std.proofs.lemmas.Result.{err_from_is_err_and, MatchResult-weaker}
 use Rattle.dbg_desk.specs.declared.settling.TheConstants.{TOGETHER}
 use Rattle.dbg_desk.specs.Desks.{SeatState, entry_of}
 use Rattle.dbg_desk.specs.Settling.{HasOther}
-use Rattle.dbg_desk.proofs.Finding.{among_few, among_others}
+use Rattle.dbg_desk.proofs.JournalSearchLemmas.{among_few, among_others}
 use Rattle.dbg_desk.proofs.settling.+are_kept.Goals as goal
 
 pub returns-in_err-few_are_kept-clause-other : goal.returns-in_err-few_are_kept-clause-other

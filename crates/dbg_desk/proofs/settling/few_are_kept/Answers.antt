@@ -1,5 +1,5 @@
 use Rattle.std.proofs.lemmas.Result.{err_from_is_err_and, MatchResult-weaker, on_ok_weaker}
-use Rattle.dbg_desk.proofs.Finding.{all_kept_by, other_next, ended, has_more}
+use Rattle.dbg_desk.proofs.JournalSearchLemmas.{all_kept_by, other_next, ended, has_more}
 use Rattle.dbg_desk.proofs.settling.few_are_kept.Goals as goal
 
 pub returns-in_err-find_all-clause-other : goal.returns-in_err-find_all-clause-other

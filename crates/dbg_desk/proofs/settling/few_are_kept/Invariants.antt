@@ -1,4 +1,4 @@
-use Rattle.dbg_desk.proofs.Finding.{AreKept}
+use Rattle.dbg_desk.proofs.JournalSearchLemmas.{AreKept}
 use Rattle.dbg_desk.proofs.settling.few_are_kept.Given as goal
 
 abbrev pub invariant-loop-entry : goal.invariant-loop-entry

@@ -1,10 +1,10 @@
 use Rattle.std.proofs.Common.{Some, None, ap, refl}
 use Rattle.std.specs.Option.{option_map}
 use Rattle.dbg_base.specs.Shell.{too_long_text}
-use Rattle.reply_lines.specs.declared.outcome.Served.TheVariants as outcomes
+use Rattle.shell_print.specs.declared.outcome.Served.TheVariants as outcomes
 use Rattle.dbg_shell.specs.Checking.{ChecksText, ChecksAlone, ChecksInput}
-use Rattle.shell_input.proofs.Known.{known_may, told_done, told_cut, leads_done, leads_cut}
-use Rattle.shell_input.proofs.ProgramTexts.{nothing_read, told_alone}
+use Rattle.shell_input.proofs.KnownInputLemmas.{known_may, told_done, told_cut, leads_done, leads_cut}
+use Rattle.shell_input.proofs.ProgramTextLemmas.{nothing_read, told_alone}
 use Rattle.dbg_shell.proofs.checking.check.Goals as goal
 
 pub returns-in_err-input-clause-program : goal.returns-in_err-input-clause-program

@@ -4,23 +4,24 @@ use Rattle.dbg_base.specs.Shell.{fault_text}
 use Rattle.proc_lang.specs.declared.fault.ProgError.{ProgError}
 use Rattle.proc_lang.specs.declared.program.Program.{Program}
 use Rattle.proc_lang.specs.Answering.{IfBad}
-use Rattle.reply_lines.specs.declared.outcome.Served.TheVariants as outcomes
-use Rattle.dbg_base.specs.Shell.{size_text}
+use Rattle.shell_print.specs.declared.outcome.Served.TheVariants as outcomes
+use Rattle.proc_lang.specs.Programs.{program_of}
+use Rattle.shell_print.specs.Closings.{program_size_text}
 use Rattle.dbg_shell.specs.Checking.{ChecksText}
-use Rattle.shell_input.proofs.Known.{line_done, line_cut}
-use Rattle.dbg_shell.proofs.CheckTexts.{size_here, fault_here}
+use Rattle.shell_input.proofs.KnownInputLemmas.{line_done, line_cut}
+use Rattle.dbg_shell.proofs.CheckTextLemmas.{size_here, fault_here}
 use Rattle.dbg_shell.proofs.checking.check_text.Goals as goal
 
 pub returns-in-Ok-clause-checked : goal.returns-in-Ok-clause-checked
 returns-in-Ok-clause-checked g c =
-    line_done (ChecksText c.args.text.now) (size_text c.processes.result c.command_count.result) outcomes.Done
-    (size_here _ _ _ _ c.in-Ok.ensures.accepted c.processes.ensures.value c.command_count.ensures) _ _ _ c.tell_size.ensures.written
+    line_done (ChecksText c.args.text.now) (program_size_text (program_of c.in-Ok.program)) outcomes.Done
+    (size_here _ _ c.in-Ok.ensures.accepted) _ _ _ c.tell_size.ensures.written
     c.tell_size.ensures.served
 
 pub returns-in-Ok-clause-stopped : goal.returns-in-Ok-clause-stopped
 returns-in-Ok-clause-stopped g c =
-    line_cut (ChecksText c.args.text.now) (size_text c.processes.result c.command_count.result) outcomes.Done
-    (size_here _ _ _ _ c.in-Ok.ensures.accepted c.processes.ensures.value c.command_count.ensures) _ _ _ c.tell_size.ensures.written
+    line_cut (ChecksText c.args.text.now) (program_size_text (program_of c.in-Ok.program)) outcomes.Done
+    (size_here _ _ c.in-Ok.ensures.accepted) _ _ _ c.tell_size.ensures.written
 
 pub returns-in-Err-Bad-clause-checked : goal.returns-in-Err-Bad-clause-checked
 returns-in-Err-Bad-clause-checked g c =

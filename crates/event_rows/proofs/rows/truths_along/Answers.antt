@@ -4,7 +4,7 @@ use Rattle.dbg_base.specs.LocalStates.{LocalState}
 use Rattle.dbg_base.specs.Predicates.{holds}
 use Rattle.event_rows.specs.Events.{after_event, past_of}
 use Rattle.event_rows.specs.Truths.{truths_along}
-use Rattle.event_rows.proofs.Pasts.{past_more, truths_more}
+use Rattle.event_rows.proofs.PastStateLemmas.{past_more, truths_more}
 use Rattle.event_rows.proofs.rows.truths_along.Goals as goal
 
 pub loop-event-preserved : goal.loop-event-preserved

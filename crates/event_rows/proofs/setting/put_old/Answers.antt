@@ -3,7 +3,7 @@ use Rattle.dbg_base.specs.LocalStates.{LocalState}
 use Rattle.dbg_base.specs.Firing.{with_set}
 use Rattle.event_rows.specs.declared.setting.Setting.{Setting}
 use Rattle.event_rows.specs.Settings.{with_old_values}
-use Rattle.event_rows.proofs.Pasts.{put_back_more}
+use Rattle.event_rows.proofs.PastStateLemmas.{put_back_more}
 use Rattle.event_rows.proofs.setting.put_old.Goals as goal
 
 pub loop-index-preserved : goal.loop-index-preserved

@@ -6,11 +6,11 @@ use Rattle.dbg_base.specs.declared.elimination.Cause.TheVariants.{FalseAt}
 use Rattle.dbg_base.specs.Calls.{conjunct_of}
 use Rattle.dbg_base.specs.SystemStates.{history_of}
 use Rattle.dbg_base.specs.Eliminations.{IsSound}
-use Rattle.dbg_base.proofs.Searching.{sound_above, few_steps}
-use Rattle.causal_world.proofs.Calls.{kinds_placed}
+use Rattle.dbg_base.proofs.EliminationLemmas.{sound_above, few_steps}
+use Rattle.causal_world.proofs.WorldCallLemmas.{kinds_placed}
 use Rattle.least_cut.specs.Watches.{TruthLine, scan_of}
 use Rattle.least_cut.specs.Searches.{IsStep, none_of}
-use Rattle.least_cut.proofs.Checked.{trail_more, reach_more, whole_sound, sound_step, never_both}
+use Rattle.least_cut.proofs.CheckedTrailLemmas.{trail_more, reach_more, whole_sound, sound_step, never_both}
 use Rattle.least_cut.proofs.checking.check_why.Goals as goal
 
 abbrev nothing : Elimination

@@ -1,6 +1,6 @@
 use Rattle.std.proofs.Common.{ℕ, ◌≤◌, sym, ◌∙◌, subst}
 use Rattle.std.proofs.lemmas.Bool.{leb-true, ltb-true, le-ltb, eqb-true}
-use Rattle.least_cut.proofs.Checked.{of_tally, due_more, never_both}
+use Rattle.least_cut.proofs.CheckedTrailLemmas.{of_tally, due_more, never_both}
 use Rattle.least_cut.proofs.checking.is_due.Goals as goal
 use Rattle.least_cut.proofs.checking.is_due.Goals.{then-by-processes, else-by-processes, then-event-count, else-event-count}
 use Rattle.least_cut.proofs.checking.is_due.Goals.{then-event-place, else-event-place}

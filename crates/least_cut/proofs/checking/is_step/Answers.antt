@@ -1,7 +1,7 @@
 use Rattle.std.proofs.Common.{ℕ, ◌≤◌, IsTrue, sym, ◌∙◌, subst}
 use Rattle.std.proofs.lemmas.Bool.{le-leb, leb-true, lt-ltb, le-ltb, eq-eqb, eqb-true}
 use Rattle.least_cut.specs.Searches.{IsStep}
-use Rattle.least_cut.proofs.Checked.{of_tally, to_tally, never_both}
+use Rattle.least_cut.proofs.CheckedTrailLemmas.{of_tally, to_tally, never_both}
 use Rattle.least_cut.proofs.checking.is_step.Goals as goal
 use Rattle.least_cut.proofs.checking.is_step.Goals.{then-step-processes, else-step-processes, then-step-count, else-step-count}
 

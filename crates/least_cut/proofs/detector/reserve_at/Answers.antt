@@ -1,7 +1,7 @@
 use Rattle.std.proofs.Common.{◌<◌, length, refl, sym, ◌∙◌, arith}
 use Rattle.std.proofs.lemmas.Bool.{eqb-false}
-use Rattle.least_cut.proofs.Each.{became_more, became_less}
-use Rattle.least_cut.proofs.Watched.{IsRoomier, roomier, all_room_at}
+use Rattle.least_cut.proofs.ListLoopLemmas.{became_more, became_less}
+use Rattle.least_cut.proofs.WatchLoopLemmas.{IsRoomier, roomier, all_room_at}
 use Rattle.least_cut.proofs.detector.reserve_at.Goals as goal
 use Rattle.least_cut.proofs.detector.reserve_at.Goals.{then-eq+in_ok-reserve_to, else-eq}
 

@@ -1,5 +1,5 @@
-use Rattle.least_cut.proofs.Each.{Became}
-use Rattle.least_cut.proofs.Watched.{HasRoomFor}
+use Rattle.least_cut.proofs.ListLoopLemmas.{Became}
+use Rattle.least_cut.proofs.WatchLoopLemmas.{HasRoomFor}
 use Rattle.least_cut.proofs.detector.reserve_each.Given as goal
 
 abbrev pub invariant-loop-i : goal.invariant-loop-i

@@ -1,6 +1,6 @@
 use Rattle.std.proofs.Common.{◌≤◌, List, ℕ, subst, arith, take_all}
 use Rattle.least_cut.specs.Searches.{steps_up_to}
-use Rattle.least_cut.proofs.Moving.{steps_next}
+use Rattle.least_cut.proofs.MovedDetectorLemmas.{steps_next}
 use Rattle.least_cut.proofs.detector.steps_up_to.Goals as goal
 
 pub loop-p-preserved : goal.loop-p-preserved

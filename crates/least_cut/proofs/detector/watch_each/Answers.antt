@@ -1,8 +1,8 @@
 use Rattle.std.proofs.Common.{arith}
 use Rattle.least_cut.specs.Watches.{WatchRoom, WasWatchOf}
 use Rattle.least_cut.specs.Detectors.{HasTruthRoom}
-use Rattle.least_cut.proofs.Each.{became_more, at_turn}
-use Rattle.least_cut.proofs.Watched.{all_watched}
+use Rattle.least_cut.proofs.ListLoopLemmas.{became_more, at_turn}
+use Rattle.least_cut.proofs.WatchLoopLemmas.{all_watched}
 use Rattle.least_cut.proofs.detector.watch_each.Goals as goal
 
 pub follow-requires-clause-was : goal.follow-requires-clause-was

@@ -1,5 +1,5 @@
 use Rattle.std.proofs.Common.{◌≡◌, length}
-use Rattle.least_cut.proofs.Pairing.{ArePaired}
+use Rattle.least_cut.proofs.WatchPairLemmas.{ArePaired}
 use Rattle.least_cut.proofs.detector.watches_of.Given as goal
 
 abbrev pub invariant-loop-conjunct : goal.invariant-loop-conjunct

@@ -3,8 +3,8 @@ use Rattle.std.proofs.lemmas.Result.{err_from_is_err_and}
 use Rattle.dbg_base.specs.Checks as model
 use Rattle.proc_lang.specs.ProcessTrees.{process_tree}
 use Rattle.proc_lang.specs.Writing.{process_of}
-use Rattle.proc_lang.proofs.Checked.{passed_on, first_left, first_right, none_in_both}
-use Rattle.proc_lang.proofs.CheckedLists.{first_next, goes_on, processes_here, reads_more, length_before}
+use Rattle.proc_lang.proofs.FirstCheckLemmas.{passed_on, first_left, first_right, none_in_both}
+use Rattle.proc_lang.proofs.ListCheckLemmas.{first_next, goes_on, processes_here, reads_more, length_before}
 use Rattle.proc_lang.proofs.check.all_processes.Goals as goal
 
 pub returns-in_err-fresh : goal.returns-in_err-fresh

@@ -4,7 +4,7 @@ use Rattle.dbg_base.specs.Checks.{processes_faults}
 use Rattle.dbg_base.specs.Checks as model
 use Rattle.proc_lang.specs.ProcessTrees.{process_trees}
 use Rattle.proc_lang.specs.Writing.{processes_of}
-use Rattle.proc_lang.proofs.CheckedLists.{processes_left}
+use Rattle.proc_lang.proofs.ListCheckLemmas.{processes_left}
 use Rattle.proc_lang.proofs.check.all_processes.Given as goal
 
 abbrev pub invariant-loop-i : goal.invariant-loop-i

@@ -5,8 +5,8 @@ use Rattle.dbg_base.specs.Trees.{tree_of}
 use Rattle.proc_lang.specs.Writing.{action_of, assignment_of}
 use Rattle.proc_lang.specs.Scopes.{scope_of}
 use Rattle.proc_lang.specs.Checking.{IsFirst}
-use Rattle.proc_lang.proofs.Checked.{passed_on}
-use Rattle.proc_lang.proofs.CheckedLists.{first_next, goes_on, assignments_here, reads_more}
+use Rattle.proc_lang.proofs.FirstCheckLemmas.{passed_on}
+use Rattle.proc_lang.proofs.ListCheckLemmas.{first_next, goes_on, assignments_here, reads_more}
 use Rattle.proc_lang.proofs.check.assignments.Goals as goal
 
 pub returns-in_err-read : goal.returns-in_err-read

@@ -3,7 +3,7 @@ use Rattle.dbg_base.specs.Checks.{assignment_faults, set_by_action, assignment_t
 use Rattle.proc_lang.specs.Writing.{action_of, assignment_of}
 use Rattle.proc_lang.specs.ProcessTrees.{assignment_trees}
 use Rattle.proc_lang.specs.Scopes.{scope_of}
-use Rattle.proc_lang.proofs.CheckedLists.{assignments_left}
+use Rattle.proc_lang.proofs.ListCheckLemmas.{assignments_left}
 use Rattle.proc_lang.proofs.check.assignments.Given as goal
 
 abbrev pub invariant-loop-i : goal.invariant-loop-i

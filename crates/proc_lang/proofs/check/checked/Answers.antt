@@ -7,8 +7,8 @@ use Rattle.dbg_base.proofs.WellFormedTrees.{says_well_formed}
 use Rattle.proc_lang.specs.Writing.{processes_of}
 use Rattle.proc_lang.specs.ProcessTrees.{process_trees}
 use Rattle.proc_lang.specs.Checking.{IsFirst}
-use Rattle.proc_lang.proofs.Checked.{passed_on}
-use Rattle.proc_lang.proofs.CheckedLists.{process_names_are}
+use Rattle.proc_lang.proofs.FirstCheckLemmas.{passed_on}
+use Rattle.proc_lang.proofs.ListCheckLemmas.{process_names_are}
 use Rattle.proc_lang.proofs.check.checked.Goals as goal
 
 pub returns-in_err-processes : goal.returns-in_err-processes

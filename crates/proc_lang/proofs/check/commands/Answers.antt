@@ -5,8 +5,8 @@ use Rattle.dbg_base.specs.declared.fault.FaultKind.TheVariants.{Limit}
 use Rattle.dbg_base.specs.declared.limits.TheConstants.{COMMANDS}
 use Rattle.dbg_base.specs.Checks.{fault_where}
 use Rattle.proc_lang.specs.Scopes.{scope_of}
-use Rattle.proc_lang.proofs.Checked.{passed_on, first_right}
-use Rattle.proc_lang.proofs.CheckedLists.{first_next, commands_here}
+use Rattle.proc_lang.proofs.FirstCheckLemmas.{passed_on, first_right}
+use Rattle.proc_lang.proofs.ListCheckLemmas.{first_next, commands_here}
 use Rattle.proc_lang.proofs.check.commands.Goals as goal
 
 pub returns-in_err-read-clause-faults : goal.returns-in_err-read-clause-faults

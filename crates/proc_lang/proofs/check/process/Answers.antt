@@ -5,8 +5,8 @@ use Rattle.dbg_base.specs.Checks as model
 use Rattle.proc_lang.specs.ProcessTrees.{command_tree}
 use Rattle.proc_lang.specs.Writing.{command_of, variable_of}
 use Rattle.proc_lang.specs.Checking.{IsFirst, starts, written_starts}
-use Rattle.proc_lang.proofs.Checked.{passed_on, first_right, none_in_both}
-use Rattle.proc_lang.proofs.CheckedLists.{scope_with, scope_with_is}
+use Rattle.proc_lang.proofs.FirstCheckLemmas.{passed_on, first_right, none_in_both}
+use Rattle.proc_lang.proofs.ListCheckLemmas.{scope_with, scope_with_is}
 use Rattle.proc_lang.proofs.check.process.Goals as goal
 
 pub returns-in_err-commands : goal.returns-in_err-commands

@@ -2,8 +2,8 @@ use Rattle.std.proofs.Common.{◌≡◌, arith, rules, w64, FitsSigned}
 use Rattle.std.proofs.lemmas.Int.{to_z-of_z}
 use Rattle.std.proofs.lemmas.Result.{err_from_is_err_and}
 use Rattle.proc_lang.specs.Writing.{variable_of}
-use Rattle.proc_lang.proofs.Checked.{passed_on}
-use Rattle.proc_lang.proofs.CheckedLists.{first_next, goes_on, variables_here, reads_more, length_before}
+use Rattle.proc_lang.proofs.FirstCheckLemmas.{passed_on}
+use Rattle.proc_lang.proofs.ListCheckLemmas.{first_next, goes_on, variables_here, reads_more, length_before}
 use Rattle.proc_lang.proofs.check.variables.Goals as goal
 
 pub returns-in_err-name-clause-faults : goal.returns-in_err-name-clause-faults

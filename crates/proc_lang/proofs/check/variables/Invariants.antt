@@ -3,7 +3,7 @@ use Rattle.dbg_base.specs.declared.limits.TheConstants.{VARIABLES}
 use Rattle.dbg_base.specs.Checks.{variables_faults}
 use Rattle.proc_lang.specs.Writing.{variable_of}
 use Rattle.proc_lang.specs.Checking.{starts, written_starts}
-use Rattle.proc_lang.proofs.CheckedLists.{variables_left}
+use Rattle.proc_lang.proofs.ListCheckLemmas.{variables_left}
 use Rattle.proc_lang.proofs.check.variables.Given as goal
 
 abbrev pub invariant-loop-i : goal.invariant-loop-i

@@ -1,5 +1,5 @@
 use Rattle.proc_lang.specs.Writing.{named_of}
-use Rattle.proc_lang.proofs.Checked.{first_one, found_there, found_nowhere}
+use Rattle.proc_lang.proofs.FirstCheckLemmas.{first_one, found_there, found_nowhere}
 use Rattle.proc_lang.proofs.expressions.known.Goals as goal
 
 pub returns-in-Some : goal.returns-in-Some

@@ -1,4 +1,4 @@
-use Rattle.proc_lang.proofs.Wholes.{program_once}
+use Rattle.proc_lang.proofs.WholeTextLemmas.{program_once}
 use Rattle.proc_lang.proofs.laws.one_derivation.Goals as goal
 
 pub returns : goal.returns

@@ -2,7 +2,7 @@ use Rattle.dbg_base.specs.declared.expr.Sort.TheVariants as sort
 use Rattle.dbg_base.specs.Grammar.{DerivesExpression}
 use Rattle.dbg_base.specs.Checks.{scope_of, expression_faults, phrase_tree}
 use Rattle.dbg_base.proofs.FirstFaults.{first_of_expression}
-use Rattle.proc_lang.proofs.Wholes.{predicate_once, predicate_parses}
+use Rattle.proc_lang.proofs.WholeTextLemmas.{predicate_once, predicate_parses}
 use Rattle.proc_lang.proofs.Texts.{each_text, reads_well, reads_once, fault_once}
 use Rattle.proc_lang.proofs.laws.predicate_or_fault.Goals as goal
 

@@ -1,7 +1,7 @@
 use Rattle.dbg_base.specs.Grammar.{DerivesProgram}
 use Rattle.dbg_base.specs.Checks.{check_faults, program_tree}
 use Rattle.dbg_base.proofs.FirstFaults.{first_of_program}
-use Rattle.proc_lang.proofs.Wholes.{program_once, program_parses}
+use Rattle.proc_lang.proofs.WholeTextLemmas.{program_once, program_parses}
 use Rattle.proc_lang.proofs.Texts.{each_text, reads_well, reads_once, fault_once}
 use Rattle.proc_lang.proofs.laws.program_or_fault.Goals as goal
 

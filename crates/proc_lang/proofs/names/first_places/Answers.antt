@@ -4,7 +4,7 @@ use Rattle.std.specs.Ordering.{nat_cmp}
 use Rattle.std.specs.Cmp.Lexicographic.{slice_cmp}
 use Rattle.std.specs.BTreeMap.{UpdatesBy}
 use Rattle.proc_lang.specs.Indexes.{Finds}
-use Rattle.proc_lang.proofs.Places.{found, stays, grows}
+use Rattle.proc_lang.proofs.NamePositionLemmas.{found, stays, grows}
 use Rattle.proc_lang.proofs.names.first_places.Goals.{then-not-contains_key+in_ok-insert, else-not-contains_key}
 use Rattle.proc_lang.proofs.names.first_places.Goals as goal
 

@@ -6,7 +6,7 @@ use Rattle.dbg_base.proofs.FirstFaults.{first_of_program, few_processes}
 use Rattle.proc_lang.specs.Programs.{program_of}
 use Rattle.proc_lang.specs.Writing.{process_of, processes_of}
 use Rattle.proc_lang.specs.Answering.{Writes}
-use Rattle.proc_lang.proofs.Wholes.{program_once}
+use Rattle.proc_lang.proofs.WholeTextLemmas.{program_once}
 use Rattle.proc_lang.proofs.Texts.{checked_accepted, checked_refused}
 use Rattle.proc_lang.proofs.parse.read_program.Goals as goal
 

@@ -10,7 +10,7 @@ use Rattle.proc_lang.specs.Scanning.{placed_of}
 use Rattle.proc_lang.specs.Writing.{phrase_of}
 use Rattle.proc_lang.specs.Parsing.{read_predicate}
 use Rattle.proc_lang.specs.Reading.{IsStop}
-use Rattle.proc_lang.proofs.Wholes.{predicate_once, predicate_read, predicate_fails}
+use Rattle.proc_lang.proofs.WholeTextLemmas.{predicate_once, predicate_read, predicate_fails}
 use Rattle.proc_lang.proofs.Texts.{no_tokens, stopped_refused}
 use Rattle.proc_lang.proofs.parse.written_predicate.Goals as goal
 

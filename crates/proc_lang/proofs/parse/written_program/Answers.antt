@@ -9,7 +9,7 @@ use Rattle.proc_lang.specs.Scanning.{placed_of}
 use Rattle.proc_lang.specs.Writing.{process_of, processes_of}
 use Rattle.proc_lang.specs.Parsing.{read_program}
 use Rattle.proc_lang.specs.Reading.{IsStop}
-use Rattle.proc_lang.proofs.Wholes.{program_once, program_read, program_fails}
+use Rattle.proc_lang.proofs.WholeTextLemmas.{program_once, program_read, program_fails}
 use Rattle.proc_lang.proofs.Texts.{no_tokens, stopped_refused}
 use Rattle.proc_lang.proofs.parse.written_program.Goals as goal
 

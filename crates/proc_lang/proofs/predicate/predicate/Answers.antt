@@ -8,10 +8,10 @@ use Rattle.proc_lang.specs.declared.process.Process.{Process}
 use Rattle.proc_lang.specs.ProcessTrees.{process_tree}
 use Rattle.proc_lang.specs.Writing.{phrase_of}
 use Rattle.proc_lang.specs.Checking.{Checks}
-use Rattle.proc_lang.proofs.CheckedLists.{scope_with}
+use Rattle.proc_lang.proofs.ListCheckLemmas.{scope_with}
 use Rattle.proc_lang.proofs.predicate.predicate.Goals as goal
 
--- what a process can name, by the names that the code has collected
+-- what a process can name, with the names that the code has collected
 scope_is : (processes : List Process) (p : ℕ) (own : Process) (names variables : List (List ℕ)) → p < length (map process_tree processes)
     → own ≡ get_or processes p own → names ≡ map (λ process. process.name) processes
     → variables ≡ map (λ variable. variable.name) own.variables.items

@@ -1,5 +1,5 @@
 use Rattle.std.proofs.Common.{sym}
-use Rattle.proc_lang.proofs.Fronts.{word_in_front, number_in_front}
+use Rattle.proc_lang.proofs.FirstTokenLemmas.{word_in_front, number_in_front}
 use Rattle.proc_lang.proofs.scan.front_piece.Goals as goal
 
 pub returns-then-is_ascii_lowercase : goal.returns-then-is_ascii_lowercase

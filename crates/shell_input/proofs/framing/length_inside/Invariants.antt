@@ -1,5 +1,5 @@
 use Rattle.shell_input.specs.Spans.{is_inside}
-use Rattle.proc_lang.proofs.Runs.{PassedSoFar}
+use Rattle.proc_lang.proofs.PassingPrefixLemmas.{PassedSoFar}
 use Rattle.shell_input.proofs.framing.length_inside.Given as goal
 
 abbrev pub invariant-loop-i : goal.invariant-loop-i

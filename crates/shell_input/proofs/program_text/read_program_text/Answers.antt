@@ -1,7 +1,7 @@
 use Rattle.std.proofs.Common.{sym, ◌∙◌}
-use Rattle.shell_input.proofs.UnderWay.{where_failed}
-use Rattle.shell_input.proofs.Reading.{reads_then}
-use Rattle.shell_input.proofs.Splits.{reads_for_text, so_far_goes_on, splits_here, splits_nowhere, splits_too_late, splits_not_yet}
+use Rattle.shell_input.proofs.UnfinishedInputLemmas.{where_failed}
+use Rattle.shell_input.proofs.ReadStepLemmas.{reads_then}
+use Rattle.shell_input.proofs.TextSplitLemmas.{reads_for_text, so_far_goes_on, splits_here, splits_nowhere, splits_too_late, splits_not_yet}
 use Rattle.shell_input.proofs.program_text.read_program_text.Goals as goal
 
 pub loop-span-preserved : goal.loop-span-preserved

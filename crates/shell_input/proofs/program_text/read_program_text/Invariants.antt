@@ -1,9 +1,9 @@
 use Rattle.std.proofs.Common.{◌≡◌, ◌-◌}
-use Rattle.devices.specs.declared.health.Health.TheVariants.{Fine}
+use Rattle.shell_io.specs.declared.health.Health.TheVariants.{Fine}
 use Rattle.dbg_base.specs.declared.limits.TheConstants.{INPUT_BYTES}
 use Rattle.shell_input.specs.Spans.{ReadsOn}
 use Rattle.shell_input.specs.ProgramTexts.{ReadsText}
-use Rattle.shell_input.proofs.Splits.{SoFarAny}
+use Rattle.shell_input.proofs.TextSplitLemmas.{SoFarAny}
 use Rattle.shell_input.proofs.program_text.read_program_text.Given as goal
 
 abbrev pub invariant-loop-span : goal.invariant-loop-span
@@ -15,6 +15,6 @@ invariant-loop-span g l = record {
   reader : g.R.Source.health l.fn.reader ≡ Fine → g.R.Source.health l.reader ≡ Fine;
 }
 
--- the bytes that no line was made of yet
+-- the bytes that are not in a line yet
 abbrev pub decreases-loop-span : goal.decreases-loop-span
 decreases-loop-span g l = INPUT_BYTES - l.input.at

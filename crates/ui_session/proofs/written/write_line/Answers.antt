@@ -1,5 +1,5 @@
 use Rattle.std.proofs.Common.{◌∷◌, []}
-use Rattle.reply_lines.proofs.Writing.{stopped, writes_then}
+use Rattle.shell_print.proofs.WriteLemmas.{stopped, writes_then}
 use Rattle.ui_session.proofs.written.write_line.Goals as goal
 
 pub returns-in_err-write_whole : goal.returns-in_err-write_whole

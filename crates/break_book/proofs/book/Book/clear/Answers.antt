@@ -7,7 +7,7 @@ use Rattle.break_book.specs.Books.{Entry, AreDetectorsOf}
 use Rattle.break_book.proofs.Entries.{IsCleared, position_of, not_named, all_left, cleared}
 use Rattle.break_book.proofs.book.Book.clear.Goals as goal
 
--- what became of the book
+-- the book after the removal
 taken : (c : goal.In-Some)
     → IsCleared c.args.name c.args.self.now c.shift_remove_full.new.self.entries c.in-Some.position c.in-Some.breakpoint
 taken c =

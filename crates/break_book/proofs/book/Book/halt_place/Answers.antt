@@ -1,7 +1,7 @@
 use Rattle.std.proofs.Common.{Some, refl, arith}
 use Rattle.dbg_base.specs.SystemStates.{history_of}
 use Rattle.break_book.specs.Books.{Entry, breakpoint_of, breakpoints_of}
-use Rattle.break_book.proofs.Halting.{halted_there, stands_there}
+use Rattle.break_book.proofs.HaltLemmas.{halted_there, stands_there}
 use Rattle.break_book.proofs.book.Book.halt_place.Goals as goal
 
 pub returns-in-Ok-clause-place : goal.returns-in-Ok-clause-place

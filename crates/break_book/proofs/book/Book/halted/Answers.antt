@@ -2,7 +2,7 @@ use Rattle.std.proofs.Common.{List, Some, None, refl, sym, subst}
 use Rattle.dbg_base.specs.Breakpoints.{IsHaltedBy}
 use Rattle.dbg_base.specs.SystemStates.{history_of}
 use Rattle.break_book.specs.Books.{Entry, breakpoints_of, AreDetectorsOf}
-use Rattle.break_book.proofs.Halting.{halts_here, halts_behind}
+use Rattle.break_book.proofs.HaltLemmas.{halts_here, halts_behind}
 use Rattle.break_book.proofs.book.Book.halted.Goals as goal
 
 pub returns-then-halts : goal.returns-then-halts

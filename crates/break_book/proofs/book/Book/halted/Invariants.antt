@@ -1,4 +1,4 @@
-use Rattle.break_book.proofs.Halting.{IsPassed}
+use Rattle.break_book.proofs.HaltLemmas.{IsPassed}
 use Rattle.break_book.proofs.book.Book.halted.Given as goal
 
 abbrev pub invariant-loop-name : goal.invariant-loop-name

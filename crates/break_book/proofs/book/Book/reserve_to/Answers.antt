@@ -1,5 +1,5 @@
 use Rattle.std.proofs.Common.{◌≤◌, length, sym, subst, ap, arith}
-use Rattle.causal_world.proofs.Calls.{kinds_placed}
+use Rattle.causal_world.proofs.WorldCallLemmas.{kinds_placed}
 use Rattle.break_book.specs.Books.{AreDetectorsOf}
 use Rattle.break_book.proofs.book.Book.reserve_to.Goals as goal
 

@@ -4,7 +4,7 @@ use Rattle.std.specs.Str.{bytes_eq}
 use Rattle.dbg_base.specs.Calls.{conjunct_of}
 use Rattle.indexmap.specs.IndexMap.{insert_entry}
 use Rattle.least_cut.specs.Detectors.{IsDetectorOf}
-use Rattle.least_cut.proofs.Each.{all_push}
+use Rattle.least_cut.proofs.ListLoopLemmas.{all_push}
 use Rattle.break_book.specs.Books.{Entry, AreDetectorsOf}
 use Rattle.break_book.proofs.Entries.{set_last, on_ok}
 use Rattle.break_book.proofs.book.Book.set.Goals as goal

@@ -1,6 +1,6 @@
-use Rattle.least_cut.proofs.Each.{Became}
+use Rattle.least_cut.proofs.ListLoopLemmas.{Became}
 use Rattle.break_book.specs.Books.{IsFollowed}
-use Rattle.break_book.proofs.Followed.{Stays}
+use Rattle.break_book.proofs.BookLoopLemmas.{Stays}
 use Rattle.break_book.proofs.book.following.follow_each.Given as goal
 
 abbrev pub invariant-loop-i : goal.invariant-loop-i

@@ -1,7 +1,7 @@
 use Rattle.std.proofs.Common.{arith}
 use Rattle.least_cut.specs.Detectors.{IsGrown, HasRoomUpTo}
 use Rattle.break_book.specs.Books.{Kept}
-use Rattle.break_book.proofs.Followed.{turn, more, followed}
+use Rattle.break_book.proofs.BookLoopLemmas.{turn, more, followed}
 use Rattle.break_book.proofs.book.following.grow_each.Goals as goal
 
 pub grow-requires-clause-grown : goal.grow-requires-clause-grown

@@ -1,7 +1,7 @@
 use Rattle.std.proofs.Common.{arith}
 use Rattle.least_cut.specs.Detectors.{HasRoomUpTo}
 use Rattle.break_book.specs.Books.{Kept}
-use Rattle.break_book.proofs.Followed.{have_room, turn, more, roomier, roomier_so_far, all_room}
+use Rattle.break_book.proofs.BookLoopLemmas.{have_room, turn, more, roomier, roomier_so_far, all_room}
 use Rattle.break_book.proofs.book.following.reserve_each.Goals as goal
 
 pub reserve-requires-clause-room : goal.reserve-requires-clause-room

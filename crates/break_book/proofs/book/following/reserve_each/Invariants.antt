@@ -1,6 +1,6 @@
 use Rattle.least_cut.specs.Detectors.{one_more}
-use Rattle.least_cut.proofs.Each.{Became}
-use Rattle.break_book.proofs.Followed.{Stays, HasRoom}
+use Rattle.least_cut.proofs.ListLoopLemmas.{Became}
+use Rattle.break_book.proofs.BookLoopLemmas.{Stays, HasRoom}
 use Rattle.break_book.proofs.book.following.reserve_each.Given as goal
 
 abbrev pub invariant-loop-i : goal.invariant-loop-i

@@ -1,5 +1,5 @@
 use Rattle.std.proofs.Common.{arith}
-use Rattle.break_book.proofs.Followed.{more, roomier, roomier_so_far, all_room}
+use Rattle.break_book.proofs.BookLoopLemmas.{more, roomier, roomier_so_far, all_room}
 use Rattle.break_book.proofs.book.following.reserve_each_to.Goals as goal
 
 pub loop-i-preserved : goal.loop-i-preserved

@@ -1,5 +1,5 @@
-use Rattle.least_cut.proofs.Each.{Became}
-use Rattle.break_book.proofs.Followed.{Stays, HasRoom}
+use Rattle.least_cut.proofs.ListLoopLemmas.{Became}
+use Rattle.break_book.proofs.BookLoopLemmas.{Stays, HasRoom}
 use Rattle.break_book.proofs.book.following.reserve_each_to.Given as goal
 
 abbrev pub invariant-loop-i : goal.invariant-loop-i

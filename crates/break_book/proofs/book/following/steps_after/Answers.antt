@@ -1,10 +1,10 @@
 use Rattle.std.proofs.Common.{◌≡◌, ◌≤◌, ℕ, ◌+◌, List, length, map, set, subst, ap, ◌∙◌, arith}
 use Rattle.std.proofs.lemmas.List.{length-set}
 use Rattle.dbg_base.specs.SystemStates.{place_at}
-use Rattle.causal_world.proofs.Calls.{kinds_placed}
+use Rattle.causal_world.proofs.WorldCallLemmas.{kinds_placed}
 use Rattle.least_cut.specs.Searches.{steps_up_to}
 use Rattle.least_cut.specs.Detectors.{one_more}
-use Rattle.least_cut.proofs.Moving.{all_events}
+use Rattle.least_cut.proofs.MovedDetectorLemmas.{all_events}
 use Rattle.break_book.proofs.book.following.steps_after.Goals as goal
 
 pub set-requires : goal.set-requires

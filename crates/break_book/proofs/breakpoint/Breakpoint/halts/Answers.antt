@@ -1,6 +1,6 @@
 use Rattle.std.proofs.Common.{sym, ◌∙◌}
 use Rattle.dbg_base.specs.SystemStates.{history_of}
-use Rattle.break_book.proofs.Halting.{halts_by}
+use Rattle.break_book.proofs.HaltLemmas.{halts_by}
 use Rattle.break_book.proofs.breakpoint.Breakpoint.halts.Goals as goal
 
 pub returns-then-is_armed : goal.returns-then-is_armed

@@ -2,7 +2,7 @@ use Rattle.std.proofs.Common.{sym, subst}
 use Rattle.dbg_base.specs.SystemStates.{history_of}
 use Rattle.least_cut.specs.Detectors.{DetectorState, conjuncts_of, IsDetectorOf}
 use Rattle.break_book.specs.Books.{TellsWhether}
-use Rattle.break_book.proofs.Halting.{told_cut}
+use Rattle.break_book.proofs.HaltLemmas.{told_cut}
 use Rattle.break_book.proofs.breakpoint.Breakpoint.has_cut.Goals as goal
 
 pub returns : goal.returns

@@ -1,4 +1,4 @@
-use Rattle.break_book.proofs.Followed.{roomier_one}
+use Rattle.break_book.proofs.BookLoopLemmas.{roomier_one}
 use Rattle.break_book.proofs.breakpoint.Breakpoint.reserve_to.Goals as goal
 
 pub returns-clause-same : goal.returns-clause-same

@@ -1,4 +1,5 @@
-use Rattle.std.proofs.Common.{ap, subst, sym, ◌∙◌}
+use Rattle.std.proofs.Common.{ap, subst, sym, ◌∙◌, rules, arith}
+use Rattle.std.proofs.lemmas.Grind.{common_steps}
 use Rattle.cut_core.specs.declared.kind.Kind.{Kind}
 use Rattle.causal_world.specs.Pasts.{IsPast, IsWhole, kind_done, with_kind}
 use Rattle.causal_world.proofs.ClockRows.{fits_row, pushed_past, same_past}
@@ -23,5 +24,14 @@ after c =
 pub invariant_of-self : goal.invariant_of-self
 invariant_of-self c = after (goal.at.invariant_of-self c).After-push
 
-pub returns-clause-clocks : goal.returns-clause-clocks
-returns-clause-clocks c = (after (goal.at.returns-clause-clocks c).After-push).rows
+pub returns : goal.returns
+returns c = record {
+  appended = record {
+    starts = search rules;
+    events = search rules;
+    kinds = search rules;
+    clocks = (after (goal.at.returns c).After-push).rows;
+    own = grind (arith, common_steps);
+    others = search rules;
+  };
+}

@@ -5,17 +5,15 @@ use Rattle.event_rows.specs.EventValues.{EventValue}
 use Rattle.std.specs.Prelude.{Some, slice_index_or}
 use Rattle.causal_world.specs.Scenes.{channels_after, with_event}
 use Rattle.causal_world.specs.Pasts.{kind_done, with_kind, IsWhole}
-use Rattle.causal_world.proofs.Calls.{can_here, can_keep, can_few, can_whole, same_scene, some_step}
+use Rattle.causal_world.proofs.WorldCallLemmas.{can_here, can_keep, can_few, can_whole, same_scene, some_step}
 use Rattle.causal_world.proofs.world.World.append.Goals as goal
 
 pub happen-requires-clause-here : goal.happen-requires-clause-here
-happen-requires-clause-here c =
-    can_here _ c.args.pid.0 c.args.choice.0 c.args.event (rw (← c.self.view_is) at c.requires.can)
-
-pub happen-requires-clause-kept : goal.happen-requires-clause-kept
-happen-requires-clause-kept c =
-    subst (λ (kinds : List (List Kind)). c.args.pid.0 < length kinds) (sym c.in_ok-make_room.ensures.same.kinds)
-    (can_keep _ c.args.pid.0 c.args.choice.0 c.args.event (rw (← c.self.view_is) at c.requires.can))
+happen-requires-clause-here c = (
+  can_here _ c.args.pid.0 c.args.choice.0 c.args.event (rw (← c.self.view_is) at c.requires.can),
+  subst (λ (kinds : List (List Kind)). c.args.pid.0 < length kinds) (sym c.in_ok-make_room.ensures.same.kinds)
+      (can_keep _ c.args.pid.0 c.args.choice.0 c.args.event (rw (← c.self.view_is) at c.requires.can)),
+)
 
 pub happen-requires-clause-room : goal.happen-requires-clause-room
 happen-requires-clause-room c =
@@ -37,13 +35,13 @@ pub invariant_of-self-2 : goal.invariant_of-self-2
 invariant_of-self-2 c =
     let p = c.args.pid.0 in
     let event = c.args.event in
-    some_step _ _ p c.args.choice.0 event c.happen.ensures.clocks (rw (← c.self.view_is) at c.requires.can)
+    some_step _ _ p c.args.choice.0 event c.happen.ensures.appended.clocks (rw (← c.self.view_is) at c.requires.can)
     (rw (← c.self.view_is) at c.requires.few)
     (same_scene _ _ _ c.happen.new.past _ c.in_ok-append.ensures.appended c.happen.ensures.states
     (c.happen.ensures.channels
     ∙ ap (λ (l : List (List (List ℤ))). channels_after l p event.exchange) c.in_ok-make_room.ensures.channels)
-    (c.happen.ensures.starts ∙ c.in_ok-make_room.ensures.same.starts)
-    (c.happen.ensures.events ∙ ap (λ (l : List (List EventValue)). with_event l p (Some event)) c.in_ok-make_room.ensures.same.events)
-    (c.happen.ensures.kinds
+    (c.happen.ensures.appended.starts ∙ c.in_ok-make_room.ensures.same.starts)
+    (c.happen.ensures.appended.events ∙ ap (λ (l : List (List EventValue)). with_event l p (Some event)) c.in_ok-make_room.ensures.same.events)
+    (c.happen.ensures.appended.kinds
     ∙ ap (λ (l : List (List Kind)). with_kind l p (kind_done event.exchange)) c.in_ok-make_room.ensures.same.kinds)
     refl)

@@ -3,7 +3,7 @@ use Rattle.std.specs.Prelude.{slice_index}
 use Rattle.dbg_base.specs.SystemStates.{history_of}
 use Rattle.causal_world.specs.Scenes.{Scene}
 use Rattle.causal_world.specs.Pasts.{row_at}
-use Rattle.causal_world.proofs.Calls.{is_kept, has_event, row_is_clock, same_part}
+use Rattle.causal_world.proofs.WorldCallLemmas.{is_kept, has_event, row_is_clock, same_part}
 use Rattle.causal_world.proofs.world.World.clock_part.Goals as goal
 
 pub clock-requires-clause-here : goal.clock-requires-clause-here

@@ -4,8 +4,8 @@ use Rattle.std.proofs.lemmas.List.{get_or_default}
 use Rattle.dbg_base.specs.LocalStates.{no_state}
 use Rattle.causal_world.specs.Scenes.{Scene}
 use Rattle.causal_world.specs.Worlds.{IsSomeWorld}
-use Rattle.causal_world.proofs.Standing.{states_there}
-use Rattle.causal_world.proofs.Sames.{present}
+use Rattle.causal_world.proofs.LastEventLemmas.{states_there}
+use Rattle.causal_world.proofs.SameWorldLemmas.{present}
 use Rattle.causal_world.proofs.world.World.env.Goals as goal
 
 there : (w : Scene) (p : ℕ) → IsSomeWorld w → p < length w.state.places → p < length w.standing.states

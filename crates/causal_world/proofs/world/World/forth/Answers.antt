@@ -5,7 +5,7 @@ use Rattle.causal_world.specs.declared.rolled.Taken.{Taken}
 use Rattle.causal_world.specs.Scenes.{Scene, scene, IsWorldOf}
 use Rattle.causal_world.specs.Room.{HasRoomForth}
 use Rattle.causal_world.specs.Rollings.{IsRolled, IsRolledFrom}
-use Rattle.causal_world.proofs.Calls.{same_scene}
+use Rattle.causal_world.proofs.WorldCallLemmas.{same_scene}
 use Rattle.causal_world.proofs.Inverses.{ways_forth}
 use Rattle.causal_world.proofs.world.World.forth.Goals as goal
 use Rattle.causal_world.proofs.world.World.forth.Goals.{After-roll_forth}

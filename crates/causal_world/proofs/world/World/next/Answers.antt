@@ -5,8 +5,8 @@ use Rattle.proc_lang.specs.Programs.{program_of}
 use Rattle.causal_world.specs.Worlds.{Makes}
 use Rattle.causal_world.specs.Scenes.{scene}
 use Rattle.causal_world.specs.Deciding.{CanCount}
-use Rattle.causal_world.proofs.Standing.{states_there, can_count}
-use Rattle.causal_world.proofs.Calls.{steps_to}
+use Rattle.causal_world.proofs.LastEventLemmas.{states_there, can_count}
+use Rattle.causal_world.proofs.WorldCallLemmas.{steps_to}
 use Rattle.causal_world.proofs.world.World.next.Goals as goal
 
 pub lowest-requires-clause-here : goal.lowest-requires-clause-here

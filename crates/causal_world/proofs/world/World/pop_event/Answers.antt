@@ -3,7 +3,7 @@ use Rattle.dbg_base.specs.SystemStates.{SystemState}
 use Rattle.causal_world.specs.Scenes.{Scene, scene, IsWorldOf, unmade}
 use Rattle.causal_world.specs.Worlds.{last_event}
 use Rattle.causal_world.specs.Rollings.{CanTakeBack, TakesOut}
-use Rattle.causal_world.proofs.Calls.{can_take, may_take}
+use Rattle.causal_world.proofs.WorldCallLemmas.{can_take, may_take}
 use Rattle.causal_world.proofs.world.World.pop_event.Goals as goal
 use Rattle.causal_world.proofs.world.World.pop_event.Goals.{After-retreat}
 

@@ -2,7 +2,7 @@ use Rattle.std.proofs.Common.{◌≡◌, ℤ, List, subst, sym, ap, ◌∙◌}
 use Rattle.dbg_base.specs.Trees.{Program}
 use Rattle.causal_world.specs.Scenes.{Scene, scene, IsWorldOf}
 use Rattle.causal_world.specs.Rollings.{IsRolledFrom}
-use Rattle.causal_world.proofs.Reversing.{rolled_of, ways_back}
+use Rattle.causal_world.proofs.RollbackLemmas.{rolled_of, ways_back}
 use Rattle.causal_world.proofs.world.World.roll_to.Goals as goal
 use Rattle.causal_world.proofs.world.World.roll_to.Goals.{After-roll_back}
 

@@ -1,7 +1,7 @@
 use Rattle.std.proofs.Common.{List, ℕ, length, sym, ap, ◌∙◌}
 use Rattle.cut_core.specs.declared.kind.Kind.{Kind}
 use Rattle.causal_world.specs.Scenes.{Scene}
-use Rattle.causal_world.proofs.Calls.{same_size, is_rollback}
+use Rattle.causal_world.proofs.WorldCallLemmas.{same_size, is_rollback}
 use Rattle.causal_world.proofs.world.World.rollback_cut.Goals as goal
 
 pub greatest_below-requires : goal.greatest_below-requires

@@ -5,8 +5,8 @@ use Rattle.proc_lang.specs.Programs.{program_of}
 use Rattle.causal_world.specs.Worlds.{Makes}
 use Rattle.causal_world.specs.Scenes.{scene}
 use Rattle.causal_world.specs.Deciding.{CanCount}
-use Rattle.causal_world.proofs.Standing.{states_there, can_count}
-use Rattle.causal_world.proofs.Calls.{stays}
+use Rattle.causal_world.proofs.LastEventLemmas.{states_there, can_count}
+use Rattle.causal_world.proofs.WorldCallLemmas.{stays}
 use Rattle.causal_world.proofs.world.World.step.Goals as goal
 
 pub try_choice-requires-clause-here : goal.try_choice-requires-clause-here

@@ -3,7 +3,7 @@ use Rattle.dbg_base.specs.Trees.{Program}
 use Rattle.causal_world.specs.declared.rolled.Taken.{Taken}
 use Rattle.causal_world.specs.Scenes.{Scene, IsWorldOf, unmade}
 use Rattle.causal_world.specs.Rollings.{IsRolledFrom}
-use Rattle.causal_world.proofs.Reversing.{rolled_of, rolled_none, rolled_more}
+use Rattle.causal_world.proofs.RollbackLemmas.{rolled_of, rolled_none, rolled_more}
 use Rattle.causal_world.proofs.world.World.undo.Goals as goal
 use Rattle.causal_world.proofs.world.World.undo.Goals.{After-push_reserved}
 

@@ -1,4 +1,4 @@
-use Rattle.causal_world.proofs.Standing.{undoable_by}
+use Rattle.causal_world.proofs.LastEventLemmas.{undoable_by}
 use Rattle.causal_world.proofs.world.World.undoable.Goals as goal
 
 pub returns : goal.returns

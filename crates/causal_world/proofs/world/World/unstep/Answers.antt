@@ -3,7 +3,7 @@ use Rattle.dbg_base.specs.Trees.{Program}
 use Rattle.causal_world.specs.Scenes.{Scene, scene, IsWorldOf, unmade, restored}
 use Rattle.causal_world.specs.Worlds.{last_event}
 use Rattle.causal_world.specs.Rollings.{CanTakeBack, IsStepped}
-use Rattle.causal_world.proofs.Calls.{can_take, undo_left}
+use Rattle.causal_world.proofs.WorldCallLemmas.{can_take, undo_left}
 use Rattle.causal_world.proofs.Inverses.{step_may, step_back, not_refused}
 use Rattle.causal_world.proofs.world.World.unstep.Goals as goal
 use Rattle.causal_world.proofs.world.World.unstep.Goals.{After-drop-cutoff-inside}

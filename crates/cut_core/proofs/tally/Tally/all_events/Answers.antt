@@ -1,7 +1,7 @@
 use Rattle.std.proofs.Common.{◌≡◌, length, sym, ◌∙◌, arith}
 use Rattle.std.proofs.lemmas.List.{ext_get_or, length-map}
 use Rattle.cut_core.specs.ConsistentCuts.{places}
-use Rattle.cut_core.proofs.Raising.{place_at}
+use Rattle.cut_core.proofs.RaisedCutLemmas.{place_at}
 use Rattle.cut_core.proofs.tally.Tally.all_events.Goals as goal
 
 pub returns : goal.returns

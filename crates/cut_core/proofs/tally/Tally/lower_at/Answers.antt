@@ -2,7 +2,7 @@ use Rattle.std.proofs.Common.{◌≡◌, inl, inr, ℕ, ◌+◌, ◌-◌, ◌≤
 use Rattle.std.proofs.lemmas.Bool.{cases_Bool}
 use Rattle.cut_core.specs.declared.kind.Kind.TheVariants.{Got}
 use Rattle.cut_core.specs.Tallies.{sent_by, got_by}
-use Rattle.cut_core.proofs.Lowering.{lowered_sum, lowered_by, lowered_none, lowered_more}
+use Rattle.cut_core.proofs.LoweredCutLemmas.{lowered_sum, lowered_by, lowered_none, lowered_more}
 use Rattle.cut_core.proofs.tally.Tally.lower_at.Goals as goal
 
 pub loop-from-init : goal.loop-from-init

@@ -1,7 +1,7 @@
 use Rattle.std.proofs.Common.{◌≡◌, inl, inr, ℕ, ◌<◌, List, sum, sym, ap, subst, ◌∙◌, arith}
 use Rattle.std.proofs.lemmas.Bool.{cases_eq}
 use Rattle.cut_core.specs.ConsistentCuts.{HasOrphan}
-use Rattle.cut_core.proofs.Lowering.{lowered_more}
+use Rattle.cut_core.proofs.LoweredCutLemmas.{lowered_more}
 use Rattle.cut_core.proofs.tally.Tally.lower_each.Goals as goal
 use Rattle.cut_core.proofs.tally.Tally.lower_each.Goals.{then-lower_at, else-lower_at}
 

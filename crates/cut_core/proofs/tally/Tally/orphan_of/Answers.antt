@@ -3,8 +3,8 @@ use Rattle.std.proofs.lemmas.Bool.{cases_lt}
 use Rattle.dbg_base.specs.declared.ids.Pid.{Pid}
 use Rattle.cut_core.specs.Tallies.{got_by}
 use Rattle.cut_core.specs.ConsistentCuts.{HasOrphan}
-use Rattle.cut_core.proofs.Counted.{answer_weaker}
-use Rattle.cut_core.proofs.Cutting.{orphan_from, orphan_below}
+use Rattle.cut_core.proofs.CountLemmas.{answer_weaker}
+use Rattle.cut_core.proofs.CutBoundLemmas.{orphan_from, orphan_below}
 use Rattle.cut_core.proofs.tally.Tally.orphan_of.Goals as goal
 
 pub returns : goal.returns

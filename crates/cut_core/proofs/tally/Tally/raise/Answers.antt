@@ -3,7 +3,7 @@ use Rattle.std.specs.List.{count_by}
 use Rattle.cut_core.specs.declared.kind.Kind.TheVariants.{Sent}
 use Rattle.cut_core.specs.Kinds.{sends_to}
 use Rattle.cut_core.specs.Tallies.{sent_by, got_by}
-use Rattle.cut_core.proofs.Raising.{sent_enough, raised_sum, raised_above, raised_within, raised_least}
+use Rattle.cut_core.proofs.RaisedCutLemmas.{sent_enough, raised_sum, raised_above, raised_within, raised_least}
 use Rattle.cut_core.proofs.tally.Tally.raise.Goals as goal
 
 pub nth-requires-clause-enough : goal.nth-requires-clause-enough

@@ -1,5 +1,5 @@
 use Rattle.std.proofs.Common.{arith}
-use Rattle.dbg_base.proofs.Padding.{padded}
+use Rattle.dbg_base.proofs.PaddedNameLemmas.{padded}
 use Rattle.dbg_base.proofs.name.Name.new.Goals as goal
 
 pub invariant_of-result : goal.invariant_of-result

@@ -1,7 +1,7 @@
 use Rattle.std.proofs.Common.{rules, arith, ap, ◌∙◌}
 use Rattle.dbg_board.specs.declared.glance.Glance.{Glance}
-use Rattle.dbg_board.proofs.Listed.{last_calls, last_halt}
-use Rattle.dbg_board.proofs.Steps.{looks}
+use Rattle.dbg_board.proofs.PairListLemmas.{last_calls, last_halt}
+use Rattle.dbg_board.proofs.WordStepLemmas.{looks}
 use Rattle.dbg_board.proofs.board.Board.look.Goals as goal
 
 pub load-requires : goal.load-requires

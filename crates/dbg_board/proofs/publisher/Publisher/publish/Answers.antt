@@ -1,6 +1,6 @@
 use Rattle.std.proofs.Common.{rules, ◌+◌, length, sym, ap, ◌∙◌}
 use Rattle.dbg_board.specs.Boards.{Listing}
-use Rattle.dbg_board.proofs.Steps.{publishes}
+use Rattle.dbg_board.proofs.WordStepLemmas.{publishes}
 use Rattle.dbg_board.proofs.publisher.Publisher.publish.Goals as goal
 
 pub store-requires : goal.store-requires

@@ -1,6 +1,6 @@
 use Rattle.std.proofs.Common.{rules, ap, ◌∙◌}
 use Rattle.dbg_board.specs.Rules.{Sat, hosting}
-use Rattle.dbg_board.proofs.Steps.{shows, hosts, compares}
+use Rattle.dbg_board.proofs.WordStepLemmas.{shows, hosts, compares}
 use Rattle.dbg_board.proofs.publisher.Publisher.tell.Goals as goal
 
 pub split_seat-knows_all-requires : goal.split_seat-knows_all-requires

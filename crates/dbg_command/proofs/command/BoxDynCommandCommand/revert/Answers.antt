@@ -1,4 +1,4 @@
-use Rattle.dbg_command.proofs.Boxed.{box_same}
+use Rattle.dbg_command.proofs.EqualBoxLemmas.{box_same}
 use Rattle.dbg_command.proofs.command.BoxDynCommandCommand.revert.Goals as goal
 
 pub returns-clause-unchanged : goal.returns-clause-unchanged

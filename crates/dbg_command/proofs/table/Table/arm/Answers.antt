@@ -3,9 +3,9 @@ use Rattle.proc_lang.specs.Programs.{program_of}
 use Rattle.dbg_base.specs.Calls as model
 use Rattle.dbg_command.specs.Tables.{TableState, IsTableOf, ActsOrRefuses, state_of}
 use Rattle.break_book.specs.Books.{breakpoints_of}
-use Rattle.dbg_command.proofs.Listing.{keeps_table, arms}
-use Rattle.dbg_command.proofs.Restoring.{found_unarmed}
-use Rattle.dbg_command.proofs.GoingBack.{leads_from, armed_back}
+use Rattle.dbg_command.proofs.BreakpointCommandLemmas.{keeps_table, arms}
+use Rattle.dbg_command.proofs.BreakpointListLemmas.{found_unarmed}
+use Rattle.dbg_command.proofs.CommandUndoLemmas.{leads_from, armed_back}
 use Rattle.dbg_command.proofs.table.Table.arm.Goals as goal
 
 pub returns-clause-of : goal.returns-clause-of

@@ -3,8 +3,8 @@ use Rattle.proc_lang.specs.Programs.{program_of}
 use Rattle.dbg_base.specs.Calls as model
 use Rattle.break_book.specs.Books.{breakpoint_of}
 use Rattle.dbg_command.specs.Tables.{TableState, IsTableOf, ActsOrRefuses, state_of}
-use Rattle.dbg_command.proofs.Listing.{keeps_table, clears}
-use Rattle.dbg_command.proofs.GoingBack.{leads_from, has_cleared}
+use Rattle.dbg_command.proofs.BreakpointCommandLemmas.{keeps_table, clears}
+use Rattle.dbg_command.proofs.CommandUndoLemmas.{leads_from, has_cleared}
 use Rattle.dbg_command.proofs.table.Table.clear.Goals as goal
 
 pub returns-clause-of : goal.returns-clause-of

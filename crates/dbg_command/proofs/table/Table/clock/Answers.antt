@@ -4,7 +4,7 @@ use Rattle.dbg_base.specs.SystemStates.{place_at, history_of}
 use Rattle.proc_lang.specs.Programs.{program_of}
 use Rattle.causal_world.specs.Scenes.{Scene, IsWorldOf}
 use Rattle.dbg_command.specs.Tables.{state_of}
-use Rattle.dbg_command.proofs.Told.{tells_clock}
+use Rattle.dbg_command.proofs.QueryAnswerLemmas.{tells_clock}
 use Rattle.dbg_command.proofs.table.Table.clock.Goals as goal
 
 pub returns : goal.returns

@@ -1,6 +1,6 @@
 use Rattle.proc_lang.specs.Programs.{program_of}
 use Rattle.dbg_command.specs.Tables.{state_of}
-use Rattle.dbg_command.proofs.Told.{tells_cut, tells_no_break}
+use Rattle.dbg_command.proofs.QueryAnswerLemmas.{tells_cut, tells_no_break}
 use Rattle.dbg_command.proofs.table.Table.cut.Goals as goal
 
 pub returns-in-Ok : goal.returns-in-Ok

@@ -1,4 +1,4 @@
-use Rattle.dbg_command.proofs.Told.{has_least, has_no_cut}
+use Rattle.dbg_command.proofs.QueryAnswerLemmas.{has_least, has_no_cut}
 use Rattle.dbg_command.proofs.table.Table.cut_of.Goals as goal
 
 pub returns-in_ok-copy-in-Some-cut : goal.returns-in_ok-copy-in-Some-cut

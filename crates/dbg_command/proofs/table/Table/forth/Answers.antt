@@ -2,12 +2,12 @@ use Rattle.std.proofs.Common.{◌≡◌, List, ℕ, length, sym, ap, ◌∙◌, 
 use Rattle.dbg_base.specs.SystemStates.{SystemState, after_rollback}
 use Rattle.causal_world.specs.Scenes.{Scene, IsWorldOf}
 use Rattle.break_book.specs.Books.{AreMoved, HaveRoomUpTo, breakpoints_of}
-use Rattle.break_book.proofs.Callers.{seen_breakpoints}
-use Rattle.break_book.proofs.Returning.{book_forth_from}
+use Rattle.break_book.proofs.BookCallLemmas.{seen_breakpoints}
+use Rattle.break_book.proofs.BookUndoLemmas.{book_forth_from}
 use Rattle.dbg_command.specs.Tables.{TableState, IsTableOf, state_of}
 use Rattle.dbg_command.specs.Boxes.{HasRolled, unrolled}
-use Rattle.dbg_command.proofs.Acting.{system_changed}
-use Rattle.dbg_command.proofs.GoingBack.{is_rolled}
+use Rattle.dbg_command.proofs.CommandAnswerLemmas.{system_changed}
+use Rattle.dbg_command.proofs.CommandUndoLemmas.{is_rolled}
 use Rattle.dbg_command.proofs.table.Table.forth.Goals as goal
 
 pub reserve_to-requires : goal.reserve_to-requires

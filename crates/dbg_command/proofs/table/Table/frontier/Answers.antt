@@ -1,5 +1,5 @@
 use Rattle.proc_lang.specs.Programs.{program_of}
-use Rattle.dbg_command.proofs.Told.{tells_frontier}
+use Rattle.dbg_command.proofs.QueryAnswerLemmas.{tells_frontier}
 use Rattle.dbg_command.proofs.table.Table.frontier.Goals as goal
 
 pub returns : goal.returns

@@ -2,9 +2,9 @@ use Rattle.std.proofs.Common.{sym, subst, refl}
 use Rattle.dbg_base.specs.declared.call.Plan as given
 use Rattle.dbg_base.specs.Calls.{IsOne, order_of}
 use Rattle.proc_lang.specs.Programs.{program_of}
-use Rattle.least_cut.proofs.Each.{all_at}
+use Rattle.least_cut.proofs.ListLoopLemmas.{all_at}
 use Rattle.dbg_command.specs.Tables.{state_of}
-use Rattle.dbg_command.proofs.GivenEach.{shown_state, goes_begin, goes_more, goes_refused, goes_all}
+use Rattle.dbg_command.proofs.BatchLemmas.{shown_state, goes_begin, goes_more, goes_refused, goes_all}
 use Rattle.dbg_command.proofs.table.Table.give_each.Goals as goal
 
 pub loop-i-init : goal.loop-i-init

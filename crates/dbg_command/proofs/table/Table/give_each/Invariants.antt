@@ -1,6 +1,6 @@
 use Rattle.proc_lang.specs.Programs.{program_of}
 use Rattle.dbg_command.specs.Tables.{IsTableOf, state_of}
-use Rattle.dbg_command.proofs.GivenEach.{GoesOn}
+use Rattle.dbg_command.proofs.BatchLemmas.{GoesOn}
 use Rattle.dbg_command.proofs.table.Table.give_each.Given as goal
 
 abbrev pub invariant-loop-i : goal.invariant-loop-i

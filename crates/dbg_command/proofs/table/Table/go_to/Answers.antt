@@ -2,8 +2,8 @@ use Rattle.std.proofs.Common.{ℕ, List, Option, Ok, subst}
 use Rattle.proc_lang.specs.Programs.{program_of}
 use Rattle.dbg_command.specs.Tables.{IsCutOf, state_of}
 use Rattle.dbg_command.specs.Boxes.{reply_of}
-use Rattle.dbg_command.proofs.Acting.{went_to, no_cut, not_there, consistent_least}
-use Rattle.dbg_command.proofs.GoingBack.{accepted_in}
+use Rattle.dbg_command.proofs.CommandAnswerLemmas.{went_to, no_cut, not_there, consistent_least}
+use Rattle.dbg_command.proofs.CommandUndoLemmas.{accepted_in}
 use Rattle.dbg_command.proofs.table.Table.go_to.Goals as goal
 
 pub roll_to-requires-clause-of : goal.roll_to-requires-clause-of

@@ -3,9 +3,9 @@ use Rattle.proc_lang.specs.Programs.{program_of}
 use Rattle.dbg_base.specs.Calls as model
 use Rattle.break_book.specs.Books.{Entry, breakpoints_of}
 use Rattle.dbg_command.specs.Tables.{TableState, IsTableOf, ActsOrRefuses, state_of}
-use Rattle.dbg_command.proofs.Listing.{keeps_table, passes, not_passed, not_for_memory}
-use Rattle.dbg_command.proofs.Restoring.{found_armed}
-use Rattle.dbg_command.proofs.GoingBack.{leads_from, passed_back}
+use Rattle.dbg_command.proofs.BreakpointCommandLemmas.{keeps_table, passes, not_passed, not_for_memory}
+use Rattle.dbg_command.proofs.BreakpointListLemmas.{found_armed}
+use Rattle.dbg_command.proofs.CommandUndoLemmas.{leads_from, passed_back}
 use Rattle.dbg_command.proofs.table.Table.pass.Goals as goal
 
 pub returns-in_err-pass-clause-acts : goal.returns-in_err-pass-clause-acts

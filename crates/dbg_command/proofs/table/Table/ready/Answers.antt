@@ -4,7 +4,7 @@ use Rattle.dbg_base.specs.ModelStates.{ModelState, IsHalted}
 use Rattle.proc_lang.specs.Programs.{program_of}
 use Rattle.least_cut.specs.Detectors.{one_more}
 use Rattle.break_book.specs.Books.{breakpoints_of, HaveRoomUpTo}
-use Rattle.break_book.proofs.Callers.{seen_breakpoints}
+use Rattle.break_book.proofs.BookCallLemmas.{seen_breakpoints}
 use Rattle.dbg_command.specs.Tables.{TableState, state_of}
 use Rattle.dbg_command.proofs.table.Table.ready.Goals as goal
 

@@ -1,6 +1,6 @@
 use Rattle.std.proofs.Common.{sym, subst}
 use Rattle.dbg_command.specs.Tables.{IsTableOf}
-use Rattle.dbg_command.proofs.Listing.{keeps_table}
+use Rattle.dbg_command.proofs.BreakpointCommandLemmas.{keeps_table}
 use Rattle.dbg_command.proofs.table.Table.rearm.Goals as goal
 
 pub returns-clause-of : goal.returns-clause-of

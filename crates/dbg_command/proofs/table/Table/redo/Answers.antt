@@ -1,9 +1,9 @@
 use Rattle.std.proofs.Common.{refl, sym, ap, ◌∙◌, subst}
 use Rattle.proc_lang.specs.Programs.{program_of}
-use Rattle.break_book.proofs.Callers.{book_grown_again}
+use Rattle.break_book.proofs.BookCallLemmas.{book_grown_again}
 use Rattle.dbg_command.specs.Tables.{TableState, IsTableOf, state_of}
-use Rattle.dbg_command.proofs.Acting.{redo_left, redo_next}
-use Rattle.dbg_command.proofs.GoingBack.{leads_from, redone}
+use Rattle.dbg_command.proofs.CommandAnswerLemmas.{redo_left, redo_next}
+use Rattle.dbg_command.proofs.CommandUndoLemmas.{leads_from, redone}
 use Rattle.dbg_command.proofs.table.Table.redo.Goals as goal
 
 pub grown-requires-clause-grown : goal.grown-requires-clause-grown

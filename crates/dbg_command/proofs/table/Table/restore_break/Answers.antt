@@ -1,7 +1,7 @@
 use Rattle.std.proofs.Common.{◌≡◌, ap, ◌∙◌, subst, insert}
 use Rattle.std.proofs.lemmas.Result.{on_ok_weaker}
 use Rattle.break_book.specs.Books.{Entry, breakpoints_of}
-use Rattle.break_book.proofs.Returning.{breakpoints_inserted}
+use Rattle.break_book.proofs.BookUndoLemmas.{breakpoints_inserted}
 use Rattle.dbg_command.specs.Tables.{TableState, state_of}
 use Rattle.dbg_command.specs.Boxes.{uncleared}
 use Rattle.dbg_command.proofs.table.Table.restore_break.Goals as goal

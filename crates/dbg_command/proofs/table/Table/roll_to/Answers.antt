@@ -1,11 +1,11 @@
 use Rattle.std.proofs.Common.{◌≡◌, refl, sym, ap, subst}
 use Rattle.cut_core.specs.ConsistentCuts.{IsConsistentCut}
-use Rattle.break_book.proofs.Callers.{book_moved, book_moved_room}
+use Rattle.break_book.proofs.BookCallLemmas.{book_moved, book_moved_room}
 use Rattle.dbg_command.specs.Tables.{TableState, IsTableOf, state_of}
 use Rattle.dbg_base.specs.SystemStates.{SystemState, after_rollback}
 use Rattle.dbg_base.specs.ModelStates.{with_system}
-use Rattle.dbg_command.proofs.Acting.{system_changed}
-use Rattle.dbg_command.proofs.GoingBack.{leads_from, rolled}
+use Rattle.dbg_command.proofs.CommandAnswerLemmas.{system_changed}
+use Rattle.dbg_command.proofs.CommandUndoLemmas.{leads_from, rolled}
 use Rattle.dbg_command.proofs.table.Table.roll_to.Goals as goal
 
 pub follow-requires-clause-moved : goal.follow-requires-clause-moved

@@ -4,8 +4,8 @@ use Rattle.dbg_base.specs.SystemStates.{place_at, history_of}
 use Rattle.dbg_base.specs.Reversal.{IsRollback}
 use Rattle.dbg_command.specs.Tables.{TableState, IsTableOf, state_of}
 use Rattle.dbg_command.specs.Boxes.{reply_of}
-use Rattle.dbg_command.proofs.Acting.{rolled_back}
-use Rattle.dbg_command.proofs.GoingBack.{accepted_in}
+use Rattle.dbg_command.proofs.CommandAnswerLemmas.{rolled_back}
+use Rattle.dbg_command.proofs.CommandUndoLemmas.{accepted_in}
 use Rattle.dbg_command.proofs.table.Table.rollback.Goals as goal
 
 pub returns-clause-of : goal.returns-clause-of

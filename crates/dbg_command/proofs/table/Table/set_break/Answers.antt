@@ -11,10 +11,10 @@ use Rattle.dbg_base.specs.Acts.{conjuncts_refusal}
 use Rattle.proc_lang.specs.Programs.{program_of}
 use Rattle.break_book.specs.Books.{breakpoints_of, new_breakpoint}
 use Rattle.dbg_command.specs.Tables.{TableState, Replies, ActsOrRefuses, state_of}
-use Rattle.dbg_command.proofs.Fitting.{all_known}
-use Rattle.dbg_command.proofs.Listing.{sets}
-use Rattle.dbg_command.proofs.Restoring.{free_name}
-use Rattle.dbg_command.proofs.GoingBack.{leads_from, set_back, scan_here}
+use Rattle.dbg_command.proofs.ConjunctFitLemmas.{all_known}
+use Rattle.dbg_command.proofs.BreakpointCommandLemmas.{sets}
+use Rattle.dbg_command.proofs.BreakpointListLemmas.{free_name}
+use Rattle.dbg_command.proofs.CommandUndoLemmas.{leads_from, set_back, scan_here}
 use Rattle.dbg_command.proofs.table.Table.set_break.Goals as goal
 
 pub set_fitting-requires-clause-here : goal.set_fitting-requires-clause-here

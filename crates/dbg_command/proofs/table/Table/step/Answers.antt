@@ -1,8 +1,8 @@
 use Rattle.std.proofs.Common.{refl, sym, ap, ◌∙◌, subst}
 use Rattle.proc_lang.specs.Programs.{program_of}
-use Rattle.break_book.proofs.Callers.{book_grown}
+use Rattle.break_book.proofs.BookCallLemmas.{book_grown}
 use Rattle.dbg_command.specs.Tables.{TableState, IsTableOf, state_of}
-use Rattle.dbg_command.proofs.GoingBack.{leads_from, stepped}
+use Rattle.dbg_command.proofs.CommandUndoLemmas.{leads_from, stepped}
 use Rattle.dbg_command.proofs.table.Table.step.Goals as goal
 
 pub grown-requires-clause-grown : goal.grown-requires-clause-grown

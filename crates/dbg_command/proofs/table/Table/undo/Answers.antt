@@ -6,10 +6,10 @@ use Rattle.dbg_base.specs.Calls as model
 use Rattle.causal_world.specs.Scenes.{Scene, IsWorldOf}
 use Rattle.dbg_base.specs.SystemStates.{SystemState, last_choice}
 use Rattle.proc_lang.specs.Programs.{program_of}
-use Rattle.break_book.proofs.Callers.{book_shrunk}
+use Rattle.break_book.proofs.BookCallLemmas.{book_shrunk}
 use Rattle.dbg_command.specs.Tables.{TableState, IsTableOf, ActsOrRefuses, state_of}
-use Rattle.dbg_command.proofs.Acting.{taken_back, not_taken_back, system_changed}
-use Rattle.dbg_command.proofs.GoingBack.{leads_from, rolled}
+use Rattle.dbg_command.proofs.CommandAnswerLemmas.{taken_back, not_taken_back, system_changed}
+use Rattle.dbg_command.proofs.CommandUndoLemmas.{leads_from, rolled}
 use Rattle.dbg_command.proofs.table.Table.undo.Goals as goal
 
 pub shrink-requires : goal.shrink-requires

@@ -2,11 +2,11 @@ use Rattle.std.proofs.Common.{◌≡◌, sym, ap, ◌∙◌, subst}
 use Rattle.dbg_base.specs.SystemStates.{line_of, place_at, after_undo}
 use Rattle.causal_world.specs.Scenes.{Scene, IsWorldOf}
 use Rattle.break_book.specs.Books.{AreShrunk}
-use Rattle.break_book.proofs.Returning.{book_unredone}
+use Rattle.break_book.proofs.BookUndoLemmas.{book_unredone}
 use Rattle.dbg_command.specs.Tables.{TableState, IsTableOf, state_of}
 use Rattle.dbg_command.specs.Boxes.{HasRedone, unredone}
-use Rattle.dbg_command.proofs.Acting.{system_changed, on_line}
-use Rattle.dbg_command.proofs.GoingBack.{is_redone, redo_undone}
+use Rattle.dbg_command.proofs.CommandAnswerLemmas.{system_changed, on_line}
+use Rattle.dbg_command.proofs.CommandUndoLemmas.{is_redone, redo_undone}
 use Rattle.dbg_command.proofs.table.Table.unredo.Goals as goal
 
 pub unredo-requires : goal.unredo-requires

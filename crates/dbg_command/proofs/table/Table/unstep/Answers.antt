@@ -1,11 +1,11 @@
 use Rattle.std.proofs.Common.{◌≡◌, sym, ap, ◌∙◌, subst}
 use Rattle.causal_world.specs.Scenes.{Scene, IsWorldOf, restored}
 use Rattle.break_book.specs.Books.{AreShrunk}
-use Rattle.break_book.proofs.Returning.{book_unstepped}
+use Rattle.break_book.proofs.BookUndoLemmas.{book_unstepped}
 use Rattle.dbg_command.specs.Tables.{TableState, IsTableOf, state_of}
 use Rattle.dbg_command.specs.Boxes.{HasStepped, unstepped}
-use Rattle.dbg_command.proofs.Acting.{system_changed}
-use Rattle.dbg_command.proofs.GoingBack.{is_stepped, step_undone}
+use Rattle.dbg_command.proofs.CommandAnswerLemmas.{system_changed}
+use Rattle.dbg_command.proofs.CommandUndoLemmas.{is_stepped, step_undone}
 use Rattle.dbg_command.proofs.table.Table.unstep.Goals as goal
 
 pub unstep-requires : goal.unstep-requires

@@ -1,6 +1,6 @@
 use Rattle.dbg_base.specs.Calls.{Give}
 use Rattle.dbg_command.specs.Tables.{said_of}
-use Rattle.dbg_desk.proofs.Recorded.{recorded}
+use Rattle.dbg_desk.proofs.RecordLemmas.{recorded}
 use Rattle.dbg_desk.proofs.desk.Desk.call.Goals as goal
 
 pub returns : goal.returns

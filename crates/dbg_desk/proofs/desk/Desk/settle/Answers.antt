@@ -1,4 +1,4 @@
-use Rattle.dbg_desk.proofs.Settled.{all_calls}
+use Rattle.dbg_desk.proofs.SettleLemmas.{all_calls}
 use Rattle.dbg_desk.proofs.desk.Desk.settle.Goals as goal
 
 pub returns-clause-all : goal.returns-clause-all

@@ -8,11 +8,11 @@ use Rattle.dbg_base.specs.Journals.{effective}
 use Rattle.dbg_board.specs.declared.glance.Glance.{Glance}
 use Rattle.dbg_board.specs.Boards.{Listing}
 use Rattle.dbg_command.specs.Tables.{FollowsOrRefuses, said_of}
-use Rattle.kept_calls.specs.Small.{small_call_of, small_said_of}
+use Rattle.dbg_calls.specs.Small.{small_call_of, small_said_of}
 use Rattle.dbg_desk.specs.declared.entry.Entry as entry
-use Rattle.dbg_desk.specs.declared.entry.Own as own
+use Rattle.dbg_desk.specs.declared.entry.RecordedCall as own
 use Rattle.dbg_desk.specs.Desks.{entry_of, own_of}
-use Rattle.dbg_desk.proofs.Making.{IsEntered, due_given, entered}
+use Rattle.dbg_desk.proofs.EnteredCallLemmas.{IsEntered, due_given, entered}
 use Rattle.dbg_desk.proofs.locked.Locked.enter.Goals as goal
 
 here : (g : _) (c : goal.After-enter g)
@@ -52,9 +52,9 @@ here g c =
     (ap small_call_of c.new-kept.ensures.call ∙ c.in_ok-own_call.ensures.copies ∙ c.in_ok-call.ensures.copies
     ∙ ap (λ (o : Order). Give o) c.plan.ensures)
     (ap small_said_of c.new-kept.ensures.said ∙ c.say_own.ensures)
-    (c.enter.ensures.own ∙ ap (λ (l : List own.Own). l ++ mine ∷ []) c.make_room.ensures.own)
-    (ap (λ (l : Listing). l.pairs) c.enter.ensures.told)
-    c.enter.ensures.begins
+    (c.enter.ensures.own ∙ ap (λ (l : List own.RecordedCall). l ++ mine ∷ []) c.make_room.ensures.own)
+    (ap (λ (l : Listing). l.pairs) c.enter.ensures.seen.0)
+    c.enter.ensures.seen.1
 
 pub invariant_of-self-2 : goal.invariant_of-self-2
 invariant_of-self-2 g c = (here g c).locked

@@ -6,11 +6,11 @@ use Rattle.dbg_base.specs.Journals.{effective}
 use Rattle.dbg_board.specs.declared.glance.Glance.{Glance}
 use Rattle.dbg_board.specs.Boards.{Listing}
 use Rattle.dbg_command.specs.Tables.{AnswersOrRefuses, told_of}
-use Rattle.kept_calls.specs.Small.{small_call_of, small_said_of}
+use Rattle.dbg_calls.specs.Small.{small_call_of, small_said_of}
 use Rattle.dbg_desk.specs.declared.entry.Entry as entry
-use Rattle.dbg_desk.specs.declared.entry.Own as own
+use Rattle.dbg_desk.specs.declared.entry.RecordedCall as own
 use Rattle.dbg_desk.specs.Desks.{entry_of, own_of}
-use Rattle.dbg_desk.proofs.Making.{IsEntered, due_asked, stands_still, entered}
+use Rattle.dbg_desk.proofs.EnteredCallLemmas.{IsEntered, due_asked, stands_still, entered}
 use Rattle.dbg_desk.proofs.locked.Locked.enter_ask.Goals as goal
 
 here : (g : _) (c : goal.After-enter g)
@@ -41,9 +41,9 @@ here g c =
     c.seat.invariant.among c.args.self.now c.args.seat.now mine c.seat.inside.own.items c.enter.new.own.items c.seat.inside.view.pairs
     c.enter.new.view.pairs c.self.view_is c.seat.view_is (ap small_call_of c.new-kept.ensures.call ∙ c.in_ok-own_call.ensures.copies)
     (ap small_said_of c.new-kept.ensures.said ∙ c.in_ok-own_said.ensures ∙ c.in_ok-said.ensures.said)
-    (c.enter.ensures.own ∙ ap (λ (l : List own.Own). l ++ mine ∷ []) c.make_room.ensures.own)
-    (ap (λ (l : Listing). l.pairs) c.enter.ensures.told)
-    c.enter.ensures.begins
+    (c.enter.ensures.own ∙ ap (λ (l : List own.RecordedCall). l ++ mine ∷ []) c.make_room.ensures.own)
+    (ap (λ (l : Listing). l.pairs) c.enter.ensures.seen.0)
+    c.enter.ensures.seen.1
 
 pub invariant_of-self-2 : goal.invariant_of-self-2
 invariant_of-self-2 g c = (here g c).locked

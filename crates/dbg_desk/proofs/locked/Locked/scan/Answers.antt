@@ -1,4 +1,4 @@
-use Rattle.dbg_desk.proofs.Scanned.{scans_anywhere}
+use Rattle.dbg_desk.proofs.ScanLemmas.{scans_anywhere}
 use Rattle.dbg_desk.proofs.locked.Locked.scan.Goals as goal
 
 pub returns-clause-scan : goal.returns-clause-scan

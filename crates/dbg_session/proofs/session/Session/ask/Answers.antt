@@ -1,5 +1,5 @@
 use Rattle.dbg_base.specs.Calls.{query_of}
-use Rattle.dbg_session.proofs.Fitting.{query_fits}
+use Rattle.dbg_session.proofs.AnswerFitLemmas.{query_fits}
 use Rattle.dbg_session.proofs.session.Session.ask.Goals as goal
 
 pub returns-clause-fits : goal.returns-clause-fits

@@ -2,8 +2,8 @@ use Rattle.std.proofs.Common.{inl, rules, vec_len}
 use Rattle.proc_lang.specs.Programs.{program_of}
 use Rattle.dbg_command.specs.Tables.{IsTableOf}
 use Rattle.dbg_session.proofs.Stacks.{EndsWith, last_written}
-use Rattle.dbg_session.proofs.Unwinding.{session_stands, session_kept, session_shorter, last_may_go_back, last_stays, answers_back, seen_same}
-use Rattle.dbg_session.proofs.Fitting.{plain_fits}
+use Rattle.dbg_session.proofs.StackUndoLemmas.{session_stands, session_kept, session_shorter, last_may_go_back, last_stays, answers_back, seen_same}
+use Rattle.dbg_session.proofs.AnswerFitLemmas.{plain_fits}
 use Rattle.dbg_session.proofs.session.Session.back.Given.{Over}
 use Rattle.dbg_session.proofs.session.Session.back.Goals as goal
 
@@ -34,7 +34,7 @@ returns-in_err-revert-clause-kept g c =
     seen_same g.C.Command.order c.self.inside.table c.revert.new.table c.from_residual.result (last_stays c.self.invariant ends c.revert.new.self c.in_err-revert.ensures.unchanged)
     c.in_err-revert.ensures.kept c.self.view_is
 
--- the command at the end of the stack, and the table behind it once it is taken back
+-- the command at the end of the stack, and the table after it is undone
 
 ends_of : (g : Over) (c : goal.Joined-taken g) → EndsWith c.self.inside.stack.items (vec_len c.self.inside.stack) c.in-Some.last.now
 ends_of g c = search rules

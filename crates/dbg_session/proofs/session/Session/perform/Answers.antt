@@ -1,8 +1,8 @@
 use Rattle.std.proofs.Common.{Ok, rules}
 use Rattle.proc_lang.specs.Programs.{program_of}
 use Rattle.dbg_command.specs.Tables.{FollowsOrRefuses, state_of}
-use Rattle.dbg_session.proofs.Unwinding.{session_stands, session_kept, session_longer, seen_same}
-use Rattle.dbg_session.proofs.Fitting.{order_fits}
+use Rattle.dbg_session.proofs.StackUndoLemmas.{session_stands, session_kept, session_longer, seen_same}
+use Rattle.dbg_session.proofs.AnswerFitLemmas.{order_fits}
 use Rattle.dbg_session.proofs.session.Session.perform.Goals as goal
 
 pub returns-in_err-reserve-clause-stands : goal.returns-in_err-reserve-clause-stands
@@ -10,7 +10,7 @@ returns-in_err-reserve-clause-stands g c = rw c.reserve.ensures.items (session_s
 
 pub invariant_of-self-in_err-reply : goal.invariant_of-self-in_err-reply
 invariant_of-self-in_err-reply g c =
-    rw c.reserve.ensures.items (session_kept c.self.invariant c.apply.ensures.of c.in_err-reply.ensures.kept)
+    rw c.reserve.ensures.items (session_kept c.self.invariant c.apply.ensures.of c.in_err-reply.ensures.refused.0)
 
 pub returns-in_err-reply-clause-stands : goal.returns-in_err-reply-clause-stands
 returns-in_err-reply-clause-stands g c = session_stands (invariant_of-self-in_err-reply g c)
@@ -23,13 +23,13 @@ returns-in_err-reply-clause-fits g c =
 
 pub returns-in_err-reply-clause-kept : goal.returns-in_err-reply-clause-kept
 returns-in_err-reply-clause-kept g c =
-    seen_same g.C.Command.order c.self.inside.table c.apply.new.table c.from_residual-in_err-reply.result c.reserve.ensures.items c.in_err-reply.ensures.kept c.self.view_is
+    seen_same g.C.Command.order c.self.inside.table c.apply.new.table c.from_residual-in_err-reply.result c.reserve.ensures.items c.in_err-reply.ensures.refused.0 c.self.view_is
 
 pub invariant_of-self-2 : goal.invariant_of-self-2
 invariant_of-self-2 g c =
     rw (c.push_reserved.ensures.items, c.reserve.ensures.items) (session_longer c.self.invariant c.apply.ensures.of
     (record { seat = c.args.seat; command = c.apply.new.self }) (g.C.Command.order c.args.command) c.in_ok-reply.reply
-    c.apply.ensures.same c.in_ok-reply.ensures.acts c.in_ok-reply.ensures.leads)
+    c.apply.ensures.same c.in_ok-reply.ensures.acts c.in_ok-reply.ensures.leads.1)
 
 pub returns-clause-stands : goal.returns-clause-stands
 returns-clause-stands g c = session_stands (invariant_of-self-2 g c)

@@ -1,7 +1,7 @@
 use Rattle.std.proofs.Common.{◌≡◌, ◌<◌, length, refl, sym, ◌∙◌, arith}
 use Rattle.std.specs.Prelude.{IsSome}
 use Rattle.std.specs.Option.{option_to_list}
-use Rattle.event_rows.proofs.Gathering.{made_here, lists_more, next_taken}
+use Rattle.event_rows.proofs.GatheredListLemmas.{made_here, lists_more, next_taken}
 use Rattle.event_rows.proofs.rows.Rows.gathered.Goals as goal
 
 pub list_or-requires : goal.list_or-requires

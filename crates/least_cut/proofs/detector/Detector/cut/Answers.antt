@@ -3,9 +3,9 @@ use Rattle.dbg_base.specs.SystemStates.{history_of}
 use Rattle.dbg_base.specs.Predicates.{IsLeast}
 use Rattle.least_cut.specs.Watches.{WatchRoom}
 use Rattle.least_cut.specs.Detectors.{DetectorState, conjuncts_of, lines_of, is_past_in}
-use Rattle.least_cut.proofs.Each.{found, none_more, none_left}
+use Rattle.least_cut.proofs.ListLoopLemmas.{found, none_more, none_left}
 use Rattle.least_cut.proofs.Truths.{is_past_at}
-use Rattle.least_cut.proofs.Telling.{is_own_past, own_false, own_none, told_none, told_least}
+use Rattle.least_cut.proofs.DetectorResultLemmas.{is_own_past, own_false, own_none, told_none, told_least}
 use Rattle.least_cut.proofs.detector.Detector.cut.Goals as goal
 
 pub returns-then-is_past : goal.returns-then-is_past

@@ -1,7 +1,7 @@
 use Rattle.std.proofs.Common.{◌≡◌, ◌++◌, ◌∷◌, [], length, set, refl, sym, ap, ◌∙◌, arith}
 use Rattle.std.specs.Vec.{vec_capacity}
 use Rattle.least_cut.specs.Detectors.{DetectorState}
-use Rattle.least_cut.proofs.Dropping.{has_candidate, dropped, goes_back}
+use Rattle.least_cut.proofs.DroppedStepLemmas.{has_candidate, dropped, goes_back}
 use Rattle.least_cut.proofs.detector.Detector.drop_to.Goals as goal
 
 pub set-requires : goal.set-requires

@@ -1,6 +1,6 @@
 use Rattle.std.proofs.Common.{◌<◌, length, set, ◌++◌, ◌∷◌, [], ap, ◌∙◌, rules, arith}
 use Rattle.least_cut.specs.Detectors.{DetectorState}
-use Rattle.least_cut.proofs.Steps.{candidates_sized, has_room, steps_on}
+use Rattle.least_cut.proofs.SearchStepLemmas.{candidates_sized, has_room, steps_on}
 use Rattle.least_cut.proofs.detector.Detector.eliminate.Goals as goal
 
 pub set-requires : goal.set-requires

@@ -2,14 +2,14 @@ use Rattle.std.proofs.Common.{◌≡◌, ◌≢◌, ℕ, ◌<◌, ◌≤◌, Lis
 use Rattle.std.specs.List.{AllByRecursion}
 use Rattle.std.proofs.lemmas.Bool.{cases_eq, cases_lt}
 use Rattle.cut_core.specs.declared.kind.Kind.{Kind}
-use Rattle.causal_world.proofs.Calls.{kinds_placed}
+use Rattle.causal_world.proofs.WorldCallLemmas.{kinds_placed}
 use Rattle.dbg_base.specs.Predicates.{Conjunct}
 use Rattle.least_cut.specs.Watches.{WatchRoom, conjunct_in}
 use Rattle.least_cut.specs.Searches.{steps_up_to}
 use Rattle.least_cut.specs.Detectors.{HasTruthRoom, IsSearchOf, IsLimit}
-use Rattle.least_cut.proofs.Steps.{candidates_sized}
-use Rattle.least_cut.proofs.Moving.{along_of, limit_past, moved_search, were_watches}
-use Rattle.least_cut.proofs.Growing.{limit_less}
+use Rattle.least_cut.proofs.SearchStepLemmas.{candidates_sized}
+use Rattle.least_cut.proofs.MovedDetectorLemmas.{along_of, limit_past, moved_search, were_watches}
+use Rattle.least_cut.proofs.GrownDetectorLemmas.{limit_less}
 use Rattle.least_cut.proofs.detector.Detector.follow.Goals as goal
 
 pub loop-p-init : goal.loop-p-init

@@ -5,7 +5,7 @@ use Rattle.dbg_base.specs.declared.said.Head.{Head}
 use Rattle.dbg_base.specs.declared.said.Head.TheVariants.{Past}
 use Rattle.dbg_base.specs.SystemStates.{history_of}
 use Rattle.least_cut.specs.Detectors.{conjuncts_of, lines_of, TellsFrontier, told_head}
-use Rattle.least_cut.proofs.Telling.{told_heads}
+use Rattle.least_cut.proofs.DetectorResultLemmas.{told_heads}
 use Rattle.least_cut.proofs.detector.Detector.frontier.Goals as goal
 
 pub loop-p-init : goal.loop-p-init

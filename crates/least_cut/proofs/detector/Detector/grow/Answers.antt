@@ -1,6 +1,6 @@
 use Rattle.std.proofs.Common.{◌∙◌, sym, inl, inr}
-use Rattle.least_cut.proofs.Moving.{were_watches}
-use Rattle.least_cut.proofs.Growing.{one_earlier, grown_search, grown_settled, settled_alone}
+use Rattle.least_cut.proofs.MovedDetectorLemmas.{were_watches}
+use Rattle.least_cut.proofs.GrownDetectorLemmas.{one_earlier, grown_search, grown_settled, settled_alone}
 use Rattle.least_cut.proofs.detector.Detector.grow.Goals as goal
 
 pub watch-requires-clause-was : goal.watch-requires-clause-was

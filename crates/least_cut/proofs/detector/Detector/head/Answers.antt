@@ -2,9 +2,9 @@ use Rattle.std.proofs.Common.{◌≡◌, ℕ, Bool, true, false, sym, ap, subst,
 use Rattle.dbg_base.specs.declared.said.Head.TheVariants.{At, Past}
 use Rattle.least_cut.specs.Watches.{WatchRoom}
 use Rattle.least_cut.specs.Detectors.{lines_of}
-use Rattle.least_cut.proofs.Each.{found, none_more, none_left}
+use Rattle.least_cut.proofs.ListLoopLemmas.{found, none_more, none_left}
 use Rattle.least_cut.proofs.Truths.{is_past_at}
-use Rattle.least_cut.proofs.Telling.{other_line}
+use Rattle.least_cut.proofs.DetectorResultLemmas.{other_line}
 use Rattle.least_cut.proofs.detector.Detector.head.Goals as goal
 use Rattle.least_cut.proofs.detector.Detector.head.Goals.{else-pid-p-via-then-pid-p+else-is_past, else-pid-p-via-else-pid-p}
 

@@ -1,7 +1,7 @@
 use Rattle.std.proofs.Common.{sym, ap, ◌∙◌}
 use Rattle.least_cut.specs.Watches.{WatchRoom}
 use Rattle.least_cut.specs.Detectors.{lines_of}
-use Rattle.least_cut.proofs.Each.{found, none_more, none_left}
+use Rattle.least_cut.proofs.ListLoopLemmas.{found, none_more, none_left}
 use Rattle.least_cut.proofs.Truths.{is_false_at}
 use Rattle.least_cut.proofs.detector.Detector.is_false.Goals as goal
 

@@ -1,6 +1,6 @@
 use Rattle.std.proofs.Common.{◌+◌, ◌≤◌, inr, sym, ◌∙◌, arith}
 use Rattle.dbg_base.specs.SystemStates.{place_at}
-use Rattle.least_cut.proofs.Watched.{past_within}
+use Rattle.least_cut.proofs.WatchLoopLemmas.{past_within}
 use Rattle.least_cut.proofs.detector.Detector.limit.Goals as goal
 
 pub returns-then-is_past : goal.returns-then-is_past

@@ -3,10 +3,10 @@ use Rattle.std.proofs.lemmas.List.{length-map}
 use Rattle.dbg_base.specs.Predicates.{Conjunct}
 use Rattle.cut_core.specs.declared.kind.Kind.{Kind}
 use Rattle.cut_core.specs.ConsistentCuts.{places}
-use Rattle.causal_world.proofs.Calls.{kinds_placed}
+use Rattle.causal_world.proofs.WorldCallLemmas.{kinds_placed}
 use Rattle.least_cut.specs.Watches.{WatchRoom, conjunct_in}
 use Rattle.least_cut.specs.Detectors.{HasRoomUpTo}
-use Rattle.least_cut.proofs.Moving.{search_begins, seen_kept}
+use Rattle.least_cut.proofs.MovedDetectorLemmas.{search_begins, seen_kept}
 use Rattle.least_cut.proofs.detector.Detector.new.Goals as goal
 
 pub run-requires-clause-search : goal.run-requires-clause-search

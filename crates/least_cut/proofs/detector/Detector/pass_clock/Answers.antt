@@ -4,8 +4,8 @@ use Rattle.std.proofs.lemmas.List.{get_or_past}
 use Rattle.dbg_base.specs.SystemStates.{place_at}
 use Rattle.cut_core.specs.declared.kind.Kind.{Kind}
 use Rattle.causal_world.specs.Pasts.{row_at}
-use Rattle.causal_world.proofs.Calls.{kinds_placed}
-use Rattle.least_cut.proofs.Steps.{stays, goes_on, on_sum, row_within}
+use Rattle.causal_world.proofs.WorldCallLemmas.{kinds_placed}
+use Rattle.least_cut.proofs.SearchStepLemmas.{stays, goes_on, on_sum, row_within}
 use Rattle.least_cut.proofs.detector.Detector.pass_clock.Goals as goal
 use Rattle.least_cut.proofs.detector.Detector.pass_clock.Goals.{then-pass_part, else-pass_part}
 

@@ -1,6 +1,6 @@
 use Rattle.std.proofs.Common.{◌≡◌, ℕ, ◌+◌, ◌≤◌, List, get_or, refl, ap, ◌∙◌, arith}
 use Rattle.std.proofs.lemmas.List.{get_or-set_same, get_or-set_other}
-use Rattle.least_cut.proofs.Steps.{candidates_sized, stays, goes_on}
+use Rattle.least_cut.proofs.SearchStepLemmas.{candidates_sized, stays, goes_on}
 use Rattle.least_cut.proofs.detector.Detector.pass_false.Goals as goal
 
 pub loop-self-init : goal.loop-self-init

@@ -1,4 +1,4 @@
-use Rattle.least_cut.proofs.Steps.{candidates_sized, part_step, passes_part, part_sum}
+use Rattle.least_cut.proofs.SearchStepLemmas.{candidates_sized, part_step, passes_part, part_sum}
 use Rattle.least_cut.proofs.detector.Detector.pass_part.Goals as goal
 
 pub eliminate-requires-clause-step : goal.eliminate-requires-clause-step

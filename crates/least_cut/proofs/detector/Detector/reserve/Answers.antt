@@ -5,7 +5,7 @@ use Rattle.std.proofs.lemmas.Result.{on_ok_weaker}
 use Rattle.least_cut.specs.Watches.{WatchRoom}
 use Rattle.least_cut.specs.Detectors.{DetectorState, HasTruthRoom, HasRoomUpTo, one_more}
 use Rattle.least_cut.specs.Searches.{steps_up_to}
-use Rattle.least_cut.proofs.Watched.{same_but_room, one_more_room}
+use Rattle.least_cut.proofs.WatchLoopLemmas.{same_but_room, one_more_room}
 use Rattle.least_cut.proofs.detector.Detector.reserve.Goals as goal
 
 pub returns-in_err-reserve_at-clause-same : goal.returns-in_err-reserve_at-clause-same

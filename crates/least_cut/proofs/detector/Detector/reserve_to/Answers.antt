@@ -1,5 +1,5 @@
 use Rattle.std.proofs.Common.{refl, arith}
-use Rattle.least_cut.proofs.Watched.{same_but_room}
+use Rattle.least_cut.proofs.WatchLoopLemmas.{same_but_room}
 use Rattle.least_cut.proofs.detector.Detector.reserve_to.Goals as goal
 
 pub returns-in_err-reserve_each-clause-same : goal.returns-in_err-reserve_each-clause-same

@@ -1,12 +1,12 @@
 use Rattle.std.proofs.Common.{◌≡◌, ◌≢◌, ℕ, ◌≤◌, sum, List, length, map, sym, ap, ◌∙◌, subst, arith, ⊎_elim}
 use Rattle.std.proofs.lemmas.Bool.{cases_eq}
 use Rattle.cut_core.specs.declared.kind.Kind.{Kind}
-use Rattle.causal_world.proofs.Calls.{kinds_placed}
+use Rattle.causal_world.proofs.WorldCallLemmas.{kinds_placed}
 use Rattle.least_cut.specs.Watches.{TruthLine, WatchRoom}
 use Rattle.least_cut.specs.Searches.{IsSettledAt}
 use Rattle.least_cut.specs.Detectors.{lines_of}
 use Rattle.least_cut.proofs.Trails.{still_settled}
-use Rattle.least_cut.proofs.Steps.{stays, goes_on, on_sum}
+use Rattle.least_cut.proofs.SearchStepLemmas.{stays, goes_on, on_sum}
 use Rattle.least_cut.proofs.detector.Detector.round.Goals as goal
 use Rattle.least_cut.proofs.detector.Detector.round.Goals.{then-settle, else-settle}
 

@@ -1,5 +1,5 @@
 use Rattle.std.proofs.Common.{arith}
-use Rattle.least_cut.proofs.Steps.{stays, goes_on, candidates_sum}
+use Rattle.least_cut.proofs.SearchStepLemmas.{stays, goes_on, candidates_sum}
 use Rattle.least_cut.proofs.detector.Detector.run.Goals as goal
 
 pub loop-init : goal.loop-init

@@ -1,5 +1,5 @@
 use Rattle.std.proofs.Common.{arith}
-use Rattle.least_cut.proofs.Steps.{on_sum}
+use Rattle.least_cut.proofs.SearchStepLemmas.{on_sum}
 use Rattle.least_cut.proofs.detector.Detector.settle.Goals as goal
 
 pub returns-clause-more : goal.returns-clause-more

@@ -1,7 +1,7 @@
 use Rattle.std.proofs.Common.{subst, sym, inr}
 use Rattle.least_cut.specs.Detectors.{AreWatchesOf}
-use Rattle.least_cut.proofs.Moving.{were_watches}
-use Rattle.least_cut.proofs.Growing.{one_earlier, shrunk_room, shrunk_search}
+use Rattle.least_cut.proofs.MovedDetectorLemmas.{were_watches}
+use Rattle.least_cut.proofs.GrownDetectorLemmas.{one_earlier, shrunk_room, shrunk_search}
 use Rattle.least_cut.proofs.detector.Detector.shrink.Goals as goal
 
 pub watch-requires-clause-was : goal.watch-requires-clause-was

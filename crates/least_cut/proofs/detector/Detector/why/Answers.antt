@@ -4,7 +4,7 @@ use Rattle.dbg_base.specs.SystemStates.{history_of}
 use Rattle.dbg_base.specs.Eliminations.{IsSound, reach}
 use Rattle.dbg_base.specs.Frontiers.{IsFrontier}
 use Rattle.least_cut.specs.Detectors.{conjuncts_of}
-use Rattle.least_cut.proofs.Telling.{told_sound, told_frontier}
+use Rattle.least_cut.proofs.DetectorResultLemmas.{told_sound, told_frontier}
 use Rattle.least_cut.proofs.detector.Detector.why.Goals as goal
 
 pub returns-clause-sound : goal.returns-clause-sound

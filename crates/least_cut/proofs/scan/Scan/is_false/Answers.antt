@@ -1,6 +1,6 @@
 use Rattle.std.proofs.Common.{sym, ◌∙◌}
 use Rattle.least_cut.specs.Watches.{TruthsState}
-use Rattle.least_cut.proofs.Each.{found, none_more, none_left}
+use Rattle.least_cut.proofs.ListLoopLemmas.{found, none_more, none_left}
 use Rattle.least_cut.proofs.Truths.{is_false_at}
 use Rattle.least_cut.proofs.scan.Scan.is_false.Goals as goal
 

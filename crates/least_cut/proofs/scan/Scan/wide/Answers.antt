@@ -4,7 +4,7 @@ use Rattle.dbg_base.specs.declared.ids.Pid.{Pid}
 use Rattle.std.specs.Borrow.{Bor}
 use Rattle.dbg_base.specs.Calls.{conjunct_of}
 use Rattle.least_cut.specs.Watches.{named_in}
-use Rattle.least_cut.proofs.Scanning.{scan_made}
+use Rattle.least_cut.proofs.ScanLemmas.{scan_made}
 use Rattle.least_cut.proofs.scan.Scan.wide.Goals as goal
 
 pub returns-clause-scan : goal.returns-clause-scan

@@ -3,7 +3,7 @@ use Rattle.dbg_base.specs.Trees.{tree_of}
 use Rattle.dbg_base.specs.LocalStates.{LocalState}
 use Rattle.least_cut.specs.Watches.{TruthLine, WatchState, WatchRoom}
 use Rattle.least_cut.specs.declared.watch.Watch.TheInside.{Inside}
-use Rattle.least_cut.proofs.Following.{alike_now, kept, cut, goes_on, ends}
+use Rattle.least_cut.proofs.FollowedWatchLemmas.{alike_now, kept, cut, goes_on, ends}
 use Rattle.least_cut.proofs.watch.Watch.follow.Goals as goal
 use Rattle.least_cut.proofs.watch.Watch.follow.Goals.{then-len-states, else-len-states}
 

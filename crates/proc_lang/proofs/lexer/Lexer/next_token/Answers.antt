@@ -4,7 +4,7 @@ use Rattle.std.proofs.lemmas.List.Sums.{prefix_len-le-length}
 use Rattle.dbg_base.specs.declared.limits.TheConstants.{OPEN_PARENTHESES}
 use Rattle.dbg_base.specs.Tokens.{is_space, open_behind}
 use Rattle.proc_lang.specs.Scanning.{token_of, MeetsFault}
-use Rattle.proc_lang.proofs.Lexing.{only_spaces, takes_token, meets_fault, meets_limit}
+use Rattle.proc_lang.proofs.LexerStepLemmas.{only_spaces, takes_token, meets_fault, meets_limit}
 use Rattle.proc_lang.proofs.lexer.Lexer.next_token.Goals as goal
 
 pub pass-requires : goal.pass-requires

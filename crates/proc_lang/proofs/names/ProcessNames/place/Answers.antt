@@ -1,5 +1,5 @@
 use Rattle.std.proofs.Common.{Some, None, ◌∙◌}
-use Rattle.proc_lang.proofs.Places.{found_first}
+use Rattle.proc_lang.proofs.NamePositionLemmas.{found_first}
 use Rattle.proc_lang.proofs.names.ProcessNames.place.Goals as goal
 
 pub returns-in_err-get-in-Some : goal.returns-in_err-get-in-Some

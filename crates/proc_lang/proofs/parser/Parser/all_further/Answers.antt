@@ -6,7 +6,7 @@ use Rattle.proc_lang.specs.declared.syntax.WrittenAssignment.{WrittenAssignment}
 use Rattle.proc_lang.specs.Scanning.{placed_of}
 use Rattle.proc_lang.specs.Writing.{assignment_of}
 use Rattle.proc_lang.specs.Parsing.{is_sign_token, read_further}
-use Rattle.proc_lang.proofs.Repeats.{reading_more, reading_stops, reading_ends}
+use Rattle.proc_lang.proofs.RepetitionLemmas.{reading_more, reading_stops, reading_ends}
 use Rattle.proc_lang.proofs.Commands.{further_reader, further_takes}
 use Rattle.proc_lang.proofs.parser.Parser.all_further.Goals as goal
 

@@ -4,7 +4,7 @@ use Rattle.dbg_base.specs.Grammar.{DerivesFurther}
 use Rattle.proc_lang.specs.Scanning.{placed_of}
 use Rattle.proc_lang.specs.Writing.{assignment_of}
 use Rattle.proc_lang.specs.Parsing.{is_sign_token, read_further}
-use Rattle.proc_lang.proofs.Repeats.{IsReading}
+use Rattle.proc_lang.proofs.RepetitionLemmas.{IsReading}
 use Rattle.proc_lang.proofs.Commands.{further_reader, further_takes}
 use Rattle.proc_lang.proofs.parser.Parser.all_further.Given as goal
 

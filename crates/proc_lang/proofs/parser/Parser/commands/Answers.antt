@@ -5,7 +5,7 @@ use Rattle.proc_lang.specs.declared.syntax.WrittenCommand.{WrittenCommand}
 use Rattle.proc_lang.specs.Scanning.{placed_of}
 use Rattle.proc_lang.specs.Writing.{command_of}
 use Rattle.proc_lang.specs.Parsing.{is_word_token, read_command}
-use Rattle.proc_lang.proofs.Repeats.{reading_more, reading_stops, reading_ends}
+use Rattle.proc_lang.proofs.RepetitionLemmas.{reading_more, reading_stops, reading_ends}
 use Rattle.proc_lang.proofs.Commands.{command_reader, command_takes}
 use Rattle.proc_lang.proofs.parser.Parser.commands.Goals as goal
 

@@ -3,7 +3,7 @@ use Rattle.dbg_base.specs.Grammar.{DerivesCommand}
 use Rattle.proc_lang.specs.Scanning.{placed_of}
 use Rattle.proc_lang.specs.Writing.{command_of}
 use Rattle.proc_lang.specs.Parsing.{is_word_token, read_command}
-use Rattle.proc_lang.proofs.Repeats.{IsReading}
+use Rattle.proc_lang.proofs.RepetitionLemmas.{IsReading}
 use Rattle.proc_lang.proofs.Commands.{command_reader, command_takes}
 use Rattle.proc_lang.proofs.parser.Parser.commands.Given as goal
 

@@ -5,8 +5,8 @@ use Rattle.proc_lang.specs.declared.syntax.WrittenProcess.{WrittenProcess}
 use Rattle.proc_lang.specs.Scanning.{placed_of}
 use Rattle.proc_lang.specs.Writing.{process_of}
 use Rattle.proc_lang.specs.Parsing.{is_word_token, read_process}
-use Rattle.proc_lang.proofs.Repeats.{reading_more, reading_stops, reading_ends}
-use Rattle.proc_lang.proofs.Wholes.{process_reader, process_takes}
+use Rattle.proc_lang.proofs.RepetitionLemmas.{reading_more, reading_stops, reading_ends}
+use Rattle.proc_lang.proofs.WholeTextLemmas.{process_reader, process_takes}
 use Rattle.proc_lang.proofs.parser.Parser.further_processes.Goals as goal
 
 pub returns-in_err-process-clause-read : goal.returns-in_err-process-clause-read

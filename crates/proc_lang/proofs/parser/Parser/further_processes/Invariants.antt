@@ -3,8 +3,8 @@ use Rattle.dbg_base.specs.Grammar.{DerivesProcess}
 use Rattle.proc_lang.specs.Scanning.{placed_of}
 use Rattle.proc_lang.specs.Writing.{process_of}
 use Rattle.proc_lang.specs.Parsing.{is_word_token, read_process}
-use Rattle.proc_lang.proofs.Repeats.{IsReading}
-use Rattle.proc_lang.proofs.Wholes.{process_reader, process_takes}
+use Rattle.proc_lang.proofs.RepetitionLemmas.{IsReading}
+use Rattle.proc_lang.proofs.WholeTextLemmas.{process_reader, process_takes}
 use Rattle.proc_lang.proofs.parser.Parser.further_processes.Given as goal
 
 abbrev pub invariant-loop-self : goal.invariant-loop-self

@@ -5,7 +5,7 @@ use Rattle.proc_lang.specs.declared.syntax.WrittenVariable.{WrittenVariable}
 use Rattle.proc_lang.specs.Scanning.{placed_of}
 use Rattle.proc_lang.specs.Writing.{variable_of}
 use Rattle.proc_lang.specs.Parsing.{is_word_token, read_variable}
-use Rattle.proc_lang.proofs.Repeats.{reading_more, reading_stops, reading_ends}
+use Rattle.proc_lang.proofs.RepetitionLemmas.{reading_more, reading_stops, reading_ends}
 use Rattle.proc_lang.proofs.Commands.{variable_reader, variable_takes}
 use Rattle.proc_lang.proofs.parser.Parser.variables.Goals as goal
 

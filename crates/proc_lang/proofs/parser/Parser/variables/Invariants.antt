@@ -3,7 +3,7 @@ use Rattle.dbg_base.specs.Grammar.{DerivesVariable}
 use Rattle.proc_lang.specs.Scanning.{placed_of}
 use Rattle.proc_lang.specs.Writing.{variable_of}
 use Rattle.proc_lang.specs.Parsing.{is_word_token, read_variable}
-use Rattle.proc_lang.proofs.Repeats.{IsReading}
+use Rattle.proc_lang.proofs.RepetitionLemmas.{IsReading}
 use Rattle.proc_lang.proofs.Commands.{variable_reader, variable_takes}
 use Rattle.proc_lang.proofs.parser.Parser.variables.Given as goal
 

@@ -1,5 +1,5 @@
 use Rattle.std.proofs.Common.{sym, ◌∙◌}
-use Rattle.proc_lang.proofs.Readers.{search_found, search_passed}
+use Rattle.proc_lang.proofs.ProcessSearchLemmas.{search_found, search_passed}
 use Rattle.proc_lang.proofs.program.Program.find_process.Goals as goal
 
 pub returns-then-eq : goal.returns-then-eq

@@ -2,7 +2,7 @@ use Rattle.std.proofs.Common.{◌≡◌}
 use Rattle.dbg_base.specs.Names.{place_of}
 use Rattle.dbg_base.specs.Trees.{names_of}
 use Rattle.proc_lang.specs.Programs.{program_of}
-use Rattle.proc_lang.proofs.Readers.{search_from}
+use Rattle.proc_lang.proofs.ProcessSearchLemmas.{search_from}
 use Rattle.proc_lang.proofs.program.Program.find_process.Given as goal
 
 abbrev pub invariant-loop-i : goal.invariant-loop-i

@@ -1,5 +1,5 @@
 use Rattle.std.proofs.Common.{◌≡◌, ◌-◌, length, take, drop, sym, ap, ◌∙◌, arith, length-take-le}
-use Rattle.rdbg.proofs.Fronts.{take-moved}
+use Rattle.rdbg.proofs.BufferLemmas.{take-moved}
 use Rattle.rdbg.proofs.buffer.Buffer.drop_front.Goals as goal
 
 pub returns : goal.returns

@@ -1,6 +1,6 @@
 use Rattle.std.proofs.Common.{◌≡◌, length}
 use Rattle.std.specs.Io.KnownBytes.{Keeps}
-use Rattle.devices.specs.declared.health.Health.TheVariants.{Fine}
+use Rattle.shell_io.specs.declared.health.Health.TheVariants.{Fine}
 use Rattle.rdbg.specs.Outputs.{output_contents}
 use Rattle.rdbg.proofs.output.Output.hand_on.Given as goal
 

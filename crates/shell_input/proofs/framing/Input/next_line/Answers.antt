@@ -1,7 +1,7 @@
 use Rattle.std.proofs.Common.{◌≡◌, ℕ, ap, ◌∙◌, subst}
 use Rattle.shell_input.specs.Spans.{IsUnderWay}
 use Rattle.shell_input.proofs.LineEnds.{told_so}
-use Rattle.shell_input.proofs.Reading.{reads_then, reads_same, needs_more}
+use Rattle.shell_input.proofs.ReadStepLemmas.{reads_then, reads_same, needs_more}
 use Rattle.shell_input.proofs.framing.Input.next_line.Goals as goal
 
 pub returns-in-Some-clause-reads : goal.returns-in-Some-clause-reads

@@ -1,7 +1,7 @@
 use Rattle.std.proofs.Common.{◌≡◌, ◌+◌, ◌-◌, vec_len, cond}
 use Rattle.shell_input.specs.declared.framing.TheConstants.{ROOM}
 use Rattle.shell_input.specs.Spans.{ReadsOn, ReadsAsNeeded}
-use Rattle.devices.specs.declared.health.Health.TheVariants.{Fine}
+use Rattle.shell_io.specs.declared.health.Health.TheVariants.{Fine}
 use Rattle.shell_input.proofs.framing.Input.next_line.Given as goal
 
 abbrev pub invariant-loop-next : goal.invariant-loop-next

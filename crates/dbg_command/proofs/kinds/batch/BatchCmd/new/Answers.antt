@@ -1,6 +1,6 @@
 use Rattle.std.proofs.Common.{ap}
 use Rattle.dbg_command.specs.Boxes.{is_batch}
-use Rattle.dbg_command.proofs.GivenEach.{batch_order, batch_givable}
+use Rattle.dbg_command.proofs.BatchLemmas.{batch_order, batch_givable}
 use Rattle.dbg_command.proofs.kinds.batch.BatchCmd.new.Goals as goal
 
 pub invariant_of-result : goal.invariant_of-result

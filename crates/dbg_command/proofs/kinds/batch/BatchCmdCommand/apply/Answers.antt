@@ -3,7 +3,7 @@ use Rattle.std.proofs.Math.Logic.{∥∥₁_elim}
 use Rattle.dbg_base.specs.declared.call.Plan as given
 use Rattle.dbg_base.specs.Calls.{AreCommands}
 use Rattle.dbg_command.specs.Tables.{IsGivable}
-use Rattle.dbg_command.proofs.GivenEach.{commands_prop}
+use Rattle.dbg_command.proofs.BatchLemmas.{commands_prop}
 use Rattle.dbg_command.proofs.kinds.batch.BatchCmdCommand.apply.Goals as goal
 
 pub after_batch-requires-clause-commands : goal.after_batch-requires-clause-commands

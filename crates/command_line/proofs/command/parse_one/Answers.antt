@@ -1,5 +1,0 @@
-use Rattle.std.proofs.Common.{sym}
-use Rattle.command_line.proofs.command.parse_one.Goals as goal
-
-pub returns : goal.returns
-returns c = c.parse_by_word.ensures c.args.bytes.now (sym c.next_word.ensures.word) (sym c.next_word.ensures.rest)

@@ -1,2 +1,0 @@
-mod Seats
-mod Crews

@@ -1,0 +1,157 @@
+-- The answer to a call, and the value under the lock after it.
+use Rattle.std.proofs.Common.{◌≡◌, inl, inr, ℕ, suc, ◌<◌, List, [], ◌∷◌, ◌++◌, length, map, Result, Ok, Err, sym, ap}
+use Rattle.std.proofs.Common.{◌∙◌, subst, arith}
+use Rattle.std.specs.Prelude.{◌⊎◌}
+use Rattle.std.specs.List.{AllByRecursion}
+use Rattle.std.proofs.lemmas.List.{length-map, map_push, length_push}
+use Rattle.dbg_base.specs.declared.limits.TheConstants.{CALLS}
+use Rattle.dbg_base.specs.declared.refusal.Refusal.{Refusal}
+use Rattle.dbg_base.specs.declared.refusal.Refusal.TheVariants.{Memory}
+use Rattle.dbg_base.specs.declared.said.Answer.{Answer}
+use Rattle.dbg_base.specs.declared.said.Reply.{Reply}
+use Rattle.dbg_base.specs.declared.said.Said.{Said}
+use Rattle.dbg_base.specs.declared.said.Said.TheVariants.{Refused}
+use Rattle.dbg_base.specs.Trees.{Program}
+use Rattle.dbg_base.specs.Calls.{Order, Query, Call, Give, Back, Ask, call_of}
+use Rattle.dbg_base.specs.ModelStates.{ModelState, IsHaltPlace}
+use Rattle.dbg_base.specs.Journals.{Entry, Given, Journal, StandsAt, IsDue, AnswersBack, IsLegal, counting, effective, last_given}
+use Rattle.dbg_laws.proofs.LegalJournalLemmas.{effective_more, legal_more}
+use Rattle.dbg_calls.specs.Small.{small_call_of, small_said_of}
+use Rattle.dbg_board.specs.declared.glance.Glance.{Glance}
+use Rattle.dbg_board.specs.Pairs.{Begins}
+use Rattle.dbg_command.specs.Tables.{FollowsOrRefuses, AnswersOrRefuses, said_of, told_of}
+use Rattle.dbg_session.specs.Sessions.{SessionState}
+use Rattle.dbg_desk.specs.declared.entry.Entry as entry
+use Rattle.dbg_desk.specs.declared.entry.RecordedCall as own
+use Rattle.dbg_desk.specs.Desks.{RecordedCall, Standing, SeatState, IsAmong, Shows, ArePairs, IsLocked, Notes, entry_of, own_of}
+use Rattle.dbg_desk.proofs.BoardPairLemmas.{pairs_more, all_more}
+
+-- the answer to the call is due to it, if memory did not run out
+
+refused_memory : (result : Result Reply Refusal) → said_of result ≡ Refused Memory → result ≡ Err Memory
+refused_memory (Ok reply) is = cc
+refused_memory (Err refusal) is = let same : refusal ≡ Memory = cc in ap (λ (r : Refusal). Err r) same
+
+pub due_given : (P : Program) (given : List Given) (seat : ℕ) (order : Order) (M after : ModelState) (result : Result Reply Refusal)
+    → StandsAt P given M → FollowsOrRefuses P order M result after → (result ≡ Err Memory → ⊥)
+    → IsDue P given seat (Give order) (said_of result)
+due_given P given seat order M after result stands (inl follows) there = (M, after, stands, follows)
+due_given P given seat order M after result stands (inr refuses) there = absurd (there (refused_memory result refuses.0))
+
+pub due_back : (P : Program) (given : List Given) (seat : ℕ) (result : Result Reply Refusal)
+    → AnswersBack P given seat (last_given given) (said_of result) ⊎ (result ≡ Err Memory) → (result ≡ Err Memory → ⊥)
+    → IsDue P given seat Back (said_of result)
+due_back P given seat result (inl due) there = due
+due_back P given seat result (inr memory) there = absurd (there memory)
+
+pub due_asked : (P : Program) (given : List Given) (seat : ℕ) (query : Query) (M : ModelState) (result : Result Answer Refusal)
+    → StandsAt P given M → AnswersOrRefuses P M query result → (result ≡ Err Memory → ⊥)
+    → IsDue P given seat (Ask query) (told_of result)
+due_asked P given seat query M result stands (inl answers) there = (M, stands, answers)
+due_asked P given seat query M result stands (inr memory) there = absurd (there memory)
+
+-- a call that was made
+
+-- The value under the lock once the call was entered, and what the seat and the board show of it.
+pub record IsEntered (P : Program) (seats : ℕ) (call : Call) (said : Said) (old : Standing) (was : SeatState) (after : SessionState)
+    (J : Journal) (told : List Glance) (now : SeatState) : Type 0 where
+  pub locked : IsLocked P seats after J told
+  pub notes : Notes P old was call said (record { journal = J; pairs = told }) now
+
+-- a session that was not called has the same state
+pub stands_still : (P : Program) (seats : ℕ) (session : SessionState) (J : Journal) (pairs : List Glance)
+    → IsLocked P seats session J pairs → StandsAt session.program session.effective session.state
+stands_still P seats session J pairs locked =
+    subst (λ (Q : Program). StandsAt Q session.effective session.state) (sym locked.program)
+    (subst (λ (given : List Given). StandsAt P given session.state) (sym locked.effective) locked.stands)
+
+module _ (P : Program) (seats : ℕ) (session : SessionState) (items : List entry.Entry) (pairs : List Glance)
+    (locked : IsLocked P seats session (map entry_of items) pairs) (seat : ℕ) (call : Call) (said : Said) (few : length items < CALLS)
+    (due : IsDue P (effective (map entry_of items)) seat call said) where
+  abbrev J : Journal
+  J = map entry_of items
+
+  abbrev one : Entry
+  one = record { seat = seat; call = call; said = said }
+
+  size : length J ≡ length items
+  size = length-map items entry_of
+
+  module _ (kept : entry.Entry) (of_seat : kept.seat ≡ seat) (of_call : call_of kept.call ≡ call) (of_said : kept.said ≡ said)
+      (others : List entry.Entry) (pushed : others ≡ items ++ kept ∷ []) where
+    longer : map entry_of others ≡ J ++ one ∷ []
+    longer =
+        ap (λ (l : List entry.Entry). map entry_of l) pushed ∙ map_push entry_of items kept
+        ∙ ap (λ (e : Entry). J ++ e ∷ []) (λ i. record { seat = of_seat i; call = of_call i; said = of_said i })
+
+    module _ (after : SessionState) (same : after.program ≡ session.program)
+        (counts : after.effective ≡ counting session.effective seat call said)
+        (stands : StandsAt after.program after.effective after.state) (halt : ℕ)
+        (halts : IsHaltPlace after.program after.state halt) (calls : ℕ) (long : calls ≡ length others) where
+      abbrev pair : Glance
+      pair = record { calls = calls; halt = halt }
+
+      program : after.program ≡ P
+      program = same ∙ locked.program
+
+      now : after.effective ≡ effective (map entry_of others)
+      now =
+          counts ∙ ap (λ (given : List Given). counting given seat call said) locked.effective
+          ∙ sym (effective_more J one) ∙ sym (ap effective longer)
+
+      stands_now : StandsAt P (effective (map entry_of others)) after.state
+      stands_now =
+          subst (λ (Q : Program). StandsAt Q (effective (map entry_of others)) after.state) program
+          (subst (λ (given : List Given). StandsAt after.program given after.state) now stands)
+
+      shows : Shows P (map entry_of others) pair
+      shows = record {
+        calls = long ∙ sym (length-map others entry_of);
+        state = after.state;
+        stands = stands_now;
+        halt = subst (λ (Q : Program). IsHaltPlace Q after.state halt) program halts;
+      }
+
+      module _ (told : List Glance) (published : told ≡ pairs ++ pair ∷ []) where
+        locked_more : IsAmong seats seat → IsLocked P seats after (map entry_of others) told
+        locked_more among = record {
+          program = program;
+          legal = subst (IsLegal P) (sym longer) (legal_more P J one locked.legal (let l = size in omega (arith, few, l)) due);
+          effective = now;
+          stands = stands_now;
+          among = subst (AllByRecursion (λ (e : Entry). IsAmong seats e.seat)) (sym longer)
+              (all_more (λ (e : Entry). IsAmong seats e.seat) J one locked.among among);
+          shown = subst (ArePairs P [] (map entry_of others)) (sym published)
+              (subst (λ (K : Journal). ArePairs P [] K (pairs ++ pair ∷ [])) (sym longer)
+              (pairs_more P [] J pairs one pair locked.shown (subst (λ (K : Journal). Shows P K pair) longer shows)));
+        }
+
+        -- the call was entered, recorded and shown
+        pub entered : IsAmong seats seat → (old : Standing) (was : SeatState) (mine : own.RecordedCall) (owns more : List own.RecordedCall)
+            (seen sees : List Glance) → record { journal = J; pairs = pairs } ≡ old
+            → record { number = seat; own = map own_of owns; seen = seen } ≡ was → small_call_of mine.call ≡ call
+            → small_said_of mine.said ≡ said → more ≡ owns ++ mine ∷ [] → sees ≡ told → Begins seen sees
+            → IsEntered P seats call said old was after (map entry_of others) told (record { number = seat; own = map own_of more; seen = sees })
+        entered among old was mine owns more seen sees of was_seat own_call own_said kept_too same_seen begins =
+            let size : length (map entry_of others) ≡ suc (length old.journal) =
+            let more = ap (λ (K : Journal). length K) longer in
+            let one_more = length_push J one in
+            let before = ap (λ (s : Standing). length s.journal) of in
+            omega (arith, more, one_more, before) in
+            record {
+              locked = locked_more among;
+              notes = inl (
+                size,
+                record {
+                  number = ap (λ (s : SeatState). s.number) was_seat;
+                  own = ap (λ (l : List own.RecordedCall). map own_of l) kept_too ∙ map_push own_of owns mine
+                      ∙ ap (λ (e : RecordedCall). map own_of owns ++ e ∷ []) (λ i. record { call = own_call i; said = own_said i })
+                      ∙ ap (λ (s : SeatState). s.own ++ record { call = call; said = said } ∷ []) was_seat;
+                  pair = pair;
+                  shows = shows;
+                  shown = published ∙ ap (λ (s : Standing). s.pairs ++ pair ∷ []) of;
+                  seen = same_seen;
+                  begins = subst (λ (l : List Glance). Begins l sees) (ap (λ (s : SeatState). s.seen) was_seat) begins;
+                },
+              );
+            }

@@ -1,0 +1,3 @@
+pub mod UndoneOrderLemmas
+pub mod EventNumberLemmas
+pub mod EventClockLemmas

@@ -1,0 +1,11 @@
+//! The events of a world in a linear extension of their causal order: each once, and none before one that it depends on. Each has its
+//! clock.
+#![tactic(auto)]
+
+mod clock;
+mod order;
+mod timed;
+
+pub use clock::clock_behind;
+pub use order::event_order;
+pub use timed::{TimedEvent, timed_events};

@@ -1,3 +1,0 @@
-pub mod Undoing
-pub mod Numbering
-pub mod Timing

@@ -1,8 +1,0 @@
-use Rattle.std.proofs.Common.{◌≡◌, ◌++◌, true, take}
-use Rattle.dbg_base.specs.Calls.{plans_in}
-use Rattle.kept_calls.specs.Flat.{are_ones}
-use Rattle.kept_calls.proofs.copies.+ones.Given as goal
-
-abbrev pub invariant-add_copies-loop-plan : goal.invariant-add_copies-loop-plan
-invariant-add_copies-loop-plan l =
-    (plans_in l.made.items ≡ plans_in l.fn.ones.items ++ plans_in (take l.plan-index l.plans.items)) × (are_ones l.made.items ≡ true)

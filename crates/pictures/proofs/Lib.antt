@@ -1,2 +1,0 @@
-pub mod Logging
-mod LogRows

@@ -1,8 +1,0 @@
-use Rattle.proc_lang.specs.Programs.{program_of}
-use Rattle.refusals.proofs.crews.begin_and_work.Given as goal
-
-abbrev pub ghosts-work-L-Ledger : goal.ghosts-work-L-Ledger
-ghosts-work-L-Ledger g a = record { name = a.beginning.blank.name; parts = a.beginning.blank.parts }
-
-abbrev pub ghosts-work-L-Run : goal.ghosts-work-L-Run
-ghosts-work-L-Run g a = record { program = program_of a.beginning.program; board = a.beginning.board; seats = 3 }

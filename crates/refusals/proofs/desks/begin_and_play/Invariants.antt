@@ -1,8 +1,0 @@
-use Rattle.proc_lang.specs.Programs.{program_of}
-use Rattle.refusals.proofs.desks.begin_and_play.Given as goal
-
-abbrev pub ghosts-play-L-Ledger : goal.ghosts-play-L-Ledger
-ghosts-play-L-Ledger g a = record { name = a.beginning.blank.name; parts = a.beginning.blank.parts }
-
-abbrev pub ghosts-play-L-Run : goal.ghosts-play-L-Run
-ghosts-play-L-Run g a = record { program = program_of a.beginning.program; board = a.beginning.board; seats = 3 }

@@ -1,8 +1,0 @@
-use Rattle.reply_lines.proofs.Writing.{puts_kept, puts_then, puts_stopped}
-use Rattle.reply_lines.proofs.parts.put_pair.Goals as goal
-
-pub returns-in_err-make_room : goal.returns-in_err-make_room
-returns-in_err-make_room g c = puts_stopped _ c.in_err-make_room.ensures.puts c.from_residual.ensures.1
-
-pub returns : goal.returns
-returns g c = puts_then c.in_ok-make_room.ensures.puts (puts_kept _ _ _ _ c.append_pair.ensures)

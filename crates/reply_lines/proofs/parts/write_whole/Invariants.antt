@@ -1,9 +1,0 @@
-use Rattle.std.proofs.Common.{length}
-use Rattle.reply_lines.specs.Writing.{Progress}
-use Rattle.reply_lines.proofs.parts.write_whole.Given as goal
-
-abbrev pub invariant-loop-rest : goal.invariant-loop-rest
-invariant-loop-rest g l = Progress (g.W.Sink.seen l.fn.writer) (g.W.Sink.seen l.writer) l.fn.bytes l.rest
-
-abbrev pub decreases-loop-rest : goal.decreases-loop-rest
-decreases-loop-rest g l = length l.rest

@@ -1,4 +1,0 @@
-pub mod Outcomes
-pub mod Writing
-pub mod Pieces
-pub mod Closings

@@ -1,0 +1,12 @@
+//! Readers and writers that know whether they have failed. A device that has failed is not called again.
+#![tactic(auto)]
+
+mod closed_lines;
+mod health;
+mod noted;
+mod streams;
+
+pub use closed_lines::{ClosedLines, one_behind_the_other};
+pub use health::Health;
+pub use noted::Noted;
+pub use streams::{Sink, Source};

@@ -1,0 +1,124 @@
+//! A reader or a writer, with a note of whether it has failed.
+
+ghost use Rattle.std.specs.Prelude.{◌≡◌, [], IfOk, OnOk};
+ghost use Rattle.std.specs.Io.{ReadsAtMost, WritesAtMost};
+ghost use Rattle.std.specs.Io.KnownBytes.{Keeps, ReadConsumes, WriteAppends};
+ghost use Rattle.shell_io.specs.declared.health.Health.TheVariants.{Fine};
+ghost use Rattle.shell_io.specs.Healths.{behind};
+ghost use Rattle.shell_io.specs.Seen.{seen_noted};
+
+use crate::health::Health;
+use crate::streams::{Sink, Source};
+use std::io::{Error, ErrorKind, Read, Result, Write};
+
+/// A reader or a writer that is not called again once it has failed: each further call returns an error. A write that accepts no byte is a
+/// failure.
+#[derive(Drop)]
+pub struct Noted<D> {
+    device: D,
+    health: Health,
+}
+
+impl<D> Noted<D> {
+    /// A device that has not failed. It does not allocate.
+    pub fn new(device: D) -> Noted<D>
+        ensures device { result.device ≡ device }
+        ensures fine { result.health ≡ Fine }
+    {
+        Noted {
+            device,
+            health: Health::Fine,
+        }
+    }
+
+    /// Whether the device has failed.
+    pub fn health(&self) -> Health
+        ensures { result ≡ self.now.health }
+    {
+        self.health
+    }
+
+    /// The device, by reference.
+    pub fn device(&self) -> &D
+        ensures { result.now ≡ self.now.device }
+    {
+        &self.device
+    }
+
+    /// The device.
+    pub fn into_inner(self) -> D
+        ensures { result ≡ self.device }
+    {
+        self.device
+    }
+
+    /// Succeeds, unless the device has failed. Then it returns an error, and notes that a further call was made.
+    pub fn go_on(&mut self) -> Result<()>
+        ensures device { self.new.device ≡ self.old.device }
+        ensures fine { OnOk result ((self.old.health ≡ Fine) × (self.new ≡ self.old)) }
+        ensures health { self.new.health ≡ behind self.old.health result }
+    {
+        if self.health == Health::Fine {
+            return Ok(());
+        }
+        self.health = Health::TriedAgain;
+        Err(Error::from(ErrorKind::Other))
+    }
+
+    // Notes whether a call of the device failed.
+    fn note<T>(&mut self, outcome: &Result<T>)
+        requires { self.old.health ≡ Fine }
+        ensures device { self.new.device ≡ self.old.device }
+        ensures health { self.new.health ≡ behind Fine outcome.now }
+    {
+        if outcome.is_err() {
+            self.health = Health::Failed;
+        }
+    }
+}
+
+impl<R: Read> Source for Noted<R> {
+    ghost remaining = { λ noted. R.remaining noted.device };
+
+    ghost health = { λ noted. noted.health };
+
+    fn read(&mut self, bytes: &mut [u8]) -> Result<usize>
+        ensures bound { ReadsAtMost result bytes.new }
+        ensures bytes { ReadConsumes (R.remaining self.old.device) (R.remaining self.new.device) result bytes.new }
+        ensures health { self.new.health ≡ behind self.old.health result }
+    {
+        self.go_on()?;
+        let outcome = self.device.read(bytes);
+        self.note(&outcome);
+        outcome
+    }
+}
+
+impl<W: Write> Sink for Noted<W> {
+    ghost seen = { seen_noted W.contents };
+
+    fn write(&mut self, bytes: &[u8]) -> Result<usize>
+        ensures bound { WritesAtMost result bytes.now }
+        ensures bytes { WriteAppends (W.contents self.old.device) (W.contents self.new.device) result bytes.now }
+        ensures takes { IfOk result (λ count. count ≡ 0 → bytes.now ≡ []) }
+        ensures health { self.new.health ≡ behind self.old.health result }
+    {
+        self.go_on()?;
+        let outcome = match self.device.write(bytes) {
+            Ok(0) if !bytes.is_empty() => Err(Error::from(ErrorKind::WriteZero)),
+            outcome => outcome,
+        };
+        self.note(&outcome);
+        outcome
+    }
+
+    fn flush(&mut self) -> Result<()>
+        ensures bytes { Keeps (W.contents self.old.device) (W.contents self.new.device) }
+        ensures health { self.new.health ≡ behind self.old.health result }
+    {
+        self.go_on()?;
+        let outcome = self.device.flush();
+        self.note(&outcome);
+        outcome
+    }
+}

@@ -1,0 +1,4 @@
+pub mod WriteLemmas
+pub mod PairLemmas
+pub mod CountLemmas
+pub mod QuestionLemmas

@@ -1,0 +1,425 @@
+//! Lines, composed word by word and then written.
+
+ghost use Rattle.std.specs.Prelude.{◌≡◌, ◌≤◌, ◌+◌, ◌++◌, [], ◌∷◌, map, length, slice_get, codes, IfOk, IfSome};
+ghost use Rattle.std.specs.Option.{option_map};
+ghost use Rattle.std.specs.Fmt.{decimal, signed_decimal};
+ghost use Rattle.dbg_base.specs.Trees.{process_of, names_of};
+ghost use Rattle.dbg_base.specs.Replies.{joined, spaced, pair_words, mark_word, halted_words, name_of};
+ghost use Rattle.dbg_base.specs.Shell.{as_line};
+ghost use Rattle.proc_lang.specs.Programs.{program_of};
+ghost use Rattle.shell_print.specs.Writing.{Writes, Puts, in_a_row};
+ghost use Rattle.shell_print.specs.declared.parts.TheConstants.{PAIR, LINE};
+ghost use Rattle.shell_print.specs.Pieces.{term_text, item_text, word_texts, names_in, amount_texts, piece_words};
+
+use crate::outcome::ServeFault;
+use crate::text::Text;
+use dbg_base::{Head, Name, Pid};
+use itoa::Buffer;
+use proc_lang::Program;
+use shell_io::Sink;
+
+// Room for a space, a name, a sign and a number.
+const PAIR: usize = 80;
+// Room for a line. A longer line is written in pieces: what is composed is written when there is no room left for a pair.
+const LINE: usize = 256;
+
+/// A fixed word of a line.
+#[derive(Clone, Copy)]
+pub(crate) enum Term {
+    At,
+    Commands,
+    Halted,
+    No,
+    None,
+    Of,
+    Past,
+    Processes,
+    Yes,
+}
+
+impl Term {
+    fn text(self) -> &'static [u8]
+        ensures text { result.now ≡ term_text self }
+        ensures short { length result.now ≤ 40 }
+    {
+        match self {
+            Term::At => b"at",
+            Term::Commands => b"commands",
+            Term::Halted => b"halted",
+            Term::No => b"no",
+            Term::None => b"none",
+            Term::Of => b"of",
+            Term::Past => b"past",
+            Term::Processes => b"processes",
+            Term::Yes => b"yes",
+        }
+    }
+}
+
+/// The content of a word.
+#[derive(Clone, Copy)]
+pub(crate) enum Item<'a> {
+    Term(Term),
+    Name(&'a Name),
+    /// The name of a process.
+    Process(&'a Program, Pid),
+    Count(u32),
+    Size(usize),
+    Number(i64),
+}
+
+/// Words of one kind.
+#[derive(Clone, Copy)]
+pub(crate) enum Words<'a> {
+    Numbers(&'a [i64]),
+    /// Breakpoints, each with its mark.
+    Marks(&'a [(Name, bool)]),
+}
+
+/// Names of a program, in order.
+#[derive(Clone, Copy)]
+pub(crate) enum Names<'a> {
+    Processes(&'a Program),
+    /// The names of the variables of a process.
+    Variables(&'a Program, Pid),
+}
+
+/// The values for some names, in order.
+#[derive(Clone, Copy)]
+pub(crate) enum Amounts<'a> {
+    Counts(&'a [u32]),
+    Numbers(&'a [i64]),
+    /// Components of a frontier.
+    Heads(&'a [Head]),
+}
+
+/// A part of a line.
+#[derive(Clone, Copy)]
+pub(crate) enum Piece<'a> {
+    /// One word.
+    Item(Item<'a>),
+    /// Two counts.
+    Counts(u32, u32),
+    /// No word.
+    Nothing,
+    /// Each of these.
+    Words(Words<'a>),
+    /// Names, each with its value.
+    Pairs(Names<'a>, Amounts<'a>),
+    /// The breakpoint that halts the session, if any.
+    Halted(&'a Option<Name>),
+}
+
+/// Writes all of the bytes. After a failure it does not call the writer again.
+pub fn write_whole<W: Sink>(writer: &mut W, bytes: &[u8]) -> Result<(), ServeFault>
+    ensures { Writes (W.seen writer.old) (W.seen writer.new) result bytes.now }
+{
+    let mut rest = bytes;
+    while !rest.is_empty() {
+        match writer.write(rest) {
+            Ok(n) => rest = &rest[n..],
+            Err(_) => return Err(ServeFault::Write),
+        }
+    }
+    Ok(())
+}
+
+// Makes room for a pair. If there is less, it writes what is composed.
+fn make_room<W: Sink>(text: &mut Text<LINE>, writer: &mut W) -> Result<(), ServeFault>
+    ensures puts { Puts (W.seen writer.old) text.old (W.seen writer.new) text.new result [] }
+    ensures room { IfOk result (λ _. length text.new + PAIR ≤ LINE) }
+{
+    if text.room() >= PAIR {
+        return Ok(());
+    }
+    write_whole(writer, text.bytes())?;
+    text.clear();
+    Ok(())
+}
+
+// Appends the name of a process.
+fn append_process(text: &mut Text<LINE>, program: &Program, pid: Pid)
+    requires { length text.old + 40 ≤ LINE }
+    ensures { text.new ≡ text.old ++ name_of (program_of program.now) pid.0 }
+{
+    if let Some(name) = program.process_name(pid) {
+        text.append(name.bytes());
+    }
+}
+
+// Appends an item.
+fn append_item(text: &mut Text<LINE>, item: &Item<'_>)
+    requires { length text.old + 40 ≤ LINE }
+    ensures { text.new ≡ text.old ++ item_text item.now }
+{
+    match item {
+        Item::Term(term) => text.append(term.text()),
+        Item::Name(name) => text.append(name.bytes()),
+        Item::Process(program, pid) => append_process(text, program, *pid),
+        Item::Count(count) => text.append(Buffer::new().format(*count).as_bytes()),
+        Item::Size(size) => text.append(Buffer::new().format(*size).as_bytes()),
+        Item::Number(number) => text.append(Buffer::new().format(*number).as_bytes()),
+    }
+}
+
+// Puts a space and an item.
+fn put_item<W: Sink>(
+    item: &Item<'_>,
+    text: &mut Text<LINE>,
+    writer: &mut W,
+) -> Result<(), ServeFault>
+    ensures { Puts (W.seen writer.old) text.old (W.seen writer.new) text.new result (codes " " ++ item_text item.now) }
+{
+    make_room(text, writer)?;
+    text.push(b' ');
+    append_item(text, item);
+    Ok(())
+}
+
+// Appends a space, a name, a sign and a short text.
+fn append_pair(text: &mut Text<LINE>, name: &Name, sign: u8, short: &[u8])
+    requires room { length text.old + PAIR ≤ LINE }
+    requires short { length short.now ≤ 40 }
+    ensures { text.new ≡ text.old ++ (codes " " ++ name.now ++ (sign ∷ []) ++ short.now) }
+{
+    text.push(b' ');
+    text.append(name.bytes());
+    text.push(sign);
+    text.append(short);
+}
+
+// Puts a space, a name, a sign and a short text.
+fn put_pair<W: Sink>(
+    name: &Name,
+    sign: u8,
+    short: &[u8],
+    text: &mut Text<LINE>,
+    writer: &mut W,
+) -> Result<(), ServeFault>
+    requires { length short.now ≤ 40 }
+    ensures { Puts (W.seen writer.old) text.old (W.seen writer.new) text.new result
+        (codes " " ++ name.now ++ (sign ∷ []) ++ short.now) }
+{
+    make_room(text, writer)?;
+    append_pair(text, name, sign, short);
+    Ok(())
+}
+
+fn process_at(program: &Program, place: usize) -> Option<Name>
+    ensures { result ≡ slice_get (names_of (program_of program.now)) place }
+{
+    if place >= program.processes() as usize {
+        return None;
+    }
+    program.process_name(Pid(place as u32))
+}
+
+fn variable_at(program: &Program, pid: Pid, place: usize) -> Option<Name>
+    ensures { result ≡ slice_get (map (λ variable. variable.0) (process_of (program_of program.now) pid.0).variables) place }
+{
+    if place >= program.variables(pid) as usize {
+        return None;
+    }
+    program.variable_name(pid, place as u32)
+}
+
+impl Names<'_> {
+    fn at(&self, place: usize) -> Option<Name>
+        ensures { result ≡ slice_get (names_in self.now) place }
+    {
+        match self {
+            Names::Processes(program) => process_at(program, place),
+            Names::Variables(program, pid) => variable_at(program, *pid, place),
+        }
+    }
+}
+
+impl Amounts<'_> {
+    // The text of the value at this position. The text of a number is in the buffer.
+    fn text_at<'b>(&self, place: usize, buffer: &'b mut Buffer) -> Option<&'b [u8]>
+        ensures text { option_map (λ text. text.now) result ≡ slice_get (amount_texts self.now) place }
+        ensures short { IfSome result (λ text. length text.now ≤ 40) }
+    {
+        match self {
+            Amounts::Counts(counts) => Some(buffer.format(*counts.get(place)?).as_bytes()),
+            Amounts::Numbers(numbers) => Some(buffer.format(*numbers.get(place)?).as_bytes()),
+            Amounts::Heads(heads) => match heads.get(place)? {
+                Head::At(count) => Some(buffer.format(*count).as_bytes()),
+                Head::Past => Some(b"past"),
+            },
+        }
+    }
+
+    fn len(&self) -> usize
+        ensures { result ≡ length (amount_texts self.now) }
+    {
+        match self {
+            Amounts::Counts(counts) => counts.len(),
+            Amounts::Numbers(numbers) => numbers.len(),
+            Amounts::Heads(heads) => heads.len(),
+        }
+    }
+}
+
+// Puts each name with its value, as long as there are both.
+fn put_pairs<W: Sink>(
+    names: &Names<'_>,
+    amounts: &Amounts<'_>,
+    text: &mut Text<LINE>,
+    writer: &mut W,
+) -> Result<(), ServeFault>
+    ensures { Puts (W.seen writer.old) text.old (W.seen writer.new) text.new result
+        (spaced (pair_words (names_in names.now) (amount_texts amounts.now))) }
+{
+    let mut buffer = Buffer::new();
+    for place in 0..amounts.len() {
+        let Some(name) = names.at(place) else {
+            break;
+        };
+        let Some(amount) = amounts.text_at(place, &mut buffer) else {
+            break;
+        };
+        put_pair(&name, b'=', amount, text, writer)?;
+    }
+    Ok(())
+}
+
+// Puts a space and a number.
+fn put_number<W: Sink>(
+    number: &i64,
+    text: &mut Text<LINE>,
+    writer: &mut W,
+) -> Result<(), ServeFault>
+    ensures { Puts (W.seen writer.old) text.old (W.seen writer.new) text.new result (codes " " ++ signed_decimal number.now) }
+{
+    put_item(&Item::Number(*number), text, writer)
+}
+
+// Puts the numbers.
+fn put_numbers<W: Sink>(
+    numbers: &[i64],
+    text: &mut Text<LINE>,
+    writer: &mut W,
+) -> Result<(), ServeFault>
+    ensures { Puts (W.seen writer.old) text.old (W.seen writer.new) text.new result (spaced (map signed_decimal numbers.now)) }
+{
+    for number in numbers {
+        put_number(number, text, writer)?;
+    }
+    Ok(())
+}
+
+// Puts a breakpoint, with its mark.
+fn put_mark<W: Sink>(
+    mark: &(Name, bool),
+    text: &mut Text<LINE>,
+    writer: &mut W,
+) -> Result<(), ServeFault>
+    ensures { Puts (W.seen writer.old) text.old (W.seen writer.new) text.new result (codes " " ++ mark_word mark.now) }
+{
+    let armed: &[u8] = if mark.1 { b"on" } else { b"off" };
+    put_pair(&mark.0, b' ', armed, text, writer)
+}
+
+// Puts the breakpoints, each with its mark.
+fn put_marks<W: Sink>(
+    marks: &[(Name, bool)],
+    text: &mut Text<LINE>,
+    writer: &mut W,
+) -> Result<(), ServeFault>
+    ensures { Puts (W.seen writer.old) text.old (W.seen writer.new) text.new result (spaced (map mark_word marks.now)) }
+{
+    for mark in marks {
+        put_mark(mark, text, writer)?;
+    }
+    Ok(())
+}
+
+// Puts two words.
+fn put_both<W: Sink>(
+    first: &Item<'_>,
+    second: &Item<'_>,
+    text: &mut Text<LINE>,
+    writer: &mut W,
+) -> Result<(), ServeFault>
+    ensures { Puts (W.seen writer.old) text.old (W.seen writer.new) text.new result
+        (spaced (item_text first.now ∷ item_text second.now ∷ [])) }
+{
+    put_item(first, text, writer)?;
+    put_item(second, text, writer)
+}
+
+// Puts two counts.
+fn put_counts<W: Sink>(
+    first: u32,
+    second: u32,
+    text: &mut Text<LINE>,
+    writer: &mut W,
+) -> Result<(), ServeFault>
+    ensures { Puts (W.seen writer.old) text.old (W.seen writer.new) text.new result (spaced (decimal first ∷ decimal second ∷ [])) }
+{
+    put_both(&Item::Count(first), &Item::Count(second), text, writer)
+}
+
+// Puts the breakpoint that halts the session, if any.
+fn put_halted<W: Sink>(
+    halted: &Option<Name>,
+    text: &mut Text<LINE>,
+    writer: &mut W,
+) -> Result<(), ServeFault>
+    ensures { Puts (W.seen writer.old) text.old (W.seen writer.new) text.new result (spaced (halted_words halted.now)) }
+{
+    match halted {
+        Some(name) => put_both(&Item::Term(Term::Halted), &Item::Name(name), text, writer),
+        None => Ok(()),
+    }
+}
+
+fn put_piece<W: Sink>(
+    piece: &Piece<'_>,
+    text: &mut Text<LINE>,
+    writer: &mut W,
+) -> Result<(), ServeFault>
+    ensures { Puts (W.seen writer.old) text.old (W.seen writer.new) text.new result (spaced (piece_words piece.now)) }
+{
+    match piece {
+        Piece::Nothing => Ok(()),
+        Piece::Item(item) => put_item(item, text, writer),
+        Piece::Counts(first, second) => put_counts(*first, *second, text, writer),
+        Piece::Halted(halted) => put_halted(halted, text, writer),
+        Piece::Words(Words::Numbers(numbers)) => put_numbers(numbers, text, writer),
+        Piece::Words(Words::Marks(marks)) => put_marks(marks, text, writer),
+        Piece::Pairs(names, amounts) => put_pairs(names, amounts, text, writer),
+    }
+}
+
+fn put_pieces<W: Sink>(
+    pieces: &[Piece<'_>],
+    text: &mut Text<LINE>,
+    writer: &mut W,
+) -> Result<(), ServeFault>
+    ensures { Puts (W.seen writer.old) text.old (W.seen writer.new) text.new result (spaced (in_a_row piece_words pieces.now)) }
+{
+    for piece in pieces {
+        put_piece(piece, text, writer)?;
+    }
+    Ok(())
+}
+
+/// Writes a line: its first word, the words of these pieces with a space before each, and the line end.
+pub(crate) fn write_line<W: Sink>(
+    first: &[u8],
+    pieces: &[Piece<'_>],
+    writer: &mut W,
+) -> Result<(), ServeFault>
+    requires { length first.now ≤ 40 }
+    ensures { Writes (W.seen writer.old) (W.seen writer.new) result
+        (as_line (joined (first.now ∷ in_a_row piece_words pieces.now))) }
+{
+    let mut text: Text<LINE> = Text::new();
+    text.append(first);
+    put_pieces(pieces, &mut text, writer)?;
+    make_room(&mut text, writer)?;
+    text.push(b'\n');
+    write_whole(writer, text.bytes())
+}

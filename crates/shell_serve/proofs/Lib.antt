@@ -1,0 +1,6 @@
+mod CommandReplyLemmas
+pub mod AnswerStepLemmas
+pub mod SessionLemmas
+mod InputSessionLemmas
+mod RunLemmas
+pub mod SeatLemmas

@@ -1,0 +1,103 @@
+//! How a desk is made.
+
+ghost use Rattle.std.specs.Prelude.{◌≤◌};
+ghost use Rattle.dbg_base.specs.declared.limits.TheConstants.{SEATS};
+ghost use Rattle.test_crew.specs.Runs.{MakesFresh};
+ghost use Rattle.dbg_desk.specs.Openings.{IsOpeningOf};
+
+use crate::told::{said_to, said_to_question};
+use dbg_base::{Call, Gate, Plan, Refusal, Reply, Said};
+use dbg_command::Command;
+use dbg_desk::{Desk, Locked, Opening, Run, Seat};
+use proc_lang::parse_program;
+use std::alloc::Global;
+use std::sync::Wait;
+use std::test::Fail;
+use std::thread::Threads;
+
+/// A process that sends, one that receives, and one that counts by itself.
+pub const THREE: &str = "process a {
+  var x = 0;
+  when (x < 3) : send b (x + 1), x := (x + 1);
+}
+process b {
+  var y = 0;
+  var n = 0;
+  when true : recv a y, n := (n + 1);
+  when (n > 0) : n := (n - 1);
+}
+process c {
+  var z = 0;
+  when true : z := (z + 1);
+}
+";
+
+/// The opening of a run of this program with so many seats.
+pub fn make_opening(alloc: Global, text: &str, seats: u32) -> Result<Opening, Fail>
+    requires { (1 ≤ seats) × (seats ≤ SEATS) }
+{
+    let program = parse_program(alloc, text.as_bytes())?;
+    Ok(Opening::new(alloc, program, seats)?)
+}
+
+/// A desk and two seats.
+#[derive(Drop)]
+pub struct Pair<L: Run, C: Command> {
+    pub desk: Desk<L, C>,
+    pub one: Seat<L>,
+    pub two: Seat<L>,
+}
+
+/// A desk and its last two seats.
+pub fn begin_pair<L: Run, C: Command>(alloc: Global, opening: Opening) -> Result<Pair<L, C>, Fail>
+    requires { IsOpeningOf L.program L.board L.name L.parts L.seats opening }
+{
+    let (desk, mut seats) = opening.desk::<L, C>(alloc)?;
+    let two = seats.pop().ok_or("no second seat")?;
+    let one = seats.pop().ok_or("no seat")?;
+    Ok(Pair { desk, one, two })
+}
+
+/// The seat gives this at the desk.
+pub fn give<
+    L: Run,
+    C: Command,
+    M: Fn(Plan) -> Result<C, Refusal>,
+    G: Gate,
+    R: Threads + Wait + Sync,
+>(
+    rt: &R,
+    alloc: Global,
+    desk: &Desk<L, C>,
+    seat: &mut Seat<L>,
+    make: &M,
+    plan: Plan,
+    gate: &G,
+) -> Result<Reply, Refusal>
+    requires may { M.IsAlwaysCallable make.now }
+    requires fresh { MakesFresh (M.post make.now) C.IsFresh }
+{
+    let command = make(plan)?;
+    desk.call(rt, alloc, seat, command, gate)
+}
+
+/// The seat makes this call under the lock.
+pub fn enter<L: Run, C: Command, M: Fn(Plan) -> Result<C, Refusal>>(
+    alloc: Global,
+    locked: &mut Locked<L, C>,
+    seat: &mut Seat<L>,
+    make: &M,
+    call: Call,
+) -> Result<Said, Refusal>
+    requires may { M.IsAlwaysCallable make.now }
+    requires fresh { MakesFresh (M.post make.now) C.IsFresh }
+{
+    match call {
+        Call::Give(plan) => {
+            let command = make(plan)?;
+            Ok(said_to(locked.enter(alloc, seat, command, None)))
+        }
+        Call::Back => Ok(said_to(locked.enter_back(seat))),
+        Call::Ask(query) => Ok(said_to_question(locked.enter_ask(alloc, seat, query))),
+    }
+}

@@ -1,0 +1,381 @@
+//! Seats at one desk, each in its own thread; and the entered calls, given again on one thread.
+
+ghost use Rattle.std.specs.Prelude.{◌≤◌, IfOk};
+ghost use Rattle.dbg_base.specs.declared.limits.TheConstants.{SEATS};
+ghost use Rattle.dbg_base.specs.Calls.{AreCommands};
+ghost use Rattle.test_crew.specs.Runs.{MakesFresh};
+ghost use Rattle.dbg_desk.specs.Openings.{IsOpeningOf};
+
+use crate::desk_trial::{THREE, enter, give, make_opening};
+use crate::expecting::{expect_same, expect_true};
+use crate::plans::set_break;
+use dbg_base::{Call, OpenGate, Pid, Plan, Query, Refusal, Said};
+use dbg_calls::is_same_said;
+use dbg_command::{BatchCmd, BreakCmd, Command, NextCmd, RollbackCmd, UndoCmd};
+use dbg_desk::{Closing, Desk, Entry, Locked, Opening, Run, Seat};
+use std::alloc::Global;
+use std::marker::Brand;
+use std::process::Abort;
+use std::sync::Wait;
+use std::test::Fail;
+use std::thread;
+use std::thread::Threads;
+
+const A: Pid = Pid(0);
+
+const B: Pid = Pid(1);
+
+// How often the sixteen seats of mixed calls play.
+const ROUNDS: u32 = 100;
+
+// How often a seat looks at the board in each of its turns.
+const LOOKS: u32 = 100;
+
+// What a seat does in its turn.
+#[derive(Clone, Copy)]
+enum Role {
+    // A command of one of four kinds, `back`, and a query.
+    Mixed,
+    // `next a` and `undo a`.
+    Steps,
+    // `next b` and `rollback a 0`.
+    Rolls,
+    // `break k b (n = 1)` and `back`.
+    Breaks,
+    // A batch of two commands, and `undo b`.
+    Batches,
+    // It looks at the board, again and again.
+    Looks,
+}
+
+// Who plays.
+#[derive(Clone, Copy)]
+enum Play {
+    // Sixteen seats of mixed calls.
+    Mixed,
+    // Three seats, one of each kind that steps, rolls back and breaks.
+    Rivals,
+    // Fifteen seats of such kinds and of batches, and one that looks.
+    AllRivals,
+}
+
+// How many seats play.
+fn seats_of(play: Play) -> u32
+    ensures { (1 ≤ result) × (result ≤ SEATS) }
+{
+    match play {
+        Play::Rivals => 3,
+        _ => 16,
+    }
+}
+
+// How often each seat has its turn.
+fn turns_of(play: Play) -> u32 {
+    match play {
+        Play::Mixed => 125,
+        _ => 100,
+    }
+}
+
+// How many calls all seats make.
+fn calls_of(play: Play) -> usize {
+    match play {
+        Play::Mixed => 6_000,
+        Play::Rivals => 600,
+        Play::AllRivals => 3_000,
+    }
+}
+
+// What the seat at this position does.
+fn role_of(play: Play, place: usize) -> Role {
+    match (play, place) {
+        (Play::Mixed, _) => Role::Mixed,
+        (_, 15) => Role::Looks,
+        _ => match place % 4 {
+            0 => Role::Steps,
+            1 => Role::Rolls,
+            2 => Role::Breaks,
+            _ => Role::Batches,
+        },
+    }
+}
+
+// The command that a seat of mixed calls gives at this turn.
+fn plan_at(alloc: Global, turn: u32) -> Result<Plan, Refusal> {
+    let pid = Pid(turn % 3);
+    match turn % 8 {
+        5 => Ok(Plan::Undo(pid)),
+        6 => Ok(Plan::Rollback(pid, 0)),
+        7 => set_break(alloc, "k", &[(A, 0, 2)]),
+        _ => Ok(Plan::Next(pid)),
+    }
+}
+
+// The commands of each batch.
+fn two_commands(alloc: Global) -> Result<Vec<Plan>, Refusal>
+    ensures { IfOk result (λ plans. AreCommands plans.items) }
+{
+    let mut plans = Vec::new(alloc);
+    plans.push(Plan::Next(A))?;
+    plans.push(Plan::Next(B))?;
+    Ok(plans)
+}
+
+// A batch.
+fn batch(alloc: Global) -> Result<Plan, Refusal> {
+    Ok(Plan::Batch(two_commands(alloc)?))
+}
+
+// The seat gives this command, if there is one, whatever the answer is.
+fn try_give<L: Run, C: Command, M: Fn(Plan) -> Result<C, Refusal>, R: Threads + Wait + Sync>(
+    rt: &R,
+    alloc: Global,
+    desk: &Desk<L, C>,
+    seat: &mut Seat<L>,
+    make: &M,
+    plan: Result<Plan, Refusal>,
+)
+    requires may { M.IsAlwaysCallable make.now }
+    requires fresh { MakesFresh (M.post make.now) C.IsFresh }
+{
+    if let Ok(plan) = plan {
+        let _reply = give(rt, alloc, desk, seat, make, plan, &OpenGate);
+    }
+}
+
+// The seat looks at the board, again and again.
+fn look_on<L: Run, C: Command>(desk: &Desk<L, C>, seat: &mut Seat<L>) {
+    for _ in 0..LOOKS {
+        let _glance = desk.look(seat);
+    }
+}
+
+// The seat has its turn.
+fn take_turn<L: Run, C: Command, M: Fn(Plan) -> Result<C, Refusal>, R: Threads + Wait + Sync>(
+    rt: &R,
+    alloc: Global,
+    desk: &Desk<L, C>,
+    seat: &mut Seat<L>,
+    make: &M,
+    role: Role,
+    turn: u32,
+)
+    requires may { M.IsAlwaysCallable make.now }
+    requires fresh { MakesFresh (M.post make.now) C.IsFresh }
+{
+    match role {
+        Role::Mixed => {
+            try_give(rt, alloc, desk, seat, make, plan_at(alloc, turn));
+            let _reply = desk.back(rt, seat);
+            let _answer = desk.ask(rt, alloc, seat, Query::Vars(Pid(turn % 3)));
+        }
+        Role::Steps => {
+            try_give(rt, alloc, desk, seat, make, Ok(Plan::Next(A)));
+            try_give(rt, alloc, desk, seat, make, Ok(Plan::Undo(A)));
+        }
+        Role::Rolls => {
+            try_give(rt, alloc, desk, seat, make, Ok(Plan::Next(B)));
+            try_give(rt, alloc, desk, seat, make, Ok(Plan::Rollback(A, 0)));
+        }
+        Role::Breaks => {
+            let plan = set_break(alloc, "k", &[(B, 1, 1)]);
+            try_give(rt, alloc, desk, seat, make, plan);
+            let _reply = desk.back(rt, seat);
+        }
+        Role::Batches => {
+            try_give(rt, alloc, desk, seat, make, batch(alloc));
+            try_give(rt, alloc, desk, seat, make, Ok(Plan::Undo(B)));
+        }
+        Role::Looks => look_on(desk, seat),
+    }
+}
+
+fn take_turns<L: Run, C: Command, M: Fn(Plan) -> Result<C, Refusal>, R: Threads + Wait + Sync>(
+    rt: &R,
+    alloc: Global,
+    desk: &Desk<L, C>,
+    seat: &mut Seat<L>,
+    make: &M,
+    play: Play,
+    place: usize,
+)
+    requires may { M.IsAlwaysCallable make.now }
+    requires fresh { MakesFresh (M.post make.now) C.IsFresh }
+{
+    let role = role_of(play, place);
+    for turn in 0..turns_of(play) {
+        take_turn(rt, alloc, desk, seat, make, role, turn);
+    }
+}
+
+// Each seat takes its turns, in its own thread.
+fn all_take_turns<
+    L: Run + Send + Sync,
+    C: Command,
+    M: Fn(Plan) -> Result<C, Refusal> + Sync,
+    R: Threads + Wait + Sync,
+>(rt: &R, alloc: Global, desk: &Desk<L, C>, seats: &mut [Seat<L>], make: &M, play: Play)
+    requires may { M.IsAlwaysCallable make.now }
+    requires fresh { MakesFresh (M.post make.now) C.IsFresh }
+{
+    if seats.is_empty() {
+        return;
+    }
+    let work = |place: usize, seat: &mut Seat<L>|
+        requires { M.IsAlwaysCallable make.now × MakesFresh (M.post make.now) C.IsFresh }
+    { take_turns(rt, alloc, desk, seat, make, play, place) };
+    thread::for_each_mut(rt, seats, seats.len(), &work);
+}
+
+// How many calls these seats have of their own.
+fn count_calls<L: Run>(seats: &[Seat<L>]) -> usize {
+    let mut calls = 0usize;
+    for seat in seats {
+        calls = calls.saturating_add(seat.own_calls().len());
+    }
+    calls
+}
+
+// An entered call, its seat, and its answer.
+#[derive(Drop)]
+struct Told {
+    seat: u32,
+    call: Call,
+    said: Said,
+}
+
+// Copies an entry.
+fn told_of(entry: &Entry) -> Result<Told, Refusal> {
+    let call = entry.call.copy()?;
+    let said = entry.said.copy()?;
+    let seat = entry.seat;
+    Ok(Told { seat, call, said })
+}
+
+// The entered calls, in order.
+fn told_calls<L: Run, C: Command>(
+    alloc: Global,
+    locked: &Locked<L, C>,
+) -> Result<Vec<Told>, Refusal> {
+    let mut told = Vec::new(alloc);
+    for place in 0..locked.calls() {
+        if let Some(entry) = locked.entry(place) {
+            told.push(told_of(entry)?)?;
+        }
+    }
+    Ok(told)
+}
+
+// The play: all calls are entered, and the seats settle. Returns the entered calls.
+fn many_calls<
+    L: Run + Send + Sync,
+    C: Command,
+    M: Fn(Plan) -> Result<C, Refusal> + Sync,
+    R: Threads + Wait + Abort + Sync,
+>(rt: &R, alloc: Global, make: &M, opening: Opening, play: Play) -> Result<Vec<Told>, Fail>
+    requires may { M.IsAlwaysCallable make.now }
+    requires fresh { MakesFresh (M.post make.now) C.IsFresh }
+    requires run { IsOpeningOf L.program L.board L.name L.parts L.seats opening }
+{
+    let (desk, mut seats) = opening.desk::<L, C>(alloc)?;
+    all_take_turns(rt, alloc, &desk, seats.as_mut_slice(), make, play);
+    let calls = calls_of(play);
+    expect_same(rt, count_calls(seats.as_slice()), calls);
+    expect_same(rt, desk.settle(rt, seats.as_slice()), Ok(Closing { calls }));
+    Ok(told_calls(alloc, &desk.into_locked())?)
+}
+
+// Whether this call has the same answer again.
+fn is_said_again<L: Run, C: Command, M: Fn(Plan) -> Result<C, Refusal>>(
+    alloc: Global,
+    locked: &mut Locked<L, C>,
+    seats: &mut [Seat<L>],
+    make: &M,
+    told: Told,
+) -> Result<bool, Refusal>
+    requires may { M.IsAlwaysCallable make.now }
+    requires fresh { MakesFresh (M.post make.now) C.IsFresh }
+{
+    let Told { seat, call, said } = told;
+    let Some(seat) = seats.get_mut(seat.saturating_sub(1) as usize) else {
+        return Ok(false);
+    };
+    let again = enter(alloc, locked, seat, make, call)?;
+    Ok(is_same_said(&again, &said))
+}
+
+// Expects the same answers if the same calls are given in order on one thread.
+fn expect_again<L: Run, C: Command, M: Fn(Plan) -> Result<C, Refusal>>(
+    rt: &impl Abort,
+    alloc: Global,
+    make: &M,
+    opening: Opening,
+    told: Vec<Told>,
+) -> Result<(), Fail>
+    requires may { M.IsAlwaysCallable make.now }
+    requires fresh { MakesFresh (M.post make.now) C.IsFresh }
+    requires run { IsOpeningOf L.program L.board L.name L.parts L.seats opening }
+{
+    let (mut locked, mut seats) = opening.lock::<L, C>(alloc)?;
+    for told in told {
+        let same = is_said_again(alloc, &mut locked, seats.as_mut_slice(), make, told)?;
+        expect_true(rt, same);
+    }
+    Ok(())
+}
+
+// The parts of a desk for this play.
+fn opening_of(alloc: Global, play: Play) -> Result<Opening, Fail> {
+    make_opening(alloc, THREE, seats_of(play))
+}
+
+// The play, at a new desk.
+fn play_once<
+    C: Command,
+    M: Fn(Plan) -> Result<C, Refusal> + Sync,
+    R: Threads + Wait + Abort + Sync,
+>(rt: &R, alloc: Global, make: &M, play: Play) -> Result<Vec<Told>, Fail>
+    requires may { M.IsAlwaysCallable make.now }
+    requires fresh { MakesFresh (M.post make.now) C.IsFresh }
+{
+    let opening = opening_of(alloc, play)?;
+    many_calls::<Brand, C, M, R>(rt, alloc, make, opening, play)
+}
+
+// The play, and its calls given again in order on one thread.
+fn play_again<
+    C: Command,
+    M: Fn(Plan) -> Result<C, Refusal> + Sync,
+    R: Threads + Wait + Abort + Sync,
+>(rt: &R, alloc: Global, make: &M, play: Play) -> Result<(), Fail>
+    requires may { M.IsAlwaysCallable make.now }
+    requires fresh { MakesFresh (M.post make.now) C.IsFresh }
+{
+    let told = play_once(rt, alloc, make, play)?;
+    expect_same(rt, told.len(), calls_of(play));
+    let opening = opening_of(alloc, play)?;
+    expect_again::<Brand, C, M>(rt, alloc, make, opening, told)
+}
+
+#[test]
+fn seats_on_threads_settle(rt: HostRuntime) -> Result<(), Fail> {
+    let alloc = rt.alloc();
+    let make = |plan: Plan| -> Result<Box<dyn Command>, Refusal>
+        ensures { IfOk result (λ command. IsFresh command) }
+    {
+        let command: Box<dyn Command> = match plan {
+            Plan::Next(pid) => Box::new(alloc, NextCmd::new(pid))?,
+            Plan::Undo(pid) => Box::new(alloc, UndoCmd::new(pid))?,
+            Plan::Rollback(pid, place) => Box::new(alloc, RollbackCmd::new(pid, place))?,
+            Plan::Break(name, conjuncts) => Box::new(alloc, BreakCmd::new(name, conjuncts))?,
+            Plan::Batch(_) => Box::new(alloc, BatchCmd::new(two_commands(alloc)?))?,
+            _ => return Err(Refusal::BadLine),
+        };
+        Ok(command)
+    };
+    for _ in 0..ROUNDS {
+        play_once(&rt, alloc, &make, Play::Mixed)?;
+    }
+    play_again(&rt, alloc, &make, Play::Rivals)?;
+    play_again(&rt, alloc, &make, Play::AllRivals)
+}

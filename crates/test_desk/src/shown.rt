@@ -1,0 +1,145 @@
+//! What the board shows.
+
+ghost use Rattle.std.specs.Prelude.{IfOk};
+ghost use Rattle.test_desk.specs.Runs.{MakesFresh};
+ghost use Rattle.dbg_desk.specs.Openings.{IsOpeningOf};
+
+use crate::beginning::TwoSeats;
+use crate::expecting::{expect_same, expect_true};
+use crate::trial::{DeskTrial, TWO, begin, make_beginning};
+use dbg_base::{Conjunct, Expr, Name, Operator, Pid, Plan, Query, Refusal, Reply, Sequence};
+use dbg_board::Glance;
+use dbg_command::{BreakCmd, Command, PassCmd, UndoCmd};
+use dbg_desk::Run;
+use std::alloc::Global;
+use std::marker::Brand;
+use std::process::Abort;
+use std::test::Fail;
+
+const A: Pid = Pid(0);
+
+const B: Pid = Pid(1);
+
+fn named(text: &str) -> Result<Name, Refusal> {
+    Name::new(text.as_bytes()).ok_or(Refusal::BadLine)
+}
+
+fn boxed(alloc: Global, expr: Expr) -> Result<Box<Expr>, Refusal> {
+    Ok(Box::new(alloc, expr)?)
+}
+
+// The conjunct that this variable of a process is 0.
+fn is_zero(alloc: Global, pid: Pid, variable: u32) -> Result<Sequence<Conjunct>, Refusal> {
+    let left = boxed(alloc, Expr::Variable(variable))?;
+    let expr = Expr::Binary(Operator::Equal, left, boxed(alloc, Expr::Number(0))?);
+    let mut conjuncts = Vec::new(alloc);
+    conjuncts.push(Conjunct { pid, expr })?;
+    Ok(Sequence::new(conjuncts))
+}
+
+// The second seat gives this.
+fn give<L: Run, C: Command, M: Fn(Plan) -> Result<C, Refusal>>(
+    trial: &mut DeskTrial<L, C>,
+    alloc: Global,
+    make: &M,
+    plan: Plan,
+) -> Result<Reply, Refusal>
+    requires may { M.IsAlwaysCallable make.now }
+    requires fresh { MakesFresh (M.post make.now) C.IsFresh }
+{
+    let command = make(plan)?;
+    trial.locked.enter(alloc, &mut trial.two, command, None)
+}
+
+// Expects the display to show so many calls, and the position of the breakpoint that halts.
+fn expect<L: Run, C: Command>(rt: &impl Abort, trial: &mut DeskTrial<L, C>, wanted: (u64, u64)) {
+    let Glance { calls, halt } = trial.board.look(&mut trial.display);
+    expect_same(rt, (calls, halt), wanted);
+}
+
+// A breakpoint that halts is set and passed.
+fn set_and_pass<L: Run, C: Command, M: Fn(Plan) -> Result<C, Refusal>>(
+    rt: &impl Abort,
+    alloc: Global,
+    make: &M,
+    trial: &mut DeskTrial<L, C>,
+) -> Result<(), Refusal>
+    requires may { M.IsAlwaysCallable make.now }
+    requires fresh { MakesFresh (M.post make.now) C.IsFresh }
+{
+    expect(rt, trial, (0, 0));
+    let halting = Plan::Break(named("k")?, is_zero(alloc, A, 0)?);
+    give(trial, alloc, make, halting)?;
+    expect(rt, trial, (1, 1));
+    give(trial, alloc, make, Plan::Pass(named("k")?))?;
+    expect(rt, trial, (2, 0));
+    Ok(())
+}
+
+// Another one is set after it. A refused command and a query are shown, too.
+fn set_another<L: Run, C: Command, M: Fn(Plan) -> Result<C, Refusal>>(
+    rt: &impl Abort,
+    alloc: Global,
+    make: &M,
+    trial: &mut DeskTrial<L, C>,
+) -> Result<(), Refusal>
+    requires may { M.IsAlwaysCallable make.now }
+    requires fresh { MakesFresh (M.post make.now) C.IsFresh }
+{
+    let halting = Plan::Break(named("m")?, is_zero(alloc, B, 1)?);
+    give(trial, alloc, make, halting)?;
+    expect(rt, trial, (3, 2));
+    let refused = give(trial, alloc, make, Plan::Undo(A));
+    expect_true(rt, matches!(refused, Err(Refusal::NothingToUndo)));
+    expect(rt, trial, (4, 2));
+    trial
+        .locked
+        .enter_ask(alloc, &mut trial.two, Query::Breaks)?;
+    expect(rt, trial, (5, 2));
+    Ok(())
+}
+
+// Each of these calls is shown.
+fn set_both<L: Run, C: Command, M: Fn(Plan) -> Result<C, Refusal>>(
+    rt: &impl Abort,
+    alloc: Global,
+    make: &M,
+    trial: &mut DeskTrial<L, C>,
+) -> Result<(), Refusal>
+    requires may { M.IsAlwaysCallable make.now }
+    requires fresh { MakesFresh (M.post make.now) C.IsFresh }
+{
+    set_and_pass(rt, alloc, make, trial)?;
+    set_another(rt, alloc, make, trial)
+}
+
+fn each_call_is_shown<L: Run, C: Command, M: Fn(Plan) -> Result<C, Refusal>>(
+    rt: &impl Abort,
+    alloc: Global,
+    make: &M,
+    beginning: TwoSeats,
+) -> Result<(), Fail>
+    requires may { M.IsAlwaysCallable make.now }
+    requires fresh { MakesFresh (M.post make.now) C.IsFresh }
+    requires run { IsOpeningOf L.program L.board L.name L.parts L.seats beginning.opening }
+{
+    let mut trial = begin::<L, C>(alloc, beginning)?;
+    Ok(set_both(rt, alloc, make, &mut trial)?)
+}
+
+#[test]
+fn the_board_shows_each_call_and_the_breakpoint_that_halts(rt: HostRuntime) -> Result<(), Fail> {
+    let alloc = rt.alloc();
+    let make = |plan: Plan| -> Result<Box<dyn Command>, Refusal>
+        ensures { IfOk result (λ command. IsFresh command) }
+    {
+        let command: Box<dyn Command> = match plan {
+            Plan::Break(name, conjuncts) => Box::new(alloc, BreakCmd::new(name, conjuncts))?,
+            Plan::Pass(name) => Box::new(alloc, PassCmd::new(name))?,
+            Plan::Undo(pid) => Box::new(alloc, UndoCmd::new(pid))?,
+            _ => return Err(Refusal::BadLine),
+        };
+        Ok(command)
+    };
+    each_call_is_shown::<Brand, Box<dyn Command>, _>(&rt, alloc, &make, make_beginning(alloc, TWO)?)
+}

@@ -1,0 +1,98 @@
+//! How a run is made: a session under its lock, two seats of it, and its board.
+
+ghost use Rattle.std.specs.Prelude.{◌≡◌};
+ghost use Rattle.dbg_desk.specs.Openings.{IsOpeningOf};
+
+use crate::beginning::TwoSeats;
+use dbg_base::{Pid, Refusal, Reply};
+use dbg_board::{Board, SeatView};
+use dbg_command::{Command, NextCmd};
+use dbg_desk::{Locked, Opening, Run, Seat};
+use proc_lang::parse_program;
+use std::alloc::Global;
+use std::sync::ledger::Blank;
+use std::test::Fail;
+
+/// A process that sends, and one that receives.
+pub const TWO: &str = "process a {
+  var x = 0;
+  when (x < 3) : send b (x + 1), x := (x + 1);
+}
+process b {
+  var y = 0;
+  var n = 0;
+  when true : recv a y, n := (n + 1);
+  when (n > 0) : n := (n - 1);
+}
+";
+
+/// What a run of this program is made of.
+pub fn make_beginning(alloc: Global, text: &str) -> Result<TwoSeats, Fail> {
+    let program = parse_program(alloc, text.as_bytes())?;
+    let (board, publisher, mut views) = Board::new(alloc, 3)?;
+    let display = views.pop().ok_or("no view")?;
+    let opening = Opening {
+        program,
+        blank: Blank::new(2),
+        board,
+        publisher,
+        views,
+    };
+    Ok(TwoSeats { opening, display })
+}
+
+/// A session under its lock, two seats of it, and its board, with a display that looks at it.
+#[derive(Drop)]
+pub struct DeskTrial<L: Run, C: Command> {
+    pub locked: Locked<L, C>,
+    pub one: Seat<L>,
+    pub two: Seat<L>,
+    pub board: Board,
+    pub display: SeatView,
+    ghost looks: { display.board ≡ board },
+}
+
+// The two seats.
+fn pair<L: Run>(mut seats: Vec<Seat<L>>) -> Result<(Seat<L>, Seat<L>), Fail> {
+    match (seats.pop(), seats.pop()) {
+        (Some(two), Some(one)) => Ok((one, two)),
+        _ => Err(Fail::from("no two seats")),
+    }
+}
+
+/// Begins a run.
+pub fn begin<L: Run, C: Command>(
+    alloc: Global,
+    beginning: TwoSeats,
+) -> Result<DeskTrial<L, C>, Fail>
+    requires { IsOpeningOf L.program L.board L.name L.parts L.seats beginning.opening }
+{
+    let TwoSeats { opening, display } = beginning;
+    let Opening {
+        program,
+        blank,
+        board,
+        publisher,
+        views,
+    } = opening;
+    let (locked, seats) = Locked::new(alloc, blank, publisher, views, program)?;
+    let (one, two) = pair(seats)?;
+    Ok(DeskTrial {
+        locked,
+        one,
+        two,
+        board,
+        display,
+    })
+}
+
+/// The first seat gives `next` for this process.
+pub fn next<L: Run>(
+    trial: &mut DeskTrial<L, NextCmd>,
+    alloc: Global,
+    pid: Pid,
+) -> Result<Reply, Refusal> {
+    trial
+        .locked
+        .enter(alloc, &mut trial.one, NextCmd::new(pid), None)
+}

@@ -1,0 +1,331 @@
+use super::sessions::{COUNTS, PAIR};
+use super::undo::THREE;
+use super::{TWO, expect_rows};
+use std::test::Fail;
+
+// A name, a program, the lines after it and the output for them.
+const ROWS: [(&str, &str, &str, &str); 11] = [
+    // The present state does not satisfy the breakpoint, since a has made another event; its cut does.
+    (
+        "the least cut is gone to",
+        TWO,
+        "%%
+1 break k a (x = 1) b (n = 1)
+1 next a
+1 next a
+1 next b
+1 cut k
+1 why k
+1 goto k
+1 place a
+1 vars a
+1 chan a b
+1 back
+1 place a
+",
+        "ok
+ok a 0
+ok a 0
+ok b 0 halted k
+cut k a=1 b=1
+why k a=1 b=1
+ok a=1 b=1 halted k
+place a 1 of 2
+vars a x=1
+chan a b
+ok halted k
+place a 2 of 2
+",
+    ),
+    // What b has received was sent, and after that send x is not 0.
+    (
+        "a breakpoint has no cut",
+        TWO,
+        "%%
+1 break k a (x = 0) b (n = 1)
+1 next a
+1 next b
+1 cut k
+1 why k
+1 goto k
+",
+        "ok
+ok a 0
+ok b 0
+cut k none
+why k a=past b=1
+no 13
+",
+    ),
+    // The process a is needed once, and c not at all.
+    (
+        "unnamed processes stand where they must",
+        THREE,
+        "%%
+1 break m b (n = 1)
+1 next a
+1 next a
+1 next c
+1 next b
+1 cut m
+",
+        "ok
+ok a 0
+ok a 0
+ok c 0
+ok b 0 halted m
+cut m a=1 b=1 c=0
+",
+    ),
+    // It undoes events, and continues once the breakpoint is passed.
+    (
+        "a halted session makes no event",
+        TWO,
+        "%%
+1 break k a (x = 1) b (n = 1)
+1 next a
+1 next a
+1 next b
+1 next a
+1 redo a
+1 undo a
+1 pass k
+1 next a
+1 breaks
+1 pass k
+1 arm k
+1 arm k
+",
+        "ok
+ok a 0
+ok a 0
+ok b 0 halted k
+no 9 k
+no 9 k
+ok a 0 halted k
+ok
+ok a 0
+breaks k off
+no 14
+ok halted k
+no 15
+",
+    ),
+    // A redo repeats the choice: the receive takes the new message, and the search forgets the old one.
+    (
+        "another message is received again",
+        PAIR,
+        "%%
+1 break k s (u = 2) r (v = 7)
+1 step s 0
+1 step r 0
+1 vars r
+1 why k
+1 undo r
+1 undo s
+1 step s 1
+1 redo r
+1 vars r
+1 cut k
+",
+        "ok
+ok s 0
+ok r 0
+vars r v=5
+why k s=past r=past
+ok r 0
+ok s 0
+ok s 1
+ok r 0 halted k
+vars r v=7
+cut k s=1 r=1
+",
+    ),
+    (
+        "an evaluation that faults is not true",
+        TWO,
+        "%%
+1 break k a ((x / 0) = 1)
+1 cut k
+1 break m a ((x = 0) or ((x / 0) = 1))
+1 breaks
+",
+        "ok
+cut k none
+ok halted m
+breaks k on m on
+",
+    ),
+    (
+        "lines are refused in order",
+        TWO,
+        "%%
+17 next a
+1 jump a
+1 step a
+1 break k a
+1 break k a (x
+1 break k a x
+1 break k a (x = 1) a (x = 2)
+1 break k d (x = 1)
+
+",
+        "no 22
+no 22
+no 22
+no 22
+no 23
+no 23
+no 23
+no 1
+",
+    ),
+    (
+        "breakpoints stand in order",
+        TWO,
+        "%%
+1 break k a (x = 0)
+1 cut k
+1 pass k
+1 break m b (n = 1)
+1 breaks
+1 clear k
+1 breaks
+1 back
+1 breaks
+1 break k a (x = 1)
+1 clear z
+1 pass m
+",
+        "ok halted k
+cut k a=0 b=0
+ok
+ok
+breaks k off m on
+ok
+breaks m on
+ok
+breaks k off m on
+no 11
+no 12
+no 13
+",
+    ),
+    // A refused line changes no breakpoint.
+    (
+        "breakpoints are refused in order",
+        TWO,
+        "%%
+1 break k a (x = 0)
+1 pass k
+1 break m b (n = 1)
+1 break k a (x = 1)
+1 break k d (x = 1)
+1 break k a (n = 1)
+1 clear z
+1 goto z
+1 arm z
+1 pass z
+1 cut z
+1 why z
+1 pass m
+1 goto m
+1 pass k
+1 arm m
+1 breaks
+",
+        "ok halted k
+ok
+ok
+no 11
+no 1
+no 23
+no 12
+no 12
+no 12
+no 12
+no 12
+no 12
+no 13
+no 13
+no 14
+no 15
+breaks k off m on
+",
+    ),
+    // Both have a cut in the end, and k was set first.
+    (
+        "the first armed breakpoint halts",
+        TWO,
+        "%%
+1 break k a (x = 1)
+1 break m a (x = 0)
+1 next a
+1 pass m
+1 next a
+1 arm m
+1 pass k
+1 clear m
+1 next a
+1 arm k
+",
+        "ok
+ok halted m
+no 9 m
+ok
+ok a 0 halted k
+ok halted k
+ok halted m
+ok
+ok a 0
+ok halted k
+",
+    ),
+    (
+        "counts of messages are in the past",
+        COUNTS,
+        "%%
+1 next a
+1 next a
+1 next a
+1 step a 0
+1 chan a b
+1 next b
+1 next b
+1 vars b
+1 break k a (sent(b) = 1) b (got(a) = 1)
+1 cut k
+1 undo b
+1 undo b
+1 undo a
+1 next a
+1 chan a b
+1 break m a (sent(a) = 0)
+1 break m a sent(b)
+",
+        "ok a 0
+ok a 0
+no 24
+no 3
+chan a b 10 11
+ok b 0
+ok b 1
+vars b y=11 z=12
+ok halted k
+cut k a=1 b=1
+ok b 1 halted k
+ok b 0
+ok a 0
+ok a 0
+chan a b 10 11
+no 23
+no 23
+",
+    ),
+];
+
+#[test]
+fn sessions_halt_at_breakpoints(rt: HostRuntime) -> Result<(), Fail> {
+    expect_rows(&rt, rt.alloc(), &ROWS)?;
+    Ok(())
+}

@@ -1,0 +1,2 @@
+pub mod LogLemmas
+mod LogRows

@@ -1,0 +1,190 @@
+//! The events that a picture shows, in the order in which it shows them.
+
+use break_book::Book;
+use causal_world::World;
+use dbg_base::{Cut, Name, Pid, Refusal};
+use event_log::event_order;
+use event_rows::{Event, Exchange};
+use std::alloc::{AllocError, Global};
+
+/// An event that is shown: the n-th of its process, from 1.
+#[derive(Clone, Copy)]
+pub(crate) struct ShownEvent {
+    pub(crate) pid: Pid,
+    pub(crate) number: u32,
+}
+
+/// A cut that is shown, with the name of its breakpoint, and whether that halts the session.
+#[derive(Drop)]
+pub(crate) struct NamedCut {
+    pub(crate) name: Name,
+    pub(crate) cut: Cut,
+    pub(crate) halts: bool,
+    /// Whether its events are listed before all others.
+    pub(crate) is_front: bool,
+}
+
+// The cuts of the breakpoints that halt the session, or of the others.
+fn put_cuts(
+    cuts: &mut Vec<NamedCut>,
+    book: &Book,
+    marks: &[(Name, bool)],
+    halts: bool,
+) -> Result<(), Refusal> {
+    let halting = book.halted();
+    for (name, _) in marks {
+        let name = *name;
+        if (halting == Some(name)) == halts {
+            if let Some((_, breakpoint)) = book.find(name) {
+                if let Some(cut) = breakpoint.detector().cut() {
+                    cuts.push(NamedCut {
+                        name,
+                        cut: cut.copy()?,
+                        halts,
+                        is_front: false,
+                    })?;
+                }
+            }
+        }
+    }
+    Ok(())
+}
+
+/// The cuts of the breakpoints, that of the one that halts the session first.
+pub(crate) fn named_cuts(alloc: Global, book: &Book) -> Result<Vec<NamedCut>, Refusal> {
+    let marks = book.list(alloc)?;
+    let mut cuts = Vec::new(alloc);
+    put_cuts(&mut cuts, book, marks.items(), true)?;
+    put_cuts(&mut cuts, book, marks.items(), false)?;
+    Ok(cuts)
+}
+
+/// How many events of so many processes a cut has.
+pub(crate) fn size(cut: &Cut, processes: u32) -> usize {
+    let mut size = 0usize;
+    for p in 0..processes {
+        size = size.saturating_add(cut.count(Pid(p)) as usize);
+    }
+    size
+}
+
+/// All events of a world, in an order in which they can have happened, and for each process the positions of its events in it.
+#[derive(Drop)]
+pub(crate) struct Timeline {
+    events: Vec<ShownEvent>,
+    rows: Vec<Vec<u32>>,
+}
+
+// Appends the next event of a process to the others.
+fn put_next(
+    events: &mut Vec<ShownEvent>,
+    rows: &mut Vec<Vec<u32>>,
+    pid: Pid,
+) -> Result<(), AllocError> {
+    // (a history has fewer events than a `u32` counts)
+    let row = u32::try_from(events.len()).unwrap_or(u32::MAX);
+    if let Some(own) = rows.get_mut(pid.0 as usize) {
+        own.push(row)?;
+        let number = u32::try_from(own.len()).unwrap_or(u32::MAX);
+        events.push(ShownEvent { pid, number })?;
+    }
+    Ok(())
+}
+
+impl Timeline {
+    /// The events of a world, those of the first of the cuts first; and which of the cuts go across.
+    pub(crate) fn of(
+        alloc: Global,
+        world: &World,
+        cuts: &mut [NamedCut],
+    ) -> Result<Timeline, Refusal> {
+        let timeline = Timeline::ordered(alloc, world, cuts)?;
+        let processes = world.tally().processes();
+        for named in cuts {
+            named.is_front = timeline.begins_with(&named.cut, processes);
+        }
+        Ok(timeline)
+    }
+
+    // The events of a world, those of the first of the cuts first.
+    fn ordered(alloc: Global, world: &World, cuts: &[NamedCut]) -> Result<Timeline, Refusal> {
+        let mut plain = Vec::new(alloc);
+        for named in cuts {
+            plain.push(&named.cut)?;
+        }
+        let order = event_order(alloc, world, plain.as_slice())?;
+        let mut rows = Vec::new(alloc);
+        for _ in 0..world.tally().processes() {
+            rows.push(Vec::new(alloc))?;
+        }
+        let mut events = Vec::new(alloc);
+        for pid in order.items() {
+            put_next(&mut events, &mut rows, *pid)?;
+        }
+        Ok(Timeline { events, rows })
+    }
+
+    // Whether the events of a cut are listed before all others.
+    fn begins_with(&self, cut: &Cut, processes: u32) -> bool {
+        let first = self.events.get(..size(cut, processes)).unwrap_or(&[]);
+        first
+            .iter()
+            .all(|shown| shown.number <= cut.count(shown.pid))
+    }
+
+    /// The events, in order.
+    pub(crate) fn events(&self) -> &[ShownEvent] {
+        self.events.as_slice()
+    }
+
+    /// The position of the n-th event of a process, from 0.
+    pub(crate) fn row(&self, pid: Pid, number: u32) -> Option<u32> {
+        let own = self.rows.get(pid.0 as usize)?;
+        own.get(number.checked_sub(1)? as usize).copied()
+    }
+}
+
+/// The message that an event sent or received, if any.
+pub(crate) fn exchange_of(world: &World, shown: ShownEvent) -> Exchange {
+    let at = (shown.number as usize).saturating_sub(1);
+    match world.rows().event(shown.pid, at) {
+        Some(event) => event.exchange(),
+        None => Exchange::Nothing,
+    }
+}
+
+/// A message that an event received: who sent it, its value, and the number, from 1, of the event that sent it.
+#[derive(Clone, Copy)]
+pub(crate) struct Received {
+    pub(crate) source: Pid,
+    pub(crate) value: i64,
+    pub(crate) sender: u32,
+}
+
+/// The message that an event received, if it did.
+pub(crate) fn received_by(world: &World, shown: ShownEvent) -> Option<Received> {
+    let Exchange::Took {
+        source,
+        message,
+        count,
+    } = exchange_of(world, shown)
+    else {
+        return None;
+    };
+    let tally = world.tally();
+    if count < 1 || count > tally.sent(source, shown.pid, tally.len(source)) {
+        return None;
+    }
+    Some(Received {
+        source,
+        value: message,
+        sender: tally.send_event(source, shown.pid, count),
+    })
+}
+
+/// The event that is shown.
+pub(crate) fn event_of(world: &World, shown: ShownEvent) -> Option<&Event> {
+    world
+        .rows()
+        .event(shown.pid, (shown.number as usize).saturating_sub(1))
+}

@@ -1,0 +1,165 @@
+//! What an accepted command did.
+
+use crate::batches::made_from;
+use crate::breakpoints::tell_breakpoint;
+use crate::notes::{Notes, Part};
+use crate::view::SourceView;
+use dbg_base::{Call, Done, Pid, Plan, Refusal, Reply};
+use std::alloc::{AllocError, Global};
+
+/// How many events each process had, how long its line was, and, before an undo, what its last event did.
+#[derive(Debug, Drop)]
+pub struct Before {
+    places: Vec<(u32, u32)>,
+    undone: Notes,
+}
+
+/// Appends a count of events to the last line.
+pub(crate) fn put_events(notes: &mut Notes, count: u32) -> Result<(), AllocError> {
+    let word = if count == 1 { " event" } else { " events" };
+    notes.add(&[Part::Number(i64::from(count)), Part::Text(word)])
+}
+
+impl SourceView<'_> {
+    fn place_of(&self, pid: Pid) -> (u32, u32) {
+        (
+            self.session.world.place(pid),
+            self.session.world.line_len(pid),
+        )
+    }
+
+    fn note_undone(&self, undone: &mut Notes, pid: Pid) -> Result<(), AllocError> {
+        match self.session.world.rows().last(pid) {
+            Some(event) => {
+                let scope = self.scope(pid);
+                undone.say(&[scope.name(), Part::Text(": undone: ")])?;
+                scope.put_event(undone, self.session.world.rows(), event)
+            }
+            None => Ok(()),
+        }
+    }
+
+    /// Notes what has to be known of a session before a call, to explain afterwards what the call did.
+    pub fn before(&self, alloc: Global, call: &Call) -> Result<Before, AllocError> {
+        let mut places = Vec::new(alloc);
+        let mut undone = Notes::new(alloc);
+        match call {
+            Call::Give(Plan::Undo(pid)) => self.note_undone(&mut undone, *pid)?,
+            Call::Give(Plan::Rollback(_, _) | Plan::Goto(_) | Plan::Batch(_)) | Call::Back => {
+                for p in 0..self.session.program.processes() {
+                    places.push(self.place_of(Pid(p)))?;
+                }
+            }
+            _ => {}
+        }
+        Ok(Before { places, undone })
+    }
+
+    // Says how many events a process has now, and how many it can make again.
+    fn tell_place(&self, notes: &mut Notes, pid: Pid, old_place: u32) -> Result<(), AllocError> {
+        let (place, line) = self.place_of(pid);
+        notes.say(&[self.scope(pid).name(), Part::Text(": ")])?;
+        if place < old_place {
+            notes.add(&[
+                Part::Text("back from "),
+                Part::Number(i64::from(old_place)),
+                Part::Text(" to "),
+            ])?;
+        } else if place > old_place {
+            notes.add(&[
+                Part::Text("from "),
+                Part::Number(i64::from(old_place)),
+                Part::Text(" to "),
+            ])?;
+        }
+        put_events(notes, place)?;
+        let redo = line.saturating_sub(place);
+        if redo > 0 {
+            notes.add(&[
+                Part::Text(", "),
+                Part::Number(i64::from(redo)),
+                Part::Text(" to redo"),
+            ])?;
+        }
+        Ok(())
+    }
+
+    // Says how a process's number of events, or its line, has changed, and what the events did that a batch made of it.
+    fn tell_move(
+        &self,
+        notes: &mut Notes,
+        pid: Pid,
+        before: (u32, u32),
+        call: &Call,
+    ) -> Result<(), AllocError> {
+        let (place, line) = self.place_of(pid);
+        let first = made_from(call, pid, place);
+        if first == place && (place, line) == before {
+            return Ok(());
+        }
+        self.tell_place(notes, pid, before.0)?;
+        for at in first..place {
+            self.tell_made(notes, "  ", pid, at)?;
+        }
+        Ok(())
+    }
+
+    fn tell_moves(
+        &self,
+        notes: &mut Notes,
+        before: &Before,
+        call: &Call,
+    ) -> Result<(), AllocError> {
+        for p in 0..self.session.program.processes() {
+            if let Some(place) = before.places.get(p as usize) {
+                self.tell_move(notes, Pid(p), *place, call)?;
+            }
+        }
+        Ok(())
+    }
+
+    fn tell_done(
+        &self,
+        notes: &mut Notes,
+        before: &Before,
+        call: &Call,
+        done: &Done,
+    ) -> Result<(), AllocError> {
+        match done {
+            Done::Played(pid, _) => match self.session.world.rows().last(*pid) {
+                Some(event) => self
+                    .scope(*pid)
+                    .tell_event(notes, self.text, self.session.world.rows(), event),
+                None => Ok(()),
+            },
+            Done::Undone(_, _) => notes.append(&before.undone),
+            Done::Places(_) | Done::Plain => self.tell_moves(notes, before, call),
+        }
+    }
+
+    /// Says what an accepted command did.
+    pub fn tell_reply(
+        &self,
+        alloc: Global,
+        notes: &mut Notes,
+        before: &Before,
+        call: &Call,
+        reply: &Reply,
+    ) -> Result<(), Refusal> {
+        self.tell_done(notes, before, call, &reply.done)?;
+        if let Some(name) = reply.halted {
+            notes.say(&[Part::Text("halted by this breakpoint:")])?;
+            return tell_breakpoint(alloc, notes, self.session.program, self.session.book, name);
+        }
+        match call {
+            Call::Give(Plan::Break(name, _)) => tell_breakpoint(
+                alloc,
+                notes,
+                self.session.program,
+                self.session.book,
+                *name,
+            ),
+            _ => Ok(()),
+        }
+    }
+}

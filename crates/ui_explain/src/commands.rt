@@ -1,0 +1,37 @@
+//! Commands of a program, with their lines in its text.
+
+use crate::expressions::ProcessView;
+use crate::notes::{Notes, Part};
+use crate::source::ProgramText;
+use dbg_base::Choice;
+use std::alloc::AllocError;
+
+impl ProcessView<'_> {
+    /// Appends the number of a command to the last line, and the line of the text at which the command begins.
+    pub(crate) fn put_command(
+        &self,
+        notes: &mut Notes,
+        source: &ProgramText,
+        choice: Choice,
+    ) -> Result<(), AllocError> {
+        let number = Part::Number(i64::from(choice.0));
+        notes.add(&[Part::Text("command "), number])?;
+        match source.place(self.pid, choice) {
+            Some(place) => notes.add(&[Part::Text(" in line "), Part::Count(place.number)]),
+            None => Ok(()),
+        }
+    }
+
+    /// Appends the text of the line at which a command begins to the last line.
+    pub(crate) fn put_text(
+        &self,
+        notes: &mut Notes,
+        source: &ProgramText,
+        choice: Choice,
+    ) -> Result<(), AllocError> {
+        match source.place(self.pid, choice) {
+            Some(place) => notes.add(&[Part::Text(": "), Part::Bytes(source.line(place))]),
+            None => Ok(()),
+        }
+    }
+}

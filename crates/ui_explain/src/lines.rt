@@ -1,0 +1,199 @@
+//! Why a command line is refused for its form, or for a name in it.
+
+use crate::faults::tell_mark;
+use crate::forms::{tell_near_word, tell_word};
+use crate::notes::{Notes, Part};
+use crate::numbers::meaning;
+use crate::view::SourceView;
+use dbg_base::limits::PROCESSES;
+use dbg_base::{Name, Pid, Refusal};
+use proc_lang::{ProgError, ProgFault, Program, parse_predicate};
+use std::alloc::{AllocError, Global};
+
+fn is_blank(byte: u8) -> bool {
+    byte == b' ' || byte == b'\t' || byte == b'\r'
+}
+
+/// The first word, which is empty if there are only blanks, and the bytes after it.
+pub(crate) fn next_word(bytes: &[u8]) -> (&[u8], &[u8]) {
+    let blanks = bytes.iter().take_while(|byte| is_blank(**byte)).count();
+    let begun = bytes.get(blanks..).unwrap_or(&[]);
+    let length = begun.iter().take_while(|byte| !is_blank(**byte)).count();
+    match (begun.get(..length), begun.get(length..)) {
+        (Some(word), Some(rest)) => (word, rest),
+        _ => (&[], &[]),
+    }
+}
+
+// The length of the expression in parentheses at the start: all bytes if no parenthesis closes it.
+fn parenthesized_length(bytes: &[u8]) -> usize {
+    let mut depth = 0usize;
+    for (i, byte) in bytes.iter().enumerate() {
+        match byte {
+            b'(' => depth = depth.saturating_add(1),
+            b')' => depth = depth.saturating_sub(1),
+            _ => {}
+        }
+        if depth == 0 {
+            return i.saturating_add(1);
+        }
+    }
+    bytes.len()
+}
+
+// The first expression, and the bytes after it.
+fn next_expression(bytes: &[u8]) -> (&[u8], &[u8]) {
+    let begun = bytes.trim_ascii_start();
+    if begun.first() != Some(&b'(') {
+        return next_word(begun);
+    }
+    let length = parenthesized_length(begun);
+    match (begun.get(..length), begun.get(length..)) {
+        (Some(expression), Some(rest)) => (expression, rest),
+        _ => (&[], &[]),
+    }
+}
+
+// The process of this name.
+fn process_named(program: &Program, word: &[u8]) -> Option<Pid> {
+    program.find_process(Name::new(word)?)
+}
+
+// Explains a fault of a text, with a mark under its place.
+fn tell_marked(notes: &mut Notes, text: &[u8], fault: &ProgFault) -> Result<(), AllocError> {
+    notes.say(&[Part::Bytes(text)])?;
+    tell_mark(notes, text.get(..fault.at).unwrap_or(text), fault.kind)
+}
+
+impl SourceView<'_> {
+    // Says what is wrong with a predicate. True if something is wrong.
+    fn tell_predicate(
+        &self,
+        alloc: Global,
+        notes: &mut Notes,
+        pid: Pid,
+        text: &[u8],
+    ) -> Result<bool, Refusal> {
+        if pid.0 >= self.session.program.processes() {
+            return Ok(false);
+        }
+        match parse_predicate(alloc, self.session.program, pid, text) {
+            Ok(_) => Ok(false),
+            Err(ProgError::Bad(fault)) => {
+                tell_marked(notes, text, &fault)?;
+                Ok(true)
+            }
+            Err(ProgError::Memory) => Err(Refusal::Memory),
+        }
+    }
+
+    // Says what is wrong with the first wrong conjunct.
+    fn tell_conjuncts(
+        &self,
+        alloc: Global,
+        notes: &mut Notes,
+        parts: &[u8],
+    ) -> Result<(), Refusal> {
+        let mut rest = parts;
+        let mut has_part = [false; PROCESSES];
+        // A line has at most this many parts.
+        for _ in 0..512 {
+            let (word, behind) = next_word(rest);
+            let (text, others) = next_expression(behind);
+            let Some(pid) = process_named(self.session.program, word) else {
+                return Ok(());
+            };
+            if self.tell_predicate(alloc, notes, pid, text)? {
+                return Ok(());
+            }
+            if let Some(has) = has_part.get_mut(pid.0 as usize) {
+                if *has {
+                    return Ok(notes.say(&[
+                        Part::Bytes(word),
+                        Part::Text(
+                            " already has a part: combine both, as in `((x = 1) and (y = 2))`",
+                        ),
+                    ])?);
+                }
+                *has = true;
+            }
+            rest = others;
+        }
+        Ok(())
+    }
+
+    // Says which word is not the name of a process.
+    fn tell_unknown(
+        &self,
+        notes: &mut Notes,
+        command: &[u8],
+        arguments: &[u8],
+    ) -> Result<(), AllocError> {
+        let mut rest = arguments;
+        if command == b"break".as_slice() {
+            rest = next_word(rest).1;
+        }
+        for _ in 0..512 {
+            let (word, others) = next_word(rest);
+            if word.is_empty() {
+                return Ok(());
+            }
+            if process_named(self.session.program, word).is_none() {
+                return self.tell_processes(notes, word);
+            }
+            rest = if command == b"break".as_slice() {
+                next_expression(others).1
+            } else {
+                others
+            };
+        }
+        Ok(())
+    }
+
+    // Says what is wrong with the form of a line.
+    fn tell_form_of(
+        &self,
+        notes: &mut Notes,
+        seat: &[u8],
+        command: &[u8],
+    ) -> Result<(), AllocError> {
+        if !matches!(seat, [b'1'..=b'9'] | [b'1', b'0'..=b'6']) {
+            return notes.say(&[
+                Part::Text("`"),
+                Part::Bytes(seat),
+                Part::Text("` is not a seat: seats are the numbers from 1 to 16"),
+            ]);
+        }
+        if command.is_empty() {
+            return notes.say(&[Part::Text("a command is missing after the seat")]);
+        }
+        if !tell_word(notes, command)? {
+            tell_near_word(notes, command)?;
+        }
+        Ok(())
+    }
+
+    /// Says why a command line, which begins with its seat, is refused without a call.
+    pub fn tell_bad_line(
+        &self,
+        alloc: Global,
+        notes: &mut Notes,
+        line: &[u8],
+        refusal: &Refusal,
+    ) -> Result<(), Refusal> {
+        notes.say(&[Part::Text(meaning(refusal.number()))])?;
+        let (seat, rest) = next_word(line);
+        let (command, arguments) = next_word(rest);
+        match refusal {
+            Refusal::BadLine => self.tell_form_of(notes, seat, command)?,
+            Refusal::UnknownProcess if command != b"batch".as_slice() => self.tell_unknown(
+                notes, command, arguments,
+            )?,
+            Refusal::BadPredicate if command == b"break".as_slice() => {
+                self.tell_conjuncts(alloc, notes, next_word(arguments).1)?;
+            }
+            _ => {}
+        }
+        Ok(())
+    }
+}

@@ -1,0 +1,80 @@
+//! The values on which an expression depends.
+
+use crate::expressions::{ProcessView, direction_text};
+use crate::notes::{Notes, Part};
+use dbg_base::{Direction, Expr, Pid};
+use local_eval::Env;
+use std::alloc::AllocError;
+
+// A value of a process that an expression may name.
+#[derive(Clone, Copy, PartialEq, Eq)]
+enum NamedValue {
+    Variable(u32),
+    Count(Direction, Pid),
+}
+
+fn names(expr: &Expr, named: NamedValue) -> bool {
+    match expr {
+        Expr::Number(_) | Expr::Truth(_) => false,
+        Expr::Variable(variable) => named == NamedValue::Variable(*variable),
+        Expr::Sent(pid) => named == NamedValue::Count(Direction::Sent, *pid),
+        Expr::Got(pid) => named == NamedValue::Count(Direction::Got, *pid),
+        Expr::Not(operand) | Expr::Negate(operand) => names(operand, named),
+        Expr::Binary(_, left, right) => names(left, named) || names(right, named),
+    }
+}
+
+// Appends a name and its value to the last line: the first one after this word, and the others after a comma.
+fn put_value(
+    notes: &mut Notes,
+    word: &mut &'static str,
+    name: &[Part<'_>],
+    value: i64,
+) -> Result<(), AllocError> {
+    notes.add(&[Part::Text(*word)])?;
+    notes.add(name)?;
+    *word = ", ";
+    notes.add(&[Part::Text(" = "), Part::Number(value)])
+}
+
+impl ProcessView<'_> {
+    /// Appends the values of the variables and counts that an expression names to the last line.
+    pub(crate) fn put_values(
+        &self,
+        notes: &mut Notes,
+        env: &Env,
+        expr: &Expr,
+    ) -> Result<(), AllocError> {
+        let mut word = ": ";
+        for variable in 0..self.program.variables(self.pid) {
+            if let Some(value) = env.values().get(variable as usize) {
+                if names(expr, NamedValue::Variable(variable)) {
+                    put_value(notes, &mut word, &[self.variable(variable)], *value)?;
+                }
+            }
+        }
+        self.put_counts(notes, &mut word, env, expr, Direction::Sent)?;
+        self.put_counts(notes, &mut word, env, expr, Direction::Got)
+    }
+
+    fn put_counts(
+        &self,
+        notes: &mut Notes,
+        word: &mut &'static str,
+        env: &Env,
+        expr: &Expr,
+        direction: Direction,
+    ) -> Result<(), AllocError> {
+        for process in 0..self.program.processes() {
+            let pid = Pid(process);
+            if let Some(count) = env.counts(direction).get(process as usize) {
+                if names(expr, NamedValue::Count(direction, pid)) {
+                    let open = Part::Text(direction_text(direction));
+                    let name = [open, self.process(pid), Part::Text(")")];
+                    put_value(notes, word, &name, i64::from(*count))?;
+                }
+            }
+        }
+        Ok(())
+    }
+}

@@ -1,0 +1,20 @@
+//! What explanations are made from.
+
+use crate::expressions::ProcessView;
+use crate::source::ProgramText;
+use dbg_base::Pid;
+use dbg_command::SessionView;
+
+/// A session, and the text of its program.
+#[derive(Clone, Copy)]
+pub struct SourceView<'a> {
+    pub session: SessionView<'a>,
+    pub text: &'a ProgramText,
+}
+
+impl<'a> SourceView<'a> {
+    /// A process of the session.
+    pub fn scope(&self, pid: Pid) -> ProcessView<'a> {
+        ProcessView::new(self.session.program, pid)
+    }
+}

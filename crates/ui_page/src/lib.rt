@@ -1,0 +1,12 @@
+//! Drawing a session: explainers that record each line for a page, or draw the end of the session, and the page.
+#![tactic(auto)]
+
+mod artist;
+mod json;
+mod page;
+mod recorder;
+
+pub use artist::Artist;
+pub use json::Json;
+pub use page::write_page;
+pub use recorder::Recorder;

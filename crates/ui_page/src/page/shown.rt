@@ -1,0 +1,77 @@
+//! The script: which rows are shown, and the areas that scroll.
+
+pub(super) static SHOWN: &str = r#"
+// The first position in a list from which on the test holds.
+function firstWhere(list, test) {
+  let low = 0, high = list.length;
+  while (low < high) {
+    const middle = (low + high) >> 1;
+    if (test(list[middle])) high = middle; else low = middle + 1;
+  }
+  return low;
+}
+
+// An area that scrolls over so many pixels. Browsers limit the size of its content, so beyond that it scrolls in larger steps.
+class Scroll {
+  constructor(area, ways) {
+    this.area = area;
+    this.ground = area.firstElementChild;
+    [this.from, this.view, this.size] = ways;
+    this.whole = 0;
+  }
+  resize(whole) {
+    this.whole = whole;
+    this.ground.style[this.size] = Math.min(whole, 8e6) + 'px';
+  }
+  get scale() {
+    const view = this.area[this.view];
+    return this.whole > 8e6 ? (this.whole - view) / (8e6 - view) : 1;
+  }
+  get offset() { return Math.max(0, Math.min(this.area[this.from] * this.scale, this.whole - this.area[this.view])); }
+  set offset(pixels) { this.area[this.from] = Math.max(0, pixels) / this.scale; }
+}
+const downward = ['scrollTop', 'clientHeight', 'height'];
+const area = find('drawing'), listArea = find('lines'), listScroll = new Scroll(listArea, downward);
+const across = new Scroll(area, ['scrollLeft', 'clientWidth', 'width']), down = new Scroll(area, downward);
+
+// The shown state, which is the one after the first `place` lines, and the chosen event {p, n} or breakpoint {point}.
+let place = lines.length, chosen = null, playing = 0;
+const shown = new Rows(), later = processes.map(() => ({line: null, events: []}));
+const colours = new Map();
+let points = [];
+
+function sizeOf(p) { return p === undefined ? -1 : shown.events[p].length + later[p].events.length; }
+function eventAt(p, n) {
+  const made = shown.events[p];
+  return n <= made.length ? made[n - 1] : (later[p].events[n - made.length - 1] || {}).event;
+}
+function depthAt(p, n) {
+  const made = shown.events[p];
+  return n === 0 ? 0 : n <= made.length ? made[n - 1].depth : later[p].events[n - made.length - 1].depth;
+}
+// How far the search for a breakpoint's cut came: the frontier, with -1 for a process that is past, and the cut, if there is one.
+function found(point) {
+  const heads = headsAt(point.search), frontier = heads.map((n, p) => n > state.lines[p].done.n ? -1 : n);
+  return {...point, frontier, cut: frontier.includes(-1) ? null : heads};
+}
+// Shows the state of the place.
+function follow() {
+  state = states[place];
+  points = state.points.map(found);
+  state.lines.forEach((line, p) => {
+    if (later[p].line === line) return;
+    shown.reach(p, line.done);
+    let depth = line.done.depth;
+    later[p] = {line, events: choices(line).map(event => ({event, depth: depth = Math.max(depth + 1, event.depth)}))};
+  });
+  for (const {name} of points) if (!colours.has(name)) colours.set(name, 'c' + colours.size % 8);
+}
+// For each process that this line changed, the number of the event that the line made or undid; 0 for the others.
+function latest(n) {
+  const old = states[Math.max(0, n - 1)].lines;
+  return states[n].lines.map((line, p) => {
+    if (old[p] === line) return 0;
+    return line.done.n >= old[p].done.n ? line.done.n : line.later ? line.done.n + 1 : 0;
+  });
+}
+"#;

@@ -1,0 +1,76 @@
+//! Plays a session and draws it.
+
+use shell_io::{Noted, Sink, Source};
+use shell_print::{ServeFault, Served, hand_on, write_whole};
+use shell_serve::play;
+use std::alloc::Global;
+use ui_diagram::PictureForm;
+use ui_page::{Artist, Recorder, write_page};
+use ui_session::{Dialogue, Typed};
+
+// Whether a program was played.
+fn is_played(served: Served) -> bool {
+    served != Served::Refused
+}
+
+fn draw_page<R: Source + Typed, W: Sink>(
+    alloc: Global,
+    reader: &mut R,
+    writer: &mut W,
+) -> Result<Served, ServeFault> {
+    let mut dialogue = Dialogue::new(Recorder::new(alloc));
+    let mut replies = Noted::new(Vec::new(alloc));
+    let served = play(alloc, &mut dialogue, reader, &mut replies)?;
+    let recorder = dialogue.explainer();
+    if recorder.is_out_of_memory() {
+        return Err(ServeFault::Memory);
+    }
+    let replies = replies.into_inner();
+    if is_played(served) {
+        write_page(&recorder.session(replies.as_slice())?, writer)?;
+    } else {
+        let written = write_whole(writer, replies.as_slice());
+        hand_on(written, writer)?;
+    }
+    Ok(served)
+}
+
+fn draw_end<R: Source + Typed, W: Sink>(
+    alloc: Global,
+    form: PictureForm,
+    reader: &mut R,
+    writer: &mut W,
+) -> Result<Served, ServeFault> {
+    let mut dialogue = Dialogue::new(Artist::new(alloc, form));
+    let mut replies = Noted::new(Vec::new(alloc));
+    let served = play(alloc, &mut dialogue, reader, &mut replies)?;
+    let artist = dialogue.explainer();
+    if artist.is_out_of_memory() {
+        return Err(ServeFault::Memory);
+    }
+    if is_played(served) {
+        let written = write_whole(writer, artist.picture());
+        hand_on(written, writer)?;
+    } else {
+        let written = write_whole(writer, replies.into_inner().as_slice());
+        hand_on(written, writer)?;
+    }
+    Ok(served)
+}
+
+/// Plays a session as `talk` does, and writes a picture of it: a picture of its end, or a page to go through it. If the input is too long,
+/// the picture is of the lines within the limit. A program that is refused is explained as `talk` explains it. Errors: the reader or the
+/// writer failed, or memory ran out.
+pub fn draw<R: Source + Typed, W: Sink>(
+    alloc: Global,
+    form: PictureForm,
+    reader: &mut R,
+    writer: &mut W,
+) -> Result<Served, ServeFault> {
+    match form {
+        PictureForm::Html => draw_page(alloc, reader, writer),
+        PictureForm::Text | PictureForm::Svg | PictureForm::Shiviz => {
+            draw_end(alloc, form, reader, writer)
+        }
+    }
+}

@@ -1,0 +1,11 @@
+//! Interactive sessions and sessions with expectations.
+#![tactic(auto)]
+
+mod drawing;
+mod running;
+mod sentences;
+mod testing;
+
+pub use drawing::draw;
+pub use running::{explain, talk};
+pub use testing::{Tested, test_session};

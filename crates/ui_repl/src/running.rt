@@ -1,0 +1,57 @@
+//! Interactive sessions, and programs that are refused.
+
+ghost use Rattle.std.specs.Prelude.{◌≡◌};
+ghost use Rattle.shell_io.specs.declared.health.Health.TheVariants.{Fine};
+ghost use Rattle.shell_print.specs.Outcomes.{source_behind, sink_behind};
+ghost use Rattle.shell_serve.specs.Sessions.{Plays};
+ghost use Rattle.ui_session.specs.Dialogues.{interactive};
+
+use crate::sentences::Sentences;
+use proc_lang::{ProgError, parse_program};
+use shell_input::{Input, read_program_text, text_alone};
+use shell_io::{Sink, Source};
+use shell_print::{ServeFault, Served, tell_fault, tell_size, tell_too_long};
+use shell_serve::play;
+use std::alloc::Global;
+use ui_session::{Dialogue, Typed, explain_fault};
+
+/// Reads a program text up to a line `%%` or to the end of the input. Writes how many processes and commands the program has, or what is
+/// wrong with it: after the refusal the line and the column, the text of the line with a mark under the place, and the likely correction.
+pub fn explain<R: Source, W: Sink>(
+    alloc: Global,
+    reader: &mut R,
+    writer: &mut W,
+) -> Result<Served, ServeFault> {
+    let mut input = Input::new(alloc)?;
+    let end = read_program_text(&mut input, reader)?;
+    let Some(text) = text_alone(&input, end) else {
+        return tell_too_long(writer);
+    };
+    match parse_program(alloc, text) {
+        Ok(program) => tell_size(&program, writer),
+        Err(ProgError::Bad(fault)) => {
+            let served = tell_fault(&fault, writer)?;
+            explain_fault(alloc, text, &fault, writer)?;
+            Ok(served)
+        }
+        Err(ProgError::Memory) => Err(ServeFault::Memory),
+    }
+}
+
+/// Reads a program text up to a line `%%`. Then answers each line after it up to `quit`, as `play` of `shell_serve` does. A command line
+/// has the reply that a run gives to it; without a seat it is one of seat 1. Directives (`help`, `on`, `state`, `line P`, `draw`, `quit`,
+/// comments) make no call. A line that was not typed is written before its reply. Lines after the reply, which begin with two blanks,
+/// explain what the command did, or why the line is refused and what the person can do. A text that is not a program is refused, with an
+/// explanation.
+pub fn talk<R: Source + Typed, W: Sink>(
+    alloc: Global,
+    reader: &mut R,
+    writer: &mut W,
+) -> Result<Served, ServeFault>
+    ensures plays { Plays interactive (R.remaining reader.old) (R.remaining reader.new) (W.seen writer.old) result (W.seen writer.new) }
+    ensures reader { R.health reader.old ≡ Fine → R.health reader.new ≡ source_behind result }
+    ensures writer { (W.seen writer.old).health ≡ Fine → (W.seen writer.new).health ≡ sink_behind result }
+{
+    let mut dialogue = Dialogue::new(Sentences::new(alloc)?);
+    play(alloc, &mut dialogue, reader, writer)
+}

@@ -1,0 +1,221 @@
+//! Sessions with expectations.
+
+ghost use Rattle.std.specs.Prelude.{Some};
+
+use crate::running::talk;
+use itoa::Buffer;
+use shell_io::{Noted, Sink};
+use shell_print::{ServeFault, Served, hand_on, write_whole};
+use std::alloc::{AllocError, Global};
+use std::io;
+use std::io::Read;
+use ui_explain::first_line;
+use ui_session::{Typed, is_directive};
+
+// A text that is read, whose lines are not echoed.
+#[derive(Drop)]
+struct SessionText<'a> {
+    rest: &'a [u8],
+}
+
+impl Read for SessionText<'_> {
+    ghost remaining = { λ silent. Some silent.rest.now };
+
+    fn read(&mut self, bytes: &mut [u8]) -> io::Result<usize> {
+        self.rest.read(bytes)
+    }
+}
+
+impl Typed for SessionText<'_> {
+    fn is_typed(&self) -> bool {
+        true
+    }
+}
+
+/// The result of a session in which a line `> REPLY` gives the expected reply to the command line before it.
+#[derive(Clone, Copy, Debug, PartialEq, Eq)]
+pub enum Tested {
+    /// Each reply was the expected one.
+    Passed,
+    /// A reply was not, the program was refused, or the input was too long.
+    Failed,
+}
+
+// A line whose reply is not the expected one.
+#[derive(Clone, Copy)]
+struct Difference<'a> {
+    // The line's number in the session, from 1.
+    number: usize,
+    line: &'a [u8],
+    wanted: &'a [u8],
+    // How many replies come before the reply to the line.
+    before: usize,
+}
+
+// The expected reply to the command line before this line, if this line gives one.
+fn wanted(line: &[u8]) -> Option<&[u8]> {
+    match line.trim_ascii() {
+        [b'>', rest @ ..] => Some(rest.trim_ascii()),
+        _ => None,
+    }
+}
+
+fn is_told(line: &[u8]) -> bool {
+    matches!(line, [b' ', b' ', ..])
+}
+
+// The lines of a session after its program, each with its number.
+fn command_lines(session: &[u8]) -> (usize, &[u8]) {
+    let mut rest = session;
+    let mut number = 1usize;
+    for line in session.split(|byte| *byte == b'\n') {
+        rest = rest.get(line.len().saturating_add(1)..).unwrap_or(&[]);
+        number = number.saturating_add(1);
+        if line.trim_ascii_end() == b"%%".as_slice() {
+            break;
+        }
+    }
+    (number, rest)
+}
+
+// The first line of a session whose reply is not the expected one, if the interactive session wrote this output.
+fn first_difference<'a>(session: &'a [u8], page: &[u8]) -> Option<Difference<'a>> {
+    let (mut number, lines) = command_lines(session);
+    let mut asked = Difference {
+        number,
+        line: &[],
+        wanted: &[],
+        before: 0,
+    };
+    let mut replies = 0usize;
+    let mut rest = page;
+    let mut reply: &[u8] = &[];
+    for line in lines.split(|byte| *byte == b'\n') {
+        match wanted(line) {
+            Some(wanted) if wanted != reply => {
+                asked.wanted = wanted;
+                return Some(asked);
+            }
+            Some(_) => {}
+            None if is_directive(line) => {}
+            None => {
+                asked = Difference {
+                    number,
+                    line,
+                    wanted: &[],
+                    before: replies,
+                };
+                (reply, rest) = next_reply(rest);
+                replies = replies.saturating_add(1);
+            }
+        }
+        number = number.saturating_add(1);
+    }
+    None
+}
+
+// The first reply, and the output after it.
+fn next_reply(page: &[u8]) -> (&[u8], &[u8]) {
+    let mut rest = page;
+    for _ in 0..page.len() {
+        let (line, behind) = first_line(rest);
+        if !is_told(line) {
+            return (line, behind);
+        }
+        rest = behind;
+    }
+    (&[], &[])
+}
+
+// Reports a line whose reply is not the expected one, with the explanation of that reply.
+fn tell_difference(
+    alloc: Global,
+    name: &str,
+    difference: &Difference<'_>,
+    page: &[u8],
+) -> Result<Vec<u8>, AllocError> {
+    let mut text = Vec::new(alloc);
+    let mut rest = page;
+    let mut reply: &[u8] = &[];
+    for _ in 0..difference.before.saturating_add(1) {
+        (reply, rest) = next_reply(rest);
+    }
+    text.extend_from_slice(name.as_bytes())?;
+    text.extend_from_slice(b":")?;
+    text.extend_from_slice(Buffer::new().format(difference.number).as_bytes())?;
+    text.extend_from_slice(b": ")?;
+    text.extend_from_slice(difference.line)?;
+    text.extend_from_slice(b"\n  expected: ")?;
+    text.extend_from_slice(difference.wanted)?;
+    text.extend_from_slice(b"\n  reply:    ")?;
+    text.extend_from_slice(reply)?;
+    text.extend_from_slice(b"\n")?;
+    for _ in 0..rest.len() {
+        let (line, behind) = first_line(rest);
+        if !is_told(line) {
+            break;
+        }
+        text.extend_from_slice(b"  ")?;
+        text.extend_from_slice(line)?;
+        text.extend_from_slice(b"\n")?;
+        rest = behind;
+    }
+    Ok(text)
+}
+
+// Reports something about the session of this name.
+fn tell_named(alloc: Global, name: &str, what: &[u8]) -> Result<Vec<u8>, AllocError> {
+    let mut text = Vec::from_slice(alloc, name.as_bytes())?;
+    text.extend_from_slice(b": ")?;
+    text.extend_from_slice(what)?;
+    Ok(text)
+}
+
+// Writes a text and flushes it.
+fn write_text<W: Sink>(text: &[u8], writer: &mut W) -> Result<(), ServeFault> {
+    let written = write_whole(writer, text);
+    hand_on(written, writer)
+}
+
+/// Plays the session of this name. Writes whether each reply was the expected one, which a line `> REPLY` after the command line gives, or
+/// the first reply that was not, with its explanation. A program that is refused, and input that is too long, are reported as an
+/// interactive session reports them.
+pub fn test_session<W: Sink>(
+    alloc: Global,
+    name: &str,
+    session: &[u8],
+    writer: &mut W,
+) -> Result<Tested, ServeFault> {
+    let mut reader = Noted::new(SessionText { rest: session });
+    let mut page = Noted::new(Vec::new(alloc));
+    // An observer fails only if memory runs out.
+    let Ok(served) = talk(alloc, &mut reader, &mut page) else {
+        return Err(ServeFault::Memory);
+    };
+    let page = page.into_inner();
+    match served {
+        Served::Done => {}
+        Served::Refused => {
+            let text = tell_named(alloc, name, page.as_slice())?;
+            write_text(text.as_slice(), writer)?;
+            return Ok(Tested::Failed);
+        }
+        Served::TooLong => {
+            let text = tell_named(alloc, name, b"input too long\n")?;
+            write_text(text.as_slice(), writer)?;
+            return Ok(Tested::Failed);
+        }
+    }
+    match first_difference(session, page.as_slice()) {
+        Some(difference) => {
+            let text = tell_difference(alloc, name, &difference, page.as_slice())?;
+            write_text(text.as_slice(), writer)?;
+            Ok(Tested::Failed)
+        }
+        None => {
+            let text = tell_named(alloc, name, b"ok\n")?;
+            write_text(text.as_slice(), writer)?;
+            Ok(Tested::Passed)
+        }
+    }
+}
