@@ -21,6 +21,9 @@ RUNS = [
     ("check_program_file", "check program.rdbg", "1 vars a"),
     ("check_folder", "check faults", ""),
     ("crew_with_program_file", "crew --turns 3 program.rdbg", ""),
+    ("expand_session", "expand notation.rdbg", ""),
+    ("expand_fault", "expand notation_fault.rdbg", ""),
+    ("expand_line_fault", "expand notation_line_fault.rdbg", ""),
     ("test_passes", "test expected.rdbg directives.rdbg", ""),
     ("test_fails", "test expected.rdbg unexpected.rdbg refused.rdbg", ""),
 ]

@@ -20,6 +20,8 @@ pub enum Work {
     Job(Job),
     /// Check a program text, and explain what is wrong.
     Explain,
+    /// Print the plain session of one in the model notation.
+    Expand,
     /// Answer and explain the lines of a person.
     Talk,
     /// Play a session, and draw it.

@@ -97,6 +97,15 @@ fn talk<'a>(alloc: Global) -> Result<Command<'a>, AllocError> {
     )
 }
 
+fn expand<'a>(alloc: Global) -> Result<Command<'a>, AllocError> {
+    with_file(
+        alloc,
+        "expand",
+        "Prints the plain session of one in the model notation",
+        "The program and the first lines; those of standard input follow",
+    )
+}
+
 fn run<'a>(alloc: Global) -> Result<Command<'a>, AllocError> {
     with_file(
         alloc,
@@ -186,6 +195,7 @@ fn command<'a>(alloc: Global) -> Result<Command<'a>, AllocError> {
         .after_help(GUIDE)
         .subcommand_required(true)
         .subcommand(talk(alloc)?)?
+        .subcommand(expand(alloc)?)?
         .subcommand(run(alloc)?)?
         .subcommand(check(alloc)?)?
         .subcommand(crew(alloc)?)?
@@ -203,6 +213,7 @@ fn named_work(
 {
     match name {
         "talk" => Ok(Work::Talk),
+        "expand" => Ok(Work::Expand),
         "draw" => Ok(Work::Draw(named_form(matches.get_str("as")))),
         "check" if matches.get_flag("explain") => Ok(Work::Explain),
         "check" => Ok(Work::Job(Job::Check)),

@@ -20,7 +20,7 @@ use std::process::ExitCode;
 use std::sync::Wait;
 use std::thread::Threads;
 use typing::{FileInput, Typing, open};
-use ui_repl::{Tested, draw, explain, talk, test_session};
+use ui_repl::{Tested, draw, expand, explain, talk, test_session};
 use ui_session::Typed;
 use words::{WordsFault, words};
 
@@ -41,6 +41,7 @@ fn work_from<R: Threads + Wait + Sync, I: Source + Typed, W: Sink, E: Sink>(
         Work::Job(Job::Check) => status(&check(alloc, reader, writer)),
         Work::Job(Job::Crew(turns)) => crew_status(&run_crew(rt, alloc, turns, reader, writer)),
         Work::Explain => status(&explain(alloc, reader, writer)),
+        Work::Expand => status(&expand(alloc, reader, writer, errors)),
         Work::Talk => status(&talk(alloc, reader, writer)),
         Work::Draw(form) => status(&draw(alloc, form, reader, writer)),
     }
@@ -50,7 +51,7 @@ fn work_from<R: Threads + Wait + Sync, I: Source + Typed, W: Sink, E: Sink>(
 fn reads_on(work: Work) -> bool {
     matches!(
         work,
-        Work::Job(Job::Run) | Work::Talk | Work::Draw(_)
+        Work::Job(Job::Run) | Work::Expand | Work::Talk | Work::Draw(_)
     )
 }
 

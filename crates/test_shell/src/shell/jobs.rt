@@ -90,6 +90,8 @@ fn words_ask_for_talks(rt: HostRuntime) {
     expect_true(&rt, talk == Some(Work::Talk));
     let explain = work_of(alloc, ["rdbg", "check", "--explain"].as_slice());
     expect_true(&rt, explain == Some(Work::Explain));
+    let expand = work_of(alloc, ["rdbg", "expand"].as_slice());
+    expect_true(&rt, expand == Some(Work::Expand));
     let run = work_of(alloc, ["rdbg", "run"].as_slice());
     expect_true(&rt, run == Some(Work::Job(Job::Run)));
     let test = asked(alloc, ["rdbg", "test", "one"].as_slice());
@@ -188,6 +190,7 @@ Usage: rdbg <COMMAND>
 
 Commands:
   talk    Interactive session: like `run`, with an explanation after each reply
+  expand  Prints the plain session of one in the model notation
   run     Reads a program, a line `%%` and command lines, and answers each line
   check   Reads a program and prints how many processes and commands it has, or what is wrong
   crew    Reads a program, gives `next` for each process N times, from threads, and prints how many calls there were

@@ -1,0 +1,9 @@
+-- What contracts see of an expansion: its plain text, and how many bytes its source has.
+use Rattle.std.specs.Prelude.{ℕ, List}
+use Rattle.notation.specs.declared.expansion.Expansion.{Expansion}
+
+abbrev pub plain_of : Expansion → List ℕ
+plain_of expansion = expansion.built.text.bytes.items
+
+abbrev pub source_length : Expansion → ℕ
+source_length expansion = expansion.source

@@ -1,0 +1,4 @@
+pub mod Levels
+pub mod Places
+pub mod TokenCounts
+pub mod Expansions

@@ -1,0 +1,285 @@
+//! Processes, variables and commands, written in the process language.
+
+use crate::environment::Value;
+use crate::fault::{Problem, Stop};
+use crate::limits::{REPEATS, UNFOLDING};
+use crate::model::Tables;
+use crate::syntax::{
+    Action, Assignment, Binder, Command, Constant, Declaration, Item, Process, Variable, place,
+};
+use crate::writing::{Writer, put_index};
+use dbg_base::Name;
+use dbg_base::limits::{COMMANDS, PROCESSES};
+use itoa::Buffer;
+use std::alloc::{AllocError, Global};
+
+/// A command of the plain program: its label, or nothing, and where it is in the source.
+#[derive(Drop)]
+pub(crate) struct CommandOrigin {
+    pub(crate) label: Vec<u8>,
+    pub(crate) at: usize,
+}
+
+/// A process of the plain program: its name, the declaration that it comes from, the values of its members, and its commands.
+#[derive(Drop)]
+pub(crate) struct ProcessCopy {
+    pub(crate) name: Vec<u8>,
+    pub(crate) declaration: usize,
+    pub(crate) members: Vec<i64>,
+    pub(crate) commands: Vec<CommandOrigin>,
+}
+
+/// Writes a model, and notes its processes and commands.
+#[derive(Drop)]
+pub(crate) struct Builder<'a> {
+    pub(crate) writer: Writer<'a>,
+    pub(crate) processes: Vec<ProcessCopy>,
+    // The values of the members of the open `for`.
+    indices: Vec<i64>,
+}
+
+// The name of a member of a family.
+fn member_name(alloc: Global, name: &Name, values: &[i64], at: usize) -> Result<Vec<u8>, Stop> {
+    let mut text = Vec::from_slice(alloc, name.bytes())?;
+    for value in values {
+        put_index(&mut text, *value, at)?;
+    }
+    Ok(text)
+}
+
+/// Appends each number in brackets.
+pub(crate) fn put_indices(label: &mut Vec<u8>, indices: &[i64]) -> Result<(), AllocError> {
+    let mut buffer = Buffer::new();
+    for index in indices {
+        label.push(b'[')?;
+        label.extend_from_slice(buffer.format(*index).as_bytes())?;
+        label.push(b']')?;
+    }
+    Ok(())
+}
+
+// Whether one of the first commands has the label. A 65th command is a fault of the process language.
+fn has_label(commands: &[CommandOrigin], label: &[u8]) -> bool {
+    commands
+        .iter()
+        .take(COMMANDS)
+        .any(|command| command.label.as_slice() == label)
+}
+
+impl<'a> Builder<'a> {
+    /// Nothing is written.
+    pub(crate) fn new(alloc: Global, tables: &'a Tables) -> Result<Builder<'a>, AllocError> {
+        Ok(Builder {
+            writer: Writer::new(alloc, tables)?,
+            processes: Vec::new(alloc),
+            indices: Vec::new(alloc),
+        })
+    }
+
+    fn alloc(&self) -> Global {
+        self.writer.environment.alloc
+    }
+
+    // Computes a constant.
+    fn constant(&mut self, constant: &'a Constant) -> Result<(), Stop> {
+        self.writer.constant(constant)
+    }
+
+    // Writes the variable for these members.
+    fn variable_copy(&mut self, variable: &'a Variable, values: &[i64]) -> Result<(), Stop> {
+        let alloc = self.alloc();
+        let writer = &mut self.writer;
+        let start = writer.environment.number(&variable.value, UNFOLDING)?;
+        let name = member_name(alloc, &variable.name, values, variable.name_at)?;
+        writer.text.line(b"  ", variable.at)?;
+        writer.token(b"var", variable.at)?;
+        writer.token(name.as_slice(), variable.name_at)?;
+        writer.token(b"=", variable.name_at)?;
+        let at = place(&variable.value);
+        if start < 0 {
+            writer.token(b"-", at)?;
+            writer.text.join();
+        }
+        writer.magnitude(start, at)?;
+        writer.joined_token(b";", at)
+    }
+
+    // Writes a variable, or each of a family: no more than the first 33, since the process language reports the 33rd.
+    fn variable(&mut self, variable: &'a Variable) -> Result<(), Stop> {
+        let ranges = variable.ranges.as_slice();
+        let tuples = self.writer.environment.combinations(ranges, PROCESSES)?;
+        for values in &tuples {
+            let before = self
+                .writer
+                .environment
+                .enter_all(ranges, values.as_slice())?;
+            self.variable_copy(variable, values.as_slice())?;
+            self.writer.environment.leave_all(before);
+        }
+        Ok(())
+    }
+
+    // The label of a command in the present copy, or nothing.
+    fn label(&self, command: &Command) -> Result<Vec<u8>, Stop> {
+        let Some(label) = command.label else {
+            return Ok(Vec::new(self.alloc()));
+        };
+        let mut text = Vec::from_slice(self.alloc(), label.name.bytes())?;
+        put_indices(&mut text, self.indices.as_slice())?;
+        Ok(text)
+    }
+
+    // Notes a command: its label, which no other command of the process may have, and its place.
+    fn note_command(&mut self, command: &Command) -> Result<(), Stop> {
+        let label = self.label(command)?;
+        let at = match command.label {
+            Some(label) => label.at,
+            None => command.at,
+        };
+        if let Some(process) = self.processes.last_mut() {
+            if !label.is_empty() && has_label(process.commands.as_slice(), label.as_slice()) {
+                return Err(Stop::Bad(Problem::LabelTaken, at));
+            }
+            process.commands.push(CommandOrigin { label, at })?;
+        }
+        Ok(())
+    }
+
+    // Writes an assignment.
+    fn assignment(&mut self, assignment: &'a Assignment) -> Result<(), Stop> {
+        let writer = &mut self.writer;
+        writer.reference(&assignment.target, UNFOLDING)?;
+        writer.token(b":=", assignment.at)?;
+        writer.expression(&assignment.value, UNFOLDING)
+    }
+
+    // Writes what a command does besides its assignments.
+    fn action(&mut self, action: &'a Action) -> Result<(), Stop> {
+        let writer = &mut self.writer;
+        match action {
+            Action::Local => Ok(()),
+            Action::Send(at, target, value) => {
+                writer.token(b"send", *at)?;
+                writer.reference(target, UNFOLDING)?;
+                writer.expression(value, UNFOLDING)
+            }
+            Action::Receive(at, source, variable) => {
+                writer.token(b"recv", *at)?;
+                writer.reference(source, UNFOLDING)?;
+                writer.reference(variable, UNFOLDING)
+            }
+        }
+    }
+
+    // Writes a command.
+    fn command(&mut self, command: &'a Command) -> Result<(), Stop> {
+        self.note_command(command)?;
+        self.writer.text.line(b"  ", command.at)?;
+        self.writer.token(b"when", command.at)?;
+        self.writer.expression(&command.guard, UNFOLDING)?;
+        self.writer.token(b":", command.colon)?;
+        self.action(&command.action)?;
+        let mut is_first = matches!(command.action, Action::Local);
+        for assignment in &command.assignments {
+            if !is_first {
+                self.writer.joined_token(b",", assignment.target.at)?;
+            }
+            is_first = false;
+            self.assignment(assignment)?;
+        }
+        self.writer.joined_token(b";", command.end)
+    }
+
+    // Writes the items for each member of a range.
+    #[cycle(copies)]
+    fn repeat(&mut self, binder: &'a Binder, items: &'a [Item], depth: u32) -> Result<(), Stop> {
+        if depth == 0 {
+            return Err(Stop::Bad(Problem::DeepNesting, binder.at));
+        }
+        let members = self.writer.environment.range(binder, UNFOLDING)?;
+        for member in &members {
+            let before = self.writer.environment.enter(binder.member, *member)?;
+            self.indices.push(*member)?;
+            self.items(items, depth - 1)?;
+            let _ = self.indices.pop();
+            self.writer.environment.leave(before);
+        }
+        Ok(())
+    }
+
+    // Writes items, in order.
+    #[cycle(copies)]
+    fn items(&mut self, items: &'a [Item], depth: u32) -> Result<(), Stop> {
+        for item in items {
+            match item {
+                Item::Constant(constant) => self.constant(constant)?,
+                Item::Variable(variable) => self.variable(variable)?,
+                Item::Command(command) => self.command(command)?,
+                Item::Repeat(binder, items) => self.repeat(binder, items.as_slice(), depth)?,
+            }
+        }
+        Ok(())
+    }
+
+    // Writes the process for these members.
+    fn process_copy(
+        &mut self,
+        process: &'a Process,
+        declaration: usize,
+        values: &[i64],
+    ) -> Result<(), Stop> {
+        let alloc = self.alloc();
+        let name = member_name(alloc, &process.name, values, process.name_at)?;
+        self.writer.text.line(b"", process.at)?;
+        self.writer.token(b"process", process.at)?;
+        self.writer.token(name.as_slice(), process.name_at)?;
+        self.writer.token(b"{", process.open)?;
+        self.processes.push(ProcessCopy {
+            name,
+            declaration,
+            members: Vec::from_slice(alloc, values)?,
+            commands: Vec::new(alloc),
+        })?;
+        self.items(process.items.as_slice(), REPEATS)?;
+        self.writer.text.line(b"", process.close)?;
+        self.writer.token(b"}", process.close)
+    }
+
+    // Writes a process, or each of a family: no more than the first 33, since the process language reports the 33rd.
+    fn process(&mut self, process: &'a Process, declaration: usize) -> Result<(), Stop> {
+        let ranges = process.ranges.as_slice();
+        let tuples = self.writer.environment.combinations(ranges, PROCESSES)?;
+        for values in &tuples {
+            let before = self
+                .writer
+                .environment
+                .enter_all(ranges, values.as_slice())?;
+            self.process_copy(process, declaration, values.as_slice())?;
+            self.writer.environment.leave_all(before);
+        }
+        Ok(())
+    }
+
+    /// Writes all declarations of a model, in order.
+    pub(crate) fn model(&mut self, declarations: &'a [Declaration]) -> Result<(), Stop> {
+        for (number, declaration) in declarations.iter().enumerate() {
+            match declaration {
+                Declaration::Constant(constant) => self.constant(constant)?,
+                Declaration::Process(process) => self.process(process, number)?,
+            }
+        }
+        if !self.writer.text.bytes.is_empty() {
+            self.writer.text.line(b"", 0)?;
+        }
+        Ok(())
+    }
+}
+
+impl<'a> Writer<'a> {
+    /// Computes a constant.
+    pub(crate) fn constant(&mut self, constant: &'a Constant) -> Result<(), Stop> {
+        let value: Value = self.environment.value(&constant.value, UNFOLDING)?;
+        self.environment.set_constant(constant.number, value);
+        Ok(())
+    }
+}

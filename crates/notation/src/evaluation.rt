@@ -1,0 +1,269 @@
+//! Values that are computed during expansion, with the arithmetic of the process language.
+
+use crate::environment::{Environment, Value};
+use crate::fault::{Problem, Stop};
+use crate::syntax::{Binder, Each, Expression, Form, Link, place};
+use dbg_base::Operator;
+
+// The number, if it is in range.
+fn in_range(number: Option<i64>, at: usize) -> Result<Value, Stop> {
+    match number {
+        Some(number) => Ok(Value::Number(number)),
+        None => Err(Stop::Bad(Problem::Overflow, at)),
+    }
+}
+
+// A number that is an operand.
+fn number_of(value: Value, at: usize) -> Result<i64, Stop> {
+    match value {
+        Value::Number(number) => Ok(number),
+        Value::Truth(_) => Err(Stop::Bad(Problem::NumberExpected, at)),
+    }
+}
+
+// A truth value that is an operand.
+fn truth_of(value: Value, at: usize) -> Result<bool, Stop> {
+    match value {
+        Value::Truth(truth) => Ok(truth),
+        Value::Number(_) => Err(Stop::Bad(Problem::TruthExpected, at)),
+    }
+}
+
+// A division, at this offset.
+fn divide(operator: Operator, x: i64, y: i64, at: usize) -> Result<Value, Stop> {
+    if y == 0 {
+        return Err(Stop::Bad(Problem::DivisionByZero, at));
+    }
+    match operator {
+        Operator::Divide => in_range(x.checked_div(y), at),
+        _ => in_range(x.checked_rem(y), at),
+    }
+}
+
+// What two numbers give; the operator is at this offset.
+fn calculate(operator: Operator, x: i64, y: i64, at: usize) -> Result<Value, Stop> {
+    match operator {
+        Operator::Add => in_range(x.checked_add(y), at),
+        Operator::Subtract => in_range(x.checked_sub(y), at),
+        Operator::Multiply => in_range(x.checked_mul(y), at),
+        Operator::Divide | Operator::Remainder => divide(operator, x, y, at),
+        Operator::Equal => Ok(Value::Truth(x == y)),
+        Operator::NotEqual => Ok(Value::Truth(x != y)),
+        Operator::Less => Ok(Value::Truth(x < y)),
+        Operator::LessOrEqual => Ok(Value::Truth(x <= y)),
+        Operator::Greater => Ok(Value::Truth(x > y)),
+        Operator::GreaterOrEqual => Ok(Value::Truth(x >= y)),
+        Operator::And | Operator::Or => Err(Stop::Bad(Problem::TruthExpected, at)),
+    }
+}
+
+impl<'a> Environment<'a> {
+    /// The value of an expression, where so many levels are left.
+    #[cycle(evaluation)]
+    pub(crate) fn value(&mut self, expression: &'a Expression, depth: u32) -> Result<Value, Stop> {
+        let inner = self.step(depth, place(expression))?;
+        match expression {
+            Expression::Number(_, number) => Ok(Value::Number(*number)),
+            Expression::Truth(_, truth) => Ok(Value::Truth(*truth)),
+            Expression::Constant(at, number) => self.constant(*number, *at),
+            Expression::Member(_, number) => Ok(Value::Number(self.member(*number))),
+            Expression::Parameter(at, number) => {
+                let argument = self.argument(*number, *at)?;
+                self.value(argument, inner)
+            }
+            Expression::Name(reference) => {
+                Err(Stop::Bad(Problem::VariableComputed, reference.at))
+            }
+            Expression::Count(at, _, _) => Err(Stop::Bad(Problem::CountComputed, *at)),
+            Expression::Call(at, number, arguments) => {
+                let definition = self.definition(*number, *at)?;
+                let before = self.bind(definition, arguments.as_slice())?;
+                let value = self.value(&definition.body, inner)?;
+                self.unbind(definition, before.as_slice());
+                Ok(value)
+            }
+            Expression::Not(_, operand) => {
+                let truth = self.truth(operand, inner)?;
+                Ok(Value::Truth(!truth))
+            }
+            Expression::Negate(at, operand) => {
+                let number = self.number(operand, inner)?;
+                in_range(number.checked_neg(), *at)
+            }
+            Expression::Chain(_, first, links) => self.chain(first, links.as_slice(), inner),
+            Expression::Each(each) => self.each(each, inner),
+        }
+    }
+
+    /// The number that an expression gives.
+    #[cycle(evaluation)]
+    pub(crate) fn number(&mut self, expression: &'a Expression, depth: u32) -> Result<i64, Stop> {
+        let value = self.value(expression, depth)?;
+        number_of(value, place(expression))
+    }
+
+    /// The truth value that an expression gives.
+    #[cycle(evaluation)]
+    pub(crate) fn truth(&mut self, expression: &'a Expression, depth: u32) -> Result<bool, Stop> {
+        let value = self.value(expression, depth)?;
+        truth_of(value, place(expression))
+    }
+
+    // What an operator gives: `and` and `or` compute their right operand only where the left one does not decide.
+    #[cycle(evaluation)]
+    fn link(&mut self, left: Value, at: usize, link: &'a Link, depth: u32) -> Result<Value, Stop> {
+        if matches!(link.operator, Operator::And | Operator::Or) {
+            let decided = matches!(link.operator, Operator::Or);
+            if truth_of(left, at)? == decided {
+                return Ok(left);
+            }
+            let right = self.truth(&link.operand, depth)?;
+            return Ok(Value::Truth(right));
+        }
+        let x = number_of(left, at)?;
+        let y = self.number(&link.operand, depth)?;
+        calculate(link.operator, x, y, link.at)
+    }
+
+    // The value of operands with operators between them, from left to right.
+    #[cycle(evaluation)]
+    fn chain(
+        &mut self,
+        first: &'a Expression,
+        links: &'a [Link],
+        depth: u32,
+    ) -> Result<Value, Stop> {
+        let at = place(first);
+        let mut value = self.value(first, depth)?;
+        for link in links {
+            value = self.link(value, at, link, depth)?;
+        }
+        Ok(value)
+    }
+
+    // Whether the condition of a range holds.
+    #[cycle(evaluation)]
+    fn holds(&mut self, binder: &'a Binder, depth: u32) -> Result<bool, Stop> {
+        match &binder.condition {
+            Some(condition) => self.truth(condition, depth),
+            None => Ok(true),
+        }
+    }
+
+    /// The members of a range for which its condition holds, in order.
+    #[cycle(evaluation)]
+    pub(crate) fn range(&mut self, binder: &'a Binder, depth: u32) -> Result<Vec<i64>, Stop> {
+        let low = self.number(&binder.low, depth)?;
+        let high = self.number(&binder.high, depth)?;
+        let mut members = Vec::new(self.alloc);
+        let mut next = Some(low);
+        for _ in 0..u64::MAX {
+            let Some(value) = next else {
+                break;
+            };
+            if value > high {
+                break;
+            }
+            let inner = self.step(depth, binder.at)?;
+            let before = self.enter(binder.member, value)?;
+            if self.holds(binder, inner)? {
+                members.push(value)?;
+            }
+            self.leave(before);
+            next = value.checked_add(1);
+        }
+        Ok(members)
+    }
+
+    // The value of the expression for one member.
+    #[cycle(evaluation)]
+    fn at_member(&mut self, each: &'a Each, member: i64, depth: u32) -> Result<Value, Stop> {
+        let before = self.enter(each.binder.member, member)?;
+        let value = self.value(&each.body, depth)?;
+        self.leave(before);
+        Ok(value)
+    }
+
+    // The sum over these members, the first half and the rest.
+    #[cycle(evaluation)]
+    fn sum(&mut self, each: &'a Each, members: &[i64], depth: u32) -> Result<Value, Stop> {
+        match members {
+            [] => return Ok(Value::Number(0)),
+            [only] => return self.at_member(each, *only, depth),
+            _ => {}
+        }
+        let inner = self.step(depth, each.at)?;
+        let (front, rest) = halves(members);
+        let x = number_of(self.sum(each, front, inner)?, place(&each.body))?;
+        let y = number_of(self.sum(each, rest, inner)?, place(&each.body))?;
+        in_range(x.checked_add(y), each.at)
+    }
+
+    // Whether so many of these members have a true expression.
+    #[cycle(evaluation)]
+    fn at_least(
+        &mut self,
+        each: &'a Each,
+        least: i64,
+        members: &[i64],
+        depth: u32,
+    ) -> Result<bool, Stop> {
+        let mut missing = least;
+        for (i, member) in members.iter().enumerate() {
+            if missing <= 0 {
+                break;
+            }
+            if missing > count_of(members.len().saturating_sub(i)) {
+                break;
+            }
+            let value = self.at_member(each, *member, depth)?;
+            if truth_of(value, place(&each.body))? {
+                missing = missing.saturating_sub(1);
+            }
+        }
+        Ok(missing <= 0)
+    }
+
+    // The value of a form.
+    #[cycle(evaluation)]
+    fn each(&mut self, each: &'a Each, depth: u32) -> Result<Value, Stop> {
+        let inner = self.step(depth, each.at)?;
+        let least = self.least(each, inner)?;
+        let members = self.range(&each.binder, inner)?;
+        let count = count_of(members.len());
+        match each.form {
+            Form::Sum => self.sum(each, members.as_slice(), inner),
+            Form::All => {
+                let all = self.at_least(each, count, members.as_slice(), inner)?;
+                Ok(Value::Truth(all))
+            }
+            Form::Some => {
+                let some = self.at_least(each, 1, members.as_slice(), inner)?;
+                Ok(Value::Truth(some))
+            }
+            Form::AtLeast => {
+                let enough = self.at_least(each, least, members.as_slice(), inner)?;
+                Ok(Value::Truth(enough))
+            }
+        }
+    }
+
+    /// The number of `at_least`, and 0 for other forms.
+    #[cycle(evaluation)]
+    pub(crate) fn least(&mut self, each: &'a Each, depth: u32) -> Result<i64, Stop> {
+        match &each.least {
+            Some(least) => self.number(least, depth),
+            None => Ok(0),
+        }
+    }
+}
+
+/// How many there are.
+pub(crate) fn count_of(length: usize) -> i64 {
+    i64::try_from(length).unwrap_or(i64::MAX)
+}
+
+/// The first half of these, rounded up, and the rest.
+pub(crate) fn halves(members: &[i64]) -> (&[i64], &[i64]) {
+    members.split_at(members.len() - members.len() / 2)
+}

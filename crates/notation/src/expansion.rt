@@ -1,0 +1,230 @@
+//! The whole way from a text in the notation to a plain program, and where its parts come from.
+
+ghost use Rattle.std.specs.Prelude.{◌≡◌, ◌≤◌, ◌<◌, ◌↔◌, length, IfOk, IfErr, IfSome, IsSome};
+ghost use Rattle.dbg_base.specs.declared.limits.TheConstants.{INPUT_BYTES};
+ghost use Rattle.notation.specs.Places.{IsInside};
+ghost use Rattle.notation.specs.TokenCounts.{token_count};
+ghost use Rattle.notation.specs.Expansions.{plain_of, source_length};
+
+use crate::building::{Builder, CommandOrigin};
+use crate::built::Built;
+use crate::environment::{Environment, member_values};
+use crate::fault::{Fault, MemberValue, NotationError, Problem, Stop};
+use crate::lexer::{first_wrong, tokens};
+use crate::model::Model;
+use crate::parser::model;
+use crate::plain_text::{Origin, map_of};
+use crate::writing::Writer;
+use dbg_base::{Choice, Pid, ProgFault};
+use std::alloc::{AllocError, Global};
+
+/// A model that was expanded: the plain program, and where its parts come from.
+#[derive(Drop)]
+pub struct Expansion {
+    pub(crate) model: Model,
+    // How many bytes the source has.
+    pub(crate) source: usize,
+    pub(crate) built: Built,
+}
+
+// Why work stopped, where the text has so many bytes and these members have values.
+pub(crate) fn failed(stop: Stop, members: Vec<MemberValue>, length: usize) -> NotationError
+    ensures { IsInside length result }
+{
+    match stop {
+        Stop::Memory => NotationError::Memory,
+        Stop::Bad(problem, at) => NotationError::Bad(Fault {
+            problem,
+            at: at.min(length),
+            members,
+        }),
+    }
+}
+
+// Why work stopped in the present copy.
+pub(crate) fn failed_in(environment: &Environment<'_>, stop: Stop, length: usize) -> NotationError
+    ensures { IsInside length result }
+{
+    match environment.members_of(environment.copy) {
+        Ok(members) => failed(stop, members, length),
+        Err(_) => NotationError::Memory,
+    }
+}
+
+// The plain program of a model, whose source has so many bytes.
+fn build(alloc: Global, model: &Model, source: usize) -> Result<Built, NotationError>
+    ensures { IfErr result (IsInside source) }
+{
+    let mut builder = Builder::new(alloc, &model.tables)?;
+    if let Err(stop) = builder.model(model.declarations.as_slice()) {
+        return Err(failed_in(&builder.writer.environment, stop, source));
+    }
+    let Builder {
+        writer,
+        processes,
+        ..
+    } = builder;
+    let Writer { environment, text } = writer;
+    let Environment {
+        constants,
+        copies,
+        ..
+    } = environment;
+    let map = map_of(alloc, text.bytes.as_slice(), text.origins.as_slice())?;
+    Ok(Built {
+        text,
+        processes,
+        copies,
+        constants,
+        map,
+    })
+}
+
+// The expansion of a model, whose source has so many bytes.
+fn expanded(alloc: Global, model: Model, source: usize) -> Result<Expansion, NotationError>
+    ensures source { IfOk result (λ expansion. source_length expansion ≡ source) }
+    ensures inside { IfErr result (IsInside source) }
+{
+    let built = build(alloc, &model, source)?;
+    Ok(Expansion {
+        model,
+        source,
+        built,
+    })
+}
+
+/// Expands a text in the notation: each text is expanded, or has a fault at a place of its own, unless memory runs out.
+pub fn expand(alloc: Global, source: &[u8]) -> Result<Expansion, NotationError>
+    ensures source { IfOk result (λ expansion. source_length expansion ≡ length source.now) }
+    ensures inside { IfErr result (IsInside (length source.now)) }
+{
+    let tokens = tokens(alloc, source)?;
+    if let Some((problem, at)) = first_wrong(tokens.as_slice()) {
+        let stop = Stop::Bad(problem, at);
+        return Err(failed(stop, Vec::new(alloc), source.len()));
+    }
+    match model(alloc, source, tokens.as_slice()) {
+        Ok(model) => expanded(alloc, model, source.len()),
+        Err(stop) => Err(failed(stop, Vec::new(alloc), source.len())),
+    }
+}
+
+// The last of these tokens that begins at this offset of the plain text, or before.
+fn origin_at(origins: &[Origin], offset: usize) -> Option<Origin> {
+    let mut found = None;
+    for origin in origins {
+        if origin.start <= offset {
+            found = Some(*origin);
+        }
+    }
+    found
+}
+
+impl Expansion {
+    /// The plain program, of 1,048,576 bytes at most.
+    pub fn plain(&self) -> &[u8]
+        ensures value { result.now ≡ plain_of self.now }
+        ensures few { length result.now ≤ INPUT_BYTES }
+    {
+        self.built.text.bytes.as_slice()
+    }
+
+    /// How many tokens the plain program has.
+    pub fn tokens(&self) -> usize
+        ensures { result ≡ token_count (plain_of self.now) }
+    {
+        self.built.map.len()
+    }
+
+    /// The offset in the source from which a token of the plain program comes, by its number.
+    pub fn source_of(&self, token: usize) -> Option<usize>
+        ensures each { IsSome result ↔ token < token_count (plain_of self.now) }
+        ensures inside { IfSome result (λ at. at ≤ source_length self.now) }
+    {
+        let origin = self.built.map.get(token)?;
+        Some(origin.at.min(self.source))
+    }
+
+    /// The offset of a token in the plain program, by its number.
+    pub fn offset_of(&self, token: usize) -> Option<usize>
+        ensures { IsSome result ↔ token < token_count (plain_of self.now) }
+    {
+        let origin = self.built.map.get(token)?;
+        Some(origin.start)
+    }
+
+    // The token at an offset of the plain program, or None at its end.
+    fn origin(&self, offset: usize) -> Option<Origin> {
+        if offset >= self.built.text.bytes.len() {
+            return None;
+        }
+        origin_at(self.built.map.as_slice(), offset)
+    }
+
+    /// The offset in the source from which the byte at this offset of the plain program comes; at the end of the program the end of the
+    /// source.
+    pub fn place(&self, offset: usize) -> usize
+        ensures { result ≤ source_length self.now }
+    {
+        match self.origin(offset) {
+            Some(origin) => origin.at.min(self.source),
+            None => self.source,
+        }
+    }
+
+    /// The members in whose copy the byte at this offset of the plain program is, the outermost first.
+    pub fn members(&self, alloc: Global, offset: usize) -> Result<Vec<MemberValue>, AllocError> {
+        let copy = match self.origin(offset) {
+            Some(origin) => origin.copy,
+            None => 0,
+        };
+        let names = self.model.tables.members.as_slice();
+        member_values(alloc, names, self.built.copies.as_slice(), copy)
+    }
+
+    /// A fault of the plain program, at its place in the source.
+    pub fn fault(&self, alloc: Global, found: &ProgFault) -> Result<Fault, AllocError>
+        ensures { IfOk result (λ fault. fault.at ≤ source_length self.now) }
+    {
+        Ok(Fault {
+            problem: Problem::Plain(found.kind),
+            at: self.place(found.at),
+            members: self.members(alloc, found.at)?,
+        })
+    }
+
+    fn command(&self, pid: Pid, choice: Choice) -> Option<&CommandOrigin> {
+        let process = self.built.processes.get(pid.0 as usize)?;
+        process.commands.get(choice.0 as usize)
+    }
+
+    /// The label of a command, with its indices, as `hear[2]`; None where it has no label.
+    pub fn label(&self, pid: Pid, choice: Choice) -> Option<&[u8]> {
+        let command = self.command(pid, choice)?;
+        if command.label.is_empty() {
+            return None;
+        }
+        Some(command.label.as_slice())
+    }
+
+    /// The offset in the source at which a command begins.
+    pub fn command_place(&self, pid: Pid, choice: Choice) -> Option<usize> {
+        let command = self.command(pid, choice)?;
+        Some(command.at)
+    }
+}
+
+/// The line and the column of an offset, each from 1.
+pub fn line_and_column(text: &[u8], at: usize) -> (usize, usize) {
+    let mut line = 1usize;
+    let mut column = 1usize;
+    for byte in text.iter().take(at) {
+        if *byte == b'\n' {
+            line = line.saturating_add(1);
+            column = 1;
+        } else {
+            column = column.saturating_add(1);
+        }
+    }
+    (line, column)
+}

@@ -1,0 +1,34 @@
+//! The model notation: a layer in front of the process language.
+//!
+//! A text in the notation is expanded into a text of the process language. `expand` does so, and knows for each token of the plain text
+//! from which place of the source it comes. `Expansion::expand_line` does the same for a command line.
+#![tactic(auto)]
+
+mod building;
+mod built;
+mod environment;
+mod evaluation;
+mod expansion;
+mod families;
+mod fault;
+mod finding;
+mod lexer;
+pub mod limits;
+mod lines;
+mod model;
+mod parser;
+mod pieces;
+mod plain_text;
+mod scope;
+mod sentences;
+mod session;
+mod syntax;
+mod token;
+mod writing;
+
+pub use expansion::{Expansion, expand, line_and_column};
+pub use fault::{Expected, Fault, Meaning, MemberValue, NotationError, Problem};
+pub use lines::PlainLines;
+pub use sentences::{likely, message};
+pub use session::{expand_program, expand_session};
+pub use token::Mark;

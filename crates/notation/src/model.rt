@@ -1,0 +1,45 @@
+//! A model that was read: its declarations, and what names of it mean.
+
+use crate::scope::Binding;
+use crate::syntax::{Declaration, Definition};
+use dbg_base::Name;
+use std::alloc::Global;
+
+/// A name that is visible in a whole process, or in the whole model.
+#[derive(Clone, Copy)]
+pub(crate) struct Visible {
+    pub(crate) name: Name,
+    pub(crate) binding: Binding,
+    /// The number of the declaration in which it is visible, or None for the whole model.
+    pub(crate) declaration: Option<usize>,
+}
+
+/// What is numbered in a model: definitions, names of members, and how many constants and parameters there are.
+#[derive(Drop)]
+pub(crate) struct Tables {
+    pub(crate) definitions: Vec<Definition>,
+    pub(crate) members: Vec<Name>,
+    pub(crate) constants: usize,
+    pub(crate) parameters: usize,
+    pub(crate) visible: Vec<Visible>,
+}
+
+impl Tables {
+    /// Nothing.
+    pub(crate) fn new(alloc: Global) -> Tables {
+        Tables {
+            definitions: Vec::new(alloc),
+            members: Vec::new(alloc),
+            constants: 0,
+            parameters: 0,
+            visible: Vec::new(alloc),
+        }
+    }
+}
+
+/// A model that was read.
+#[derive(Drop)]
+pub(crate) struct Model {
+    pub(crate) declarations: Vec<Declaration>,
+    pub(crate) tables: Tables,
+}

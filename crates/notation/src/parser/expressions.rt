@@ -1,0 +1,317 @@
+//! Expressions, by precedence.
+
+ghost use Rattle.std.specs.Prelude.{◌≡◌, ◌+◌, IfOk};
+
+use super::{Level, Parser, is_reserved};
+use crate::fault::{Expected, Problem, Stop};
+use crate::scope::Binding;
+use crate::syntax::{Binder, Each, Expression, Form, Link, Reference, enclosed};
+use crate::token::{Kind, Mark};
+use dbg_base::Direction;
+
+// The form that a word begins.
+fn form_of(word: &[u8]) -> Option<Form> {
+    if word == b"all".as_slice() {
+        return Some(Form::All);
+    }
+    if word == b"some".as_slice() {
+        return Some(Form::Some);
+    }
+    if word == b"sum".as_slice() {
+        return Some(Form::Sum);
+    }
+    if word == b"at_least".as_slice() {
+        return Some(Form::AtLeast);
+    }
+    None
+}
+
+// What a word says that is counted.
+fn direction_of(word: &[u8]) -> Option<Direction> {
+    if word == b"sent".as_slice() {
+        return Some(Direction::Sent);
+    }
+    if word == b"got".as_slice() {
+        return Some(Direction::Got);
+    }
+    None
+}
+
+// As many arguments are found as are wanted.
+fn check_arguments(wanted: usize, found: usize, at: usize) -> Result<(), Stop> {
+    if wanted == found {
+        return Ok(());
+    }
+    Err(Stop::Bad(Problem::Arguments { wanted, found }, at))
+}
+
+/// Whether a word begins a form: `all`, `some`, `sum` or `at_least`.
+pub(super) fn is_form(word: &[u8]) -> bool {
+    form_of(word).is_some()
+}
+
+impl<'a> Parser<'a> {
+    // One bracket more is open, of so many that may be.
+    fn deeper(&self, depth: u32) -> Result<u32, Stop>
+        ensures { IfOk result (λ inner. inner + 1 ≡ depth) }
+    {
+        if depth == 0 {
+            return Err(Stop::Bad(Problem::DeepNesting, self.at()));
+        }
+        Ok(depth - 1)
+    }
+
+    /// Operands with operators of this precedence between them.
+    #[cycle(expressions)]
+    pub(crate) fn chain(&mut self, level: Level, depth: u32) -> Result<Expression, Stop> {
+        let at = self.at();
+        let first = self.operand(level, depth)?;
+        if self.operator(level).is_none() {
+            return Ok(first);
+        }
+        let mut links = Vec::new(self.alloc);
+        for _ in self.next..self.tokens.len() {
+            let Some(operator) = self.operator(level) else {
+                break;
+            };
+            let place = self.at();
+            self.pass();
+            let operand = self.operand(level, depth)?;
+            links.push(Link {
+                operator,
+                at: place,
+                operand,
+            })?;
+        }
+        Ok(Expression::Chain(at, Box::new(self.alloc, first)?, links))
+    }
+
+    // An operand of an operator of this precedence.
+    #[cycle(expressions)]
+    fn operand(&mut self, level: Level, depth: u32) -> Result<Expression, Stop> {
+        match level {
+            Level::Or => self.chain(Level::And, depth),
+            Level::And => self.truth(depth),
+            Level::Sum => self.chain(Level::Product, depth),
+            Level::Product => self.signed(depth),
+        }
+    }
+
+    // A `not` and its operand, or at most one comparison.
+    #[cycle(expressions)]
+    fn truth(&mut self, depth: u32) -> Result<Expression, Stop> {
+        let at = self.at();
+        if self.is_word(b"not") {
+            let inner = self.deeper(depth)?;
+            self.pass();
+            let operand = self.truth(inner)?;
+            return Ok(Expression::Not(at, Box::new(self.alloc, operand)?));
+        }
+        let first = self.chain(Level::Sum, depth)?;
+        let Some(operator) = self.comparison() else {
+            return Ok(first);
+        };
+        let place = self.at();
+        self.pass();
+        let operand = self.chain(Level::Sum, depth)?;
+        if self.comparison().is_some() {
+            return Err(Stop::Bad(Problem::ComparisonChain, self.at()));
+        }
+        let mut links = Vec::new(self.alloc);
+        links.push(Link {
+            operator,
+            at: place,
+            operand,
+        })?;
+        Ok(Expression::Chain(at, Box::new(self.alloc, first)?, links))
+    }
+
+    // A minus and its operand, or an operand without a minus.
+    #[cycle(expressions)]
+    fn signed(&mut self, depth: u32) -> Result<Expression, Stop> {
+        let at = self.at();
+        if !self.is_mark(Mark::Minus) {
+            return self.primary(depth);
+        }
+        let inner = self.deeper(depth)?;
+        self.pass();
+        let operand = self.signed(inner)?;
+        Ok(Expression::Negate(at, Box::new(self.alloc, operand)?))
+    }
+
+    /// A number, a word and what belongs to it, or an expression in parentheses.
+    #[cycle(expressions)]
+    pub(crate) fn primary(&mut self, depth: u32) -> Result<Expression, Stop> {
+        let at = self.at();
+        match self.token().kind {
+            Kind::Number(number) => {
+                self.pass();
+                Ok(Expression::Number(at, number))
+            }
+            Kind::Word => self.spoken(depth),
+            Kind::Mark(Mark::OpenParenthesis) => {
+                let inner = self.deeper(depth)?;
+                self.pass();
+                let expression = self.chain(Level::Or, inner)?;
+                self.mark(Mark::CloseParenthesis)?;
+                Ok(enclosed(expression, at))
+            }
+            _ => Err(self.unexpected(Expected::Expression)),
+        }
+    }
+
+    // What begins with a word: a truth value, a count of messages, a form, a definition with its arguments, or a name.
+    #[cycle(expressions)]
+    fn spoken(&mut self, depth: u32) -> Result<Expression, Stop> {
+        let at = self.at();
+        let Some(word) = self.word() else {
+            return Err(self.unexpected(Expected::Expression));
+        };
+        if word == b"true".as_slice() || word == b"false".as_slice() {
+            self.pass();
+            return Ok(Expression::Truth(at, word == b"true".as_slice()));
+        }
+        if let Some(direction) = direction_of(word) {
+            self.pass();
+            self.mark(Mark::OpenParenthesis)?;
+            let other = self.reference(depth)?;
+            self.mark(Mark::CloseParenthesis)?;
+            return Ok(Expression::Count(at, direction, other));
+        }
+        if is_reserved(word) {
+            return Err(self.unexpected(Expected::Expression));
+        }
+        if !self.has_mark_behind(1, Mark::OpenParenthesis) {
+            let reference = self.reference(depth)?;
+            return self.looked_up(reference, word);
+        }
+        match form_of(word) {
+            Some(form) => self.each(form, depth),
+            None => self.call(depth),
+        }
+    }
+
+    // What a name without arguments stands for.
+    fn looked_up(&mut self, reference: Reference, word: &[u8]) -> Result<Expression, Stop> {
+        if !reference.indices.is_empty() {
+            return Ok(Expression::Name(reference));
+        }
+        let at = reference.at;
+        match self.scope.meaning(word) {
+            Some(Binding::Constant(number)) => Ok(Expression::Constant(at, number)),
+            Some(Binding::Member(number)) => Ok(Expression::Member(at, number)),
+            Some(Binding::Parameter(number)) => Ok(Expression::Parameter(at, number)),
+            Some(Binding::Definition(number, wanted)) => {
+                check_arguments(wanted, 0, at)?;
+                Ok(Expression::Call(at, number, Vec::new(self.alloc)))
+            }
+            Some(Binding::Variable) | None => Ok(Expression::Name(reference)),
+        }
+    }
+
+    /// A name with its indices.
+    #[cycle(expressions)]
+    pub(crate) fn reference(&mut self, depth: u32) -> Result<Reference, Stop> {
+        let written = self.name()?;
+        let mut indices = Vec::new(self.alloc);
+        for _ in self.next..self.tokens.len() {
+            if !self.is_mark(Mark::OpenBracket) {
+                break;
+            }
+            let inner = self.deeper(depth)?;
+            self.pass();
+            let index = self.chain(Level::Or, inner)?;
+            self.mark(Mark::CloseBracket)?;
+            indices.push(index)?;
+        }
+        Ok(Reference {
+            at: written.at,
+            name: written.name,
+            indices,
+        })
+    }
+
+    // A definition and its arguments.
+    #[cycle(expressions)]
+    fn call(&mut self, depth: u32) -> Result<Expression, Stop> {
+        let name = self.name()?;
+        let Some(Binding::Definition(number, wanted)) = self.scope.meaning(name.name.bytes()) else {
+            return Err(Stop::Bad(Problem::NotADefinition, name.at));
+        };
+        let inner = self.deeper(depth)?;
+        self.mark(Mark::OpenParenthesis)?;
+        let mut arguments = Vec::new(self.alloc);
+        for _ in self.next..self.tokens.len() {
+            let argument = self.chain(Level::Or, inner)?;
+            arguments.push(argument)?;
+            if !self.is_mark(Mark::Comma) {
+                break;
+            }
+            self.pass();
+        }
+        self.mark(Mark::CloseParenthesis)?;
+        check_arguments(wanted, arguments.len(), name.at)?;
+        Ok(Expression::Call(name.at, number, arguments))
+    }
+
+    // `all`, `some`, `sum` or `at_least`.
+    #[cycle(expressions)]
+    fn each(&mut self, form: Form, depth: u32) -> Result<Expression, Stop> {
+        let at = self.at();
+        let inner = self.deeper(depth)?;
+        self.pass();
+        self.mark(Mark::OpenParenthesis)?;
+        let mut least = None;
+        if form == Form::AtLeast {
+            least = Some(self.chain(Level::Or, inner)?);
+            self.mark(Mark::Comma)?;
+        }
+        let mark = self.scope.mark();
+        self.repeats = self.repeats.saturating_add(1);
+        let binder = self.binder(inner)?;
+        self.mark(Mark::Colon)?;
+        let body = self.chain(Level::Or, inner)?;
+        self.repeats = self.repeats.saturating_sub(1);
+        self.scope.leave(mark);
+        self.mark(Mark::CloseParenthesis)?;
+        let each = Each {
+            at,
+            form,
+            least,
+            binder,
+            body,
+        };
+        Ok(Expression::Each(Box::new(self.alloc, each)?))
+    }
+
+    /// A member, its range, and the condition behind `where`.
+    #[cycle(expressions)]
+    pub(crate) fn binder(&mut self, depth: u32) -> Result<Binder, Stop> {
+        let mut binder = self.ranged(depth)?;
+        if self.is_word(b"where") {
+            self.pass();
+            binder.condition = Some(self.chain(Level::Or, depth)?);
+        }
+        Ok(binder)
+    }
+
+    /// A member and its range.
+    #[cycle(expressions)]
+    pub(crate) fn ranged(&mut self, depth: u32) -> Result<Binder, Stop> {
+        let name = self.name()?;
+        self.mark(Mark::Colon)?;
+        let low = self.chain(Level::Sum, depth)?;
+        self.mark(Mark::Range)?;
+        let high = self.chain(Level::Sum, depth)?;
+        let member = self.members.saturating_add(self.tables.members.len());
+        self.tables.members.push(name.name)?;
+        self.declare(&name, Binding::Member(member))?;
+        Ok(Binder {
+            at: name.at,
+            member,
+            low,
+            high,
+            condition: None,
+        })
+    }
+}

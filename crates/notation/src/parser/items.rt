@@ -1,0 +1,319 @@
+//! Declarations and items.
+
+use super::Parser;
+use super::expressions::is_form;
+use crate::fault::{Expected, Problem, Stop};
+use crate::limits::{NESTING, PARAMETERS, REPEATS};
+use crate::model::Model;
+use crate::scope::Binding;
+use crate::syntax::{
+    Action, Assignment, Binder, Command, Constant, Declaration, Definition, Item, Label, Process,
+    Reference, Variable,
+};
+use crate::token::{Mark, Token};
+use std::alloc::Global;
+
+impl<'a> Parser<'a> {
+    // A name with its indices, outside an expression.
+    fn place_name(&mut self) -> Result<Reference, Stop> {
+        self.reference(NESTING)
+    }
+
+    // `const`, a name and its value.
+    fn constant(&mut self) -> Result<Constant, Stop> {
+        self.pass();
+        let name = self.name()?;
+        self.mark(Mark::Equals)?;
+        let value = self.expression()?;
+        self.mark(Mark::Semicolon)?;
+        let number = self.tables.constants;
+        self.tables.constants = number.saturating_add(1);
+        self.declare(&name, Binding::Constant(number))?;
+        Ok(Constant { number, value })
+    }
+
+    // One parameter.
+    fn parameter(&mut self) -> Result<(), Stop> {
+        let name = self.name()?;
+        let number = self.tables.parameters;
+        self.tables.parameters = number.saturating_add(1);
+        let bytes = self.bytes(name.token);
+        if let Some(old) = self.scope.declare(bytes, Binding::Parameter(number))? {
+            return Err(Stop::Bad(Problem::NameTaken(old), name.at));
+        }
+        Ok(())
+    }
+
+    // The parameters of a definition, in parentheses, if it has any. The answer is how many there are.
+    fn parameters(&mut self) -> Result<usize, Stop> {
+        if !self.is_mark(Mark::OpenParenthesis) {
+            return Ok(0);
+        }
+        self.pass();
+        for count in 1..=PARAMETERS {
+            self.parameter()?;
+            if !self.is_mark(Mark::Comma) {
+                self.mark(Mark::CloseParenthesis)?;
+                return Ok(count);
+            }
+            self.pass();
+        }
+        Err(Stop::Bad(Problem::ManyParameters, self.at()))
+    }
+
+    // `let`, a name, its parameters and its expression.
+    fn definition(&mut self) -> Result<(), Stop> {
+        self.pass();
+        let name = self.name()?;
+        if is_form(name.name.bytes()) {
+            return Err(Stop::Bad(Problem::FormName, name.at));
+        }
+        let mark = self.scope.mark();
+        let first = self.tables.parameters;
+        let count = self.parameters()?;
+        self.mark(Mark::Equals)?;
+        let body = self.expression()?;
+        self.mark(Mark::Semicolon)?;
+        self.scope.leave(mark);
+        let number = self.tables.definitions.len();
+        self.tables
+            .definitions
+            .push(Definition { first, count, body })?;
+        self.declare(&name, Binding::Definition(number, count))
+    }
+
+    // The ranges of a family, each in brackets.
+    fn ranges(&mut self) -> Result<Vec<Binder>, Stop> {
+        let mut ranges = Vec::new(self.alloc);
+        for _ in self.next..self.tokens.len() {
+            if !self.is_mark(Mark::OpenBracket) {
+                break;
+            }
+            self.pass();
+            let binder = self.ranged(NESTING)?;
+            self.mark(Mark::CloseBracket)?;
+            ranges.push(binder)?;
+        }
+        Ok(ranges)
+    }
+
+    // A variable, or a family of variables.
+    fn variable(&mut self) -> Result<Variable, Stop> {
+        let at = self.at();
+        self.pass();
+        let name = self.name()?;
+        let mark = self.scope.mark();
+        self.repeats = self.repeats.saturating_add(1);
+        let ranges = self.ranges()?;
+        self.mark(Mark::Equals)?;
+        let value = self.expression()?;
+        self.mark(Mark::Semicolon)?;
+        self.repeats = self.repeats.saturating_sub(1);
+        self.scope.leave(mark);
+        self.declare(&name, Binding::Variable)?;
+        Ok(Variable {
+            at,
+            name_at: name.at,
+            name: name.name,
+            ranges,
+            value,
+        })
+    }
+
+    // An assignment.
+    fn assignment(&mut self) -> Result<Assignment, Stop> {
+        if !self.is_name() {
+            return Err(self.unexpected(Expected::Action));
+        }
+        let target = self.place_name()?;
+        let at = self.mark(Mark::Becomes)?;
+        let value = self.expression()?;
+        Ok(Assignment { target, at, value })
+    }
+
+    // A send or a receive, if there is one.
+    fn action(&mut self) -> Result<Action, Stop> {
+        let at = self.at();
+        if self.is_word(b"send") {
+            self.pass();
+            let target = self.place_name()?;
+            let value = self.expression()?;
+            return Ok(Action::Send(at, target, value));
+        }
+        if self.is_word(b"recv") {
+            self.pass();
+            let source = self.place_name()?;
+            let variable = self.place_name()?;
+            return Ok(Action::Receive(at, source, variable));
+        }
+        Ok(Action::Local)
+    }
+
+    // The assignments of a command: behind commas, and the first one too where there is an action before it.
+    fn assignments(&mut self, action: &Action) -> Result<Vec<Assignment>, Stop> {
+        let mut assignments = Vec::new(self.alloc);
+        if matches!(action, Action::Local) {
+            assignments.push(self.assignment()?)?;
+        }
+        for _ in self.next..self.tokens.len() {
+            if !self.is_mark(Mark::Comma) {
+                break;
+            }
+            self.pass();
+            assignments.push(self.assignment()?)?;
+        }
+        Ok(assignments)
+    }
+
+    // A command, which may have a label.
+    fn command(&mut self, label: Option<Label>) -> Result<Command, Stop> {
+        let at = self.at();
+        self.pass();
+        let guard = self.expression()?;
+        let colon = self.mark(Mark::Colon)?;
+        let action = self.action()?;
+        let assignments = self.assignments(&action)?;
+        let end = self.mark(Mark::Semicolon)?;
+        Ok(Command {
+            label,
+            at,
+            guard,
+            colon,
+            action,
+            assignments,
+            end,
+        })
+    }
+
+    // A label, and its command.
+    fn labelled(&mut self) -> Result<Command, Stop> {
+        if !self.is_name() || !self.has_mark_behind(1, Mark::Colon) {
+            return Err(self.unexpected(Expected::Item));
+        }
+        let name = self.name()?;
+        self.mark(Mark::Colon)?;
+        if !self.is_word(b"when") {
+            return Err(self.unexpected(Expected::When));
+        }
+        self.command(Some(Label {
+            at: name.at,
+            name: name.name,
+        }))
+    }
+
+    // `for`, its member and its items, where so many `for` may still be open.
+    #[cycle(items)]
+    fn repeat(&mut self, depth: u32) -> Result<Item, Stop> {
+        if depth == 0 {
+            return Err(Stop::Bad(Problem::DeepNesting, self.at()));
+        }
+        self.pass();
+        let mark = self.scope.mark();
+        self.repeats = self.repeats.saturating_add(1);
+        let binder = self.binder(NESTING)?;
+        self.mark(Mark::OpenBrace)?;
+        let items = self.items(depth - 1)?;
+        self.mark(Mark::CloseBrace)?;
+        self.repeats = self.repeats.saturating_sub(1);
+        self.scope.leave(mark);
+        Ok(Item::Repeat(binder, items))
+    }
+
+    // An item that is no definition.
+    #[cycle(items)]
+    fn item(&mut self, depth: u32) -> Result<Item, Stop> {
+        if self.is_word(b"const") {
+            return Ok(Item::Constant(self.constant()?));
+        }
+        if self.is_word(b"var") {
+            return Ok(Item::Variable(self.variable()?));
+        }
+        if self.is_word(b"when") {
+            return Ok(Item::Command(self.command(None)?));
+        }
+        if self.is_word(b"for") {
+            return self.repeat(depth);
+        }
+        Ok(Item::Command(self.labelled()?))
+    }
+
+    // All items up to a `}`.
+    #[cycle(items)]
+    fn items(&mut self, depth: u32) -> Result<Vec<Item>, Stop> {
+        let mut items = Vec::new(self.alloc);
+        for _ in self.next..self.tokens.len() {
+            if self.is_mark(Mark::CloseBrace) {
+                break;
+            }
+            if self.is_word(b"let") {
+                self.definition()?;
+            } else {
+                items.push(self.item(depth)?)?;
+            }
+        }
+        Ok(items)
+    }
+
+    // A process, or a family of processes.
+    fn process(&mut self, number: usize) -> Result<Process, Stop> {
+        let at = self.at();
+        self.pass();
+        let name = self.name()?;
+        let mark = self.scope.mark();
+        self.declaration = Some(number);
+        let ranges = self.ranges()?;
+        let open = self.mark(Mark::OpenBrace)?;
+        let items = self.items(REPEATS)?;
+        let close = self.mark(Mark::CloseBrace)?;
+        self.declaration = None;
+        self.scope.leave(mark);
+        Ok(Process {
+            at,
+            name_at: name.at,
+            name: name.name,
+            ranges,
+            open,
+            items,
+            close,
+        })
+    }
+
+    // A declaration that is no definition; so many are before it.
+    fn declaration(&mut self, number: usize) -> Result<Declaration, Stop> {
+        if self.is_word(b"const") {
+            return Ok(Declaration::Constant(self.constant()?));
+        }
+        if self.is_word(b"process") {
+            return Ok(Declaration::Process(self.process(number)?));
+        }
+        Err(self.unexpected(Expected::Declaration))
+    }
+
+    // All declarations.
+    fn declarations(&mut self) -> Result<Vec<Declaration>, Stop> {
+        let mut declarations = Vec::new(self.alloc);
+        for _ in self.next..self.tokens.len() {
+            if self.is_at_end() {
+                break;
+            }
+            if self.is_word(b"let") {
+                self.definition()?;
+            } else {
+                let number = declarations.len();
+                declarations.push(self.declaration(number)?)?;
+            }
+        }
+        Ok(declarations)
+    }
+}
+
+/// The model that these tokens of the text write.
+pub(crate) fn model(alloc: Global, text: &[u8], tokens: &[Token]) -> Result<Model, Stop> {
+    let mut parser = Parser::new(alloc, text, tokens, 0, 0);
+    let declarations = parser.declarations()?;
+    let Parser { tables, .. } = parser;
+    Ok(Model {
+        declarations,
+        tables,
+    })
+}

@@ -1,0 +1,56 @@
+//! Tokens of the notation.
+
+use crate::fault::Problem;
+
+/// A mark of the notation: those of the process language, and `[`, `]` and `..`.
+#[derive(Clone, Copy, Debug, PartialEq, Eq)]
+pub enum Mark {
+    OpenBrace,
+    CloseBrace,
+    OpenParenthesis,
+    CloseParenthesis,
+    OpenBracket,
+    CloseBracket,
+    Semicolon,
+    Colon,
+    Becomes,
+    Comma,
+    Equals,
+    NotEquals,
+    LessThan,
+    AtMost,
+    GreaterThan,
+    AtLeast,
+    Plus,
+    Minus,
+    Star,
+    Slash,
+    Percent,
+    Range,
+}
+
+/// What a token is.
+#[derive(Clone, Copy)]
+pub(crate) enum Kind {
+    Word,
+    Number(i64),
+    Mark(Mark),
+    /// What is no token, and why.
+    Wrong(Problem),
+    /// The end of the text.
+    End,
+}
+
+/// A token: the offset of its first byte, and how many bytes it has.
+#[derive(Clone, Copy)]
+pub(crate) struct Token {
+    pub(crate) at: usize,
+    pub(crate) length: usize,
+    pub(crate) kind: Kind,
+}
+
+/// So many bytes of a text from this offset on, or those of them that there are.
+pub(crate) fn part(text: &[u8], at: usize, length: usize) -> &[u8] {
+    let rest = text.get(at..).unwrap_or(&[]);
+    rest.get(..length).unwrap_or(rest)
+}
