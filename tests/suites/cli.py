@@ -9,7 +9,7 @@ COUNTER = "process c { var n = 0; when (n < 30000) : n := (n + 1); }\n%%\n"
 LAST_LINES = 6  # of a session that reaches a limit, in its page
 
 # Files for `talk`. Each has a page of the same name.
-TALKS = ["directives", "refusals", "more_refusals", "batches", "refused"]
+TALKS = ["directives", "refusals", "more_refusals", "batches", "refused", "notation_session", "notation_fault"]
 
 # The name of a page, the arguments of the run, and its input.
 RUNS = [
@@ -24,6 +24,12 @@ RUNS = [
     ("expand_session", "expand notation.rdbg", ""),
     ("expand_fault", "expand notation_fault.rdbg", ""),
     ("expand_line_fault", "expand notation_line_fault.rdbg", ""),
+    ("talk_in_notation_from_input", "talk", "process a[i: 1..2] { var x = i; leave: when x > 0 : x := x - 1; }\n%%\nstep a[2] leave\non\nstep a[1] leav\n"),
+    ("check_notation", "check --explain notation.rdbg", ""),
+    ("draw_notation", "draw notation.rdbg", "step station[1] pass\n"),
+    ("draw_notation_fault", "draw --as svg notation_fault.rdbg", ""),
+    ("test_notation_passes", "test notation_expected.rdbg", ""),
+    ("test_notation_fails", "test notation_unexpected.rdbg notation_fault.rdbg", ""),
     ("test_passes", "test expected.rdbg directives.rdbg", ""),
     ("test_fails", "test expected.rdbg unexpected.rdbg refused.rdbg", ""),
 ]

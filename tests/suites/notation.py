@@ -1,5 +1,6 @@
-"""The examples in the model notation: what `rdbg expand` prints for each, compared whole, and that the plain session gives the replies of
-the plain example. The two have other names, in one order."""
+"""The examples in the model notation: what `rdbg expand` prints for each, compared whole, that the plain session gives the replies of the
+plain example, and that `talk`, `draw` and `check --explain` of the example do what they do of its plain session. The example and the plain
+one have other names, in one order."""
 import re
 
 from harness import TESTS, TOP
@@ -29,6 +30,21 @@ def renamed(replies, present, wanted):
     return WORD.sub(lambda word: names.get(word.group(), word.group()), replies)
 
 
+def without_explanations(talk):
+    return b"".join(line for line in talk.splitlines(keepends=True) if not line.startswith(b"  "))
+
+
+def check_direct(suite, example, plain):
+    """Compares what the program does with an example and with its plain session, given as its input."""
+    talks = [suite.rdbg("talk", example), suite.rdbg("talk", given=plain)]
+    suite.same(f"{example.name}: an interactive session", *(without_explanations(talk.output).decode() for talk in talks))
+    for form in ["text", "svg", "shiviz"]:
+        drawn = [suite.rdbg("draw", "--as", form, example), suite.rdbg("draw", "--as", form, given=plain)]
+        suite.same(f"{example.name}: drawn as {form}", *(picture.output.decode() for picture in drawn))
+    sizes = [suite.rdbg("check", "--explain", example), suite.rdbg("check", given=plain)]
+    suite.same(f"{example.name}: its size", *(size.output.decode() for size in sizes))
+
+
 def run(suite):
     written = sorted((EXAMPLES / "notation").glob("*.rdbg"))
     for example in written:
@@ -36,6 +52,7 @@ def run(suite):
         expanded = suite.rdbg("expand", example)
         suite.same(f"{example.name}: the status of its expansion", expanded.status, 0)
         suite.golden(golden, expanded.output)
+        check_direct(suite, example, expanded.output)
         replies = suite.rdbg("run", given=expanded.output)
         replies = renamed(replies.output.decode(), program(golden), program(plain))
         suite.same(f"{example.name}: the replies", replies, (REPLIES / f"{plain.stem}.out").read_text())

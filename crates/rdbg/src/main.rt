@@ -15,35 +15,48 @@ use shell_io::{Noted, Sink, Source, one_behind_the_other};
 use std::alloc::Global;
 use std::fs;
 use std::fs::File;
-use std::io::Error;
+use std::io::{Error, Read};
 use std::process::ExitCode;
 use std::sync::Wait;
 use std::thread::Threads;
 use typing::{FileInput, Typing, open};
-use ui_repl::{Tested, draw, expand, explain, talk, test_session};
+use ui_repl::{Tested, converse, draw, expand, explain, test_session};
 use ui_session::Typed;
 use words::{WordsFault, words};
 
 // The status if a session did not have the expected replies.
 const DIFFERS: u8 = 1;
 
-// Does this work from this reader to this writer, and returns the exit status.
-fn work_from<R: Threads + Wait + Sync, I: Source + Typed, W: Sink, E: Sink>(
+// Does this job from this reader to this writer, and returns the exit status.
+fn job_from<R: Threads + Wait + Sync, I: Source, W: Sink>(
+    rt: &R,
+    alloc: Global,
+    job: Job,
+    reader: &mut I,
+    writer: &mut W,
+) -> u8 {
+    match job {
+        Job::Run => status(&serve(alloc, reader, writer)),
+        Job::Check => status(&check(alloc, reader, writer)),
+        Job::Crew(turns) => crew_status(&run_crew(rt, alloc, turns, reader, writer)),
+    }
+}
+
+// Does this work from this input to this writer, and returns the exit status.
+fn work_from<R: Threads + Wait + Sync, I: Read + Typed + Drop, W: Sink, E: Sink>(
     rt: &R,
     alloc: Global,
     work: Work,
-    reader: &mut I,
+    input: I,
     writer: &mut W,
     errors: &mut E,
 ) -> u8 {
     match work {
-        Work::Job(Job::Run) => status(&serve(alloc, reader, writer)),
-        Work::Job(Job::Check) => status(&check(alloc, reader, writer)),
-        Work::Job(Job::Crew(turns)) => crew_status(&run_crew(rt, alloc, turns, reader, writer)),
-        Work::Explain => status(&explain(alloc, reader, writer)),
-        Work::Expand => status(&expand(alloc, reader, writer, errors)),
-        Work::Talk => status(&talk(alloc, reader, writer)),
-        Work::Draw(form) => status(&draw(alloc, form, reader, writer)),
+        Work::Job(job) => job_from(rt, alloc, job, &mut Noted::new(input), writer),
+        Work::Explain => status(&explain(alloc, &mut Noted::new(input), writer)),
+        Work::Expand => status(&expand(alloc, &mut Noted::new(input), writer, errors)),
+        Work::Talk => status(&converse(alloc, input, writer)),
+        Work::Draw(form) => status(&draw(alloc, form, input, writer)),
     }
 }
 
@@ -66,11 +79,17 @@ fn work_with_file<R: Threads + Wait + Sync, W: Sink, E: Sink>(
 ) -> u8 {
     if reads_on(work) {
         let input = Typing::new(rt, work == Work::Talk);
-        let mut reader = Noted::new(one_behind_the_other(file, input));
-        work_from(threads, rt.alloc(), work, &mut reader, writer, errors)
+        let input = one_behind_the_other(file, input);
+        work_from(threads, rt.alloc(), work, input, writer, errors)
     } else {
-        let mut reader = Noted::new(FileInput { file });
-        work_from(threads, rt.alloc(), work, &mut reader, writer, errors)
+        work_from(
+            threads,
+            rt.alloc(),
+            work,
+            FileInput { file },
+            writer,
+            errors,
+        )
     }
 }
 
@@ -115,8 +134,8 @@ fn do_work<R: Threads + Wait + Sync, W: Sink, E: Sink>(
             Err(error) => tell_unreadable(rt, name, &error),
         },
         _ => {
-            let mut reader = Noted::new(Typing::new(rt, work == Work::Talk));
-            work_from(threads, rt.alloc(), work, &mut reader, writer, errors)
+            let input = Typing::new(rt, work == Work::Talk);
+            work_from(threads, rt.alloc(), work, input, writer, errors)
         }
     }
 }

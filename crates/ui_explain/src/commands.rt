@@ -7,7 +7,7 @@ use dbg_base::Choice;
 use std::alloc::AllocError;
 
 impl ProcessView<'_> {
-    /// Appends the number of a command to the last line, and the line of the text at which the command begins.
+    /// Appends a command to the last line: its label, its number, and the line of the text at which it begins.
     pub(crate) fn put_command(
         &self,
         notes: &mut Notes,
@@ -15,7 +15,13 @@ impl ProcessView<'_> {
         choice: Choice,
     ) -> Result<(), AllocError> {
         let number = Part::Number(i64::from(choice.0));
-        notes.add(&[Part::Text("command "), number])?;
+        let label = source.label(self.pid, choice);
+        if label.is_empty() {
+            notes.add(&[Part::Text("command "), number])?;
+        } else {
+            let close = Part::Text(")");
+            notes.add(&[Part::Bytes(label), Part::Text(" (command "), number, close])?;
+        }
         match source.place(self.pid, choice) {
             Some(place) => notes.add(&[Part::Text(" in line "), Part::Count(place.number)]),
             None => Ok(()),

@@ -52,28 +52,14 @@ fn mend(before: &[u8], at: &[u8]) -> Option<&'static str> {
     if begins(at, b"=") && before.last() == Some(&b'=') {
         return Some("to compare two values, write `=`, and not `==`");
     }
-    if begins(at, b"#") {
-        return Some("a program has no comments; they are allowed after the line `%%`");
-    }
-    if begins(at, b"-") && (before.ends_with(b":=") || before.ends_with(b"(")) {
-        return Some("a number below 0 needs parentheses: `(- 1)`");
-    }
     if before.last() == Some(&b',') && (begins(at, b"send") || begins(at, b"recv")) {
         return Some("a command sends or receives at most once, before all `X := E`");
     }
     if begins(at, b"=") {
-        return Some("a command sets a variable with `:=`; `=` compares, in parentheses: `(x = 1)`");
+        return Some("a command sets a variable with `:=`; `=` compares");
     }
     if begins(at, b"&") || begins(at, b"|") || begins(at, b"!") {
         return Some("write `and`, `or`, `not`, and for unequal `!=`");
-    }
-    if matches!(at, [b'+' | b'-' | b'*' | b'/' | b'%' | b'<' | b'>', ..])
-        || begins(at, b"and")
-        || begins(at, b"or")
-    {
-        return Some(
-            "an operator with its two operands needs parentheses: `(x + 1)`, `((a and b) and c)`",
-        );
     }
     if is_before_name(before) {
         return Some(
@@ -91,29 +77,6 @@ fn mend(before: &[u8], at: &[u8]) -> Option<&'static str> {
         }
     }
     None
-}
-
-// What is due after these bytes.
-fn due(before: &[u8]) -> &'static str {
-    let before = before.trim_ascii_end();
-    if before.ends_with(b":=") || before.ends_with(b"when") {
-        return "an expression is expected: a number, a name, `true`, or an operation in parentheses, like `(x + 1)`";
-    }
-    match before.last() {
-        None => "a program begins with `process`, a name and `{`",
-        Some(b'{' | b';') => "`var X = 0;`, `when E : ..;` or `}` is expected",
-        Some(b'}') => "another `process`, or the end of the program is expected",
-        Some(b':') =>
-            "an action is expected: `send P E`, `recv P X` or `X := E`, and then more `X := E` after commas",
-        Some(b',') =>
-            "`X := E` is expected: a send or a receive comes first, and there is at most one",
-        Some(b')') =>
-            "`:` is expected after a guard, and `,` or `;` after what is sent or assigned",
-        Some(b'(' | b'=' | b'+' | b'-' | b'*' | b'/' | b'%' | b'<' | b'>') => {
-            "a number, a name, or an operation in parentheses is expected"
-        }
-        Some(_) => "a symbol is missing here, or there is a word too many",
-    }
 }
 
 // The words of a text after `var` or `process`, which are names. Returns the first that is nearly this one.
@@ -165,53 +128,19 @@ fn is_before_name(before: &[u8]) -> bool {
         || before.ends_with(b"recv")
 }
 
-// The number of the line of this byte, and the position of the line's first byte.
-fn line_of(text: &[u8], at: usize) -> (usize, usize) {
-    let mut number = 1usize;
-    let mut from = 0usize;
-    for (i, byte) in text.iter().enumerate() {
-        if i >= at {
-            break;
-        }
-        if *byte == b'\n' {
-            number = number.saturating_add(1);
-            from = i.saturating_add(1);
-        }
-    }
-    (number, from)
-}
-
-fn line_length(bytes: &[u8]) -> usize {
-    bytes
-        .iter()
-        .take_while(|byte| **byte != b'\n' && **byte != b'\r')
-        .count()
-}
-
-/// Explains a fault of a program text: its line and column, the line with a mark under the place, what is wrong, and the likely correction.
-pub fn tell_program_fault(
+/// Says how a fault of a program text may be corrected, if that is known: which symbol is missing, or which name may be meant.
+pub fn tell_correction(
     notes: &mut Notes,
     text: &[u8],
     fault: &ProgFault,
 ) -> Result<(), AllocError> {
-    let (number, from) = line_of(text, fault.at);
-    let column = fault.at.saturating_sub(from);
-    let begun = text.get(from..).unwrap_or(&[]);
-    let line = begun.get(..line_length(begun)).unwrap_or(&[]);
-    notes.say(&[
-        Part::Text("line "),
-        Part::Count(number),
-        Part::Text(", column "),
-        Part::Count(column.saturating_add(1)),
-    ])?;
-    notes.say(&[Part::Bytes(line)])?;
-    tell_mark(notes, line.get(..column).unwrap_or(line), fault.kind)?;
     let before = text.get(..fault.at).unwrap_or(text);
     let at = text.get(fault.at..).unwrap_or(&[]);
     match fault.kind {
-        FaultKind::Grammar | FaultKind::Byte => {
-            notes.say(&[Part::Text(mend(before, at).unwrap_or(due(before)))])
-        }
+        FaultKind::Grammar | FaultKind::Byte => match mend(before, at) {
+            Some(correction) => notes.say(&[Part::Text(correction)]),
+            None => Ok(()),
+        },
         FaultKind::NameUnknown => tell_near_name(notes, text, at),
         _ => Ok(()),
     }

@@ -26,7 +26,7 @@ pub use accepted::Before;
 pub use directive::Directive;
 pub use explainer::Explainer;
 pub use expressions::ProcessView;
-pub use faults::{tell_no_end_line, tell_program_fault};
+pub use faults::{tell_correction, tell_no_end_line};
 pub use forms::tell_help;
 pub use notes::{Notes, Part, first_line};
 pub use source::{ProgramText, TextLine};

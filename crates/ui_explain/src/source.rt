@@ -1,4 +1,4 @@
-//! The lines at which the commands of a program begin in its text.
+//! The places of the commands of a program in its text.
 
 use dbg_base::{Choice, Pid};
 use std::alloc::{AllocError, Global};
@@ -11,12 +11,19 @@ pub struct TextLine {
     to: usize,
 }
 
-/// A program's text, and the line at which each command begins.
+// The line at which a command begins, and its label. A command without a label has an empty one.
+#[derive(Debug, Drop)]
+struct CommandPlace {
+    line: TextLine,
+    label: Vec<u8>,
+}
+
+/// A program's text, as it was written, with the place of each command.
 #[derive(Debug, Drop)]
 pub struct ProgramText {
     text: Vec<u8>,
     // For each process its commands, in order.
-    commands: Vec<Vec<TextLine>>,
+    commands: Vec<Vec<CommandPlace>>,
 }
 
 /// Whether a word may have this byte.
@@ -26,23 +33,24 @@ pub(crate) fn is_word_byte(byte: u8) -> bool {
 
 // Notes the line of a word that begins a process or a command.
 fn note_word(
-    commands: &mut Vec<Vec<TextLine>>,
+    commands: &mut Vec<Vec<CommandPlace>>,
     alloc: Global,
     word: &[u8],
-    place: TextLine,
+    line: TextLine,
 ) -> Result<(), AllocError> {
     if word == b"process".as_slice() {
         commands.push(Vec::new(alloc))?;
     } else if word == b"when".as_slice() {
         if let Some(process) = commands.last_mut() {
-            process.push(place)?;
+            let label = Vec::new(alloc);
+            process.push(CommandPlace { line, label })?;
         }
     }
     Ok(())
 }
 
-// The line at which each command begins.
-fn places(alloc: Global, text: &[u8]) -> Result<Vec<Vec<TextLine>>, AllocError> {
+// The place of each command of a plain program.
+fn places(alloc: Global, text: &[u8]) -> Result<Vec<Vec<CommandPlace>>, AllocError> {
     let mut commands = Vec::new(alloc);
     let mut number = 0usize;
     let mut from = 0usize;
@@ -58,8 +66,24 @@ fn places(alloc: Global, text: &[u8]) -> Result<Vec<Vec<TextLine>>, AllocError> 
     Ok(commands)
 }
 
+// The line of the byte at this offset, or the last line.
+fn line_at(text: &[u8], at: usize) -> TextLine {
+    let mut number = 0usize;
+    let mut from = 0usize;
+    let mut to = 0usize;
+    for line in text.split(|byte| *byte == b'\n') {
+        number = number.saturating_add(1);
+        to = from.saturating_add(line.len());
+        if at <= to {
+            break;
+        }
+        from = to.saturating_add(1);
+    }
+    TextLine { number, from, to }
+}
+
 impl ProgramText {
-    /// The text of a program. Error: memory ran out.
+    /// The text of a program of the process language. Error: memory ran out.
     pub fn new(alloc: Global, text: &[u8]) -> Result<ProgramText, AllocError> {
         Ok(ProgramText {
             text: Vec::from_slice(alloc, text)?,
@@ -67,10 +91,52 @@ impl ProgramText {
         })
     }
 
+    /// A text whose processes and commands are added in the order of the program. Error: memory ran out.
+    pub fn without_commands(alloc: Global, text: &[u8]) -> Result<ProgramText, AllocError> {
+        Ok(ProgramText {
+            text: Vec::from_slice(alloc, text)?,
+            commands: Vec::new(alloc),
+        })
+    }
+
+    /// Adds the next process. Error: memory ran out.
+    pub fn add_process(&mut self, alloc: Global) -> Result<(), AllocError> {
+        self.commands.push(Vec::new(alloc))?;
+        Ok(())
+    }
+
+    /// Adds the next command of the last process: the offset in the text at which it begins, and its label or none. Error: memory ran out.
+    pub fn add_command(
+        &mut self,
+        alloc: Global,
+        at: usize,
+        label: Option<&[u8]>,
+    ) -> Result<(), AllocError> {
+        let line = line_at(self.text.as_slice(), at);
+        let label = Vec::from_slice(alloc, label.unwrap_or(&[]))?;
+        if let Some(process) = self.commands.last_mut() {
+            process.push(CommandPlace { line, label })?;
+        }
+        Ok(())
+    }
+
+    fn command(&self, pid: Pid, choice: Choice) -> Option<&CommandPlace> {
+        let process = self.commands.get(pid.0 as usize)?;
+        process.get(choice.0 as usize)
+    }
+
     /// The line at which a command begins.
     pub fn place(&self, pid: Pid, choice: Choice) -> Option<TextLine> {
-        let process = self.commands.get(pid.0 as usize)?;
-        process.get(choice.0 as usize).copied()
+        let command = self.command(pid, choice)?;
+        Some(command.line)
+    }
+
+    /// The label of a command, with its indices. It is empty if the command has none.
+    pub fn label(&self, pid: Pid, choice: Choice) -> &[u8] {
+        match self.command(pid, choice) {
+            Some(command) => command.label.as_slice(),
+            None => &[],
+        }
     }
 
     /// The bytes of a line, without blanks at its ends.

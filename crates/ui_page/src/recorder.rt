@@ -51,8 +51,10 @@ fn kind_of(call: &Call) -> CallKind {
 
 /// Records what each line did.
 #[derive(Drop)]
-pub struct Recorder {
+pub struct Recorder<'a> {
     alloc: Global,
+    // The program as it was written, if it is not the one that is played.
+    source: Option<&'a ProgramText>,
     processes: Json,
     lines: RecordedLines,
     breakpoints: Breakpoints,
@@ -106,13 +108,26 @@ impl Json {
         }
         self.put("]}")
     }
+
+    // The processes, with commas between them.
+    fn processes(&mut self, program: &Program, text: &ProgramText) -> Result<(), AllocError> {
+        for p in 0..program.processes() {
+            if p > 0 {
+                self.put(",")?;
+            }
+            self.process(program, text, Pid(p))?;
+        }
+        Ok(())
+    }
 }
 
-impl Recorder {
-    /// A recorder of a session in which no line was answered.
-    pub fn new(alloc: Global) -> Recorder {
+impl<'a> Recorder<'a> {
+    /// A recorder of a session in which no line was answered. The page shows the commands as this source has them, or without one as the
+    /// program has them.
+    pub fn new(alloc: Global, source: Option<&'a ProgramText>) -> Recorder<'a> {
         Recorder {
             alloc,
+            source,
             processes: Json::new(alloc),
             lines: RecordedLines::new(alloc),
             breakpoints: Breakpoints::new(alloc),
@@ -202,16 +217,14 @@ impl Recorder {
     }
 }
 
-impl Explainer for Recorder {
+impl Explainer for Recorder<'_> {
     fn begin(&mut self, alloc: Global, program: &Program, text: &[u8]) -> Result<(), AllocError> {
-        let text = ProgramText::new(alloc, text)?;
-        for p in 0..program.processes() {
-            if p > 0 {
-                self.processes.put(",")?;
-            }
-            self.processes.process(program, &text, Pid(p))?;
+        match self.source {
+            Some(source) => self.processes.processes(program, source),
+            None => self
+                .processes
+                .processes(program, &ProgramText::new(alloc, text)?),
         }
-        Ok(())
     }
 
     fn hear(&mut self, _alloc: Global, line: &[u8], _is_typed: bool) -> bool {

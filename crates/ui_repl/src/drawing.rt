@@ -1,9 +1,12 @@
 //! Plays a session and draws it.
 
+use crate::model::{Model, ProgramKind, refuse};
+use crate::session_input::Beginning;
 use shell_io::{Noted, Sink, Source};
 use shell_print::{ServeFault, Served, hand_on, write_whole};
 use shell_serve::play;
 use std::alloc::Global;
+use std::io::Read;
 use ui_diagram::PictureForm;
 use ui_page::{Artist, Recorder, write_page};
 use ui_session::{Dialogue, Typed};
@@ -15,10 +18,12 @@ fn is_played(served: Served) -> bool {
 
 fn draw_page<R: Source + Typed, W: Sink>(
     alloc: Global,
+    model: Option<&Model>,
     reader: &mut R,
     writer: &mut W,
 ) -> Result<Served, ServeFault> {
-    let mut dialogue = Dialogue::new(Recorder::new(alloc));
+    let source = model.map(|model| model.source());
+    let mut dialogue = Dialogue::new(Recorder::new(alloc, source));
     let mut replies = Noted::new(Vec::new(alloc));
     let served = play(alloc, &mut dialogue, reader, &mut replies)?;
     let recorder = dialogue.explainer();
@@ -59,18 +64,26 @@ fn draw_end<R: Source + Typed, W: Sink>(
 }
 
 /// Plays a session as `talk` does, and writes a picture of it: a picture of its end, or a page to go through it. If the input is too long,
-/// the picture is of the lines within the limit. A program that is refused is explained as `talk` explains it. Errors: the reader or the
-/// writer failed, or memory ran out.
-pub fn draw<R: Source + Typed, W: Sink>(
+/// the picture is of the lines within the limit. The program and the lines may be in the model notation. A program that is refused is
+/// explained as `talk` explains it. Errors: the reader or the writer failed, or memory ran out.
+pub fn draw<R: Read + Typed + Drop, W: Sink>(
     alloc: Global,
     form: PictureForm,
-    reader: &mut R,
+    reader: R,
     writer: &mut W,
 ) -> Result<Served, ServeFault> {
+    let (beginning, reader) = Beginning::read(alloc, reader)?;
+    let kind = beginning.kind(alloc)?;
+    let model = match &kind {
+        ProgramKind::Plain => None,
+        ProgramKind::Model(model) => Some(model),
+        ProgramKind::Wrong(fault) => return refuse(alloc, beginning.text(), fault, writer),
+    };
+    let mut reader = Noted::new(beginning.plain(alloc, model, reader)?);
     match form {
-        PictureForm::Html => draw_page(alloc, reader, writer),
+        PictureForm::Html => draw_page(alloc, model, &mut reader, writer),
         PictureForm::Text | PictureForm::Svg | PictureForm::Shiviz => {
-            draw_end(alloc, form, reader, writer)
+            draw_end(alloc, form, &mut reader, writer)
         }
     }
 }

@@ -3,11 +3,14 @@
 
 mod drawing;
 mod expanding;
+mod model;
 mod running;
 mod sentences;
+mod session_input;
 mod testing;
 
 pub use drawing::draw;
 pub use expanding::expand;
-pub use running::{explain, talk};
+pub use model::Model;
+pub use running::{converse, explain, talk};
 pub use testing::{Tested, test_session};

@@ -6,17 +6,29 @@ ghost use Rattle.shell_print.specs.Outcomes.{source_behind, sink_behind};
 ghost use Rattle.shell_serve.specs.Sessions.{Plays};
 ghost use Rattle.ui_session.specs.Dialogues.{interactive};
 
+use crate::model::{Model, ProgramKind, kind_of, refuse};
 use crate::sentences::Sentences;
-use proc_lang::{ProgError, parse_program};
+use crate::session_input::Beginning;
+use proc_lang::parse_program;
 use shell_input::{Input, read_program_text, text_alone};
-use shell_io::{Sink, Source};
-use shell_print::{ServeFault, Served, tell_fault, tell_size, tell_too_long};
+use shell_io::{Noted, Sink, Source};
+use shell_print::{ServeFault, Served, tell_size, tell_too_long};
 use shell_serve::play;
 use std::alloc::Global;
-use ui_session::{Dialogue, Typed, explain_fault};
+use std::io::Read;
+use ui_session::{Dialogue, Typed};
 
-/// Reads a program text up to a line `%%` or to the end of the input. Writes how many processes and commands the program has, or what is
-/// wrong with it: after the refusal the line and the column, the text of the line with a mark under the place, and the likely correction.
+// Writes how many processes and commands a program has.
+fn tell_size_of<W: Sink>(alloc: Global, text: &[u8], writer: &mut W) -> Result<Served, ServeFault> {
+    match parse_program(alloc, text) {
+        Ok(program) => tell_size(&program, writer),
+        Err(_) => Err(ServeFault::Memory),
+    }
+}
+
+/// Reads a program text up to a line `%%` or to the end of the input. It may be in the model notation. Writes how many processes and
+/// commands the program has, or what is wrong with it: after the refusal the line and the column, the text of the line with a mark under
+/// the place, and the likely correction.
 pub fn explain<R: Source, W: Sink>(
     alloc: Global,
     reader: &mut R,
@@ -27,14 +39,10 @@ pub fn explain<R: Source, W: Sink>(
     let Some(text) = text_alone(&input, end) else {
         return tell_too_long(writer);
     };
-    match parse_program(alloc, text) {
-        Ok(program) => tell_size(&program, writer),
-        Err(ProgError::Bad(fault)) => {
-            let served = tell_fault(&fault, writer)?;
-            explain_fault(alloc, text, &fault, writer)?;
-            Ok(served)
-        }
-        Err(ProgError::Memory) => Err(ServeFault::Memory),
+    match kind_of(alloc, text)? {
+        ProgramKind::Plain => tell_size_of(alloc, text, writer),
+        ProgramKind::Model(model) => tell_size_of(alloc, model.expansion().plain(), writer),
+        ProgramKind::Wrong(fault) => refuse(alloc, text, &fault, writer),
     }
 }
 
@@ -42,9 +50,10 @@ pub fn explain<R: Source, W: Sink>(
 /// has the reply that a run gives to it; without a seat it is one of seat 1. Directives (`help`, `on`, `state`, `line P`, `draw`, `quit`,
 /// comments) make no call. A line that was not typed is written before its reply. Lines after the reply, which begin with two blanks,
 /// explain what the command did, or why the line is refused and what the person can do. A text that is not a program is refused, with an
-/// explanation.
+/// explanation. If the input is made from a model, explanations speak of the text of the model.
 pub fn talk<R: Source + Typed, W: Sink>(
     alloc: Global,
+    model: Option<&Model>,
     reader: &mut R,
     writer: &mut W,
 ) -> Result<Served, ServeFault>
@@ -52,6 +61,24 @@ pub fn talk<R: Source + Typed, W: Sink>(
     ensures reader { R.health reader.old ≡ Fine → R.health reader.new ≡ source_behind result }
     ensures writer { (W.seen writer.old).health ≡ Fine → (W.seen writer.new).health ≡ sink_behind result }
 {
-    let mut dialogue = Dialogue::new(Sentences::new(alloc)?);
+    let mut dialogue = Dialogue::new(Sentences::new(alloc, model)?);
     play(alloc, &mut dialogue, reader, writer)
+}
+
+/// An interactive session, as `talk` plays it, whose program and lines may be in the model notation: `talk` reads the plain session that
+/// they stand for.
+pub fn converse<R: Read + Typed + Drop, W: Sink>(
+    alloc: Global,
+    reader: R,
+    writer: &mut W,
+) -> Result<Served, ServeFault> {
+    let (beginning, reader) = Beginning::read(alloc, reader)?;
+    let kind = beginning.kind(alloc)?;
+    let model = match &kind {
+        ProgramKind::Plain => None,
+        ProgramKind::Model(model) => Some(model),
+        ProgramKind::Wrong(fault) => return refuse(alloc, beginning.text(), fault, writer),
+    };
+    let plain = beginning.plain(alloc, model, reader)?;
+    talk(alloc, model, &mut Noted::new(plain), writer)
 }

@@ -1,11 +1,12 @@
 //! The explanations of an interactive session.
 
-use dbg_base::{Call, Refusal, Said};
+use crate::model::Model;
+use dbg_base::{Call, Name, Refusal, Said};
 use dbg_command::SessionView;
 use proc_lang::Program;
 use std::alloc::{AllocError, Global};
 use ui_diagram::draw_text;
-use ui_explain::{Before, Directive, Explainer, Notes, ProgramText, SourceView, tell_help};
+use ui_explain::{Before, Directive, Explainer, Notes, Part, ProgramText, SourceView, tell_help};
 
 // A call that is about to be made, and what was known before it.
 #[derive(Drop)]
@@ -16,25 +17,88 @@ struct PendingCall {
 
 /// Explains in words what happened, or what prevents it. If memory runs out, the explanations end.
 #[derive(Drop)]
-pub(crate) struct Sentences {
+pub(crate) struct Sentences<'a> {
+    // The program as it was written, if it is not the one that is played.
+    model: Option<&'a Model>,
     text: ProgramText,
     // None after memory ran out; then nothing is explained.
     pending: Option<PendingCall>,
 }
 
-impl Sentences {
-    pub(crate) fn new(alloc: Global) -> Result<Sentences, AllocError> {
+// The line without its seat.
+fn without_seat(line: &[u8]) -> &[u8] {
+    let seat = line.iter().take_while(|byte| byte.is_ascii_digit()).count();
+    line.get(seat..).unwrap_or(line).trim_ascii_start()
+}
+
+impl<'a> Sentences<'a> {
+    pub(crate) fn new(
+        alloc: Global,
+        model: Option<&'a Model>,
+    ) -> Result<Sentences<'a>, AllocError> {
         Ok(Sentences {
+            model,
             text: ProgramText::new(alloc, &[])?,
             pending: None,
         })
     }
 
-    fn source_view<'a>(&'a self, session: SessionView<'a>) -> SourceView<'a> {
-        SourceView {
-            session,
-            text: &self.text,
+    fn source_view<'b>(&'b self, session: SessionView<'b>) -> SourceView<'b> {
+        let text = match self.model {
+            Some(model) => model.source(),
+            None => &self.text,
+        };
+        SourceView { session, text }
+    }
+
+    // Says why a line of a model is refused, if it is because it cannot be expanded.
+    fn tell_model_line(
+        &self,
+        alloc: Global,
+        notes: &mut Notes,
+        line: &[u8],
+    ) -> Result<bool, AllocError> {
+        match self.model {
+            Some(model) => model.tell_line_fault(alloc, notes, without_seat(line)),
+            None => Ok(false),
         }
+    }
+
+    // After a wrong line `step P ..` of a model, the labels of the process.
+    fn tell_labels(
+        &self,
+        notes: &mut Notes,
+        program: &Program,
+        line: &[u8],
+    ) -> Result<(), AllocError> {
+        let mut words = without_seat(line).split(|byte| *byte == b' ');
+        let (Some(model), Some(b"step"), Some(word)) = (self.model, words.next(), words.next())
+        else {
+            return Ok(());
+        };
+        let Some(pid) = Name::new(word).and_then(|name| program.find_process(name)) else {
+            return Ok(());
+        };
+        model.tell_labels(notes, program, pid)
+    }
+
+    fn tell_line(
+        &self,
+        alloc: Global,
+        notes: &mut Notes,
+        view: SessionView<'_>,
+        line: &[u8],
+        refusal: &Refusal,
+    ) -> Result<(), Refusal> {
+        if self.tell_model_line(alloc, notes, line)? {
+            return Ok(());
+        }
+        self.source_view(view)
+            .tell_bad_line(alloc, notes, line, refusal)?;
+        if *refusal == Refusal::BadLine {
+            self.tell_labels(notes, view.program, line)?;
+        }
+        Ok(())
     }
 
     fn pending_call(
@@ -87,9 +151,11 @@ impl Sentences {
     }
 }
 
-impl Explainer for Sentences {
+impl Explainer for Sentences<'_> {
     fn begin(&mut self, alloc: Global, _program: &Program, text: &[u8]) -> Result<(), AllocError> {
-        self.text = ProgramText::new(alloc, text)?;
+        if self.model.is_none() {
+            self.text = ProgramText::new(alloc, text)?;
+        }
         Ok(())
     }
 
@@ -116,9 +182,7 @@ impl Explainer for Sentences {
         refusal: &Refusal,
     ) -> Notes {
         let mut notes = Notes::new(alloc);
-        let _ended = self
-            .source_view(view)
-            .tell_bad_line(alloc, &mut notes, line, refusal);
+        let _ended = self.tell_line(alloc, &mut notes, view, line, refusal);
         notes
     }
 

@@ -2,7 +2,9 @@
 
 ghost use Rattle.std.specs.Prelude.{Some};
 
+use crate::model::{Model, ProgramKind, refuse};
 use crate::running::talk;
+use crate::session_input::Beginning;
 use itoa::Buffer;
 use shell_io::{Noted, Sink};
 use shell_print::{ServeFault, Served, hand_on, write_whole};
@@ -78,8 +80,23 @@ fn command_lines(session: &[u8]) -> (usize, &[u8]) {
     (number, rest)
 }
 
-// The first line of a session whose reply is not the expected one, if the interactive session wrote this output.
-fn first_difference<'a>(session: &'a [u8], page: &[u8]) -> Option<Difference<'a>> {
+// How many replies there are to a line.
+fn replies_to(alloc: Global, model: Option<&Model>, line: &[u8]) -> Result<usize, AllocError> {
+    match model {
+        Some(model) => model.replies(alloc, line),
+        None if is_directive(line) => Ok(0),
+        None => Ok(1),
+    }
+}
+
+// The first line of a session whose reply is not the expected one, if the interactive session wrote this output. The reply to a line of a
+// model that stands for several lines is the last one.
+fn first_difference<'a>(
+    alloc: Global,
+    model: Option<&Model>,
+    session: &'a [u8],
+    page: &[u8],
+) -> Result<Option<Difference<'a>>, AllocError> {
     let (mut number, lines) = command_lines(session);
     let mut asked = Difference {
         number,
@@ -94,24 +111,25 @@ fn first_difference<'a>(session: &'a [u8], page: &[u8]) -> Option<Difference<'a>
         match wanted(line) {
             Some(wanted) if wanted != reply => {
                 asked.wanted = wanted;
-                return Some(asked);
+                return Ok(Some(asked));
             }
             Some(_) => {}
-            None if is_directive(line) => {}
             None => {
-                asked = Difference {
-                    number,
-                    line,
-                    wanted: &[],
-                    before: replies,
-                };
-                (reply, rest) = next_reply(rest);
-                replies = replies.saturating_add(1);
+                for _ in 0..replies_to(alloc, model, line)? {
+                    asked = Difference {
+                        number,
+                        line,
+                        wanted: &[],
+                        before: replies,
+                    };
+                    (reply, rest) = next_reply(rest);
+                    replies = replies.saturating_add(1);
+                }
             }
         }
         number = number.saturating_add(1);
     }
-    None
+    Ok(None)
 }
 
 // The first reply, and the output after it.
@@ -177,7 +195,23 @@ fn write_text<W: Sink>(text: &[u8], writer: &mut W) -> Result<(), ServeFault> {
     hand_on(written, writer)
 }
 
-/// Plays the session of this name. Writes whether each reply was the expected one, which a line `> REPLY` after the command line gives, or
+// Plays a session whose text was read.
+fn talk_alone(
+    alloc: Global,
+    model: Option<&Model>,
+    beginning: &Beginning,
+    rest: SessionText<'_>,
+    page: &mut Noted<Vec<u8>>,
+) -> Result<Served, ServeFault> {
+    let plain = beginning.plain(alloc, model, rest)?;
+    // The reader and the writer cannot fail.
+    match talk(alloc, model, &mut Noted::new(plain), page) {
+        Ok(served) => Ok(served),
+        Err(_) => Err(ServeFault::Memory),
+    }
+}
+
+/// Plays the session of this name, which may be in the model notation. Writes whether each reply was the expected one, which a line `> REPLY` after the command line gives, or
 /// the first reply that was not, with its explanation. A program that is refused, and input that is too long, are reported as an
 /// interactive session reports them.
 pub fn test_session<W: Sink>(
@@ -186,11 +220,19 @@ pub fn test_session<W: Sink>(
     session: &[u8],
     writer: &mut W,
 ) -> Result<Tested, ServeFault> {
-    let mut reader = Noted::new(SessionText { rest: session });
     let mut page = Noted::new(Vec::new(alloc));
-    // An observer fails only if memory runs out.
-    let Ok(served) = talk(alloc, &mut reader, &mut page) else {
-        return Err(ServeFault::Memory);
+    let (beginning, rest) = Beginning::read(alloc, SessionText { rest: session })?;
+    let kind = beginning.kind(alloc)?;
+    let (model, served) = match &kind {
+        ProgramKind::Plain => (None, talk_alone(alloc, None, &beginning, rest, &mut page)?),
+        ProgramKind::Model(model) => {
+            let model = Some(model);
+            (
+                model,
+                talk_alone(alloc, model, &beginning, rest, &mut page)?,
+            )
+        }
+        ProgramKind::Wrong(fault) => { (None, refuse(alloc, beginning.text(), fault, &mut page)?) }
     };
     let page = page.into_inner();
     match served {
@@ -206,7 +248,7 @@ pub fn test_session<W: Sink>(
             return Ok(Tested::Failed);
         }
     }
-    match first_difference(session, page.as_slice()) {
+    match first_difference(alloc, model, session, page.as_slice())? {
         Some(difference) => {
             let text = tell_difference(alloc, name, &difference, page.as_slice())?;
             write_text(text.as_slice(), writer)?;

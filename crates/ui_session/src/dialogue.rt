@@ -3,7 +3,7 @@
 ghost use Rattle.ui_session.specs.Dialogues.{interactive};
 
 use crate::directives::{directive, is_directive, is_quit, needs_seat};
-use crate::refusing::{explain_fault, explain_no_end_line};
+use crate::refusing::explain_no_end_line;
 use crate::typed::Typed;
 use crate::written::{explain, write_echo};
 use dbg_base::{Call, Refusal, Said};
@@ -13,7 +13,7 @@ use shell_io::Sink;
 use shell_print::ServeFault;
 use shell_serve::Observer;
 use std::alloc::{AllocError, Global};
-use ui_explain::Explainer;
+use ui_explain::{Explainer, Notes};
 
 /// The observer of an interactive session. It writes each line that was not typed, and an explanation after the reply. A directive has only
 /// an explanation. A command line without a seat is one of seat 1.
@@ -105,14 +105,15 @@ impl<T: Explainer, R: Typed> Observer<R> for Dialogue<T> {
         )
     }
 
+    // Whoever reads the program text explains its faults before the session begins.
     fn explain_fault<W: Sink>(
         &mut self,
         alloc: Global,
-        text: &[u8],
-        fault: &ProgFault,
+        _text: &[u8],
+        _fault: &ProgFault,
         writer: &mut W,
     ) -> Result<(), ServeFault> {
-        explain_fault(alloc, text, fault, writer)
+        explain(&Notes::new(alloc), writer)
     }
 
     fn explain_no_end_line<W: Sink>(

@@ -9,5 +9,4 @@ mod written;
 
 pub use dialogue::Dialogue;
 pub use directives::is_directive;
-pub use refusing::explain_fault;
 pub use typed::Typed;

@@ -1,0 +1,216 @@
+//! The input of a session: a program, which may be in the model notation, and the lines after it.
+
+use crate::model::{Model, ProgramKind, kind_of};
+use dbg_base::limits::LINE_BYTES;
+use notation::{Expansion, NotationError};
+use shell_input::{Input, TextEnd, read_program_text};
+use shell_io::Noted;
+use shell_print::ServeFault;
+use std::alloc::{AllocError, Global};
+use std::io::{Error, ErrorKind, Read};
+use std::{io, mem};
+use ui_session::Typed;
+
+// At most this many bytes are requested at once.
+const CHUNK: usize = 4_096;
+
+// A line that is expanded is complete after at most this many reads, since each gives a byte.
+const READS: usize = LINE_BYTES + 8;
+
+/// The start of an input: what was read with the program text, and where that text ends.
+#[derive(Drop)]
+pub(crate) struct Beginning {
+    input: Input,
+    end: TextEnd,
+}
+
+impl Beginning {
+    /// Reads the program text. The reader has the rest of the input.
+    pub(crate) fn read<R: Read + Drop>(
+        alloc: Global,
+        reader: R,
+    ) -> Result<(Beginning, R), ServeFault> {
+        let mut reader = Noted::new(reader);
+        let mut input = Input::new(alloc)?;
+        let end = read_program_text(&mut input, &mut reader)?;
+        Ok((Beginning { input, end }, reader.into_inner()))
+    }
+
+    /// The text of the program, if a line ends it.
+    pub(crate) fn text(&self) -> &[u8] {
+        match self.end {
+            TextEnd::Before(span) => self.input.before(span),
+            TextEnd::End | TextEnd::TooLong => &[],
+        }
+    }
+
+    /// What the text is. A text that no line ends counts as plain: the session refuses it.
+    pub(crate) fn kind(&self, alloc: Global) -> Result<ProgramKind, ServeFault> {
+        match self.end {
+            TextEnd::Before(span) => kind_of(alloc, self.input.before(span)),
+            TextEnd::End | TextEnd::TooLong => Ok(ProgramKind::Plain),
+        }
+    }
+
+    /// The whole input as a plain session: what was read, followed by this reader. The program of a model is replaced by the plain program,
+    /// and each line after it by the plain lines that it stands for. A line that cannot be expanded stays as it is.
+    pub(crate) fn plain<'a, R: Drop>(
+        &self,
+        alloc: Global,
+        model: Option<&'a Model>,
+        reader: R,
+    ) -> Result<PlainInput<'a, R>, AllocError> {
+        let bytes = self.input.bytes();
+        let mut plain = Vec::new(alloc);
+        let mut lines = Vec::new(alloc);
+        match model {
+            Some(model) => {
+                plain.extend_from_slice(model.expansion().plain())?;
+                plain.extend_from_slice(b"%%\n")?;
+                lines.extend_from_slice(bytes.get(self.input.at..).unwrap_or(&[]))?;
+            }
+            None => plain.extend_from_slice(bytes)?,
+        }
+        Ok(PlainInput {
+            alloc,
+            expansion: model.map(|model| model.expansion()),
+            reader,
+            is_ended: self.input.ended,
+            is_long: false,
+            lines,
+            plain,
+            given: 0,
+        })
+    }
+}
+
+/// A plain session, made of an input as it is read.
+#[derive(Drop)]
+pub(crate) struct PlainInput<'a, R> {
+    alloc: Global,
+    expansion: Option<&'a Expansion>,
+    reader: R,
+    // Whether the reader has nothing left.
+    is_ended: bool,
+    // Whether the bytes that were read begin in the middle of a line that is too long.
+    is_long: bool,
+    // What was read and is not plain yet.
+    lines: Vec<u8>,
+    // What is plain, and how much of it was returned.
+    plain: Vec<u8>,
+    given: usize,
+}
+
+impl<R: Typed> Typed for PlainInput<'_, R> {
+    fn is_typed(&self) -> bool {
+        self.reader.is_typed()
+    }
+}
+
+// Appends the plain lines of a line.
+fn put_plain(
+    alloc: Global,
+    expansion: &Expansion,
+    line: &[u8],
+    plain: &mut Vec<u8>,
+) -> Result<(), AllocError> {
+    match expansion.expand_line(alloc, line) {
+        Ok(lines) => {
+            for (number, line) in lines.lines().iter().enumerate() {
+                if number > 0 {
+                    plain.push(b'\n')?;
+                }
+                plain.extend_from_slice(line.as_slice())?;
+            }
+            Ok(())
+        }
+        Err(NotationError::Bad(_)) => plain.extend_from_slice(line),
+        Err(NotationError::Memory) => Err(AllocError),
+    }
+}
+
+impl<R: Read> PlainInput<'_, R> {
+    // Returns plain bytes that were not returned yet.
+    fn give(&mut self, bytes: &mut [u8]) -> usize {
+        let left = self.plain.get(self.given..).unwrap_or(&[]);
+        let count = left.len().min(bytes.len());
+        if let (Some(to), Some(from)) = (bytes.get_mut(..count), left.get(..count)) {
+            to.copy_from_slice(from);
+        }
+        self.given = self.given.saturating_add(count);
+        count
+    }
+
+    // Makes the first bytes that were read plain: a line, or if there is no line end, all of them.
+    fn make_plain(&mut self, expansion: &Expansion, end: Option<usize>) -> Result<(), AllocError> {
+        let length = end.unwrap_or(self.lines.len());
+        let next = length.saturating_add(1).min(self.lines.len());
+        let rest = Vec::from_slice(self.alloc, self.lines.get(next..).unwrap_or(&[]))?;
+        let read = mem::replace(&mut self.lines, rest);
+        let line = read.get(..length).unwrap_or(&[]);
+        let mut plain = Vec::new(self.alloc);
+        if self.is_long || line.len() > LINE_BYTES {
+            plain.extend_from_slice(line)?;
+        } else {
+            put_plain(self.alloc, expansion, line, &mut plain)?;
+        }
+        if end.is_some() {
+            plain.push(b'\n')?;
+        }
+        self.is_long = end.is_none();
+        self.plain = plain;
+        self.given = 0;
+        Ok(())
+    }
+
+    // Reads once.
+    fn read_more(&mut self) -> io::Result<()> {
+        let mut chunk = [0u8; CHUNK];
+        let count = self.reader.read(&mut chunk)?;
+        self.is_ended = count == 0;
+        let read = chunk.get(..count).unwrap_or(&[]);
+        match self.lines.extend_from_slice(read) {
+            Ok(()) => Ok(()),
+            Err(_) => Err(Error::from(ErrorKind::OutOfMemory)),
+        }
+    }
+
+    // Reads once, or makes bytes plain. Returns false at the end.
+    fn advance(&mut self, expansion: &Expansion) -> io::Result<bool> {
+        let end = self.lines.iter().position(|byte| *byte == b'\n');
+        let is_full = self.is_ended || self.lines.len() > LINE_BYTES;
+        if end.is_none() && !is_full {
+            self.read_more()?;
+            return Ok(true);
+        }
+        if self.lines.is_empty() {
+            return Ok(false);
+        }
+        match self.make_plain(expansion, end) {
+            Ok(()) => Ok(true),
+            Err(_) => Err(Error::from(ErrorKind::OutOfMemory)),
+        }
+    }
+}
+
+impl<R: Read> Read for PlainInput<'_, R> {
+    fn read(&mut self, bytes: &mut [u8]) -> io::Result<usize> {
+        for _ in 0..READS {
+            let count = self.give(bytes);
+            if count > 0 || bytes.is_empty() {
+                return Ok(count);
+            }
+            let Some(expansion) = self.expansion else {
+                return if self.is_ended {
+                    Ok(0)
+                } else {
+                    self.reader.read(bytes)
+                };
+            };
+            if !self.advance(expansion)? {
+                return Ok(0);
+            }
+        }
+        Ok(0)
+    }
+}
