@@ -80,9 +80,10 @@ def try_unproved(suite, repository):
     suite.case("no program: a missing file is left to the program", "" if ran[1].startswith("arguments: run missing.rdbg\n") else ran[1])
     status, _, errors = repository.rdbg("broken")
     suite.case("no program: sources that do not compile", "" if status == 2 and "mismatched types" in errors else f"status {status}\n{errors}")
-    status, shown = repository.at_terminal("talk")
-    problem = "" if status == 2 and len(shown.splitlines()) == 2 and "--prove" in shown and "without a proof" in shown else f"status {status}\n{shown}"
-    suite.case("no program: a terminal gets two lines, and nothing begins", problem)
+    for words in (["talk"], ["expand", "session.rdbg"]):
+        status, shown = repository.at_terminal(*words)
+        problem = "" if status == 2 and len(shown.splitlines()) == 2 and "--prove" in shown and "without a proof" in shown else f"status {status}\n{shown}"
+        suite.case(f"no program: a terminal gets two lines from {words[0]}, and nothing begins", problem)
     status, shown = repository.at_terminal("test", "session.rdbg")
     suite.case("no program: what does not read the terminal runs there", "" if status == 3 and "session.rdbg: a session" in shown else shown)
     suite.same("no program: a missing toolchain", repr(without_toolchain(repository)),
