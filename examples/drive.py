@@ -4,7 +4,8 @@
   drive.py FILE > found && rdbg talk < found
 
 FILE is a session: a program, a line `%%`, and after it a line `break NAME ..`, with or without a seat. The script sets this breakpoint and
-ignores all other lines after the program. rdbg itself searches nothing; this script chooses each step by one of three strategies:
+ignores all other lines after the program. FILE may be in the model notation; the script searches its plain session, and prints a plain one.
+rdbg itself searches nothing; this script chooses each step by one of three strategies:
 
   random      any command that can fire, each as likely as the next (or by --weight)
   priorities  processes have random priorities, and the first that can fire moves; at a few random places the priority of one drops below all
@@ -36,6 +37,20 @@ def program_path():
         return os.environ["RDBG"]
     asked = subprocess.run([Path(__file__).resolve().parent.parent / "rdbg", "--where"], stdout=subprocess.PIPE, text=True)
     return asked.stdout.strip() if asked.returncode == 0 else sys.exit("drive.py: build the program first (./rdbg --prove), or name one by RDBG")
+
+
+def plain_session(rdbg, text):
+    """The plain session of one in the notation. A text that cannot be expanded stays as it is, so that rdbg refuses it when the search begins."""
+    try:
+        expanded = subprocess.run([rdbg, "expand"], input=text.encode(), stdout=subprocess.PIPE, stderr=subprocess.DEVNULL)
+    except OSError as error:
+        sys.exit(f"drive.py: {rdbg} cannot be run: {error.strerror}")
+    return expanded.stdout.decode() if expanded.returncode == 0 else text
+
+
+def plain_name(name):
+    """A name with indices, as `replica[2]`, as the plain session has it."""
+    return re.sub(r"\[(\d+)\]", r"_\1", name)
 
 
 class Session:
@@ -231,17 +246,17 @@ def play_schedules(rdbg, model, chance, options, found, progress):
 
 
 class Model:
-    """The program of a session, the command that sets the breakpoint, and what can be chosen."""
+    """The plain program of a session, the command that sets the breakpoint, and what can be chosen."""
 
-    def __init__(self, file, name):
+    def __init__(self, rdbg, file, name):
         try:
             text = Path(file).read_text(encoding="utf-8")
         except (OSError, UnicodeDecodeError) as error:
             sys.exit(f"drive.py: {file} cannot be read: {getattr(error, 'strerror', 'it is not valid UTF-8')}")
         self.file = file
-        self.program, end, lines = text.partition("%%\n")
+        self.program, end, lines = plain_session(rdbg, text).partition("%%\n")
         breaks = re.findall(r"^(?:\d+ )?(break (\w+) .*)$", lines, re.MULTILINE)
-        found = [(command, it) for command, it in breaks if name in (None, it)]
+        found = [(command, it) for command, it in breaks if name is None or plain_name(name) == it]
         if not end or not found:
             sys.exit(f"drive.py: {file}: after a line %% there is no line `break {name or 'NAME'} ..`")
         self.command, self.name = found[0]
@@ -268,7 +283,7 @@ def pair(word):
     name, _, number = word.partition("=")
     if not name or not number.isdigit():
         raise argparse.ArgumentTypeError(f"{word} is not of the form PROCESS=NUMBER")
-    return name, int(number)
+    return plain_name(name), int(number)
 
 
 def arguments():
@@ -294,7 +309,7 @@ def arguments():
 
 def main():
     options, rdbg = arguments(), program_path()
-    models = [Model(file, options.breakpoint) for file in options.files]
+    models = [Model(rdbg, file, options.breakpoint) for file in options.files]
     for process in [*options.weight, *options.at_most]:
         if not any(process in model.processes for model in models):
             sys.exit(f"drive.py: no process has the name {process}")
