@@ -1,9 +1,12 @@
-"""The examples in the model notation: what `rdbg expand` prints for each, compared whole, that the plain session gives the replies of the
-plain example, and that `talk`, `draw` and `check --explain` of the example do what they do of its plain session. The example and the plain
-one have other names, in one order."""
+"""The examples in the model notation: what `rdbg expand` prints for each, and the replies to that plain session.
+
+Where examples/ has a plain example of the same name, the replies are those of the plain example; the two use other names, in the same order.
+Otherwise tests/notation/NAME.out has the replies. `talk`, `draw` and `check --explain` of the example do what they do of its plain session.
+"""
 import re
 
 from harness import TESTS, TOP
+from harness.session import call
 
 EXAMPLES = TOP / "examples"
 PLAIN = TESTS / "notation"
@@ -24,14 +27,31 @@ def program_lines(path):
     return sum(1 for line in lines if line and not line.startswith("#"))
 
 
-def renamed(replies, present, wanted):
+def renamed(shown, present, wanted):
     """Replies with the names that one program declares replaced by those of the other, in the order of their declarations."""
     names = dict(zip(DECLARED.findall(present), DECLARED.findall(wanted)))
-    return WORD.sub(lambda word: names.get(word.group(), word.group()), replies)
+    return WORD.sub(lambda word: names.get(word.group(), word.group()), shown)
 
 
 def without_explanations(talk):
     return b"".join(line for line in talk.splitlines(keepends=True) if not line.startswith(b"  "))
+
+
+def replies(suite, plain):
+    """The replies to the lines of a plain session. A line without a seat is one of seat 1."""
+    start, end, lines = plain.decode().partition(END_OF_PROGRAM)
+    calls = [call(line) for line in lines.splitlines() if line.strip()]
+    return suite.rdbg("run", given=start + end + "".join(f"{line}\n" for line in calls if line)).output.decode()
+
+
+def check_replies(suite, example, plain):
+    """Compares the replies to an example, of which this is the plain session, with those of the plain example or with a golden file."""
+    shown, twin = replies(suite, plain), EXAMPLES / example.name
+    if twin.exists():
+        shown = renamed(shown, program(PLAIN / example.name), program(twin))
+        suite.same(f"{example.name}: the replies", shown, (REPLIES / f"{twin.stem}.out").read_text())
+    else:
+        suite.golden(PLAIN / f"{example.stem}.out", shown)
 
 
 def check_direct(suite, example, plain):
@@ -48,15 +68,12 @@ def check_direct(suite, example, plain):
 def run(suite):
     written = sorted((EXAMPLES / "notation").glob("*.rdbg"))
     for example in written:
-        plain, golden = EXAMPLES / example.name, PLAIN / example.name
         expanded = suite.rdbg("expand", example)
         suite.same(f"{example.name}: the status of its expansion", expanded.status, 0)
-        suite.golden(golden, expanded.output)
+        suite.golden(PLAIN / example.name, expanded.output)
         check_direct(suite, example, expanded.output)
-        replies = suite.rdbg("run", given=expanded.output)
-        replies = renamed(replies.output.decode(), program(golden), program(plain))
-        suite.same(f"{example.name}: the replies", replies, (REPLIES / f"{plain.stem}.out").read_text())
-    suite.compared(*PLAIN.glob("*.rdbg"))
-    short = sum(map(program_lines, written))
-    long = sum(program_lines(EXAMPLES / example.name) for example in written)
+        check_replies(suite, example, expanded.output)
+    suite.compared(*PLAIN.iterdir())
+    pairs = [(example, EXAMPLES / example.name) for example in written if (EXAMPLES / example.name).exists()]
+    short, long = (sum(map(program_lines, files)) for files in zip(*pairs))
     suite.case("the programs are at most half as long", "" if 2 * short <= long else f"{short} lines, and {long}")
