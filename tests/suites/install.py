@@ -25,6 +25,7 @@ INSTALLED = {
     "dist/editors/textmate/rdbg.tmLanguage.json": "share/rdbg/editors/textmate/rdbg.tmLanguage.json",
     "examples/README.md": "share/rdbg/examples/README.md",
     "examples/two_phase_commit.rdbg": "share/rdbg/examples/two_phase_commit.rdbg",
+    "examples/notation/paxos.rdbg": "share/rdbg/examples/notation/paxos.rdbg",
 }
 # A launcher whose program has yet to be proved.
 LAUNCHER = """#!/bin/sh
