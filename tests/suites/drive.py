@@ -6,7 +6,7 @@ import sys
 from harness import TOP, temporary_folder
 
 DRIVE = TOP / "examples/drive.py"
-EXAMPLES = ["lost_update", "token_duplicated", "two_phase_commit", "leader_election", "two_hands"]
+EXAMPLES = ["lost_update", "token_duplicated", "two_phase_commit", "leader_election", "two_hands", "notation/half_open"]
 SEARCHES = [["--seed", "1"], ["--seed", "2"], ["--strategy", "priorities"], ["--strategy", "swarm"]]
 SECONDS = 600  # for one search
 
