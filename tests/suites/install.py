@@ -40,8 +40,8 @@ OTHER_WORDS = """as assert async bool box break case channel chan class const co
     function got goto guard if implies in init int invariant is let local loop match max message min mod nat new next nil none null of on or
     out own private proc proof prove pub queue read receive recv ref repeat return run select self send sent set skip start state static
     step then to true try type undo use value wait when where while with write x xor yield""".split()
-# A session, and what Vim shows at the first byte of each of its words.
-HIGHLIGHTED = """process a { when (sent(b) < 1) : send b 1; }
+# Sessions, and what Vim shows at places of them.
+PLAIN = """process a { when (sent(b) < 1) : send b 1; }
 process b { }
 %%
 # next
@@ -50,8 +50,24 @@ next a
 > ok a 0
 why k
 """
-PLACES = [[1, 1], [1, 9], [1, 13], [1, 19], [1, 27], [1, 29], [1, 34], [1, 41], [3, 1], [4, 3], [5, 1], [5, 3], [5, 14], [6, 1], [7, 3], [8, 1]]
-GROUPS = """Keyword ProcessName Keyword Count Operator Number Action Number End Comment Seat Command Count Command Reply Question"""
+PLAIN_PLACES = """1:1 Keyword  1:9 ProcessName  1:13 Keyword  1:19 Count  1:27 Operator  1:29 Number  1:34 Action  1:41 Number  3:1 End
+  4:3 Comment  5:1 Seat  5:3 Command  5:14 Count  6:1 Command  7:3 Reply  8:1 Question"""
+NOTATION = """const n = 2;  # for x: when
+let rest(i) = all(j: 1..n where j != i: sent(b[j]) < 1);
+process b[i: 1..n] {
+  var sum = 0;
+  for j: 1..n where j != i { take: when sum = 0 : recv b[j] sum; }
+  var let = .5;
+}
+%%
+1 break k for i: 1..n: b[i] (some(j: 1..n: sum = j))
+for i: 1..n where i > 1 : 2 next b[i]  # the others
+for i: 1..n : vars b[i]
+"""
+NOTATION_PLACES = """1:1 Notation  1:7 -  1:15 Comment  1:21 Comment  1:24 Comment  2:1 Notation  2:15 NotationForm  2:22 Number  2:23 Range
+  2:27 Notation  2:41 Count  2:47 -  3:9 ProcessName  3:10 -  4:7 -  5:3 Notation  5:15 Notation  5:30 Label  5:36 Keyword  5:41 -  5:51 Action
+  5:61 -  6:7 -  6:13 Fault  9:3 Command  9:11 Notation  9:19 Range  9:30 NotationForm  9:39 Range  9:44 Predicate  10:1 Notation
+  10:13 Notation  10:27 Number  10:29 Command  10:40 Comment  11:1 Notation  11:15 Question"""
 VIM_SCRIPT = """set nocompatible runtimepath^={editors}/vim
 filetype on
 syntax on
@@ -165,6 +181,19 @@ def check_reserved_words(suite):
     check_words(suite, "the reserved words in the TextMate grammar", in_grammar, reserved)
 
 
+def check_words_of_notation(suite):
+    """The words of the notation, none of which is reserved."""
+    words = re.search(r"`(const let [a-z_ ]+)`", (TOP / "docs" / "notation.md").read_text())[1].split()
+    suite.same("reserved words of the notation", " ".join(word for word in words if is_reserved(suite, word)), "")
+    vim = (DIST / "editors" / "vim" / "syntax" / "rdbg.vim").read_text()
+    in_vim = re.findall(r"^syntax match rdbgNotation\w* .*\\<\\%\(([a-z_\\|]+)\\\)\\>", vim, re.M)
+    check_words(suite, "the words of the notation in the Vim file", [word for words in in_vim for word in words.split("\\|")], words)
+    grammar = json.loads((DIST / "editors" / "textmate" / "rdbg.tmLanguage.json").read_text())
+    matches = " ".join(pattern["match"] for pattern in grammar["repository"]["notation"]["patterns"])
+    in_grammar = [word for words in re.findall(r"\(([a-z_|]+)\)", matches) for word in words.split("|")]
+    check_words(suite, "the words of the notation in the TextMate grammar", in_grammar, words)
+
+
 def paragraph(text, title):
     """The lines after the one that begins with this title, up to a blank one."""
     lines = iter(text.splitlines())
@@ -242,13 +271,17 @@ def check_examples(suite, room):
         check_status(suite, f"the form {form} of a picture", 0, suite.program, "draw", "--as", form, room / "session.rdbg")
 
 
-def check_highlighting(suite, room):
-    (room / "shown.rdbg").write_text(HIGHLIGHTED)
-    script = VIM_SCRIPT.format(editors=DIST / "editors", file=room / "shown.rdbg", places=PLACES, groups=room / "groups")
+def check_highlighting(suite, room, name, session, table):
+    """What Vim shows at each place of a table: a group, or `-` where it shows none."""
+    places, wanted = re.findall(r"\d+:\d+", table), re.findall(r"\d+:\d+ \S+", table)
+    (room / "shown.rdbg").write_text(session)
+    listed = [[int(number) for number in place.split(":")] for place in places]
+    script = VIM_SCRIPT.format(editors=DIST / "editors", file=room / "shown.rdbg", places=listed, groups=room / "groups")
     (room / "script.vim").write_text(script)
     output_of("vim", "-u", "NONE", "-i", "NONE", "-es", "-S", room / "script.vim")
-    shown = (room / "groups").read_text() if (room / "groups").exists() else "(nothing)"
-    suite.same("the highlighting in Vim", shown.strip(), "\n".join(GROUPS.split()))
+    groups = (room / "groups").read_text().split("\n") if (room / "groups").exists() else []
+    shown = [f"{place} {group or '-'}" for place, group in zip(places, groups)]
+    suite.same(f"the highlighting of {name} in Vim", "\n".join(shown), "\n".join(wanted))
 
 
 def run(suite):
@@ -260,6 +293,7 @@ def run(suite):
         check_launcher(suite, room)
         check_examples(suite, room)
         check_reserved_words(suite)
+        check_words_of_notation(suite)
         check_command_lines(suite, help_text)
         check_completions(suite, first_words(paragraph(help_text, "Commands:")))
         if suite.needs("mandoc", "the man page"):
@@ -267,4 +301,5 @@ def run(suite):
         if suite.needs("zsh", "the syntax of the completion for zsh"):
             check_status(suite, "the syntax of the completion for zsh", 0, "zsh", "-n", COMPLETIONS / "_rdbg")
         if suite.needs("vim", "the highlighting in Vim"):
-            check_highlighting(suite, room)
+            check_highlighting(suite, room, "a plain session", PLAIN, PLAIN_PLACES)
+            check_highlighting(suite, room, "the notation", NOTATION, NOTATION_PLACES)

@@ -13,20 +13,28 @@ syntax match rdbgNumber "\<\d\+\>"
 syntax match rdbgOperator ":=\|!=\|<=\|>=\|[-+*/%<>=]"
 syntax match rdbgProcessName "\%(\<process\s\+\)\@<=[a-z][a-z0-9_]*"
 " A byte that begins no token.
-syntax match rdbgFault "[^-a-z0-9_{}();:,=!<>+*/% \t]"
+syntax match rdbgFault "[^-a-z0-9_{}()[\];:,=!<>+*/% \t]"
+
+" The model notation. Its words are not reserved: each is one only in its place.
+syntax match rdbgNotation "\<\%(const\|let\)\>\ze\s\+[a-z]"
+syntax match rdbgNotation "\<\%(for\)\>\ze\s\+[a-z][a-z0-9_]*\s*:"
+syntax match rdbgNotation "\%([])a-z0-9_]\s\+\)\@<=\<\%(where\)\>\ze\s\+[-(a-z0-9]"
+syntax match rdbgNotationForm "\<\%(all\|some\|sum\|at_least\)\>\ze\s*("
+syntax match rdbgLabel "\<[a-z][a-z0-9_]*\>\ze\s*:\s*when\>"
+syntax match rdbgRange "\.\."
+syntax match rdbgComment "#.*$" contains=@Spell
 
 " The command lines, from the line %% on.
-syntax region rdbgSession matchgroup=rdbgEnd start="^%%\r\?$" end="\%$" contains=rdbgComment,rdbgReply,rdbgSeat,rdbgCommand,rdbgQuestion,rdbgOwnWord,rdbgBetween,rdbgPredicate,rdbgNumber
-syntax match rdbgComment "^\s*#.*$" contained contains=@Spell
+syntax region rdbgSession matchgroup=rdbgEnd start="^%%\r\?$" end="\%$" contains=rdbgComment,rdbgReply,rdbgSeat,rdbgCommand,rdbgQuestion,rdbgOwnWord,rdbgBetween,rdbgPredicate,rdbgNumber,rdbgNotation,rdbgRange
 syntax match rdbgReply "^\s*>.*$" contained contains=rdbgRefused,rdbgHalted
 syntax match rdbgRefused "\%(^\s*>\s*\)\@<=no\>.*$" contained
 syntax match rdbgHalted "\<halted \S\+\s*$" contained
 syntax match rdbgSeat "^\s*\d\+\ze\s" contained
-syntax match rdbgCommand "\%(^\s*\%(\d\+\s\+\)\?\|;\s\+\|\<batch\s\+\)\@<=\%(step\|next\|undo\|redo\|rollback\|break\|goto\|clear\|pass\|arm\|batch\|back\)\>" contained
-syntax match rdbgQuestion "\%(^\s*\%(\d\+\s\+\)\?\)\@<=\%(vars\|chan\|clock\|place\|can\|cut\|why\|breaks\)\>" contained
+syntax match rdbgCommand "\%(\%(^\s*\|\s:\s\+\)\%(\d\+\s\+\)\?\|;\s\+\|\<batch\s\+\)\@<=\%(step\|next\|undo\|redo\|rollback\|break\|goto\|clear\|pass\|arm\|batch\|back\)\>" contained
+syntax match rdbgQuestion "\%(\%(^\s*\|\s:\s\+\)\%(\d\+\s\+\)\?\)\@<=\%(vars\|chan\|clock\|place\|can\|cut\|why\|breaks\)\>" contained
 syntax match rdbgOwnWord "\%(^\s*\)\@<=\%(help\|on\|state\|line\|draw\|quit\)\>" contained
 syntax match rdbgBetween "\s\zs;\ze\s" contained
-syntax region rdbgPredicate start="(" end=")" oneline contained contains=rdbgPredicate,rdbgTruth,rdbgOperatorWord,rdbgCount,rdbgNumber,rdbgOperator
+syntax region rdbgPredicate start="(" end=")" oneline contained contains=rdbgPredicate,rdbgTruth,rdbgOperatorWord,rdbgCount,rdbgNumber,rdbgOperator,rdbgNotation,rdbgNotationForm,rdbgRange
 
 syntax sync fromstart
 
@@ -38,6 +46,10 @@ highlight default link rdbgOperator Operator
 highlight default link rdbgCount Function
 highlight default link rdbgNumber Number
 highlight default link rdbgProcessName Identifier
+highlight default link rdbgNotation Keyword
+highlight default link rdbgNotationForm Function
+highlight default link rdbgLabel Label
+highlight default link rdbgRange Operator
 highlight default link rdbgFault Error
 highlight default link rdbgEnd PreProc
 highlight default link rdbgComment Comment
