@@ -30,7 +30,12 @@ RUNS = [
     ("draw_notation_fault", "draw --as svg notation_fault.rdbg", ""),
     ("test_notation_passes", "test notation_expected.rdbg", ""),
     ("test_notation_fails", "test notation_unexpected.rdbg notation_fault.rdbg", ""),
-    ("test_passes", "test expected.rdbg directives.rdbg", ""),
+    ("test_passes", "test expected.rdbg expected_between_comments.rdbg", ""),
+    ("test_of_standard_input", "test - expected.rdbg", "process a { var x = 0; when true : x := 1; }\n%%\nnext a\n> ok a 0\n"),
+    ("test_misplaced", "test expected_before_any_command.rdbg expected_twice.rdbg expected_after_directive.rdbg", ""),
+    ("test_nothing_expected", "test directives.rdbg", ""),
+    ("test_missing_file", "test nothing.rdbg faults expected.rdbg", ""),
+    ("test_endless_file", "test /dev/zero expected.rdbg", ""),
     ("test_fails", "test expected.rdbg unexpected.rdbg refused.rdbg", ""),
 ]
 

@@ -23,8 +23,8 @@ CLOCK = (HARNESS / "page_clock.js").read_text()
 PASSES = [(1366, 768, "light", "ArrowDown"), (1366, 768, "dark", "ArrowUp"), (1280, 720, "light", "ArrowRight"), (1280, 720, "dark", "ArrowLeft")]
 KEYS = {
     "ArrowLeft": 37, "ArrowUp": 38, "ArrowRight": 39, "ArrowDown": 40, "Home": 36, "End": 35, "PageUp": 33, "PageDown": 34, "Tab": 9,
-    "Enter": 13, "Escape": 27, " ": 32, "+": 187, "-": 189}
-TEXTS = {"Enter": "\r", " ": " ", "+": "+", "-": "-"}
+    "Enter": 13, "Escape": 27, " ": 32, "+": 187, "-": 189, "h": 72, "H": 72}
+TEXTS = {"Enter": "\r", **{key: key for key in " +-hH"}}
 STATE_LINES = 25  # of a session, at most, after which the state is compared
 SHOWN_MESSAGES = 50  # of a channel; the page writes ` ..` after them
 SHOWN_FAULTS = 12
@@ -113,6 +113,11 @@ class Expected:
         questions = [f"{word} {name}" for name in self.processes for word in ("place", "vars", "clock")]
         questions += [f"chan {one} {other}" for one, other in self.channels] + [f"cut {name}" for name in self.breakpoints]
         self.replies = session.replies({n: questions for n in self.state_lines})
+
+    @property
+    def halts(self):
+        """The numbers of the lines that halt the session."""
+        return [n for n in range(1, len(self.lines) + 1) if re.search(r" halted \w+$", self.replies.get(n, ""))]
 
     def answer(self, n, question):
         """The answer to a question after line n, without the words of the question."""
@@ -294,9 +299,23 @@ def check_lost_focus(page):
         page.tab_to("lines", shift=page.at["focus"] != "BODY")
 
 
+def check_halts(page, expected):
+    """The page opens at the first halt, `h` goes to the next one, and `H` to the one before."""
+    halts = expected.halts
+    check_line(page, expected, halts[0] if halts else len(expected.lines))
+    page.press("Home")
+    for n in halts:
+        page.press("h")
+        check_line(page, expected, n)
+    for n in reversed(halts[:-1]):
+        page.press("H")
+        check_line(page, expected, n)
+    page.press("End")
+
+
 def check_pass(page, expected, key, is_first):
     last = len(expected.lines)
-    check_line(page, expected, last)
+    check_halts(page, expected)
     if not page.tab_to("lines"):
         return
     check_jumps(page, expected)

@@ -13,14 +13,14 @@ use dbg_shell::{Job, Request, Work, asked, check, crew_status, run_crew, serve, 
 use output::Output;
 use shell_io::{Noted, Sink, Source, one_behind_the_other};
 use std::alloc::Global;
-use std::fs;
 use std::fs::File;
+use std::io;
 use std::io::{Error, Read};
 use std::process::ExitCode;
 use std::sync::Wait;
 use std::thread::Threads;
 use typing::{FileInput, Typing, open};
-use ui_repl::{Tested, converse, draw, expand, explain, test_session};
+use ui_repl::{SESSION_BYTES, Tested, converse, draw, expand, explain, test_session};
 use ui_session::Typed;
 use words::{WordsFault, words};
 
@@ -56,7 +56,7 @@ fn work_from<R: Threads + Wait + Sync, I: Read + Typed + Drop, W: Sink, E: Sink>
         Work::Explain => status(&explain(alloc, &mut Noted::new(input), writer)),
         Work::Expand => status(&expand(alloc, &mut Noted::new(input), writer, errors)),
         Work::Talk => status(&converse(alloc, input, writer)),
-        Work::Draw(form) => status(&draw(alloc, form, input, writer)),
+        Work::Draw(form) => status(&draw(alloc, form, input, writer, errors)),
     }
 }
 
@@ -101,17 +101,33 @@ fn tell_unreadable(rt: &HostRuntime, name: &str, error: &Error) -> u8 {
     2
 }
 
-// Plays the sessions of these files.
+// The bytes of a session, up to one byte more than an input may have. `-` means standard input.
+fn read_session(rt: &HostRuntime, name: &str) -> io::Result<Vec<u8>> {
+    let mut session = Vec::new(rt.alloc());
+    if name == "-" {
+        rt.stdin().take(SESSION_BYTES).read_to_end(&mut session)?;
+    } else {
+        open(rt, name)?
+            .take(SESSION_BYTES)
+            .read_to_end(&mut session)?;
+    }
+    Ok(session)
+}
+
+// Plays the sessions of these files. Returns the largest status of them all.
 fn test<W: Sink>(rt: &HostRuntime, files: &[&str], writer: &mut W) -> u8 {
     let mut worst = 0;
     for name in files {
-        let session = match fs::read(rt, *name) {
+        let session = match read_session(rt, name) {
             Ok(session) => session,
-            Err(error) => return tell_unreadable(rt, name, &error),
+            Err(error) => {
+                worst = worst.max(tell_unreadable(rt, name, &error));
+                continue;
+            }
         };
         match test_session(rt.alloc(), name, session.as_slice(), writer) {
             Ok(Tested::Passed) => {}
-            Ok(Tested::Failed) => worst = DIFFERS,
+            Ok(Tested::Failed) => worst = worst.max(DIFFERS),
             Err(fault) => return fault.status(),
         }
     }

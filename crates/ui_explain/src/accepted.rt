@@ -1,7 +1,6 @@
 //! What an accepted command did.
 
 use crate::batches::made_from;
-use crate::breakpoints::tell_breakpoint;
 use crate::notes::{Notes, Part};
 use crate::view::SourceView;
 use dbg_base::{Call, Done, Pid, Plan, Refusal, Reply};
@@ -149,16 +148,10 @@ impl SourceView<'_> {
         self.tell_done(notes, before, call, &reply.done)?;
         if let Some(name) = reply.halted {
             notes.say(&[Part::Text("halted by this breakpoint:")])?;
-            return tell_breakpoint(alloc, notes, self.session.program, self.session.book, name);
+            return self.tell_breakpoint(alloc, notes, name);
         }
         match call {
-            Call::Give(Plan::Break(name, _)) => tell_breakpoint(
-                alloc,
-                notes,
-                self.session.program,
-                self.session.book,
-                *name,
-            ),
+            Call::Give(Plan::Break(name, _)) => self.tell_breakpoint(alloc, notes, *name),
             _ => Ok(()),
         }
     }

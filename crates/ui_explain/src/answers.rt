@@ -38,24 +38,29 @@ impl SourceView<'_> {
         }
     }
 
-    // Says whether a process that has too few events can make one now.
-    fn tell_further(&self, alloc: Global, notes: &mut Notes, pid: Pid) -> Result<(), Refusal> {
+    // Says why the part of a process does not hold yet, and which of its commands can fire now.
+    fn tell_further(
+        &self,
+        alloc: Global,
+        notes: &mut Notes,
+        detector: &Detector,
+        pid: Pid,
+    ) -> Result<(), Refusal> {
         let scope = self.scope(pid);
-        let mut word = " it can now fire command ";
-        notes.say(&[
-            scope.name(),
-            Part::Text(" has no state left in which its part holds, and"),
-        ])?;
+        let mut fires = false;
+        self.tell_not_yet(notes, detector, pid)?;
         for number in 0..self.session.program.commands(pid) {
             if scope.fires(alloc, self.session.world, Choice(number))? {
-                notes.add(&[Part::Text(word), Part::Number(i64::from(number))])?;
-                word = ", command ";
+                let word = if fires { ", " } else { "; it can now fire " };
+                notes.add(&[Part::Text(word)])?;
+                scope.put_command(notes, self.text, Choice(number))?;
+                fires = true;
             }
         }
-        if word == ", command " {
+        if fires {
             return Ok(());
         }
-        Ok(notes.add(&[Part::Text(" none of its commands can fire now")])?)
+        Ok(notes.add(&[Part::Text("; none of its commands can fire now")])?)
     }
 
     // Says the same of all processes that have too few events.
@@ -68,14 +73,14 @@ impl SourceView<'_> {
         let heads = detector.frontier(alloc)?;
         for p in 0..self.session.program.processes() {
             if let Some(Head::Past) = heads.items().get(p as usize) {
-                self.tell_further(alloc, notes, Pid(p))?;
+                self.tell_further(alloc, notes, detector, Pid(p))?;
             }
         }
         Ok(())
     }
 
-    /// Explains the answer to a query. For `why`, says how the search for the cut went, and whether the processes that have no state left
-    /// can make an event now. For `can`, says what prevents the undo.
+    /// Explains the answer to a query. For `why`, says how the search for the cut went, which parts do not hold yet, and which commands of
+    /// these processes can fire now. For `can`, says what prevents the undo.
     pub fn tell_answer(
         &self,
         alloc: Global,

@@ -2,8 +2,8 @@
 
 use crate::expressions::ProcessView;
 use crate::notes::{Notes, Part};
-use break_book::Book;
-use dbg_base::{Cut, Head, Name, Pid, Refusal};
+use crate::view::SourceView;
+use dbg_base::{Cut, Expr, Head, Name, Pid, Refusal};
 use least_cut::Detector;
 use proc_lang::Program;
 use std::alloc::{AllocError, Global};
@@ -43,45 +43,73 @@ fn tell_cut(notes: &mut Notes, program: &Program, cut: &Cut) -> Result<(), Alloc
     Ok(())
 }
 
-// Says which processes do not have enough events.
-fn tell_past(
-    alloc: Global,
-    notes: &mut Notes,
-    program: &Program,
-    detector: &Detector,
-) -> Result<(), Refusal> {
-    let heads = detector.frontier(alloc)?;
-    for p in 0..program.processes() {
-        if let Some(Head::Past) = heads.items().get(p as usize) {
-            let scope = ProcessView {
-                program,
-                pid: Pid(p),
-            };
-            notes.say(&[
-                scope.name(),
-                Part::Text(" has no state left in which its part holds"),
-            ])?;
+// The part of a breakpoint's predicate that this process has.
+fn part_of<'a>(detector: &'a Detector, program: &Program, pid: Pid) -> Option<&'a Expr> {
+    for at in 0..program.processes() {
+        let (found, expr) = detector.conjunct(at as usize)?;
+        if found == pid {
+            return Some(expr);
         }
     }
-    Ok(())
+    None
 }
 
-/// Says what a breakpoint's predicate is, and what its cut is, or which processes do not have enough events.
-pub(crate) fn tell_breakpoint(
-    alloc: Global,
-    notes: &mut Notes,
-    program: &Program,
-    book: &Book,
-    name: Name,
-) -> Result<(), Refusal> {
-    let Some((_, breakpoint)) = book.find(name) else {
-        return Ok(());
-    };
-    let detector = breakpoint.detector();
-    notes.say(&[Part::Name(name), Part::Text(": ")])?;
-    put_conjuncts(notes, program, detector)?;
-    match detector.cut() {
-        Some(cut) => Ok(tell_cut(notes, program, cut)?),
-        None => tell_past(alloc, notes, program, detector),
+impl SourceView<'_> {
+    /// Says that the part of a process does not hold yet, and which values make it false. It is false in the present state of the process,
+    /// since that state was ruled out, and no later event can rule it out for another reason.
+    pub(crate) fn tell_not_yet(
+        &self,
+        notes: &mut Notes,
+        detector: &Detector,
+        pid: Pid,
+    ) -> Result<(), AllocError> {
+        let program = self.session.program;
+        let scope = self.scope(pid);
+        notes.say(&[Part::Text("not yet in "), scope.name()])?;
+        match (
+            part_of(detector, program, pid),
+            self.session.world.local_state(pid),
+        ) {
+            (Some(part), Some(env)) => {
+                notes.add(&[Part::Text(": ")])?;
+                scope.put_false(notes, env, part)
+            }
+            _ => Ok(()),
+        }
+    }
+
+    // Says which parts do not hold yet.
+    fn tell_false_parts(
+        &self,
+        alloc: Global,
+        notes: &mut Notes,
+        detector: &Detector,
+    ) -> Result<(), Refusal> {
+        let heads = detector.frontier(alloc)?;
+        for p in 0..self.session.program.processes() {
+            if let Some(Head::Past) = heads.items().get(p as usize) {
+                self.tell_not_yet(notes, detector, Pid(p))?;
+            }
+        }
+        Ok(())
+    }
+
+    /// Says what a breakpoint's predicate is, and what its cut is, or which parts do not hold yet.
+    pub(crate) fn tell_breakpoint(
+        &self,
+        alloc: Global,
+        notes: &mut Notes,
+        name: Name,
+    ) -> Result<(), Refusal> {
+        let Some((_, breakpoint)) = self.session.book.find(name) else {
+            return Ok(());
+        };
+        let detector = breakpoint.detector();
+        notes.say(&[Part::Name(name), Part::Text(": ")])?;
+        put_conjuncts(notes, self.session.program, detector)?;
+        match detector.cut() {
+            Some(cut) => Ok(tell_cut(notes, self.session.program, cut)?),
+            None => self.tell_false_parts(alloc, notes, detector),
+        }
     }
 }

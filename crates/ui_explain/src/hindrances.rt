@@ -124,6 +124,20 @@ impl ProcessView<'_> {
         self.put_values(notes, env, expr)
     }
 
+    /// Appends an expression that does not hold, since it is false or faults, and the values of the names in it to the last line.
+    pub(crate) fn put_false(
+        &self,
+        notes: &mut Notes,
+        env: &Env,
+        expr: &Expr,
+    ) -> Result<(), AllocError> {
+        if eval(expr, env).is_err() {
+            self.put_fault(notes, env, expr)
+        } else {
+            self.put_evaluated(notes, env, expr, " is false")
+        }
+    }
+
     // Appends the first expression of a command that faults in this state to the last line.
     fn put_faulting(
         &self,

@@ -1,7 +1,6 @@
 //! Why a call is refused, and what the person can do.
 
 use crate::accepted::put_events;
-use crate::breakpoints::tell_breakpoint;
 use crate::events::receiving;
 use crate::notes::{Notes, Part};
 use crate::numbers::meaning;
@@ -183,13 +182,7 @@ impl SourceView<'_> {
     ) -> Result<(), Refusal> {
         match refusal {
             Refusal::UnknownBreak => self.tell_breakpoints(alloc, notes),
-            Refusal::BreakTaken | Refusal::NoCut => tell_breakpoint(
-                alloc,
-                notes,
-                self.session.program,
-                self.session.book,
-                name,
-            ),
+            Refusal::BreakTaken | Refusal::NoCut => self.tell_breakpoint(alloc, notes, name),
             Refusal::NotArmed => Ok(notes.say(&[
                 Part::Text("`arm "),
                 Part::Name(name),
@@ -215,7 +208,7 @@ impl SourceView<'_> {
         notes.say(&[Part::Text(meaning(refusal.number()))])?;
         match refusal {
             Refusal::Halted(name) => {
-                tell_breakpoint(alloc, notes, self.session.program, self.session.book, *name)?;
+                self.tell_breakpoint(alloc, notes, *name)?;
                 notes.say(&[
                     Part::Text("`pass "),
                     Part::Name(*name),

@@ -16,11 +16,12 @@ fn is_played(served: Served) -> bool {
     served != Served::Refused
 }
 
-fn draw_page<R: Source + Typed, W: Sink>(
+fn draw_page<R: Source + Typed, W: Sink, E: Sink>(
     alloc: Global,
     model: Option<&Model>,
     reader: &mut R,
     writer: &mut W,
+    errors: &mut E,
 ) -> Result<Served, ServeFault> {
     let source = model.map(|model| model.source());
     let mut dialogue = Dialogue::new(Recorder::new(alloc, source));
@@ -34,17 +35,18 @@ fn draw_page<R: Source + Typed, W: Sink>(
     if is_played(served) {
         write_page(&recorder.session(replies.as_slice())?, writer)?;
     } else {
-        let written = write_whole(writer, replies.as_slice());
-        hand_on(written, writer)?;
+        let written = write_whole(errors, replies.as_slice());
+        hand_on(written, errors)?;
     }
     Ok(served)
 }
 
-fn draw_end<R: Source + Typed, W: Sink>(
+fn draw_end<R: Source + Typed, W: Sink, E: Sink>(
     alloc: Global,
     form: PictureForm,
     reader: &mut R,
     writer: &mut W,
+    errors: &mut E,
 ) -> Result<Served, ServeFault> {
     let mut dialogue = Dialogue::new(Artist::new(alloc, form));
     let mut replies = Noted::new(Vec::new(alloc));
@@ -57,33 +59,34 @@ fn draw_end<R: Source + Typed, W: Sink>(
         let written = write_whole(writer, artist.picture());
         hand_on(written, writer)?;
     } else {
-        let written = write_whole(writer, replies.into_inner().as_slice());
-        hand_on(written, writer)?;
+        let written = write_whole(errors, replies.into_inner().as_slice());
+        hand_on(written, errors)?;
     }
     Ok(served)
 }
 
 /// Plays a session as `talk` does, and writes a picture of it: a picture of its end, or a page to go through it. If the input is too long,
 /// the picture is of the lines within the limit. The program and the lines may be in the model notation. A program that is refused is
-/// explained as `talk` explains it. Errors: the reader or the writer failed, or memory ran out.
-pub fn draw<R: Read + Typed + Drop, W: Sink>(
+/// explained on the other writer, as `talk` explains it, and nothing is drawn. Errors: the reader or a writer failed, or memory ran out.
+pub fn draw<R: Read + Typed + Drop, W: Sink, E: Sink>(
     alloc: Global,
     form: PictureForm,
     reader: R,
     writer: &mut W,
+    errors: &mut E,
 ) -> Result<Served, ServeFault> {
     let (beginning, reader) = Beginning::read(alloc, reader)?;
     let kind = beginning.kind(alloc)?;
     let model = match &kind {
         ProgramKind::Plain => None,
         ProgramKind::Model(model) => Some(model),
-        ProgramKind::Wrong(fault) => return refuse(alloc, beginning.text(), fault, writer),
+        ProgramKind::Wrong(fault) => return refuse(alloc, beginning.text(), fault, errors),
     };
     let mut reader = Noted::new(beginning.plain(alloc, model, reader)?);
     match form {
-        PictureForm::Html => draw_page(alloc, model, &mut reader, writer),
+        PictureForm::Html => draw_page(alloc, model, &mut reader, writer, errors),
         PictureForm::Text | PictureForm::Svg | PictureForm::Shiviz => {
-            draw_end(alloc, form, &mut reader, writer)
+            draw_end(alloc, form, &mut reader, writer, errors)
         }
     }
 }

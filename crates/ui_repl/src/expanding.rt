@@ -21,7 +21,8 @@ fn read_all<R: Source>(input: &mut Input, reader: &mut R) -> Result<bool, ServeF
     }
 }
 
-fn write_text<W: Sink>(text: &[u8], writer: &mut W) -> Result<(), ServeFault> {
+/// Writes a text, and flushes it.
+pub(crate) fn write_text<W: Sink>(text: &[u8], writer: &mut W) -> Result<(), ServeFault> {
     let written = write_whole(writer, text);
     hand_on(written, writer)
 }

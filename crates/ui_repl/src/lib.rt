@@ -13,4 +13,4 @@ pub use drawing::draw;
 pub use expanding::expand;
 pub use model::Model;
 pub use running::{converse, explain, talk};
-pub use testing::{Tested, test_session};
+pub use testing::{SESSION_BYTES, Tested, test_session};

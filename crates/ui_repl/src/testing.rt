@@ -2,17 +2,25 @@
 
 ghost use Rattle.std.specs.Prelude.{Some};
 
+use crate::expanding::write_text;
 use crate::model::{Model, ProgramKind, refuse};
 use crate::running::talk;
 use crate::session_input::Beginning;
+use dbg_base::limits::INPUT_BYTES;
 use itoa::Buffer;
 use shell_io::{Noted, Sink};
-use shell_print::{ServeFault, Served, hand_on, write_whole};
+use shell_parse::{next_word, without_return};
+use shell_print::{ServeFault, Served};
 use std::alloc::{AllocError, Global};
 use std::io;
 use std::io::Read;
 use ui_explain::first_line;
 use ui_session::{Typed, is_directive};
+
+/// How many bytes of a session are read at most: one more than an input may have, which shows that it is too long.
+pub const SESSION_BYTES: u64 = 1_048_577;
+
+const _: () = prove!(SESSION_BYTES as usize == INPUT_BYTES + 1);
 
 // A text that is read, whose lines are not echoed.
 #[derive(Drop)]
@@ -39,7 +47,7 @@ impl Typed for SessionText<'_> {
 pub enum Tested {
     /// Each reply was the expected one.
     Passed,
-    /// A reply was not, the program was refused, or the input was too long.
+    /// A reply was not, no reply is expected, an expected reply is at a wrong place, the program was refused, or the input was too long.
     Failed,
 }
 
@@ -54,12 +62,36 @@ struct Difference<'a> {
     before: usize,
 }
 
-// The expected reply to the command line before this line, if this line gives one.
+// A line of a session that is not as it must be.
+#[derive(Clone, Copy)]
+enum Wrong<'a> {
+    Reply(Difference<'a>),
+    // The line with this number gives an expected reply, and no command line is before it.
+    Misplaced(usize, &'a [u8]),
+}
+
+// The comparison of a session with its replies: the first line that is wrong, and how many replies were compared before it.
+#[derive(Clone, Copy)]
+struct Comparison<'a> {
+    wrong: Option<Wrong<'a>>,
+    compared: usize,
+}
+
+// The expected reply that this line gives, if it gives one.
 fn wanted(line: &[u8]) -> Option<&[u8]> {
-    match line.trim_ascii() {
-        [b'>', rest @ ..] => Some(rest.trim_ascii()),
+    let line = without_return(line);
+    match next_word(line).0.first() {
+        Some(b'>') => {
+            let from = line.iter().position(|byte| *byte == b'>')?;
+            Some(line.get(from.saturating_add(1)..)?.trim_ascii())
+        }
         _ => None,
     }
+}
+
+// Whether the line is blank or a comment.
+fn is_remark(line: &[u8]) -> bool {
+    matches!(next_word(without_return(line)).0.first(), None | Some(b'#'))
 }
 
 fn is_told(line: &[u8]) -> bool {
@@ -89,47 +121,51 @@ fn replies_to(alloc: Global, model: Option<&Model>, line: &[u8]) -> Result<usize
     }
 }
 
-// The first line of a session whose reply is not the expected one, if the interactive session wrote this output. The reply to a line of a
-// model that stands for several lines is the last one.
-fn first_difference<'a>(
+// Compares the replies of a session with the output of the interactive session. The reply to a line of a model that stands for several lines
+// is the last one.
+fn compare<'a>(
     alloc: Global,
     model: Option<&Model>,
     session: &'a [u8],
     page: &[u8],
-) -> Result<Option<Difference<'a>>, AllocError> {
+) -> Result<Comparison<'a>, AllocError> {
     let (mut number, lines) = command_lines(session);
-    let mut asked = Difference {
-        number,
-        line: &[],
-        wanted: &[],
-        before: 0,
-    };
+    let mut asked = None;
+    let mut compared = 0usize;
     let mut replies = 0usize;
     let mut rest = page;
     let mut reply: &[u8] = &[];
     for line in lines.split(|byte| *byte == b'\n') {
-        match wanted(line) {
-            Some(wanted) if wanted != reply => {
-                asked.wanted = wanted;
-                return Ok(Some(asked));
+        if let Some(wanted) = wanted(line) {
+            let wrong = match asked {
+                Some(asked) if wanted == reply => None,
+                Some(asked) => Some(Wrong::Reply(Difference { wanted, ..asked })),
+                None => Some(Wrong::Misplaced(number, line)),
+            };
+            if wrong.is_some() {
+                return Ok(Comparison { wrong, compared });
             }
-            Some(_) => {}
-            None => {
-                for _ in 0..replies_to(alloc, model, line)? {
-                    asked = Difference {
-                        number,
-                        line,
-                        wanted: &[],
-                        before: replies,
-                    };
-                    (reply, rest) = next_reply(rest);
-                    replies = replies.saturating_add(1);
-                }
+            compared = compared.saturating_add(1);
+            asked = None;
+        } else if !is_remark(line) {
+            asked = None;
+            for _ in 0..replies_to(alloc, model, line)? {
+                asked = Some(Difference {
+                    number,
+                    line,
+                    wanted: &[],
+                    before: replies,
+                });
+                (reply, rest) = next_reply(rest);
+                replies = replies.saturating_add(1);
             }
         }
         number = number.saturating_add(1);
     }
-    Ok(None)
+    Ok(Comparison {
+        wrong: None,
+        compared,
+    })
 }
 
 // The first reply, and the output after it.
@@ -189,10 +225,62 @@ fn tell_named(alloc: Global, name: &str, what: &[u8]) -> Result<Vec<u8>, AllocEr
     Ok(text)
 }
 
-// Writes a text and flushes it.
-fn write_text<W: Sink>(text: &[u8], writer: &mut W) -> Result<(), ServeFault> {
-    let written = write_whole(writer, text);
-    hand_on(written, writer)
+// Reports a line with an expected reply, before which no command line is.
+fn tell_misplaced(
+    alloc: Global,
+    name: &str,
+    number: usize,
+    line: &[u8],
+) -> Result<Vec<u8>, AllocError> {
+    let mut text = Vec::from_slice(alloc, name.as_bytes())?;
+    text.extend_from_slice(b":")?;
+    text.extend_from_slice(Buffer::new().format(number).as_bytes())?;
+    text.extend_from_slice(b": ")?;
+    text.extend_from_slice(without_return(line))?;
+    text.extend_from_slice(
+        b"\n  an expected reply follows the command line that it is for, once\n",
+    )?;
+    Ok(text)
+}
+
+// Reports how many replies were the expected ones.
+fn tell_passed(alloc: Global, name: &str, compared: usize) -> Result<Vec<u8>, AllocError> {
+    let mut text = tell_named(alloc, name, b"ok, ")?;
+    text.extend_from_slice(Buffer::new().format(compared).as_bytes())?;
+    text.extend_from_slice(if compared == 1 {
+        b" reply\n"
+    } else {
+        b" replies\n"
+    })?;
+    Ok(text)
+}
+
+// The report of a comparison, and the result.
+fn tell_comparison(
+    alloc: Global,
+    name: &str,
+    comparison: &Comparison<'_>,
+    page: &[u8],
+) -> Result<(Vec<u8>, Tested), AllocError> {
+    match comparison.wrong {
+        Some(Wrong::Reply(difference)) => {
+            Ok((
+                tell_difference(alloc, name, &difference, page)?,
+                Tested::Failed,
+            ))
+        }
+        Some(Wrong::Misplaced(number, line)) => {
+            Ok((tell_misplaced(alloc, name, number, line)?, Tested::Failed))
+        }
+        None if comparison.compared == 0 => {
+            let what = b"no line `> REPLY` gives an expected reply\n";
+            Ok((tell_named(alloc, name, what)?, Tested::Failed))
+        }
+        None => Ok((
+            tell_passed(alloc, name, comparison.compared)?,
+            Tested::Passed,
+        )),
+    }
 }
 
 // Plays a session whose text was read.
@@ -211,8 +299,9 @@ fn talk_alone(
     }
 }
 
-/// Plays the session of this name, which may be in the model notation. Writes whether each reply was the expected one, which a line `> REPLY` after the command line gives, or
-/// the first reply that was not, with its explanation. A program that is refused, and input that is too long, are reported as an
+/// Plays the session of this name, which may be in the model notation. Writes how many replies were compared, or the first that was not the
+/// expected one, with its explanation. A line `> REPLY` gives the expected reply to the command line before it; between the two there are
+/// only comments and blank lines. A program that is refused, and input that is too long, are reported as an
 /// interactive session reports them.
 pub fn test_session<W: Sink>(
     alloc: Global,
@@ -248,16 +337,8 @@ pub fn test_session<W: Sink>(
             return Ok(Tested::Failed);
         }
     }
-    match first_difference(alloc, model, session, page.as_slice())? {
-        Some(difference) => {
-            let text = tell_difference(alloc, name, &difference, page.as_slice())?;
-            write_text(text.as_slice(), writer)?;
-            Ok(Tested::Failed)
-        }
-        None => {
-            let text = tell_named(alloc, name, b"ok\n")?;
-            write_text(text.as_slice(), writer)?;
-            Ok(Tested::Passed)
-        }
-    }
+    let comparison = compare(alloc, model, session, page.as_slice())?;
+    let (text, tested) = tell_comparison(alloc, name, &comparison, page.as_slice())?;
+    write_text(text.as_slice(), writer)?;
+    Ok(tested)
 }

@@ -92,6 +92,11 @@ function walk(key) {
   else if (key === 'ArrowRight') choose({p, n: Math.min(sizeOf(p), n + 1)});
   else if (q >= 0 && q < count) choose({p: q, n: firstWhere([...shown.events[q], ...later[q].events], event => event.depth > depthAt(p, n))});
 }
+// Goes to the next line that halts the session, or to the one before.
+function toHalt(isNext) {
+  const line = isNext ? halts.find(n => n > place) : halts.findLast(n => n < place);
+  if (line !== undefined) go(line);
+}
 const moves = {ArrowUp: -1, ArrowLeft: -1, ArrowDown: 1, ArrowRight: 1, PageUp: -10, PageDown: 10, Home: -Infinity, End: Infinity};
 document.addEventListener('keydown', event => {
   if (event.ctrlKey || event.altKey || event.metaKey) return;
@@ -104,6 +109,7 @@ document.addEventListener('keydown', event => {
   else if (key === 'Escape') choose(null);
   else if (key === '+' || key === '=') widen(1.25);
   else if (key === '-') widen(.8);
+  else if (key === 'h' || key === 'H') toHalt(key === 'h');
   else return;
   event.preventDefault();
 });
@@ -114,6 +120,7 @@ document.addEventListener('click', event => {
   else if (item.line !== undefined) go(item.line);
 });
 find('slider').max = lines.length;
+find('halts').append(...halts.slice(0, 100).map(n => node('option', '', {value: n})));
 find('slider').oninput = event => go(Number(event.target.value));
 find('first').onclick = () => go(0);
 find('before').onclick = () => go(place - 1);

@@ -23,7 +23,8 @@ pub(super) static BODY: &str = r#"</style>
 <button id=play title="Play (space)">play</button>
 <button id=next title="One line forward (right or down)" aria-label="One line forward">&gt;</button>
 <button id=last title="To the end (End)" aria-label="To the end">&gt;|</button>
-<input id=slider type=range min=0 aria-label="Line of the session">
+<input id=slider type=range min=0 list=halts title="The marks are halts (h, H)" aria-label="Line of the session">
+<datalist id=halts></datalist>
 <button id=narrower title="Narrower drawing (-)" aria-label="Narrower drawing">-</button>
 <button id=wider title="Wider drawing (+)" aria-label="Wider drawing">+</button>
 <div id=said role=status aria-live=polite></div>

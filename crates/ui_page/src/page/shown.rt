@@ -34,8 +34,11 @@ const downward = ['scrollTop', 'clientHeight', 'height'];
 const area = find('drawing'), listArea = find('lines'), listScroll = new Scroll(listArea, downward);
 const across = new Scroll(area, ['scrollLeft', 'clientWidth', 'width']), down = new Scroll(area, downward);
 
-// The shown state, which is the one after the first `place` lines, and the chosen event {p, n} or breakpoint {point}.
-let place = lines.length, chosen = null, playing = 0;
+// The lines that halt the session.
+const halts = lines.flatMap(([, reply], at) => / halted \w+$/.test(reply) ? [at + 1] : []);
+// The shown state, which is the one after the first `place` lines, and the chosen event {p, n} or breakpoint {point}. The page opens where
+// the session halts first, or at its end.
+let place = halts.length > 0 ? halts[0] : lines.length, chosen = null, playing = 0;
 const shown = new Rows(), later = processes.map(() => ({line: null, events: []}));
 const colours = new Map();
 let points = [];
