@@ -17,7 +17,7 @@ def shown_reasons(session, name):
     question = f"1 why {name}"
     lines = session.run([*session.calls.values(), question], "talk")
     asked = max(number for number, line in enumerate(lines) if line == question)
-    return [line.strip() for line in lines[asked + 2:] if " has no state left " not in line]
+    return [line.strip() for line in lines[asked + 2:] if not line.strip().startswith("not yet in ")]
 
 
 def wrong_answers(wanted, shown):
