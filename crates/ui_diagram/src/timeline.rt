@@ -91,6 +91,17 @@ fn put_next(
     Ok(())
 }
 
+// Whether one of two cuts of so many processes contains the other.
+fn are_nested(one: &Cut, other: &Cut, processes: u32) -> bool {
+    let mut is_below = true;
+    let mut is_above = true;
+    for p in 0..processes {
+        is_below = is_below && one.count(Pid(p)) <= other.count(Pid(p));
+        is_above = is_above && other.count(Pid(p)) <= one.count(Pid(p));
+    }
+    is_below || is_above
+}
+
 impl Timeline {
     /// The events of a world, those of the first of the cuts first; and which of the cuts go across.
     pub(crate) fn of(
@@ -108,13 +119,19 @@ impl Timeline {
 
     // The events of a world, those of the first of the cuts first.
     fn ordered(alloc: Global, world: &World, cuts: &[NamedCut]) -> Result<Timeline, Refusal> {
+        let processes = world.tally().processes();
         let mut plain = Vec::new(alloc);
-        for named in cuts {
-            plain.push(&named.cut)?;
+        if let [first, ..] = cuts {
+            // A cut that is not nested with the first one cannot go across as well.
+            for named in cuts {
+                if are_nested(&first.cut, &named.cut, processes) {
+                    plain.push(&named.cut)?;
+                }
+            }
         }
         let order = event_order(alloc, world, plain.as_slice())?;
         let mut rows = Vec::new(alloc);
-        for _ in 0..world.tally().processes() {
+        for _ in 0..processes {
             rows.push(Vec::new(alloc))?;
         }
         let mut events = Vec::new(alloc);

@@ -5,7 +5,7 @@ use crate::forms::{tell_near_word, tell_word};
 use crate::notes::{Notes, Part};
 use crate::numbers::meaning;
 use crate::view::SourceView;
-use dbg_base::limits::PROCESSES;
+use dbg_base::limits::{LINE_BYTES, PROCESSES, SEATS};
 use dbg_base::{Name, Pid, Refusal};
 use proc_lang::{ProgError, ProgFault, Program, parse_predicate};
 use std::alloc::{AllocError, Global};
@@ -52,6 +52,33 @@ fn next_expression(bytes: &[u8]) -> (&[u8], &[u8]) {
         (Some(expression), Some(rest)) => (expression, rest),
         _ => (&[], &[]),
     }
+}
+
+// Whether a word is the number of a seat.
+fn is_seat(word: &[u8]) -> bool {
+    let mut number = 0usize;
+    for byte in word {
+        if !byte.is_ascii_digit() {
+            return false;
+        }
+        number = number
+            .saturating_mul(10)
+            .saturating_add(usize::from(byte.saturating_sub(b'0')));
+    }
+    1 <= number && number <= SEATS as usize
+}
+
+// Whether a word begins a line that an interactive session answers itself.
+fn is_own_word(word: &[u8]) -> bool {
+    [
+        b"help".as_slice(),
+        b"on".as_slice(),
+        b"state".as_slice(),
+        b"line".as_slice(),
+        b"draw".as_slice(),
+        b"quit".as_slice(),
+    ]
+    .contains(&word)
 }
 
 // The process of this name.
@@ -157,11 +184,18 @@ impl SourceView<'_> {
         seat: &[u8],
         command: &[u8],
     ) -> Result<(), AllocError> {
-        if !matches!(seat, [b'1'..=b'9'] | [b'1', b'0'..=b'6']) {
+        if !is_seat(seat) {
             return notes.say(&[
                 Part::Text("`"),
                 Part::Bytes(seat),
                 Part::Text("` is not a seat: seats are the numbers from 1 to 16"),
+            ]);
+        }
+        if is_own_word(command) {
+            return notes.say(&[
+                Part::Text("no seat is before `"),
+                Part::Bytes(command),
+                Part::Text("`: give it alone"),
             ]);
         }
         if command.is_empty() {
@@ -182,6 +216,9 @@ impl SourceView<'_> {
         refusal: &Refusal,
     ) -> Result<(), Refusal> {
         notes.say(&[Part::Text(meaning(refusal.number()))])?;
+        if line.len() > LINE_BYTES {
+            return Ok(notes.say(&[Part::Text("a line has at most 1024 bytes")])?);
+        }
         let (seat, rest) = next_word(line);
         let (command, arguments) = next_word(rest);
         match refusal {

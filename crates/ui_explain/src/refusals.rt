@@ -85,13 +85,6 @@ impl SourceView<'_> {
             return Ok(());
         };
         let events = self.session.world.rows().len(pid);
-        let undone = self
-            .session
-            .world
-            .rows()
-            .len(receiver)
-            .saturating_sub(received)
-            .saturating_add(1);
         let scope = self.scope(pid);
         notes.say(&[
             scope.process(receiver),
@@ -99,23 +92,48 @@ impl SourceView<'_> {
         ])?;
         notes.add(&[Part::Count(events), Part::Text(" of "), scope.name()])?;
         notes.add(&[Part::Text(" by its event "), Part::Count(received)])?;
-        notes.say(&[
-            Part::Text("give `undo "),
-            scope.process(receiver),
-            Part::Text("`"),
-        ])?;
-        if undone > 1 {
-            notes.add(&[Part::Text(" "), Part::Count(undone), Part::Text(" times")])?;
-        }
-        notes.add(&[
-            Part::Text(" first, or `rollback "),
-            scope.name(),
-            Part::Text(" "),
-        ])?;
+        notes.say(&[Part::Text("`rollback "), scope.name(), Part::Text(" ")])?;
         notes.add(&[
             Part::Count(events.saturating_sub(1)),
-            Part::Text("`, which undoes all of it"),
+            Part::Text("` undoes this event and all events that depend on it"),
         ])
+    }
+
+    // Another armed breakpoint that has a cut, so it halts the session after `pass`.
+    fn next_halting(&self, alloc: Global, halting: Name) -> Result<Option<Name>, Refusal> {
+        for (name, is_armed) in self.session.book.list(alloc)?.items() {
+            if *is_armed && *name != halting && self.has_cut(*name) {
+                return Ok(Some(*name));
+            }
+        }
+        Ok(None)
+    }
+
+    fn has_cut(&self, name: Name) -> bool {
+        match self.session.book.find(name) {
+            Some((_, breakpoint)) => breakpoint.detector().cut().is_some(),
+            None => false,
+        }
+    }
+
+    // Says how the session continues after a halt.
+    fn tell_continuing(
+        &self,
+        alloc: Global,
+        notes: &mut Notes,
+        halting: Name,
+    ) -> Result<(), Refusal> {
+        notes.say(&[Part::Text("`pass "), Part::Name(halting)])?;
+        match self.next_halting(alloc, halting)? {
+            Some(next) => notes.add(&[
+                Part::Text("` disarms it, and then the breakpoint "),
+                Part::Name(next),
+                Part::Text(" halts the session"),
+            ])?,
+            None => notes.add(&[Part::Text("` lets the session continue")])?,
+        }
+        notes.add(&[Part::Text("; `undo`, `rollback` and `back` undo what led there")])?;
+        Ok(())
     }
 
     // Says which breakpoints exist.
@@ -188,7 +206,7 @@ impl SourceView<'_> {
                 Part::Name(name),
                 Part::Text("` arms it"),
             ])?),
-            Refusal::AlreadyArmed => Ok(notes.say(&[
+            Refusal::AlreadyArmed if self.has_cut(name) => Ok(notes.say(&[
                 Part::Text("`pass "),
                 Part::Name(name),
                 Part::Text("` lets the session continue"),
@@ -209,13 +227,7 @@ impl SourceView<'_> {
         match refusal {
             Refusal::Halted(name) => {
                 self.tell_breakpoint(alloc, notes, *name)?;
-                notes.say(&[
-                    Part::Text("`pass "),
-                    Part::Name(*name),
-                    Part::Text(
-                        "` lets the session continue; `undo`, `rollback` and `back` undo what led there",
-                    ),
-                ])?;
+                self.tell_continuing(alloc, notes, *name)?;
             }
             Refusal::InBatch { at, number } => {
                 let at = Part::Number(i64::from(*at));

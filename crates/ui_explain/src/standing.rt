@@ -173,6 +173,9 @@ impl SourceView<'_> {
 
     /// Shows the events of the process of this name, and what it can make again.
     pub fn tell_line(&self, notes: &mut Notes, word: &[u8]) -> Result<(), AllocError> {
+        if word.is_empty() {
+            return notes.say(&[Part::Text("`line P` shows the events of the process P")]);
+        }
         let found = Name::new(word).and_then(|name| self.session.program.find_process(name));
         let Some(pid) = found else {
             return self.tell_processes(notes, word);

@@ -1,5 +1,7 @@
 //! The input of a session: a program, which may be in the model notation, and the lines after it.
 
+ghost use Rattle.std.specs.Prelude.{◌≤◌, length};
+
 use crate::model::{Model, ProgramKind, kind_of};
 use dbg_base::limits::LINE_BYTES;
 use notation::{Expansion, NotationError};
@@ -131,7 +133,9 @@ fn put_plain(
 
 impl<R: Read> PlainInput<'_, R> {
     // Returns plain bytes that were not returned yet.
-    fn give(&mut self, bytes: &mut [u8]) -> usize {
+    fn give(&mut self, bytes: &mut [u8]) -> usize
+        ensures { result ≤ length bytes.new }
+    {
         let left = self.plain.get(self.given..).unwrap_or(&[]);
         let count = left.len().min(bytes.len());
         if let (Some(to), Some(from)) = (bytes.get_mut(..count), left.get(..count)) {
