@@ -1,6 +1,8 @@
 """What the documents say: blocks of `rdbg` are programs and sessions, links lead somewhere, and refusals mean the same everywhere.
 
-A block ```rdbg is a program, or a session whose lines `> ..` are its replies. A block ```rdbg-refused is a program that is refused.
+A block ```rdbg is a program, or a session whose lines `> ..` are its replies. It may be in the notation: then its plain session has to
+have the same replies. A block ```rdbg-refused is a program that is refused. A block ```rdbg-report after one of these has lines, one
+after the other, of what `talk` prints for that session, or `check --explain` for that program.
 The meanings of the refusals are those of the source of `rdbg --help`, word by word.
 """
 import re
@@ -56,14 +58,47 @@ def prose_and_blocks(text):
     return "\n".join(prose), blocks
 
 
-def check_block(suite, document, block, room):
-    name = f"{str(document.relative_to(TOP)).replace('/', '-')}.{block.line:04}.rdbg"
-    (room / name).write_text(block.text, encoding="utf-8")
-    is_session = block.language == "rdbg" and "%%" in block.text.splitlines()
-    ran = suite.rdbg(*(["test"] if is_session else ["check", "--explain"]), name, folder=room, merge=True)
-    wanted = 3 if block.language == "rdbg-refused" else 0
-    shown = "\n".join(ran.output.decode(errors="backslashreplace").splitlines()[:ERROR_LINES])
-    suite.case(f"{document.relative_to(TOP)}:{block.line}", "" if ran.status == wanted else f"status {ran.status}, not {wanted}\n{shown}")
+class Shown:
+    """A block of a program or a session, as a file in a folder."""
+
+    def __init__(self, suite, block, folder):
+        self.suite, self.folder = suite, folder
+        self.is_refused = block.language == "rdbg-refused"
+        self.is_session = not self.is_refused and "%%" in block.text.splitlines()
+        (folder / "block.rdbg").write_text(block.text, encoding="utf-8")
+
+    def run(self, *words):
+        """Runs a command. Returns what it wrote, and what is wrong with its status, or an empty text."""
+        ran = self.suite.rdbg(*words, folder=self.folder, merge=True)
+        output, wanted = ran.output.decode(errors="backslashreplace"), 3 if self.is_refused else 0
+        begin = "\n".join(output.splitlines()[:ERROR_LINES])
+        return output, "" if ran.status == wanted else f"{' '.join(words)}: status {ran.status}, not {wanted}\n{begin}"
+
+    def problem(self):
+        """What is wrong with the block, or an empty text: in the notation, and with the plain text that it stands for."""
+        plain, problem = self.run("expand", "block.rdbg")
+        (self.folder / "plain.rdbg").write_text(plain, encoding="utf-8")
+        tried = [["test", "block.rdbg"], ["draw", "block.rdbg"], ["test", "plain.rdbg"]] if self.is_session else [["check", "--explain", "block.rdbg"]]
+        if not self.is_refused and not self.is_session:
+            tried.append(["check", "plain.rdbg"])
+        return "".join([problem, *(self.run(*words)[1] for words in tried)])
+
+    def report(self):
+        output, _ = self.run(*(["talk"] if self.is_session else ["check", "--explain"]), "block.rdbg")
+        return output
+
+
+def check_blocks(suite, document, room):
+    """Checks each program and each session of a document, and each report with what the program prints for the one before it."""
+    last = None
+    for block in prose_and_blocks(document.read_text(encoding="utf-8"))[1]:
+        name = f"{document.relative_to(TOP)}:{block.line}"
+        if block.language in ("rdbg", "rdbg-refused"):
+            last = Shown(suite, block, room)
+            suite.case(name, last.problem())
+        elif block.language == "rdbg-report":
+            is_right = last and f"\n{block.text}" in f"\n{last.report()}"
+            suite.case(name, "" if is_right else "the program does not print this for the block before it")
 
 
 def anchors(document):
@@ -130,10 +165,7 @@ def check_refusals(suite):
 def run(suite):
     with temporary_folder() as room:
         for document in documents(WITH_BLOCKS):
-            _, blocks = prose_and_blocks(document.read_text(encoding="utf-8"))
-            for block in blocks:
-                if block.language in ("rdbg", "rdbg-refused"):
-                    check_block(suite, document, block, room)
+            check_blocks(suite, document, room)
     for document in documents(WITH_BLOCKS + LINKED):
         suite.case(f"links of {document.relative_to(TOP)}", "\n".join(dead_links(document)))
     suite.case(f"paths of {MAN_PAGE.relative_to(TOP)}", "\n".join(dead_paths()))
