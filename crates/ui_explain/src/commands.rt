@@ -19,8 +19,8 @@ impl ProcessView<'_> {
         if label.is_empty() {
             notes.add(&[Part::Text("command "), number])?;
         } else {
-            let close = Part::Text(")");
-            notes.add(&[Part::Bytes(label), Part::Text(" (command "), number, close])?;
+            notes.add(&[Part::Bytes(label)])?;
+            notes.add(&[Part::Text(" (command "), number, Part::Text(")")])?;
         }
         match source.place(self.pid, choice) {
             Some(place) => notes.add(&[Part::Text(" in line "), Part::Count(place.number)]),
