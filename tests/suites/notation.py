@@ -34,7 +34,8 @@ def renamed(shown, present, wanted):
 
 
 def without_explanations(talk):
-    return b"".join(line for line in talk.splitlines(keepends=True) if not line.startswith(b"  "))
+    """The lines and replies of a session, without comments and explanations."""
+    return b"".join(line for line in talk.splitlines(keepends=True) if line.strip() and not line.startswith((b"  ", b"#")))
 
 
 def replies(suite, plain):

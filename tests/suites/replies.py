@@ -25,7 +25,8 @@ def check_example(suite, example, room):
     replies = wanted.read_text(encoding="utf-8") if wanted.exists() else ""
     session.write_text(with_replies(example.read_text(encoding="utf-8"), replies), encoding="utf-8")
     ran = suite.rdbg("test", session.name, folder=room, merge=True)
-    suite.same(f"rdbg test, for {example.stem}", ran.output + b"status %d\n" % ran.status, f"{session.name}: ok\nstatus 0\n".encode())
+    report = f"{session.name}: ok, {len(replies.splitlines())} replies\nstatus 0\n"
+    suite.same(f"rdbg test, for {example.stem}", ran.output + b"status %d\n" % ran.status, report.encode())
 
 
 def run(suite):

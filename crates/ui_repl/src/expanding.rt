@@ -35,8 +35,8 @@ fn write_lines<W: Sink>(lines: &[Vec<u8>], writer: &mut W) -> Result<(), ServeFa
     hand_on(Ok(()), writer)
 }
 
-/// Reads a session, and writes the plain session that it stands for: a program, the line `%%` and command lines. A fault of the notation goes
-/// to the other writer, with its line and column, the text of the line, a mark under the place, and what is wrong.
+/// Reads a session, and writes the plain session that it stands for: a program, the line `%%` and command lines. A fault of the notation
+/// goes to the other writer, with its line and column, the text of the line, a mark under the place, and what is wrong.
 pub fn expand<R: Source, W: Sink, E: Sink>(
     alloc: Global,
     reader: &mut R,

@@ -200,8 +200,8 @@ fn write_explanation<W: Sink>(notes: &Notes, writer: &mut W) -> Result<(), Serve
     hand_on(Ok(()), writer)
 }
 
-/// Reports that a program text is refused, and explains why: the line and the column, the text of the line with a mark under the place, what
-/// is wrong, and what was probably meant.
+/// Reports that a program text is refused, and explains why: the line and the column, the text of the line with a mark under the place,
+/// what is wrong, and what was probably meant.
 pub(crate) fn refuse<W: Sink>(
     alloc: Global,
     text: &[u8],

@@ -109,6 +109,11 @@ impl<R: Typed> Typed for PlainInput<'_, R> {
     }
 }
 
+// Whether a line is only a comment, which is shown as it is.
+fn is_comment(line: &[u8]) -> bool {
+    line.trim_ascii_start().first() == Some(&b'#')
+}
+
 // Appends the plain lines of a line.
 fn put_plain(
     alloc: Global,
@@ -153,7 +158,7 @@ impl<R: Read> PlainInput<'_, R> {
         let read = mem::replace(&mut self.lines, rest);
         let line = read.get(..length).unwrap_or(&[]);
         let mut plain = Vec::new(self.alloc);
-        if self.is_long || line.len() > LINE_BYTES {
+        if self.is_long || line.len() > LINE_BYTES || is_comment(line) {
             plain.extend_from_slice(line)?;
         } else {
             put_plain(self.alloc, expansion, line, &mut plain)?;

@@ -121,8 +121,8 @@ fn replies_to(alloc: Global, model: Option<&Model>, line: &[u8]) -> Result<usize
     }
 }
 
-// Compares the replies of a session with the output of the interactive session. The reply to a line of a model that stands for several lines
-// is the last one.
+// Compares the replies of a session with the output of the interactive session. The reply to a line of a model that stands for several
+// lines is the last one.
 fn compare<'a>(
     alloc: Global,
     model: Option<&Model>,
