@@ -65,6 +65,23 @@ fn draw_end<R: Source + Typed, W: Sink, E: Sink>(
     Ok(served)
 }
 
+// Plays a plain session, and draws it.
+fn draw_plain<R: Source + Typed, W: Sink, E: Sink>(
+    alloc: Global,
+    form: PictureForm,
+    model: Option<&Model>,
+    reader: &mut R,
+    writer: &mut W,
+    errors: &mut E,
+) -> Result<Served, ServeFault> {
+    match form {
+        PictureForm::Html => draw_page(alloc, model, reader, writer, errors),
+        PictureForm::Text | PictureForm::Svg | PictureForm::Shiviz => {
+            draw_end(alloc, form, reader, writer, errors)
+        }
+    }
+}
+
 /// Plays a session as `talk` does, and writes a picture of it: a picture of its end, or a page to go through it. If the input is too long,
 /// the picture is of the lines within the limit. The program and the lines may be in the model notation. A program that is refused is
 /// explained on the other writer, as `talk` explains it, and nothing is drawn. Errors: the reader or a writer failed, or memory ran out.
@@ -76,17 +93,15 @@ pub fn draw<R: Read + Typed + Drop, W: Sink, E: Sink>(
     errors: &mut E,
 ) -> Result<Served, ServeFault> {
     let (beginning, reader) = Beginning::read(alloc, reader)?;
-    let kind = beginning.kind(alloc)?;
-    let model = match &kind {
-        ProgramKind::Plain => None,
-        ProgramKind::Model(model) => Some(model),
-        ProgramKind::Wrong(fault) => return refuse(alloc, beginning.text(), fault, errors),
-    };
-    let mut reader = Noted::new(beginning.plain(alloc, model, reader)?);
-    match form {
-        PictureForm::Html => draw_page(alloc, model, &mut reader, writer, errors),
-        PictureForm::Text | PictureForm::Svg | PictureForm::Shiviz => {
-            draw_end(alloc, form, &mut reader, writer, errors)
+    match beginning.kind(alloc)? {
+        ProgramKind::Plain => {
+            let mut reader = Noted::new(beginning.whole(reader));
+            draw_plain(alloc, form, None, &mut reader, writer, errors)
         }
+        ProgramKind::Model(model) => {
+            let mut reader = Noted::new(beginning.expanded(alloc, &model, reader)?);
+            draw_plain(alloc, form, Some(&model), &mut reader, writer, errors)
+        }
+        ProgramKind::Wrong(fault) => refuse(alloc, beginning.text(), &fault, errors),
     }
 }

@@ -73,12 +73,15 @@ pub fn converse<R: Read + Typed + Drop, W: Sink>(
     writer: &mut W,
 ) -> Result<Served, ServeFault> {
     let (beginning, reader) = Beginning::read(alloc, reader)?;
-    let kind = beginning.kind(alloc)?;
-    let model = match &kind {
-        ProgramKind::Plain => None,
-        ProgramKind::Model(model) => Some(model),
-        ProgramKind::Wrong(fault) => return refuse(alloc, beginning.text(), fault, writer),
-    };
-    let plain = beginning.plain(alloc, model, reader)?;
-    talk(alloc, model, &mut Noted::new(plain), writer)
+    match beginning.kind(alloc)? {
+        ProgramKind::Plain => {
+            let input = beginning.whole(reader);
+            talk(alloc, None, &mut Noted::new(input), writer)
+        }
+        ProgramKind::Model(model) => {
+            let input = beginning.expanded(alloc, &model, reader)?;
+            talk(alloc, Some(&model), &mut Noted::new(input), writer)
+        }
+        ProgramKind::Wrong(fault) => refuse(alloc, beginning.text(), &fault, writer),
+    }
 }

@@ -1,6 +1,7 @@
 //! The input of a session: a program, which may be in the model notation, and the lines after it.
 
 ghost use Rattle.std.specs.Prelude.{◌≤◌, length};
+ghost use Rattle.ui_repl.specs.Rests.{rest_remaining};
 
 use crate::model::{Model, ProgramKind, kind_of};
 use dbg_base::limits::LINE_BYTES;
@@ -9,7 +10,7 @@ use shell_input::{Input, TextEnd, read_program_text};
 use shell_io::Noted;
 use shell_print::ServeFault;
 use std::alloc::{AllocError, Global};
-use std::io::{Error, ErrorKind, Read};
+use std::io::{Chain, Error, ErrorKind, Read};
 use std::{io, mem};
 use ui_session::Typed;
 
@@ -54,43 +55,66 @@ impl Beginning {
         }
     }
 
-    /// The whole input as a plain session: what was read, followed by this reader. The program of a model is replaced by the plain program,
-    /// and each line after it by the plain lines that it stands for. A line that cannot be expanded stays as it is.
-    pub(crate) fn plain<'a, R: Drop>(
+    /// The whole input of a session whose program is plain, as it is: what was read, followed by this reader.
+    pub(crate) fn whole<R: Read>(&self, reader: R) -> Chain<&[u8], Rest<R>> {
+        let is_ended = self.input.ended;
+        self.input.bytes().chain(Rest { reader, is_ended })
+    }
+
+    /// The whole input of a session whose program is a model, as a plain session. The program is replaced by the plain program, and each
+    /// line after it by the plain lines that it stands for. A line that cannot be expanded stays as it is.
+    pub(crate) fn expanded<'a, R: Read + Drop>(
         &self,
         alloc: Global,
-        model: Option<&'a Model>,
+        model: &'a Model,
         reader: R,
-    ) -> Result<PlainInput<'a, R>, AllocError> {
-        let bytes = self.input.bytes();
-        let mut plain = Vec::new(alloc);
-        let mut lines = Vec::new(alloc);
-        match model {
-            Some(model) => {
-                plain.extend_from_slice(model.expansion().plain())?;
-                plain.extend_from_slice(b"%%\n")?;
-                lines.extend_from_slice(bytes.get(self.input.at..).unwrap_or(&[]))?;
-            }
-            None => plain.extend_from_slice(bytes)?,
-        }
-        Ok(PlainInput {
+    ) -> Result<ExpandedInput<'a, R>, AllocError> {
+        let expansion = model.expansion();
+        let mut plain = Vec::from_slice(alloc, expansion.plain())?;
+        plain.extend_from_slice(b"%%\n")?;
+        let read = self.input.bytes().get(self.input.at..).unwrap_or(&[]);
+        Ok(ExpandedInput {
             alloc,
-            expansion: model.map(|model| model.expansion()),
+            expansion,
             reader,
             is_ended: self.input.ended,
             is_long: false,
-            lines,
+            lines: Vec::from_slice(alloc, read)?,
             plain,
             given: 0,
         })
     }
 }
 
-/// A plain session, made of an input as it is read.
+/// What a reader has left after a beginning. It is not called again if it has reached its end.
 #[derive(Drop)]
-pub(crate) struct PlainInput<'a, R> {
+pub(crate) struct Rest<R> {
+    reader: R,
+    is_ended: bool,
+}
+
+impl<R: Read> Read for Rest<R> {
+    ghost remaining = { rest_remaining R.remaining };
+
+    fn read(&mut self, bytes: &mut [u8]) -> io::Result<usize> {
+        if self.is_ended {
+            return Ok(0);
+        }
+        self.reader.read(bytes)
+    }
+}
+
+impl<R: Typed> Typed for Rest<R> {
+    fn is_typed(&self) -> bool {
+        self.reader.is_typed()
+    }
+}
+
+/// A plain session, made of a session in the notation as it is read.
+#[derive(Drop)]
+pub(crate) struct ExpandedInput<'a, R> {
     alloc: Global,
-    expansion: Option<&'a Expansion>,
+    expansion: &'a Expansion,
     reader: R,
     // Whether the reader has nothing left.
     is_ended: bool,
@@ -103,7 +127,7 @@ pub(crate) struct PlainInput<'a, R> {
     given: usize,
 }
 
-impl<R: Typed> Typed for PlainInput<'_, R> {
+impl<R: Typed> Typed for ExpandedInput<'_, R> {
     fn is_typed(&self) -> bool {
         self.reader.is_typed()
     }
@@ -136,7 +160,7 @@ fn put_plain(
     }
 }
 
-impl<R: Read> PlainInput<'_, R> {
+impl<R: Read> ExpandedInput<'_, R> {
     // Returns plain bytes that were not returned yet.
     fn give(&mut self, bytes: &mut [u8]) -> usize
         ensures { result ≤ length bytes.new }
@@ -151,7 +175,7 @@ impl<R: Read> PlainInput<'_, R> {
     }
 
     // Makes the first bytes that were read plain: a line, or if there is no line end, all of them.
-    fn make_plain(&mut self, expansion: &Expansion, end: Option<usize>) -> Result<(), AllocError> {
+    fn make_plain(&mut self, end: Option<usize>) -> Result<(), AllocError> {
         let length = end.unwrap_or(self.lines.len());
         let next = length.saturating_add(1).min(self.lines.len());
         let rest = Vec::from_slice(self.alloc, self.lines.get(next..).unwrap_or(&[]))?;
@@ -161,7 +185,7 @@ impl<R: Read> PlainInput<'_, R> {
         if self.is_long || line.len() > LINE_BYTES || is_comment(line) {
             plain.extend_from_slice(line)?;
         } else {
-            put_plain(self.alloc, expansion, line, &mut plain)?;
+            put_plain(self.alloc, self.expansion, line, &mut plain)?;
         }
         if end.is_some() {
             plain.push(b'\n')?;
@@ -185,7 +209,7 @@ impl<R: Read> PlainInput<'_, R> {
     }
 
     // Reads once, or makes bytes plain. Returns false at the end.
-    fn advance(&mut self, expansion: &Expansion) -> io::Result<bool> {
+    fn advance(&mut self) -> io::Result<bool> {
         let end = self.lines.iter().position(|byte| *byte == b'\n');
         let is_full = self.is_ended || self.lines.len() > LINE_BYTES;
         if end.is_none() && !is_full {
@@ -195,28 +219,21 @@ impl<R: Read> PlainInput<'_, R> {
         if self.lines.is_empty() {
             return Ok(false);
         }
-        match self.make_plain(expansion, end) {
+        match self.make_plain(end) {
             Ok(()) => Ok(true),
             Err(_) => Err(Error::from(ErrorKind::OutOfMemory)),
         }
     }
 }
 
-impl<R: Read> Read for PlainInput<'_, R> {
+impl<R: Read> Read for ExpandedInput<'_, R> {
     fn read(&mut self, bytes: &mut [u8]) -> io::Result<usize> {
         for _ in 0..READS {
             let count = self.give(bytes);
             if count > 0 || bytes.is_empty() {
                 return Ok(count);
             }
-            let Some(expansion) = self.expansion else {
-                return if self.is_ended {
-                    Ok(0)
-                } else {
-                    self.reader.read(bytes)
-                };
-            };
-            if !self.advance(expansion)? {
+            if !self.advance()? {
                 return Ok(0);
             }
         }

@@ -8,7 +8,7 @@ use crate::running::talk;
 use crate::session_input::Beginning;
 use dbg_base::limits::INPUT_BYTES;
 use itoa::Buffer;
-use shell_io::{Noted, Sink};
+use shell_io::{Noted, Sink, Source};
 use shell_parse::{next_word, without_return};
 use shell_print::{ServeFault, Served};
 use std::alloc::{AllocError, Global};
@@ -283,19 +283,37 @@ fn tell_comparison(
     }
 }
 
-// Plays a session whose text was read.
-fn talk_alone(
+// Plays a session whose reader and writer cannot fail.
+fn talk_alone<R: Source + Typed>(
     alloc: Global,
     model: Option<&Model>,
+    reader: &mut R,
+    page: &mut Noted<Vec<u8>>,
+) -> Result<Served, ServeFault> {
+    match talk(alloc, model, reader, page) {
+        Ok(served) => Ok(served),
+        Err(_) => Err(ServeFault::Memory),
+    }
+}
+
+// Plays a session whose text was read, or reports that its program is refused.
+fn play_alone(
+    alloc: Global,
+    kind: &ProgramKind,
     beginning: &Beginning,
     rest: SessionText<'_>,
     page: &mut Noted<Vec<u8>>,
 ) -> Result<Served, ServeFault> {
-    let plain = beginning.plain(alloc, model, rest)?;
-    // The reader and the writer cannot fail.
-    match talk(alloc, model, &mut Noted::new(plain), page) {
-        Ok(served) => Ok(served),
-        Err(_) => Err(ServeFault::Memory),
+    match kind {
+        ProgramKind::Plain => {
+            let mut reader = Noted::new(beginning.whole(rest));
+            talk_alone(alloc, None, &mut reader, page)
+        }
+        ProgramKind::Model(model) => {
+            let mut reader = Noted::new(beginning.expanded(alloc, model, rest)?);
+            talk_alone(alloc, Some(model), &mut reader, page)
+        }
+        ProgramKind::Wrong(fault) => refuse(alloc, beginning.text(), fault, page),
     }
 }
 
@@ -312,17 +330,7 @@ pub fn test_session<W: Sink>(
     let mut page = Noted::new(Vec::new(alloc));
     let (beginning, rest) = Beginning::read(alloc, SessionText { rest: session })?;
     let kind = beginning.kind(alloc)?;
-    let (model, served) = match &kind {
-        ProgramKind::Plain => (None, talk_alone(alloc, None, &beginning, rest, &mut page)?),
-        ProgramKind::Model(model) => {
-            let model = Some(model);
-            (
-                model,
-                talk_alone(alloc, model, &beginning, rest, &mut page)?,
-            )
-        }
-        ProgramKind::Wrong(fault) => { (None, refuse(alloc, beginning.text(), fault, &mut page)?) }
-    };
+    let served = play_alone(alloc, &kind, &beginning, rest, &mut page)?;
     let page = page.into_inner();
     match served {
         Served::Done => {}
@@ -337,6 +345,10 @@ pub fn test_session<W: Sink>(
             return Ok(Tested::Failed);
         }
     }
+    let model = match &kind {
+        ProgramKind::Model(model) => Some(model),
+        ProgramKind::Plain | ProgramKind::Wrong(_) => None,
+    };
     let comparison = compare(alloc, model, session, page.as_slice())?;
     let (text, tested) = tell_comparison(alloc, name, &comparison, page.as_slice())?;
     write_text(text.as_slice(), writer)?;
