@@ -138,26 +138,33 @@ fn is_comment(line: &[u8]) -> bool {
     line.trim_ascii_start().first() == Some(&b'#')
 }
 
-// Appends the plain lines of a line.
-fn put_plain(
-    alloc: Global,
-    expansion: &Expansion,
-    line: &[u8],
-    plain: &mut Vec<u8>,
-) -> Result<(), AllocError> {
+// The plain lines that a line stands for, with line ends between them. A line that is too long to be expanded stays as it is.
+fn plain_lines(alloc: Global, expansion: &Expansion, line: &[u8]) -> Result<Vec<u8>, AllocError> {
+    if line.len() > LINE_BYTES || is_comment(line) {
+        return Ok(Vec::from_slice(alloc, line)?);
+    }
     match expansion.expand_line(alloc, line) {
         Ok(lines) => {
+            let mut plain = Vec::new(alloc);
             for (number, line) in lines.lines().iter().enumerate() {
                 if number > 0 {
                     plain.push(b'\n')?;
                 }
                 plain.extend_from_slice(line.as_slice())?;
             }
-            Ok(())
+            Ok(plain)
         }
-        Err(NotationError::Bad(_)) => plain.extend_from_slice(line),
+        Err(NotationError::Bad(_)) => Ok(Vec::from_slice(alloc, line)?),
         Err(NotationError::Memory) => Err(AllocError),
     }
+}
+
+// The bytes before a line end, or all of them if there is none, and the bytes after it.
+fn split_at_line_end(bytes: &[u8], end: Option<usize>) -> (&[u8], &[u8]) {
+    let length = end.unwrap_or(bytes.len());
+    let next = length.saturating_add(1);
+    let line = bytes.get(..length).unwrap_or(bytes);
+    (line, bytes.get(next..).unwrap_or(&[]))
 }
 
 impl<R: Read> ExpandedInput<'_, R> {
@@ -176,21 +183,18 @@ impl<R: Read> ExpandedInput<'_, R> {
 
     // Makes the first bytes that were read plain: a line, or if there is no line end, all of them.
     fn make_plain(&mut self, end: Option<usize>) -> Result<(), AllocError> {
-        let length = end.unwrap_or(self.lines.len());
-        let next = length.saturating_add(1).min(self.lines.len());
-        let rest = Vec::from_slice(self.alloc, self.lines.get(next..).unwrap_or(&[]))?;
-        let read = mem::replace(&mut self.lines, rest);
-        let line = read.get(..length).unwrap_or(&[]);
-        let mut plain = Vec::new(self.alloc);
-        if self.is_long || line.len() > LINE_BYTES || is_comment(line) {
-            plain.extend_from_slice(line)?;
+        let (line, rest) = split_at_line_end(self.lines.as_slice(), end);
+        let rest = Vec::from_slice(self.alloc, rest)?;
+        let mut plain = if self.is_long {
+            Vec::from_slice(self.alloc, line)?
         } else {
-            put_plain(self.alloc, self.expansion, line, &mut plain)?;
-        }
+            plain_lines(self.alloc, self.expansion, line)?
+        };
         if end.is_some() {
             plain.push(b'\n')?;
         }
         self.is_long = end.is_none();
+        self.lines = rest;
         self.plain = plain;
         self.given = 0;
         Ok(())
