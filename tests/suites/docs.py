@@ -3,7 +3,7 @@
 A block ```rdbg is a program, or a session whose lines `> ..` are its replies. It may be in the notation: then its plain session has to
 have the same replies. A block ```rdbg-refused is a program that is refused. A block ```rdbg-report after one of these has lines, one
 after the other, of what `talk` prints for that session, or `check --explain` for that program.
-The meanings of the refusals are those of the source of `rdbg --help`, word by word.
+The meanings of the refusals are those of the source of `rdbg --help`, word by word. A file of a crate that a document names exists.
 """
 import re
 from typing import NamedTuple
@@ -17,6 +17,7 @@ LINKED = ["CONTRIBUTING.md", "crates/*/README.md", "dist/editors/README.md"]
 # A document of these folders is installed with the files of its folder that have these endings (or all files) and no others.
 INSTALLED = {"examples": (".rdbg", ".md"), "editors": ("",)}
 MAN_PAGE = TOP / "dist/rdbg.1"
+SOURCE = re.compile(r"`((?:crates/)?[a-z_]+/(?:src|specs|proofs)/[\w/.]+\.(?:rt|antt))`")
 # The list of the refusals in the help, and copies of it. Each is a file, the text before the list, and what an entry looks like.
 HELP_REFUSALS = ("crates/dbg_shell/src/usage.rt", "\nRefusals:", r"^ +(\d+) +(.+)$")
 OTHER_REFUSALS = [
@@ -162,11 +163,19 @@ def check_refusals(suite):
         suite.same(f"the refusals in {file}", refusals(file, title, entry), wanted)
 
 
+def missing_sources(document):
+    """The files of crates that a document names, as `crate/src/file.rt`, and that do not exist."""
+    for name in SOURCE.findall(document.read_text(encoding="utf-8")):
+        if not (TOP / "crates" / name.removeprefix("crates/")).exists():
+            yield f"there is no file {name}"
+
+
 def run(suite):
     with temporary_folder() as room:
         for document in documents(WITH_BLOCKS):
             check_blocks(suite, document, room)
     for document in documents(WITH_BLOCKS + LINKED):
         suite.case(f"links of {document.relative_to(TOP)}", "\n".join(dead_links(document)))
+        suite.case(f"files that {document.relative_to(TOP)} names", "\n".join(missing_sources(document)))
     suite.case(f"paths of {MAN_PAGE.relative_to(TOP)}", "\n".join(dead_paths()))
     check_refusals(suite)
