@@ -229,7 +229,6 @@ fn refuse_text<T: Observer<R>, R, W: Sink>(
 /// the writer fails, a prefix of the output was written. Neither is tried again. If memory runs out before the first line, nothing is
 /// written. If it runs out later, the line is answered `no 21` and changes nothing. When the session ends, its memory is left to the
 /// process, which ends with it.
-/// that line is answered `no 21` and changes nothing. When the session ends, its memory is left to the process, which ends with it.
 pub fn play<T: Observer<R>, R: Source, W: Sink>(
     alloc: Global,
     observer: &mut T,

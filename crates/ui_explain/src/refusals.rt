@@ -206,11 +206,9 @@ impl SourceView<'_> {
                 Part::Name(name),
                 Part::Text("` arms it"),
             ])?),
-            Refusal::AlreadyArmed if self.has_cut(name) => Ok(notes.say(&[
-                Part::Text("`pass "),
-                Part::Name(name),
-                Part::Text("` lets the session continue"),
-            ])?),
+            Refusal::AlreadyArmed if self.has_cut(name) => {
+                self.tell_continuing(alloc, notes, name)
+            }
             _ => Ok(()),
         }
     }

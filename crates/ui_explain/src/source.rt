@@ -22,6 +22,8 @@ struct CommandPlace {
 #[derive(Debug, Drop)]
 pub struct ProgramText {
     text: Vec<u8>,
+    // The offset at which each line begins.
+    starts: Vec<usize>,
     // For each process its commands, in order.
     commands: Vec<Vec<CommandPlace>>,
 }
@@ -66,20 +68,15 @@ fn places(alloc: Global, text: &[u8]) -> Result<Vec<Vec<CommandPlace>>, AllocErr
     Ok(commands)
 }
 
-// The line of the byte at this offset, or the last line.
-fn line_at(text: &[u8], at: usize) -> TextLine {
-    let mut number = 0usize;
+// The offset at which each line of a text begins.
+fn line_starts(alloc: Global, text: &[u8]) -> Result<Vec<usize>, AllocError> {
+    let mut starts = Vec::new(alloc);
     let mut from = 0usize;
-    let mut to = 0usize;
     for line in text.split(|byte| *byte == b'\n') {
-        number = number.saturating_add(1);
-        to = from.saturating_add(line.len());
-        if at <= to {
-            break;
-        }
-        from = to.saturating_add(1);
+        starts.push(from)?;
+        from = from.saturating_add(line.len()).saturating_add(1);
     }
-    TextLine { number, from, to }
+    Ok(starts)
 }
 
 impl ProgramText {
@@ -87,6 +84,7 @@ impl ProgramText {
     pub fn new(alloc: Global, text: &[u8]) -> Result<ProgramText, AllocError> {
         Ok(ProgramText {
             text: Vec::from_slice(alloc, text)?,
+            starts: line_starts(alloc, text)?,
             commands: places(alloc, text)?,
         })
     }
@@ -95,8 +93,25 @@ impl ProgramText {
     pub fn without_commands(alloc: Global, text: &[u8]) -> Result<ProgramText, AllocError> {
         Ok(ProgramText {
             text: Vec::from_slice(alloc, text)?,
+            starts: line_starts(alloc, text)?,
             commands: Vec::new(alloc),
         })
+    }
+
+    // The line of the byte at this offset, or the last line.
+    fn line_at(&self, at: usize) -> TextLine {
+        let mut number = 0usize;
+        let mut from = 0usize;
+        let mut to = self.text.len();
+        for start in &self.starts {
+            if *start > at {
+                to = start.saturating_sub(1);
+                break;
+            }
+            number = number.saturating_add(1);
+            from = *start;
+        }
+        TextLine { number, from, to }
     }
 
     /// Adds the next process. Error: memory ran out.
@@ -112,7 +127,7 @@ impl ProgramText {
         at: usize,
         label: Option<&[u8]>,
     ) -> Result<(), AllocError> {
-        let line = line_at(self.text.as_slice(), at);
+        let line = self.line_at(at);
         let label = Vec::from_slice(alloc, label.unwrap_or(&[]))?;
         if let Some(process) = self.commands.last_mut() {
             process.push(CommandPlace { line, label })?;
