@@ -9,7 +9,7 @@ COUNTER = "process c { var n = 0; when (n < 30000) : n := (n + 1); }\n%%\n"
 LAST_LINES = 6  # of a session that reaches a limit, in its page
 
 # Files for `talk`. Each has a page of the same name.
-TALKS = ["directives", "directives_with_a_seat", "refusals", "more_refusals", "batches", "refused", "notation_session", "notation_fault",
+TALKS = ["directives", "lists", "directives_with_a_seat", "refusals", "more_refusals", "batches", "refused", "notation_session", "notation_fault",
          "advice_after_a_refused_undo", "advice_after_a_refused_arm", "advice_at_two_halts", "seats_and_long_lines"]
 
 # The name of a page, the arguments of the run, and its input.

@@ -141,7 +141,7 @@ fn tell_event(
     if let Some(event) = event_of(view.world, shown) {
         let choice = Part::Number(i64::from(event.choice().0));
         notes.say(&[Part::Text("command "), choice, Part::Text(": ")])?;
-        ProcessView::new(view.program, shown.pid).put_event(notes, view.world.rows(), event)?;
+        ProcessView::new(view.program, shown.pid).put_event(notes, view.world, event)?;
     }
     Ok(())
 }

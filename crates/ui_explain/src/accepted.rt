@@ -1,6 +1,7 @@
 //! What an accepted command did.
 
 use crate::batches::made_from;
+use crate::events::EventNews;
 use crate::notes::{Notes, Part};
 use crate::view::SourceView;
 use dbg_base::{Call, Done, Pid, Plan, Refusal, Reply};
@@ -27,15 +28,14 @@ impl SourceView<'_> {
         )
     }
 
-    fn note_undone(&self, undone: &mut Notes, pid: Pid) -> Result<(), AllocError> {
-        match self.session.world.rows().last(pid) {
-            Some(event) => {
-                let scope = self.scope(pid);
-                undone.say(&[scope.name(), Part::Text(": undone: ")])?;
-                scope.put_event(undone, self.session.world.rows(), event)
-            }
-            None => Ok(()),
-        }
+    // Says what the last event of a process did, if it has one.
+    fn tell_last(
+        &self,
+        notes: &mut Notes,
+        news: EventNews,
+        pid: Pid,
+    ) -> Result<(), AllocError> {
+        self.tell_event(notes, news, pid, self.session.world.rows().len(pid))
     }
 
     /// Notes what has to be known of a session before a call, to explain afterwards what the call did.
@@ -43,7 +43,9 @@ impl SourceView<'_> {
         let mut places = Vec::new(alloc);
         let mut undone = Notes::new(alloc);
         match call {
-            Call::Give(Plan::Undo(pid)) => self.note_undone(&mut undone, *pid)?,
+            Call::Give(Plan::Undo(pid)) => {
+                self.tell_last(&mut undone, EventNews::Undone, *pid)?;
+            }
             Call::Give(Plan::Rollback(_, _) | Plan::Goto(_) | Plan::Batch(_)) | Call::Back => {
                 for p in 0..self.session.program.processes() {
                     places.push(self.place_of(Pid(p)))?;
@@ -98,7 +100,8 @@ impl SourceView<'_> {
         }
         self.tell_place(notes, pid, before.0)?;
         for at in first..place {
-            self.tell_made(notes, "  ", pid, at)?;
+            let number = (at as usize).saturating_add(1);
+            self.tell_event(notes, EventNews::MadeByBatch, pid, number)?;
         }
         Ok(())
     }
@@ -125,12 +128,7 @@ impl SourceView<'_> {
         done: &Done,
     ) -> Result<(), AllocError> {
         match done {
-            Done::Played(pid, _) => match self.session.world.rows().last(*pid) {
-                Some(event) => self
-                    .scope(*pid)
-                    .tell_event(notes, self.text, self.session.world.rows(), event),
-                None => Ok(()),
-            },
+            Done::Played(pid, _) => self.tell_last(notes, EventNews::Made, *pid),
             Done::Undone(_, _) => notes.append(&before.undone),
             Done::Places(_) | Done::Plain => self.tell_moves(notes, before, call),
         }
@@ -147,8 +145,8 @@ impl SourceView<'_> {
     ) -> Result<(), Refusal> {
         self.tell_done(notes, before, call, &reply.done)?;
         if let Some(name) = reply.halted {
-            notes.say(&[Part::Text("halted by this breakpoint:")])?;
-            return self.tell_breakpoint(alloc, notes, name);
+            self.tell_halt(notes, name)?;
+            return self.tell_continuing(alloc, notes, name);
         }
         match call {
             Call::Give(Plan::Break(name, _)) => self.tell_breakpoint(alloc, notes, *name),

@@ -89,6 +89,7 @@ impl SourceView<'_> {
     ) -> Result<(), Refusal> {
         match call {
             Call::Ask(Query::Why(name)) => self.tell_search(alloc, notes, *name),
+            Call::Ask(Query::CutOf(name)) => Ok(self.tell_cut_of(notes, *name)?),
             Call::Ask(Query::Can(pid)) if pid.0 < self.session.program.processes() => {
                 match self.session.world.can_undo(*pid) {
                     Err(Refusal::Consequence(receiver)) => {

@@ -43,8 +43,8 @@ fn tell_cut(notes: &mut Notes, program: &Program, cut: &Cut) -> Result<(), Alloc
     Ok(())
 }
 
-// The part of a breakpoint's predicate that this process has.
-fn part_of<'a>(detector: &'a Detector, program: &Program, pid: Pid) -> Option<&'a Expr> {
+/// The part of a breakpoint's predicate that this process has.
+pub(crate) fn part_of<'a>(detector: &'a Detector, program: &Program, pid: Pid) -> Option<&'a Expr> {
     for at in 0..program.processes() {
         let (found, expr) = detector.conjunct(at as usize)?;
         if found == pid {
@@ -111,5 +111,53 @@ impl SourceView<'_> {
             Some(cut) => Ok(tell_cut(notes, self.session.program, cut)?),
             None => self.tell_false_parts(alloc, notes, detector),
         }
+    }
+
+    // Whether a process has events that are not in a cut.
+    fn is_beyond(&self, cut: &Cut) -> bool {
+        let mut is_beyond = false;
+        for p in 0..self.session.program.processes() {
+            let pid = Pid(p);
+            is_beyond = is_beyond || cut.count(pid) < self.session.world.place(pid);
+        }
+        is_beyond
+    }
+
+    /// Whether a breakpoint has a cut, and there are events that are not in it.
+    pub(crate) fn is_beyond_cut(&self, name: Name) -> bool {
+        match self.session.book.find(name) {
+            Some((_, breakpoint)) => match breakpoint.detector().cut() {
+                Some(cut) => self.is_beyond(cut),
+                None => false,
+            },
+            None => false,
+        }
+    }
+
+    /// Shows the state of the cut of a breakpoint, if it has one.
+    pub(crate) fn tell_cut_of(&self, notes: &mut Notes, name: Name) -> Result<(), AllocError> {
+        let Some((_, breakpoint)) = self.session.book.find(name) else {
+            return Ok(());
+        };
+        let detector = breakpoint.detector();
+        match detector.cut() {
+            Some(cut) => self.tell_cut_state(notes, detector, cut),
+            None => Ok(()),
+        }
+    }
+
+    /// Says that a breakpoint halts the session, what its predicate is, and what the earliest global state is in which it holds.
+    pub(crate) fn tell_halt(&self, notes: &mut Notes, name: Name) -> Result<(), AllocError> {
+        let Some((_, breakpoint)) = self.session.book.find(name) else {
+            return Ok(());
+        };
+        notes.say(&[
+            Part::Text("halted by "),
+            Part::Name(name),
+            Part::Text(": "),
+        ])?;
+        put_conjuncts(notes, self.session.program, breakpoint.detector())?;
+        notes.say(&[Part::Text("the earliest global state in which this holds:")])?;
+        self.tell_cut_of(notes, name)
     }
 }

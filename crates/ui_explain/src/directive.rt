@@ -1,20 +1,24 @@
 //! The lines that an interactive session answers itself.
 
-/// A line that an interactive session answers itself, without a call.
+/// A line that an interactive session answers itself, without a call. The name of a process is empty if the line has none.
 #[derive(Clone, Copy, Debug, PartialEq, Eq)]
 pub enum Directive<'a> {
     /// A comment, an expectation or a blank line. It has no answer.
     Remark,
     /// The lines that can be typed, or what this word or this number means.
     Help(&'a [u8]),
-    /// The commands that can fire.
-    On,
-    /// The values, the messages and the breakpoints.
-    State,
+    /// The commands that can fire, of all processes or of the one of this name.
+    On(&'a [u8]),
+    /// The commands of all processes, or of the one of this name, and what prevents each from firing.
+    List(&'a [u8]),
+    /// The values and the messages on their way, of all processes or of the one of this name.
+    State(&'a [u8]),
     /// The events of the process of this name.
     Line(&'a [u8]),
     /// A picture of the events.
     Draw,
     /// The end of the session.
     Quit,
+    /// A line that begins with this word, and has a word too many.
+    TooLong(&'a [u8]),
 }

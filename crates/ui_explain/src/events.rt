@@ -2,47 +2,94 @@
 
 use crate::expressions::ProcessView;
 use crate::notes::{Notes, Part};
-use crate::source::ProgramText;
-use dbg_base::Pid;
-use event_rows::{Event, Exchange, Rows, Setting};
+use crate::view::SourceView;
+use causal_world::World;
+use dbg_base::{Direction, Pid};
+use event_rows::{Event, Exchange, Setting};
+use proc_lang::Program;
 use std::alloc::AllocError;
 
-// The number, from 1, of the event by which one process sent the message of this count to another.
-fn sending(rows: &Rows, source: Pid, target: Pid, count: u32) -> Option<usize> {
-    for at in (0..rows.len(source)).rev() {
-        match rows.event(source, at).map(Event::exchange) {
-            Some(
-                Exchange::Sent {
-                    target: to,
-                    count: number,
-                    ..
-                },
-            ) if to == target && number == count => {
-                return Some(at.saturating_add(1));
-            }
-            _ => {}
+// The room of the columns of a line about an event, besides the names of processes: for the number of the event, for a message, its arrow
+// and the number of the event that sent it, and for the variables that were set.
+const NUMBER: usize = 5;
+
+const MESSAGE: usize = 9;
+
+const SETTINGS: usize = 28;
+
+// The number, from 1, of the first event of a process with which it has sent so many messages to another, or received so many from it. There
+// has to be one.
+fn event_of(world: &World, direction: Direction, pid: Pid, other: Pid, count: u32) -> u32 {
+    let tally = world.tally();
+    let mut from = 0u32;
+    let mut to = tally.len(pid);
+    // Each turn halves what is left.
+    for _ in 0..u32::BITS {
+        if from >= to {
+            break;
+        }
+        let middle = from.saturating_add(to.saturating_sub(from) / 2);
+        let until = match direction {
+            Direction::Sent => tally.sent(pid, other, middle),
+            Direction::Got => tally.got(pid, other, middle),
+        };
+        if until < count {
+            from = middle.saturating_add(1);
+        } else {
+            to = middle;
         }
     }
-    None
+    to
+}
+
+/// The number, from 1, of the event by which one process sent the message of this count to another.
+pub(crate) fn sending(world: &World, source: Pid, target: Pid, count: u32) -> u32 {
+    event_of(world, Direction::Sent, source, target, count)
 }
 
 /// The number, from 1, of the event by which one process received the message of this count from another.
-pub(crate) fn receiving(rows: &Rows, target: Pid, source: Pid, count: u32) -> Option<usize> {
-    for at in (0..rows.len(target)).rev() {
-        match rows.event(target, at).map(Event::exchange) {
-            Some(
-                Exchange::Took {
-                    source: from,
-                    count: number,
-                    ..
-                },
-            ) if from == source && number == count => {
-                return Some(at.saturating_add(1));
-            }
-            _ => {}
+pub(crate) fn receiving(world: &World, target: Pid, source: Pid, count: u32) -> u32 {
+    event_of(world, Direction::Got, target, source, count)
+}
+
+// Where the columns of a line about an event begin. A line whose text is longer than its column has the next one after two blanks.
+#[derive(Clone, Copy)]
+struct Columns {
+    has_messages: bool,
+    message: usize,
+    settings: usize,
+    command: usize,
+}
+
+impl Columns {
+    // The columns for a program. One process alone has no messages.
+    fn of(program: &Program) -> Columns {
+        let longest = longest_name(program);
+        let has_messages = program.processes() > 1;
+        let message = longest.saturating_add(NUMBER);
+        let settings = if has_messages {
+            message.saturating_add(longest).saturating_add(MESSAGE)
+        } else {
+            message
+        };
+        Columns {
+            has_messages,
+            message,
+            settings,
+            command: settings.saturating_add(SETTINGS),
         }
     }
-    None
+}
+
+/// The longest name of a process, in bytes.
+pub(crate) fn longest_name(program: &Program) -> usize {
+    let mut longest = 0usize;
+    for p in 0..program.processes() {
+        if let Some(name) = program.process_name(Pid(p)) {
+            longest = longest.max(name.bytes().len());
+        }
+    }
+    longest
 }
 
 impl ProcessView<'_> {
@@ -61,11 +108,11 @@ impl ProcessView<'_> {
         notes.add(&[Part::Text(" "), old, Part::Text(" -> "), new])
     }
 
-    // Appends the message and where it came from, or went, to the last line.
+    // Appends the message and where it came from, or went, to the last line, in words.
     fn put_exchange(
         &self,
         notes: &mut Notes,
-        rows: &Rows,
+        world: &World,
         word: &'static str,
         exchange: &Exchange,
     ) -> Result<(), AllocError> {
@@ -94,50 +141,118 @@ impl ProcessView<'_> {
                     Part::Text(" from "),
                     self.process(source),
                 ])?;
-                match sending(rows, source, self.pid, count) {
-                    Some(number) => notes.add(&[
-                        Part::Text(" (sent by its event "),
-                        Part::Count(number),
-                        Part::Text(")"),
-                    ]),
-                    None => Ok(()),
-                }
+                let sender = sending(world, source, self.pid, count);
+                notes.add(&[
+                    Part::Text(" (sent by its event "),
+                    Part::Number(i64::from(sender)),
+                    Part::Text(")"),
+                ])
             }
         }
     }
 
-    /// Appends what an event did to the last line.
-    pub fn put_event(
-        &self,
-        notes: &mut Notes,
-        rows: &Rows,
-        event: &Event,
-    ) -> Result<(), AllocError> {
+    // Appends the variables that an event set to the last line.
+    fn put_settings(&self, notes: &mut Notes, event: &Event) -> Result<(), AllocError> {
         let mut word = "";
         for setting in event.settings() {
             self.put_setting(notes, word, setting)?;
             word = ", ";
         }
-        let exchange = event.exchange();
-        self.put_exchange(notes, rows, word, &exchange)?;
-        if event.settings().is_empty() && exchange == Exchange::Nothing {
+        if event.settings().is_empty() && event.exchange() == Exchange::Nothing {
             return notes.add(&[Part::Text("nothing changed")]);
         }
         Ok(())
     }
 
-    /// Says what an event did, and by which command.
+    /// Appends what an event did to the last line, in words.
+    pub fn put_event(
+        &self,
+        notes: &mut Notes,
+        world: &World,
+        event: &Event,
+    ) -> Result<(), AllocError> {
+        self.put_settings(notes, event)?;
+        let word = if event.settings().is_empty() { "" } else { ", " };
+        self.put_exchange(notes, world, word, &event.exchange())
+    }
+
+    // Appends the message that an event sent or received to the last line, with an arrow that points to the recipient, and the event that
+    // sent it.
+    fn put_arrow(
+        &self,
+        notes: &mut Notes,
+        world: &World,
+        exchange: &Exchange,
+    ) -> Result<(), AllocError> {
+        match *exchange {
+            Exchange::Nothing => Ok(()),
+            Exchange::Sent { target, value, .. } => notes.add(&[
+                Part::Number(value),
+                Part::Text(" > "),
+                self.process(target),
+            ]),
+            Exchange::Took {
+                source,
+                message,
+                count,
+            } => {
+                let sender = sending(world, source, self.pid, count);
+                notes.add(&[
+                    Part::Number(message),
+                    Part::Text(" < "),
+                    self.process(source),
+                    Part::Text(" "),
+                ])?;
+                notes.add(&[Part::Number(i64::from(sender))])
+            }
+        }
+    }
+}
+
+/// Why a line is about an event.
+#[derive(Clone, Copy, PartialEq, Eq)]
+pub(crate) enum EventNews {
+    /// A command made it.
+    Made,
+    /// A command of a batch made it.
+    MadeByBatch,
+    /// It is about to be undone.
+    Undone,
+}
+
+impl SourceView<'_> {
+    /// Says what the n-th event of a process did, from 1: its process and number, the message, the variables that it set, and its command.
+    /// All lines about events of a session have the same columns.
     pub(crate) fn tell_event(
         &self,
         notes: &mut Notes,
-        source: &ProgramText,
-        rows: &Rows,
-        event: &Event,
+        news: EventNews,
+        pid: Pid,
+        number: usize,
     ) -> Result<(), AllocError> {
-        notes.say(&[self.name(), Part::Text(": ")])?;
-        self.put_event(notes, rows, event)?;
-        notes.say(&[Part::Text("by ")])?;
-        self.put_command(notes, source, event.choice())?;
-        self.put_text(notes, source, event.choice())
+        let world = self.session.world;
+        let Some(event) = world.rows().event(pid, number.saturating_sub(1)) else {
+            return Ok(());
+        };
+        let scope = self.scope(pid);
+        let columns = Columns::of(self.session.program);
+        let begin = if news == EventNews::MadeByBatch { "  " } else { "" };
+        notes.say(&[
+            Part::Text(begin),
+            scope.name(),
+            Part::Text(" "),
+            Part::Count(number),
+        ])?;
+        if columns.has_messages {
+            notes.tab(columns.message)?;
+            scope.put_arrow(notes, world, &event.exchange())?;
+        }
+        notes.tab(columns.settings)?;
+        if news == EventNews::Undone {
+            notes.add(&[Part::Text("undone: ")])?;
+        }
+        scope.put_settings(notes, event)?;
+        notes.tab(columns.command)?;
+        scope.put_place(notes, self.text, event.choice())
     }
 }

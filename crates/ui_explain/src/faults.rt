@@ -1,6 +1,6 @@
 //! The faults of a program text.
 
-use crate::forms::are_near;
+use crate::names::{Declared, DeclaredAs, declared, near_name, process_around};
 use crate::notes::{Notes, Part};
 use crate::source::is_word_byte;
 use dbg_base::{FaultKind, ProgFault};
@@ -43,14 +43,72 @@ fn begins(bytes: &[u8], with: &[u8]) -> bool {
     bytes.get(..with.len()) == Some(with)
 }
 
+// Signs of other languages: what the text has up to the place of the fault, what it has there, and what to write.
+const FOREIGN: [(&str, &str, &str); 9] = [
+    ("", "//", "a comment begins with `#`"),
+    ("", "--", "a comment begins with `#`"),
+    ("", "/*", "a comment begins with `#`, and ends with its line"),
+    ("=", "=", "to compare two values, write `=`, and not `==`"),
+    ("<", ">", "unequal is `!=`"),
+    ("=", "<", "at most is `<=`"),
+    ("=", ">", "at least is `>=`"),
+    ("", "&", "write `and`, `or`, `not`, and for unequal `!=`"),
+    ("", "|", "write `and`, `or`, `not`, and for unequal `!=`"),
+];
+
+// Whether an action of a command is expected after these bytes.
+fn is_before_action(before: &[u8]) -> bool {
+    matches!(before.trim_ascii_end().last(), Some(b':' | b','))
+}
+
+// Whether this word is where an action of a command is expected: before the place of a fault, or at it.
+fn is_for_action(before: &[u8], at: &[u8], word: &[u8]) -> bool {
+    if front_word(at) == word && is_before_action(before) {
+        return true;
+    }
+    let length = before.len().saturating_sub(word.len());
+    ends_with_word(before, word) && is_before_action(before.get(..length).unwrap_or(&[]))
+}
+
+// What to write in place of words of other languages that begin here.
+fn foreign_word(before: &[u8], at: &[u8]) -> Option<&'static str> {
+    if is_for_action(before, at, b"if") {
+        return Some(
+            "there is no `if`: each case is a command of its own, with its guard after `when`",
+        );
+    }
+    if is_for_action(before, at, b"for") {
+        return Some("`for` repeats whole commands: `for i: 1..3 { .. }`");
+    }
+    if front_word(at) == b"var".as_slice() && matches!(before.last(), Some(b';' | b'}')) {
+        return Some("the variables of a process come before its commands");
+    }
+    None
+}
+
+/// How to write what is probably meant at this offset, if it is the sign or the word of another language.
+pub fn foreign_correction(text: &[u8], at: usize) -> Option<&'static str> {
+    let before = text.get(..at).unwrap_or(text).trim_ascii_end();
+    let at = text.get(at..).unwrap_or(&[]);
+    for (front, sign, correction) in &FOREIGN {
+        if before.ends_with(front.as_bytes()) && at.starts_with(sign.as_bytes()) {
+            return Some(correction);
+        }
+    }
+    match at.first() {
+        Some(byte) if byte.is_ascii_uppercase() => {
+            Some("names and words have small letters only, with digits and `_`")
+        }
+        Some(byte) if !byte.is_ascii() => Some("outside of comments, a program has ASCII signs only"),
+        _ => foreign_word(before, at),
+    }
+}
+
 // The likely correction of a token that cannot follow these bytes.
 fn mend(before: &[u8], at: &[u8]) -> Option<&'static str> {
     let before = before.trim_ascii_end();
     if at.is_empty() {
         return Some("the text ends too early: a `}` or a `;` is missing");
-    }
-    if begins(at, b"=") && before.last() == Some(&b'=') {
-        return Some("to compare two values, write `=`, and not `==`");
     }
     if before.last() == Some(&b',') && (begins(at, b"send") || begins(at, b"recv")) {
         return Some("a command sends or receives at most once, before all `X := E`");
@@ -58,7 +116,7 @@ fn mend(before: &[u8], at: &[u8]) -> Option<&'static str> {
     if begins(at, b"=") {
         return Some("a command sets a variable with `:=`; `=` compares");
     }
-    if begins(at, b"&") || begins(at, b"|") || begins(at, b"!") {
+    if begins(at, b"!") {
         return Some("write `and`, `or`, `not`, and for unequal `!=`");
     }
     if is_before_name(before) {
@@ -79,37 +137,112 @@ fn mend(before: &[u8], at: &[u8]) -> Option<&'static str> {
     None
 }
 
-// The words of a text after `var` or `process`, which are names. Returns the first that is nearly this one.
-fn near_name<'a>(text: &'a [u8], name: &[u8]) -> Option<&'a [u8]> {
-    let mut is_given = false;
-    for word in text.split(|byte| !is_word_byte(*byte)) {
-        if is_given && are_near(word, name) {
-            return Some(word);
-        }
-        if !word.is_empty() {
-            is_given = word == b"var".as_slice() || word == b"process".as_slice();
-        }
-    }
-    None
+// A name that nothing has where it is used.
+#[derive(Clone, Copy)]
+struct UnknownName<'a> {
+    text: &'a [u8],
+    at: usize,
+    name: &'a [u8],
 }
 
-// The word before the place of the fault.
+// The word at the start.
 fn front_word(bytes: &[u8]) -> &[u8] {
     let length = bytes.iter().take_while(|byte| is_word_byte(**byte)).count();
     bytes.get(..length).unwrap_or(bytes)
 }
 
-// Says which name may be meant.
-fn tell_near_name(notes: &mut Notes, text: &[u8], at: &[u8]) -> Result<(), AllocError> {
-    match near_name(text, front_word(at)) {
-        Some(name) => notes.say(&[
-            Part::Text("did you mean `"),
-            Part::Bytes(name),
-            Part::Text("`?"),
-        ]),
-        None => notes.say(&[Part::Text(
-            "a process can name its own variables, after `var`, and other processes of the program",
-        )]),
+// Whether bytes end with this word, as a whole.
+fn ends_with_word(bytes: &[u8], word: &[u8]) -> bool {
+    let Some(length) = bytes.len().checked_sub(word.len()) else {
+        return false;
+    };
+    let is_begun = match length.checked_sub(1) {
+        Some(last) => bytes.get(last).copied().is_some_and(is_word_byte),
+        None => false,
+    };
+    bytes.ends_with(word) && !is_begun
+}
+
+impl<'a> UnknownName<'a> {
+    fn at(text: &'a [u8], at: usize) -> UnknownName<'a> {
+        let name = front_word(text.get(at..).unwrap_or(&[]));
+        UnknownName { text, at, name }
+    }
+
+    fn before(&self) -> &'a [u8] {
+        self.text.get(..self.at).unwrap_or(self.text).trim_ascii_end()
+    }
+
+    // Whether brackets with an index follow the name.
+    fn has_index(&self) -> bool {
+        let end = self.at.saturating_add(self.name.len());
+        let after = self.text.get(end..).unwrap_or(&[]).trim_ascii_start();
+        after.first() == Some(&b'[')
+    }
+
+    // Whether the name of a process is expected.
+    fn is_of_process(&self) -> bool {
+        let before = self.before();
+        let open = before.strip_suffix(b"(".as_slice()).unwrap_or(&[]).trim_ascii_end();
+        ends_with_word(before, b"send")
+            || ends_with_word(before, b"recv")
+            || ends_with_word(open, b"sent")
+            || ends_with_word(open, b"got")
+    }
+
+    // What the name may be, by what it is declared as. None if nothing can be said.
+    fn misuse(&self, found: &Declared<'_>) -> Option<&'static str> {
+        match found.kind {
+            DeclaredAs::Process | DeclaredAs::Variable if found.is_family && self.has_index() => {
+                Some("` is a family, and has no member of this index")
+            }
+            DeclaredAs::Process | DeclaredAs::Variable if found.is_family => {
+                Some("` is a family: an index in brackets, as in `[1]`, chooses a member")
+            }
+            DeclaredAs::Constant => Some("` is a constant, and cannot be set"),
+            DeclaredAs::Definition if self.has_index() => {
+                Some("` is a definition: its arguments are in parentheses")
+            }
+            DeclaredAs::Definition => Some("` is a definition, and cannot be set"),
+            DeclaredAs::Process if !self.is_of_process() => {
+                Some("` is a process, and not a variable")
+            }
+            DeclaredAs::Variable if self.is_of_process() => {
+                Some("` is a variable, and not a process")
+            }
+            DeclaredAs::Variable => {
+                Some("` is a variable of another process: a process can name only its own")
+            }
+            DeclaredAs::Process => None,
+        }
+    }
+
+    // A declared name that may be meant.
+    fn near(&self) -> Option<&'a [u8]> {
+        if self.is_of_process() {
+            return near_name(self.text, DeclaredAs::Process, self.name);
+        }
+        let own = process_around(self.text, self.at);
+        near_name(own, DeclaredAs::Variable, self.name)
+    }
+
+    // Says why nothing has the name, or which name may be meant.
+    fn tell(&self, notes: &mut Notes) -> Result<(), AllocError> {
+        let found = declared(self.text, self.name);
+        let misuse = found.and_then(|found| self.misuse(&found));
+        if let Some(misuse) = misuse {
+            return notes.say(&[Part::Text("`"), Part::Bytes(self.name), Part::Text(misuse)]);
+        }
+        match self.near() {
+            Some(name) => notes.say(&[
+                Part::Text("did you mean `"),
+                Part::Bytes(name),
+                Part::Text("`?"),
+            ]),
+            None => notes.say(&[Part::Text(
+                "a process can name its own variables, after `var`, and other processes of the program",
+            )]),
+        }
     }
 }
 
@@ -122,10 +255,10 @@ pub fn tell_no_end_line(notes: &mut Notes) -> Result<(), AllocError> {
 
 // Whether a name is due after these bytes.
 fn is_before_name(before: &[u8]) -> bool {
-    before.ends_with(b"var")
-        || before.ends_with(b"process")
-        || before.ends_with(b"send")
-        || before.ends_with(b"recv")
+    ends_with_word(before, b"var")
+        || ends_with_word(before, b"process")
+        || ends_with_word(before, b"send")
+        || ends_with_word(before, b"recv")
 }
 
 /// Says how a fault of a program text may be corrected, if that is known: which symbol is missing, or which name may be meant.
@@ -137,11 +270,13 @@ pub fn tell_correction(
     let before = text.get(..fault.at).unwrap_or(text);
     let at = text.get(fault.at..).unwrap_or(&[]);
     match fault.kind {
-        FaultKind::Grammar | FaultKind::Byte => match mend(before, at) {
-            Some(correction) => notes.say(&[Part::Text(correction)]),
-            None => Ok(()),
-        },
-        FaultKind::NameUnknown => tell_near_name(notes, text, at),
+        FaultKind::Grammar | FaultKind::Byte => {
+            match foreign_correction(text, fault.at).or(mend(before, at)) {
+                Some(correction) => notes.say(&[Part::Text(correction)]),
+                None => Ok(()),
+            }
+        }
+        FaultKind::NameUnknown => UnknownName::at(text, fault.at).tell(notes),
         _ => Ok(()),
     }
 }

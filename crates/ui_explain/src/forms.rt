@@ -12,7 +12,8 @@ struct Form {
     does: &'static str,
 }
 
-const FORMS: [Form; 25] = [
+// The commands, which make calls.
+const COMMANDS: [Form; 20] = [
     Form {
         word: "next",
         form: "next P",
@@ -113,14 +114,23 @@ const FORMS: [Form; 25] = [
         form: "breaks",
         does: "shows all breakpoints, and whether they are armed",
     },
+];
+
+// The lines that an interactive session answers itself.
+const DIRECTIVES: [Form; 7] = [
     Form {
         word: "on",
-        form: "on",
-        does: "shows which commands can fire now",
+        form: "on [P]",
+        does: "shows which commands can fire now, of all processes or of P",
+    },
+    Form {
+        word: "list",
+        form: "list [P]",
+        does: "shows all commands, and what prevents each from firing",
     },
     Form {
         word: "state",
-        form: "state",
+        form: "state [P]",
         does: "shows all variables and counts, and the messages on their way",
     },
     Form {
@@ -134,11 +144,42 @@ const FORMS: [Form; 25] = [
         does: "draws a picture: a column for each process, events downward",
     },
     Form {
+        word: "help",
+        form: "help [WORD]",
+        does: "shows these lines, or what a command or the number of a refusal means; so does `?`",
+    },
+    Form {
         word: "quit",
         form: "quit",
-        does: "ends the session",
+        does: "ends the session; so do `exit` and `q`",
     },
 ];
+
+// Other words for directives.
+const ALIASES: [(&str, &str); 3] = [("?", "help"), ("exit", "quit"), ("q", "quit")];
+
+// The word that this one is another word for, or the word itself.
+fn full_word(word: &[u8]) -> &[u8] {
+    for (alias, full) in &ALIASES {
+        if alias.as_bytes() == word {
+            return full.as_bytes();
+        }
+    }
+    word
+}
+
+// The form that begins with this word.
+fn form_of(word: &[u8]) -> Option<Form> {
+    let full = full_word(word);
+    let mut forms = COMMANDS.iter().chain(&DIRECTIVES);
+    forms.find(|form| form.word.as_bytes() == full).copied()
+}
+
+/// Whether a word begins a line that an interactive session answers itself.
+pub(crate) fn is_directive_word(word: &[u8]) -> bool {
+    let full = full_word(word);
+    DIRECTIVES.iter().any(|form| form.word.as_bytes() == full)
+}
 
 fn tell_form(notes: &mut Notes, form: &Form) -> Result<(), AllocError> {
     notes.say(&[
@@ -165,13 +206,13 @@ fn small_number(word: &[u8]) -> Option<u32> {
 
 /// Shows the form of the command that begins with this word. False if there is none.
 pub(crate) fn tell_word(notes: &mut Notes, word: &[u8]) -> Result<bool, AllocError> {
-    for form in &FORMS {
-        if form.word.as_bytes() == word {
-            tell_form(notes, form)?;
-            return Ok(true);
+    match form_of(word) {
+        Some(form) => {
+            tell_form(notes, &form)?;
+            Ok(true)
         }
+        None => Ok(false),
     }
-    Ok(false)
 }
 
 /// Whether the two differ by one byte that is different, missing or extra, or by two bytes that are exchanged.
@@ -196,7 +237,7 @@ pub(crate) fn are_near(one: &[u8], other: &[u8]) -> bool {
 
 /// Says which command was probably meant by a word that begins none.
 pub(crate) fn tell_near_word(notes: &mut Notes, word: &[u8]) -> Result<(), AllocError> {
-    for form in &FORMS {
+    for form in COMMANDS.iter().chain(&DIRECTIVES) {
         if are_near(form.word.as_bytes(), word) {
             notes.say(&[
                 Part::Text("`"),
@@ -213,18 +254,23 @@ pub(crate) fn tell_near_word(notes: &mut Notes, word: &[u8]) -> Result<(), Alloc
     ])
 }
 
+/// Says that a line which begins with this word has a word too many, and shows its form.
+pub fn tell_too_long(notes: &mut Notes, word: &[u8]) -> Result<(), AllocError> {
+    notes.say(&[Part::Text("the line has a word too many")])?;
+    let _found = tell_word(notes, word)?;
+    Ok(())
+}
+
 /// Shows the lines that can be typed, or what a word or the number of a refusal means.
 pub fn tell_help(notes: &mut Notes, word: &[u8]) -> Result<(), AllocError> {
     if word.is_empty() {
         notes.say(&[Part::Text(
             "a line is a seat, from 1 to 16, and a command; a line without a seat is one of seat 1",
         )])?;
-        for form in &FORMS {
+        for form in COMMANDS.iter().chain(&DIRECTIVES) {
             tell_form(notes, form)?;
         }
-        return notes.say(&[Part::Text(
-            "`help WORD` explains a command, and `help NUMBER` a refusal; `#` begins a comment",
-        )]);
+        return notes.say(&[Part::Text("`#` begins a comment")]);
     }
     if let Some(number) = small_number(word) {
         return notes.say(&[Part::Text(meaning(number))]);

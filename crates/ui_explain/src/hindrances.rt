@@ -4,7 +4,7 @@ use crate::expressions::ProcessView;
 use crate::notes::{Notes, Part};
 use crate::source::ProgramText;
 use causal_world::World;
-use dbg_base::limits::OPEN_PARENTHESES;
+use dbg_base::limits::{EVENTS, OPEN_PARENTHESES};
 use dbg_base::{Choice, Expr, Pid, Refusal};
 use local_eval::{Env, EvalError, effect, eval, guard};
 use proc_lang::{Action, Guarded};
@@ -205,12 +205,11 @@ impl ProcessView<'_> {
         }
     }
 
-    /// Says why this command does not fire, or that it can fire.
-    pub(crate) fn tell_hindrance(
+    /// Appends why a command does not fire in the present state, or that it can fire, to the last line.
+    pub(crate) fn put_verdict(
         &self,
         alloc: Global,
         notes: &mut Notes,
-        source: &ProgramText,
         world: &World,
         choice: Choice,
     ) -> Result<(), Refusal> {
@@ -220,12 +219,26 @@ impl ProcessView<'_> {
         ) else {
             return Ok(());
         };
+        if world.place(self.pid) >= EVENTS {
+            return Ok(notes.add(&[Part::Text("the process has 20,000 events, the maximum")])?);
+        }
         let hindrance = find_hindrance(alloc, world, self.pid, command, env)?;
+        Ok(self.put_hindrance(notes, env, command, hindrance)?)
+    }
+
+    /// Says why this command does not fire, or that it can fire.
+    pub(crate) fn tell_hindrance(
+        &self,
+        alloc: Global,
+        notes: &mut Notes,
+        source: &ProgramText,
+        world: &World,
+        choice: Choice,
+    ) -> Result<(), Refusal> {
         notes.say(&[])?;
         self.put_command(notes, source, choice)?;
         notes.add(&[Part::Text(": ")])?;
-        self.put_hindrance(notes, env, command, hindrance)?;
-        Ok(())
+        self.put_verdict(alloc, notes, world, choice)
     }
 
     /// Says for each command of the process why it does not fire, or that it can fire.
@@ -242,7 +255,7 @@ impl ProcessView<'_> {
         Ok(())
     }
 
-    /// Whether a command of the process can fire in the present state.
+    /// Whether a command of the process can fire in the present state, and the process has room for an event.
     pub(crate) fn fires(
         &self,
         alloc: Global,
@@ -255,6 +268,9 @@ impl ProcessView<'_> {
         ) else {
             return Ok(false);
         };
+        if world.place(self.pid) >= EVENTS {
+            return Ok(false);
+        }
         Ok(find_hindrance(alloc, world, self.pid, command, env)? == Hindrance::Nothing)
     }
 }

@@ -1,7 +1,7 @@
 //! Why a command line is refused for its form, or for a name in it.
 
 use crate::faults::tell_mark;
-use crate::forms::{tell_near_word, tell_word};
+use crate::forms::{is_directive_word, tell_near_word, tell_word};
 use crate::notes::{Notes, Part};
 use crate::numbers::meaning;
 use crate::view::SourceView;
@@ -66,19 +66,6 @@ fn is_seat(word: &[u8]) -> bool {
             .saturating_add(usize::from(byte.saturating_sub(b'0')));
     }
     1 <= number && number <= SEATS as usize
-}
-
-// Whether a word begins a line that an interactive session answers itself.
-fn is_own_word(word: &[u8]) -> bool {
-    [
-        b"help".as_slice(),
-        b"on".as_slice(),
-        b"state".as_slice(),
-        b"line".as_slice(),
-        b"draw".as_slice(),
-        b"quit".as_slice(),
-    ]
-    .contains(&word)
 }
 
 // The process of this name.
@@ -191,7 +178,7 @@ impl SourceView<'_> {
                 Part::Text("` is not a seat: seats are the numbers from 1 to 16"),
             ]);
         }
-        if is_own_word(command) {
+        if is_directive_word(command) {
             return notes.say(&[
                 Part::Text("no seat is before `"),
                 Part::Bytes(command),
@@ -200,6 +187,11 @@ impl SourceView<'_> {
         }
         if command.is_empty() {
             return notes.say(&[Part::Text("a command is missing after the seat")]);
+        }
+        if command == b"for".as_slice() {
+            return notes.say(&[Part::Text(
+                "several `for` are side by side, before one colon: `for i: 1..2 for j: 1..2 where i != j : next p[i][j]`",
+            )]);
         }
         if !tell_word(notes, command)? {
             tell_near_word(notes, command)?;

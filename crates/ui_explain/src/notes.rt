@@ -4,6 +4,9 @@ use dbg_base::Name;
 use itoa::Buffer;
 use std::alloc::{AllocError, Global};
 
+// The fewest blanks between two columns.
+const GAP: usize = 2;
+
 /// A part of a line: words, bytes, a name or a number.
 #[derive(Clone, Copy)]
 pub enum Part<'a> {
@@ -61,8 +64,19 @@ impl Notes {
         Ok(())
     }
 
+    /// Appends blanks to the last line, up to this width and at least two.
+    pub(crate) fn tab(&mut self, width: usize) -> Result<(), AllocError> {
+        if let Some(line) = self.lines.last_mut() {
+            let end = width.max(line.len().saturating_add(GAP));
+            for _ in line.len()..end {
+                line.push(b' ')?;
+            }
+        }
+        Ok(())
+    }
+
     /// Appends these lines.
-    pub(crate) fn append(&mut self, others: &Notes) -> Result<(), AllocError> {
+    pub fn append(&mut self, others: &Notes) -> Result<(), AllocError> {
         for line in &others.lines {
             self.say(&[Part::Bytes(line.as_slice())])?;
         }

@@ -66,10 +66,10 @@ impl SourceView<'_> {
     }
 
     // The number, from 1, of the event of the receiver by which it received the message of the process's last event.
-    fn received(&self, pid: Pid, receiver: Pid) -> Option<usize> {
-        let rows = self.session.world.rows();
-        match rows.last(pid).map(Event::exchange) {
-            Some(Exchange::Sent { count, .. }) => receiving(rows, receiver, pid, count),
+    fn received(&self, pid: Pid, receiver: Pid) -> Option<u32> {
+        let world = self.session.world;
+        match world.rows().last(pid).map(Event::exchange) {
+            Some(Exchange::Sent { count, .. }) => Some(receiving(world, receiver, pid, count)),
             _ => None,
         }
     }
@@ -91,7 +91,7 @@ impl SourceView<'_> {
             Part::Text(" received the message of event "),
         ])?;
         notes.add(&[Part::Count(events), Part::Text(" of "), scope.name()])?;
-        notes.add(&[Part::Text(" by its event "), Part::Count(received)])?;
+        notes.add(&[Part::Text(" by its event "), Part::Number(i64::from(received))])?;
         notes.say(&[Part::Text("`rollback "), scope.name(), Part::Text(" ")])?;
         notes.add(&[
             Part::Count(events.saturating_sub(1)),
@@ -116,8 +116,8 @@ impl SourceView<'_> {
         }
     }
 
-    // Says how the session continues after a halt.
-    fn tell_continuing(
+    /// Says how the session continues after a halt.
+    pub(crate) fn tell_continuing(
         &self,
         alloc: Global,
         notes: &mut Notes,
@@ -132,7 +132,17 @@ impl SourceView<'_> {
             ])?,
             None => notes.add(&[Part::Text("` lets the session continue")])?,
         }
-        notes.add(&[Part::Text("; `undo`, `rollback` and `back` undo what led there")])?;
+        notes.say(&[])?;
+        if self.is_beyond_cut(halting) {
+            notes.add(&[
+                Part::Text("`goto "),
+                Part::Name(halting),
+                Part::Text("` undoes the events that are not in its cut; "),
+            ])?;
+        }
+        notes.add(&[Part::Text(
+            "`undo`, `rollback` and `back` undo what led there",
+        )])?;
         Ok(())
     }
 
@@ -228,13 +238,15 @@ impl SourceView<'_> {
                 self.tell_continuing(alloc, notes, *name)?;
             }
             Refusal::InBatch { at, number } => {
-                let at = Part::Number(i64::from(*at));
                 notes.say(&[
                     Part::Text("command "),
-                    at,
-                    Part::Text(" of the batch: "),
-                    Part::Text(meaning(*number)),
+                    Part::Number(i64::from(*at)),
+                    Part::Text(" of the batch"),
                 ])?;
+                if let Call::Give(Plan::Batch(plans)) = call {
+                    self.put_plan_of_batch(notes, plans.as_slice(), *at)?;
+                }
+                notes.add(&[Part::Text(": "), Part::Text(meaning(*number))])?;
             }
             Refusal::OtherSeat(seat) => {
                 let seat = Part::Number(i64::from(*seat));

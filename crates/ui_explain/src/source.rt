@@ -98,6 +98,11 @@ impl ProgramText {
         })
     }
 
+    /// The whole text.
+    pub fn text(&self) -> &[u8] {
+        self.text.as_slice()
+    }
+
     // The line of the byte at this offset, or the last line.
     fn line_at(&self, at: usize) -> TextLine {
         let mut number = 0usize;

@@ -1,12 +1,35 @@
 //! The present state of a session.
 
+use crate::events::EventNews;
 use crate::expressions::direction_text;
 use crate::notes::{Notes, Part};
 use crate::view::SourceView;
 use dbg_base::{Choice, Direction, Name, Pid, Refusal};
 use std::alloc::{AllocError, Global};
 
+// Processes, from the first of these numbers up to the second, without it.
+type Processes = (u32, u32);
+
 impl SourceView<'_> {
+    // The process of this name, or all processes if the name is empty. If no process has the name, says so.
+    fn processes_named(
+        &self,
+        notes: &mut Notes,
+        word: &[u8],
+    ) -> Result<Option<Processes>, AllocError> {
+        let program = self.session.program;
+        if word.is_empty() {
+            return Ok(Some((0, program.processes())));
+        }
+        match Name::new(word).and_then(|name| program.find_process(name)) {
+            Some(pid) => Ok(Some((pid.0, pid.0.saturating_add(1)))),
+            None => {
+                self.tell_processes(notes, word)?;
+                Ok(None)
+            }
+        }
+    }
+
     // Says which commands of a process can fire, and returns whether there is one.
     fn tell_firing(&self, alloc: Global, notes: &mut Notes, pid: Pid) -> Result<bool, Refusal> {
         let scope = self.scope(pid);
@@ -23,23 +46,68 @@ impl SourceView<'_> {
         Ok(any)
     }
 
-    /// Says which commands can fire in the present state, or that none can.
-    pub fn tell_on(&self, alloc: Global, notes: &mut Notes) -> Result<(), Refusal> {
-        let mut any = false;
-        for p in 0..self.session.program.processes() {
-            any = self.tell_firing(alloc, notes, Pid(p))? || any;
-        }
-        if !any {
-            notes.say(&[Part::Text("no command of any process can fire")])?;
-        }
-        if let Some(name) = self.session.book.halted() {
-            notes.say(&[
+    // Says that a breakpoint halts the session, if one does.
+    fn tell_halted(&self, notes: &mut Notes) -> Result<(), AllocError> {
+        match self.session.book.halted() {
+            Some(name) => notes.say(&[
                 Part::Text("the breakpoint "),
                 Part::Name(name),
                 Part::Text(" halts the session: `pass` lets it continue"),
+            ]),
+            None => Ok(()),
+        }
+    }
+
+    /// Says which commands can fire in the present state, or that none can: those of the process of this name, or of all processes if the
+    /// name is empty.
+    pub fn tell_on(&self, alloc: Global, notes: &mut Notes, word: &[u8]) -> Result<(), Refusal> {
+        let Some((from, to)) = self.processes_named(notes, word)? else {
+            return Ok(());
+        };
+        let mut any = false;
+        for p in from..to {
+            any = self.tell_firing(alloc, notes, Pid(p))? || any;
+        }
+        if !any && word.is_empty() {
+            notes.say(&[Part::Text("no command of any process can fire")])?;
+        } else if !any {
+            notes.say(&[
+                Part::Text("no command of "),
+                Part::Bytes(word),
+                Part::Text(" can fire"),
             ])?;
         }
-        Ok(())
+        Ok(self.tell_halted(notes)?)
+    }
+
+    // Shows a command, and says what prevents it from firing.
+    fn tell_command(
+        &self,
+        alloc: Global,
+        notes: &mut Notes,
+        pid: Pid,
+        choice: Choice,
+    ) -> Result<(), Refusal> {
+        let scope = self.scope(pid);
+        notes.say(&[scope.name(), Part::Text(": ")])?;
+        scope.put_command(notes, self.text, choice)?;
+        scope.put_text(notes, self.text, choice)?;
+        notes.say(&[Part::Text("  ")])?;
+        scope.put_verdict(alloc, notes, self.session.world, choice)
+    }
+
+    /// Shows the commands of the process of this name, or of all processes if the name is empty, and says of each what prevents it from
+    /// firing in the present state.
+    pub fn tell_list(&self, alloc: Global, notes: &mut Notes, word: &[u8]) -> Result<(), Refusal> {
+        let Some((from, to)) = self.processes_named(notes, word)? else {
+            return Ok(());
+        };
+        for p in from..to {
+            for number in 0..self.session.program.commands(Pid(p)) {
+                self.tell_command(alloc, notes, Pid(p), Choice(number))?;
+            }
+        }
+        Ok(self.tell_halted(notes)?)
     }
 
     fn tell_values(&self, notes: &mut Notes, pid: Pid) -> Result<(), AllocError> {
@@ -57,13 +125,7 @@ impl SourceView<'_> {
             return Ok(());
         };
         let mut word = ": ";
-        for variable in 0..self.session.program.variables(pid) {
-            if let Some(value) = env.values().get(variable as usize) {
-                notes.add(&[Part::Text(word), scope.variable(variable)])?;
-                notes.add(&[Part::Text(" = "), Part::Number(*value)])?;
-                word = ", ";
-            }
-        }
+        scope.put_variables(notes, &mut word, env)?;
         self.tell_counts(notes, pid, word, Direction::Sent)?;
         self.tell_counts(notes, pid, ", ", Direction::Got)
     }
@@ -126,39 +188,24 @@ impl SourceView<'_> {
         Ok(())
     }
 
-    /// Shows the variables of all processes, and the messages on their way.
-    pub fn tell_state(&self, alloc: Global, notes: &mut Notes) -> Result<(), Refusal> {
-        for p in 0..self.session.program.processes() {
+    /// Shows the variables of the process of this name, and the messages on their way to it and from it; or those of all processes, if the
+    /// name is empty.
+    pub fn tell_state(&self, alloc: Global, notes: &mut Notes, word: &[u8]) -> Result<(), Refusal> {
+        let Some((from, to)) = self.processes_named(notes, word)? else {
+            return Ok(());
+        };
+        for p in from..to {
             self.tell_values(notes, Pid(p))?;
         }
+        let is_shown = |p: u32| from <= p && p < to;
         for p in 0..self.session.program.processes() {
             for q in 0..self.session.program.processes() {
-                self.tell_channel(alloc, notes, Pid(p), Pid(q))?;
+                if is_shown(p) || is_shown(q) {
+                    self.tell_channel(alloc, notes, Pid(p), Pid(q))?;
+                }
             }
         }
         Ok(())
-    }
-
-    /// Says what an event of a process did, the one at this position, from 0, in a line that begins like this.
-    pub(crate) fn tell_made(
-        &self,
-        notes: &mut Notes,
-        begin: &'static str,
-        pid: Pid,
-        at: u32,
-    ) -> Result<(), AllocError> {
-        let Some(event) = self.session.world.rows().event(pid, at as usize) else {
-            return Ok(());
-        };
-        let scope = self.scope(pid);
-        notes.say(&[
-            Part::Text(begin),
-            Part::Count((at as usize).saturating_add(1)),
-            Part::Text(": "),
-        ])?;
-        scope.put_command(notes, self.text, event.choice())?;
-        notes.add(&[Part::Text(": ")])?;
-        scope.put_event(notes, self.session.world.rows(), event)
     }
 
     fn tell_again(&self, notes: &mut Notes, pid: Pid, at: u32) -> Result<(), AllocError> {
@@ -182,7 +229,8 @@ impl SourceView<'_> {
         };
         let place = self.session.world.place(pid);
         for at in 0..place {
-            self.tell_made(notes, "", pid, at)?;
+            let number = (at as usize).saturating_add(1);
+            self.tell_event(notes, EventNews::Made, pid, number)?;
         }
         notes.say(&[
             self.scope(pid).name(),
@@ -198,7 +246,7 @@ impl SourceView<'_> {
     }
 
     /// Says that no process has this name, and which names there are.
-    pub(crate) fn tell_processes(&self, notes: &mut Notes, word: &[u8]) -> Result<(), AllocError> {
+    pub fn tell_processes(&self, notes: &mut Notes, word: &[u8]) -> Result<(), AllocError> {
         notes.say(&[
             Part::Text("`"),
             Part::Bytes(word),

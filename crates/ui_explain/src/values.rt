@@ -38,6 +38,21 @@ fn put_value(
 }
 
 impl ProcessView<'_> {
+    /// Appends all variables of the process and their values to the last line: the first one after this word, and the others after a comma.
+    pub(crate) fn put_variables(
+        &self,
+        notes: &mut Notes,
+        word: &mut &'static str,
+        env: &Env,
+    ) -> Result<(), AllocError> {
+        for variable in 0..self.program.variables(self.pid) {
+            if let Some(value) = env.values().get(variable as usize) {
+                put_value(notes, word, &[self.variable(variable)], *value)?;
+            }
+        }
+        Ok(())
+    }
+
     /// Appends the values of the variables and counts that an expression names to the last line.
     pub(crate) fn put_values(
         &self,

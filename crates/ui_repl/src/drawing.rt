@@ -1,6 +1,7 @@
 //! Plays a session and draws it.
 
-use crate::model::{Model, ProgramKind, refuse};
+use crate::model::{Model, ProgramKind};
+use crate::model_faults::refuse;
 use crate::session_input::Beginning;
 use shell_io::{Noted, Sink, Source};
 use shell_print::{ServeFault, Served, hand_on, write_whole};

@@ -3,7 +3,9 @@
 
 mod drawing;
 mod expanding;
+mod history;
 mod model;
+mod model_faults;
 mod running;
 mod sentences;
 mod session_input;

@@ -1,12 +1,12 @@
 //! Programs in the model notation.
 
-use dbg_base::{Choice, FaultKind, Pid, ProgFault};
-use notation::{Expansion, Fault, NotationError, Problem, expand_program, likely, message};
+use crate::model_faults::FaultPlace;
+use dbg_base::{Choice, Name, Pid};
+use notation::{Expansion, Fault, NotationError, Problem, expand_program};
 use proc_lang::{ProgError, Program, parse_program};
-use shell_io::Sink;
-use shell_print::{ServeFault, Served, hand_on, tell_fault, write_whole};
+use shell_print::ServeFault;
 use std::alloc::{AllocError, Global};
-use ui_explain::{Notes, Part, ProgramText, tell_correction};
+use ui_explain::{Notes, Part, ProgramText};
 use ui_session::is_directive;
 
 /// A program in the model notation that was expanded, and its text.
@@ -91,18 +91,65 @@ impl Model {
         &self,
         alloc: Global,
         notes: &mut Notes,
+        program: &Program,
         line: &[u8],
     ) -> Result<bool, AllocError> {
         match self.expansion.expand_line(alloc, line) {
             Ok(_) => Ok(false),
             Err(NotationError::Bad(fault)) => {
+                let place = FaultPlace::in_line(line, self.source.text(), &fault);
                 // The number of the line in its text says nothing here.
-                for line in message(alloc, line, &fault)?.iter().skip(1) {
+                for line in place.explanation(alloc)?.lines().iter().skip(1) {
                     notes.say(&[Part::Bytes(line.as_slice())])?;
+                }
+                if fault.problem() == Problem::NoLabel {
+                    self.tell_labels_of_line(alloc, notes, program, line, fault.at())?;
                 }
                 Ok(true)
             }
             Err(NotationError::Memory) => Err(AllocError),
+        }
+    }
+
+    // The number of the process that a line `step P LABEL` names, of which the label begins at this offset.
+    fn process_of_line(
+        &self,
+        alloc: Global,
+        line: &[u8],
+        program: &Program,
+        label: usize,
+    ) -> Result<Option<Pid>, AllocError> {
+        let Some(rest) = line.get(..label).unwrap_or(line).strip_prefix(b"step".as_slice()) else {
+            return Ok(None);
+        };
+        let mut asked = Vec::from_slice(alloc, b"next")?;
+        asked.extend_from_slice(rest)?;
+        let plain = match self.expansion.expand_line(alloc, asked.as_slice()) {
+            Ok(plain) => plain,
+            Err(NotationError::Bad(_)) => return Ok(None),
+            Err(NotationError::Memory) => return Err(AllocError),
+        };
+        let Some(plain) = plain.lines().first() else {
+            return Ok(None);
+        };
+        let word = plain.as_slice().trim_ascii().split(|byte| *byte == b' ').last();
+        Ok(word
+            .and_then(Name::new)
+            .and_then(|name| program.find_process(name)))
+    }
+
+    // Says which labels the process of a line `step P LABEL` has.
+    fn tell_labels_of_line(
+        &self,
+        alloc: Global,
+        notes: &mut Notes,
+        program: &Program,
+        line: &[u8],
+        label: usize,
+    ) -> Result<(), AllocError> {
+        match self.process_of_line(alloc, line, program, label)? {
+            Some(pid) => self.tell_labels(notes, program, pid),
+            None => Ok(()),
         }
     }
 
@@ -133,88 +180,4 @@ impl Model {
         }
         Ok(())
     }
-}
-
-// The kind of a fault, as the process language counts them.
-fn fault_kind(problem: Problem) -> FaultKind {
-    match problem {
-        Problem::Byte => FaultKind::Byte,
-        Problem::LongWord | Problem::LargeNumber => FaultKind::Token,
-        Problem::Expected(_)
-        | Problem::ComparisonChain
-        | Problem::FormName
-        | Problem::Arguments { .. } => FaultKind::Grammar,
-        Problem::NameTaken(_) | Problem::LabelTaken => FaultKind::NameTaken,
-        Problem::NotADefinition | Problem::NoLabel => FaultKind::NameUnknown,
-        Problem::VariableComputed
-        | Problem::CountComputed
-        | Problem::NumberExpected
-        | Problem::TruthExpected => FaultKind::TypeWrong,
-        Problem::Overflow
-        | Problem::DivisionByZero
-        | Problem::BelowZero
-        | Problem::ManyParameters
-        | Problem::DeepNesting
-        | Problem::DeepUnfolding
-        | Problem::LongText
-        | Problem::MuchWork => FaultKind::Limit,
-        Problem::Plain(kind) => kind,
-    }
-}
-
-// Whether a correction for this place is better than what is said of all such faults.
-fn is_replaced(problem: Problem) -> bool {
-    problem == Problem::Byte || likely(problem).is_none()
-}
-
-// The explanation of a fault, with this correction, which may have no line.
-fn explanation(
-    alloc: Global,
-    text: &[u8],
-    fault: &Fault,
-    correction: &Notes,
-) -> Result<Notes, AllocError> {
-    let problem = fault.problem();
-    let lines = message(alloc, text, fault)?;
-    let is_replaced = is_replaced(problem) && !correction.lines().is_empty();
-    let left_out = usize::from(is_replaced && likely(problem).is_some());
-    let mut notes = Notes::new(alloc);
-    for line in lines.iter().take(lines.len().saturating_sub(left_out)) {
-        notes.say(&[Part::Bytes(line.as_slice())])?;
-    }
-    if is_replaced {
-        for line in correction.lines() {
-            notes.say(&[Part::Bytes(line.as_slice())])?;
-        }
-    }
-    Ok(notes)
-}
-
-// Writes an explanation, and flushes it.
-fn write_explanation<W: Sink>(notes: &Notes, writer: &mut W) -> Result<(), ServeFault> {
-    for line in notes.lines() {
-        write_whole(writer, b"  ")?;
-        write_whole(writer, line.as_slice())?;
-        write_whole(writer, b"\n")?;
-    }
-    hand_on(Ok(()), writer)
-}
-
-/// Reports that a program text is refused, and explains why: the line and the column, the text of the line with a mark under the place,
-/// what is wrong, and what was probably meant.
-pub(crate) fn refuse<W: Sink>(
-    alloc: Global,
-    text: &[u8],
-    fault: &Fault,
-    writer: &mut W,
-) -> Result<Served, ServeFault> {
-    let kind = fault_kind(fault.problem());
-    let at = fault.at();
-    let plain = ProgFault { kind, at };
-    let served = tell_fault(&plain, writer)?;
-    let mut correction = Notes::new(alloc);
-    tell_correction(&mut correction, text, &plain)?;
-    let notes = explanation(alloc, text, fault, &correction)?;
-    write_explanation(&notes, writer)?;
-    Ok(served)
 }

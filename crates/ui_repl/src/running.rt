@@ -6,7 +6,8 @@ ghost use Rattle.shell_print.specs.Outcomes.{source_behind, sink_behind};
 ghost use Rattle.shell_serve.specs.Sessions.{Plays};
 ghost use Rattle.ui_session.specs.Dialogues.{interactive};
 
-use crate::model::{Model, ProgramKind, kind_of, refuse};
+use crate::model::{Model, ProgramKind, kind_of};
+use crate::model_faults::refuse;
 use crate::sentences::Sentences;
 use crate::session_input::Beginning;
 use proc_lang::parse_program;

@@ -1,12 +1,16 @@
 //! The explanations of an interactive session.
 
+use crate::history::History;
 use crate::model::Model;
 use dbg_base::{Call, Name, Refusal, Said};
 use dbg_command::SessionView;
 use proc_lang::Program;
 use std::alloc::{AllocError, Global};
 use ui_diagram::draw_text;
-use ui_explain::{Before, Directive, Explainer, Notes, Part, ProgramText, SourceView, tell_help};
+use ui_explain::{
+    Before, Directive, Explainer, Notes, Part, ProgramText, SourceView, tell_help,
+    tell_too_long,
+};
 
 // A call that is about to be made, and what was known before it.
 #[derive(Drop)]
@@ -23,6 +27,9 @@ pub(crate) struct Sentences<'a> {
     text: ProgramText,
     // None after memory ran out; then nothing is explained.
     pending: Option<PendingCall>,
+    // The line that is being answered. It is empty after memory ran out.
+    line: Vec<u8>,
+    history: History,
 }
 
 // The line without its seat.
@@ -40,6 +47,8 @@ impl<'a> Sentences<'a> {
             model,
             text: ProgramText::new(alloc, &[])?,
             pending: None,
+            line: Vec::new(alloc),
+            history: History::new(alloc),
         })
     }
 
@@ -56,19 +65,20 @@ impl<'a> Sentences<'a> {
         &self,
         alloc: Global,
         notes: &mut Notes,
+        program: &Program,
         line: &[u8],
     ) -> Result<bool, AllocError> {
         match self.model {
-            Some(model) => model.tell_line_fault(alloc, notes, without_seat(line)),
+            Some(model) => model.tell_line_fault(alloc, notes, program, without_seat(line)),
             None => Ok(false),
         }
     }
 
-    // After a wrong line `step P ..` of a model, the labels of the process.
+    // After a wrong line `step P ..` of a model, the labels of the process, or the processes if it is none.
     fn tell_labels(
         &self,
         notes: &mut Notes,
-        program: &Program,
+        view: SessionView<'_>,
         line: &[u8],
     ) -> Result<(), AllocError> {
         let mut words = without_seat(line).split(|byte| *byte == b' ');
@@ -76,10 +86,10 @@ impl<'a> Sentences<'a> {
         else {
             return Ok(());
         };
-        let Some(pid) = Name::new(word).and_then(|name| program.find_process(name)) else {
-            return Ok(());
-        };
-        model.tell_labels(notes, program, pid)
+        match Name::new(word).and_then(|name| view.program.find_process(name)) {
+            Some(pid) => model.tell_labels(notes, view.program, pid),
+            None => self.source_view(view).tell_processes(notes, word),
+        }
     }
 
     fn tell_line(
@@ -90,13 +100,13 @@ impl<'a> Sentences<'a> {
         line: &[u8],
         refusal: &Refusal,
     ) -> Result<(), Refusal> {
-        if self.tell_model_line(alloc, notes, line)? {
+        if self.tell_model_line(alloc, notes, view.program, line)? {
             return Ok(());
         }
         self.source_view(view)
             .tell_bad_line(alloc, notes, line, refusal)?;
         if *refusal == Refusal::BadLine {
-            self.tell_labels(notes, view.program, line)?;
+            self.tell_labels(notes, view, line)?;
         }
         Ok(())
     }
@@ -110,6 +120,28 @@ impl<'a> Sentences<'a> {
         let before = self.source_view(view).before(alloc, call).ok()?;
         let call = call.copy().ok()?;
         Some(PendingCall { call, before })
+    }
+
+    // Keeps the accepted command for a later `back`. If it is `back` itself, says what was taken back.
+    fn note_accepted(&mut self, alloc: Global, notes: &mut Notes) -> Result<(), AllocError> {
+        match self.pending.as_ref().map(|pending| &pending.call) {
+            Some(Call::Back) => match self.history.pop() {
+                Some(line) => notes.say(&[
+                    Part::Text("taken back: `"),
+                    Part::Bytes(line.as_slice()),
+                    Part::Text("`"),
+                ]),
+                None => Ok(()),
+            },
+            Some(_) => {
+                self.history.push(alloc, self.line.as_slice());
+                Ok(())
+            }
+            None => {
+                self.history.lose();
+                Ok(())
+            }
+        }
     }
 
     fn tell_said(
@@ -143,10 +175,12 @@ impl<'a> Sentences<'a> {
         match directive {
             Directive::Remark | Directive::Quit => Ok(()),
             Directive::Help(word) => Ok(tell_help(notes, word)?),
-            Directive::On => view.tell_on(alloc, notes),
-            Directive::State => view.tell_state(alloc, notes),
+            Directive::On(name) => view.tell_on(alloc, notes, name),
+            Directive::List(name) => view.tell_list(alloc, notes, name),
+            Directive::State(name) => view.tell_state(alloc, notes, name),
             Directive::Line(name) => Ok(view.tell_line(notes, name)?),
             Directive::Draw => draw_text(alloc, notes, view.session),
+            Directive::TooLong(word) => Ok(tell_too_long(notes, word)?),
         }
     }
 }
@@ -160,7 +194,8 @@ impl Explainer for Sentences<'_> {
     }
 
     // The terminal already shows what was typed.
-    fn hear(&mut self, _alloc: Global, _line: &[u8], is_typed: bool) -> bool {
+    fn hear(&mut self, alloc: Global, line: &[u8], is_typed: bool) -> bool {
+        self.line = Vec::from_slice(alloc, line.trim_ascii()).unwrap_or(Vec::new(alloc));
         !is_typed
     }
 
@@ -170,6 +205,9 @@ impl Explainer for Sentences<'_> {
 
     fn explain_call(&mut self, alloc: Global, view: SessionView<'_>, said: &Said) -> Notes {
         let mut notes = Notes::new(alloc);
+        if let Said::Accepted(_) = said {
+            let _ended = self.note_accepted(alloc, &mut notes);
+        }
         let _ended = self.tell_said(alloc, &mut notes, view, said);
         notes
     }

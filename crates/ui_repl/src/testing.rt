@@ -3,7 +3,8 @@
 ghost use Rattle.std.specs.Prelude.{Some};
 
 use crate::expanding::write_text;
-use crate::model::{Model, ProgramKind, refuse};
+use crate::model::{Model, ProgramKind};
+use crate::model_faults::refuse;
 use crate::running::talk;
 use crate::session_input::Beginning;
 use dbg_base::limits::INPUT_BYTES;

@@ -4,14 +4,18 @@ use Rattle.std.specs.List.{AllByRecursion, list_any, flat_map}
 use Rattle.std.specs.Str.{bytes_eq}
 use Rattle.dbg_base.specs.declared.limits.TheConstants.{LINE_BYTES}
 use Rattle.dbg_base.specs.Tokens.{is_digit}
-use Rattle.dbg_base.specs.CommandLines.{next_word, without_return}
+use Rattle.dbg_base.specs.CommandLines.{next_word, after_word, without_return}
 use Rattle.dbg_base.specs.Shell.{as_line}
 use Rattle.shell_input.specs.Spans.{is_unended}
 use Rattle.shell_serve.specs.Sessions.{Manner}
 
+-- the words that end a session
+abbrev pub quit_words : List (List ℕ)
+quit_words = codes "quit" ∷ codes "exit" ∷ codes "q" ∷ []
+
 -- the words of directives
 abbrev pub directive_words : List (List ℕ)
-directive_words = codes "help" ∷ codes "on" ∷ codes "state" ∷ codes "line" ∷ codes "draw" ∷ codes "quit" ∷ []
+directive_words = codes "help" ∷ codes "?" ∷ codes "on" ∷ codes "list" ∷ codes "state" ∷ codes "line" ∷ codes "draw" ∷ quit_words
 
 -- there is no word, or it begins a comment or an expectation
 abbrev pub is_remark : List ℕ → Bool
@@ -51,9 +55,9 @@ IsExplanation text = (lines : List (List ℕ)) × AllByRecursion (λ line. is_un
 abbrev pub IsEcho : List ℕ → List ℕ → Type 0
 IsEcho line echo = (echo ≡ []) ⊎ (echo ≡ as_line line)
 
--- the line ends the session
+-- the line ends the session: nothing but a remark is after its first word
 abbrev pub is_quit : List ℕ → Bool
-is_quit line = bytes_eq (first_word line) (codes "quit")
+is_quit line = list_any (bytes_eq (first_word line)) quit_words && is_remark (next_word (after_word (without_return line)))
 
 -- Each line is written before its reply, if it was not typed, and an explanation follows the reply. A command line without a seat is one of
 -- the first seat.

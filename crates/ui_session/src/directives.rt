@@ -3,8 +3,7 @@
 ghost use Rattle.std.specs.Prelude.{◌≡◌, is_some};
 ghost use Rattle.std.specs.List.{list_any};
 ghost use Rattle.std.specs.Str.{bytes_eq};
-ghost use Rattle.std.specs.Prelude.{codes};
-ghost use Rattle.ui_session.specs.Dialogues.{is_remark, first_word, is_directive, is_quit, is_seat, needs_seat, directive_words};
+ghost use Rattle.ui_session.specs.Dialogues.{is_remark, first_word, is_directive, is_quit, is_seat, needs_seat, directive_words, quit_words};
 ghost use Rattle.ui_session.specs.Verbs.{is_quit_verb};
 
 use dbg_base::limits::LINE_BYTES;
@@ -16,6 +15,7 @@ use ui_explain::Directive;
 pub(crate) enum Verb {
     Help,
     On,
+    List,
     State,
     Line,
     Draw,
@@ -42,19 +42,21 @@ fn is_remark(word: &[u8]) -> bool
 // The directive that begins with this word.
 fn verb_of(word: &[u8]) -> Option<Verb>
     ensures is { is_some result ≡ list_any (bytes_eq word.now) directive_words }
-    ensures quits { is_quit_verb result ≡ bytes_eq word.now (codes "quit") }
+    ensures quits { is_quit_verb result ≡ list_any (bytes_eq word.now) quit_words }
 {
-    if word == b"help".as_slice() {
+    if word == b"help".as_slice() || word == b"?".as_slice() {
         Some(Verb::Help)
     } else if word == b"on".as_slice() {
         Some(Verb::On)
+    } else if word == b"list".as_slice() {
+        Some(Verb::List)
     } else if word == b"state".as_slice() {
         Some(Verb::State)
     } else if word == b"line".as_slice() {
         Some(Verb::Line)
     } else if word == b"draw".as_slice() {
         Some(Verb::Draw)
-    } else if word == b"quit".as_slice() {
+    } else if word == b"quit".as_slice() || word == b"exit".as_slice() || word == b"q".as_slice() {
         Some(Verb::Quit)
     } else {
         None
@@ -73,21 +75,44 @@ pub fn is_directive(line: &[u8]) -> bool
 pub(crate) fn is_quit(line: &[u8]) -> bool
     ensures { result ≡ is_quit line.now }
 {
-    matches!(verb_of(first_word(line)), Some(Verb::Quit))
+    let (word, rest) = next_word(without_return(line));
+    matches!(verb_of(word), Some(Verb::Quit)) && is_remark(next_word(rest).0)
+}
+
+impl Verb {
+    // Whether a word may follow it.
+    fn has_argument(self) -> bool {
+        !matches!(self, Verb::Draw | Verb::Quit)
+    }
+
+    // The directive with this argument, which is empty if there is none.
+    fn with(self, argument: &[u8]) -> Directive<'_> {
+        match self {
+            Verb::Help => Directive::Help(argument),
+            Verb::On => Directive::On(argument),
+            Verb::List => Directive::List(argument),
+            Verb::State => Directive::State(argument),
+            Verb::Line => Directive::Line(argument),
+            Verb::Draw => Directive::Draw,
+            Verb::Quit => Directive::Quit,
+        }
+    }
 }
 
 /// The directive that a line is, if an interactive session answers it itself.
 pub(crate) fn directive(line: &[u8]) -> Directive<'_> {
     let (word, rest) = next_word(without_return(line));
-    let argument = next_word(without_return(rest)).0;
-    match verb_of(word) {
-        Some(Verb::Help) => Directive::Help(argument),
-        Some(Verb::On) => Directive::On,
-        Some(Verb::State) => Directive::State,
-        Some(Verb::Line) => Directive::Line(argument),
-        Some(Verb::Draw) => Directive::Draw,
-        Some(Verb::Quit) => Directive::Quit,
-        None => Directive::Remark,
+    let Some(verb) = verb_of(word) else {
+        return Directive::Remark;
+    };
+    let (argument, rest) = next_word(rest);
+    if is_remark(argument) {
+        return verb.with(&[]);
+    }
+    if verb.has_argument() && is_remark(next_word(rest).0) {
+        verb.with(argument)
+    } else {
+        Directive::TooLong(word)
     }
 }
 

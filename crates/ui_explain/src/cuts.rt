@@ -1,0 +1,217 @@
+//! The state of a cut: what each process had done in it, and the messages on their way.
+
+use crate::accepted::put_events;
+use crate::breakpoints::part_of;
+use crate::events::{longest_name, sending};
+use crate::notes::{Notes, Part};
+use crate::view::SourceView;
+use dbg_base::{Cut, Expr, Pid};
+use event_rows::{Event, Exchange};
+use least_cut::Detector;
+use local_eval::{Env, guard};
+use std::alloc::AllocError;
+
+// At most this many events before a cut are searched for the one since which a part holds.
+const SEARCHED: u32 = 1_000;
+
+// At most this many messages of a channel are shown.
+const SHOWN: u32 = 12;
+
+// The room of two columns: for the events in the cut, as `12 of 345 events`, and for when a part began to hold.
+const EVENTS: usize = 18;
+
+const SINCE: usize = 26;
+
+// Where the columns of the lines about processes begin.
+#[derive(Clone, Copy)]
+struct Columns {
+    events: usize,
+    since: usize,
+    values: usize,
+}
+
+impl Columns {
+    fn after(longest: usize) -> Columns {
+        let events = longest.max("on the way".len()).saturating_add(2);
+        let since = events.saturating_add(EVENTS);
+        Columns {
+            events,
+            since,
+            values: since.saturating_add(SINCE),
+        }
+    }
+}
+
+// Since which event a part has held, as far as was searched.
+#[derive(Clone, Copy)]
+struct HeldSince {
+    event: u32,
+    is_exact: bool,
+}
+
+impl SourceView<'_> {
+    // The local state of a process after its first events, so many. It is found from the nearer end of the events.
+    fn state_after(&self, pid: Pid, count: u32) -> Result<Env, AllocError> {
+        let world = self.session.world;
+        let place = world.place(pid);
+        match world.local_state(pid) {
+            Some(env) if place.saturating_sub(count) < count => {
+                let mut env = env.copy()?;
+                for at in (count..place).rev() {
+                    world.rows().retreat(pid, at as usize, &mut env);
+                }
+                Ok(env)
+            }
+            _ => world.rows().past(pid, count as usize),
+        }
+    }
+
+    // Since when a part has held, which holds in this state of a process, after so many events.
+    fn held_since(
+        &self,
+        pid: Pid,
+        part: &Expr,
+        env: &Env,
+        count: u32,
+    ) -> Result<HeldSince, AllocError> {
+        let mut env = env.copy()?;
+        let mut event = count;
+        for at in (count.saturating_sub(SEARCHED)..count).rev() {
+            self.session
+                .world
+                .rows()
+                .retreat(pid, at as usize, &mut env);
+            if !matches!(guard(part, &env), Ok(true)) {
+                return Ok(HeldSince {
+                    event,
+                    is_exact: true,
+                });
+            }
+            event = at;
+        }
+        Ok(HeldSince {
+            event,
+            is_exact: event == 0,
+        })
+    }
+
+    // Appends since when the part of a process has held to the last line.
+    fn put_since(
+        &self,
+        notes: &mut Notes,
+        detector: &Detector,
+        pid: Pid,
+        env: &Env,
+        count: u32,
+    ) -> Result<(), AllocError> {
+        let Some(part) = part_of(detector, self.session.program, pid) else {
+            return Ok(());
+        };
+        let since = self.held_since(pid, part, env, count)?;
+        if since.event == 0 {
+            return notes.add(&[Part::Text("holds from the start")]);
+        }
+        let event = Part::Number(i64::from(since.event));
+        let end = if since.is_exact { "" } else { " or earlier" };
+        notes.add(&[Part::Text("holds since event "), event, Part::Text(end)])
+    }
+
+    // Says what a process has done in a cut.
+    fn tell_process_of_cut(
+        &self,
+        notes: &mut Notes,
+        detector: &Detector,
+        columns: Columns,
+        pid: Pid,
+        count: u32,
+    ) -> Result<(), AllocError> {
+        let scope = self.scope(pid);
+        let env = self.state_after(pid, count)?;
+        notes.say(&[scope.name()])?;
+        notes.tab(columns.events)?;
+        notes.add(&[Part::Number(i64::from(count)), Part::Text(" of ")])?;
+        put_events(notes, self.session.world.place(pid))?;
+        notes.tab(columns.since)?;
+        self.put_since(notes, detector, pid, &env, count)?;
+        notes.tab(columns.values)?;
+        scope.put_variables(notes, &mut "", &env)
+    }
+
+    // The value of the message of this count from one process to another.
+    fn message(&self, source: Pid, target: Pid, count: u32) -> Option<i64> {
+        let world = self.session.world;
+        let sender = sending(world, source, target, count).checked_sub(1)?;
+        match world
+            .rows()
+            .event(source, sender as usize)
+            .map(Event::exchange)
+        {
+            Some(Exchange::Sent { value, .. }) => Some(value),
+            _ => None,
+        }
+    }
+
+    // Says which messages of a channel cross a cut.
+    fn tell_crossing(
+        &self,
+        notes: &mut Notes,
+        columns: Columns,
+        cut: &Cut,
+        source: Pid,
+        target: Pid,
+    ) -> Result<(), AllocError> {
+        let tally = self.session.world.tally();
+        let got = tally.got(target, source, cut.count(target));
+        let sent = tally.sent(source, target, cut.count(source));
+        if sent <= got {
+            return Ok(());
+        }
+        let scope = self.scope(source);
+        notes.say(&[Part::Text("on the way")])?;
+        notes.tab(columns.events)?;
+        notes.add(&[
+            Part::Text("from "),
+            scope.name(),
+            Part::Text(" to "),
+            scope.process(target),
+        ])?;
+        let mut word = ": ";
+        let last = sent.min(got.saturating_add(SHOWN));
+        for count in got..last {
+            if let Some(value) = self.message(source, target, count.saturating_add(1)) {
+                notes.add(&[Part::Text(word), Part::Number(value)])?;
+                word = ", ";
+            }
+        }
+        let left_out = sent.saturating_sub(last);
+        if left_out > 0 {
+            notes.add(&[
+                Part::Text(" and "),
+                Part::Number(i64::from(left_out)),
+                Part::Text(" more"),
+            ])?;
+        }
+        Ok(())
+    }
+
+    /// Shows the state of a breakpoint's cut: for each process its events, since when its part holds, and its variables; and the messages
+    /// that were sent in the cut and not received in it.
+    pub(crate) fn tell_cut_state(
+        &self,
+        notes: &mut Notes,
+        detector: &Detector,
+        cut: &Cut,
+    ) -> Result<(), AllocError> {
+        let processes = self.session.program.processes();
+        let columns = Columns::after(longest_name(self.session.program));
+        for p in 0..processes {
+            self.tell_process_of_cut(notes, detector, columns, Pid(p), cut.count(Pid(p)))?;
+        }
+        for p in 0..processes {
+            for q in 0..processes {
+                self.tell_crossing(notes, columns, cut, Pid(p), Pid(q))?;
+            }
+        }
+        Ok(())
+    }
+}
