@@ -11,13 +11,13 @@ _rdbg() {
     choices='talk expand run check crew test draw help'
   elif [ "$before" = --as ]; then
     choices='text svg html shiviz'
-  elif [ "$before" = --turns ]; then
+  elif [ "$before" = --turns ] || [ "$before" = --at ]; then
     return
   elif [[ $current == -* ]]; then
     case $word in
       check) choices='--explain --help' ;;
       crew) choices='--turns --help' ;;
-      draw) choices='--as --help' ;;
+      draw) choices='--as --at --at-halt --help' ;;
       *) choices='--help' ;;
     esac
   fi

@@ -27,6 +27,8 @@ INSTALLED = {
     "examples/two_phase_commit.rdbg": "share/rdbg/examples/two_phase_commit.rdbg",
     "examples/notation/paxos.rdbg": "share/rdbg/examples/notation/paxos.rdbg",
 }
+# An option of a command.
+OPTION = re.compile(r"--[a-z]+(?:-[a-z]+)*")
 # A launcher whose program has yet to be proved.
 LAUNCHER = """#!/bin/sh
 folder=$(dirname "$0")
@@ -244,7 +246,7 @@ def complete_in_fish(*words):
 def complete_in_zsh(word):
     """The options of a command in the file. (Without a terminal zsh completes nothing.)"""
     line = re.search(rf"^ +\S*\b{word}\b\S*\) _arguments .*", (COMPLETIONS / "_rdbg").read_text(), re.M)
-    return re.findall(r"--[a-z]+", line[0]) if line else []
+    return OPTION.findall(line[0]) if line else []
 
 
 def check_completions(suite, words):
@@ -253,7 +255,7 @@ def check_completions(suite, words):
     check_words(suite, "the commands in bash", complete_in_bash("rdbg", ""), [*words, "--help"])
     check_words(suite, "the commands in zsh", re.findall(r"^    '([a-z]+):", (COMPLETIONS / "_rdbg").read_text(), re.M), words)
     check_words(suite, "the commands in fish", re.search(r"^set -l words (.*)", (COMPLETIONS / "rdbg.fish").read_text(), re.M)[1].split(), words)
-    options = {word: re.findall(r"--[a-z]+", suite.rdbg(word, "--help").output.decode()) for word in words if word != "help"}
+    options = {word: OPTION.findall(suite.rdbg(word, "--help").output.decode()) for word in words if word != "help"}
     for word, wanted in options.items():
         check_words(suite, f"the options of {word} in bash", complete_in_bash("rdbg", word, "--"), wanted)
         check_words(suite, f"the options of {word} in zsh", complete_in_zsh(word), wanted)

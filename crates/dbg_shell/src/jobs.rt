@@ -1,6 +1,6 @@
 //! The jobs of the program.
 
-use ui_diagram::PictureForm;
+use ui_diagram::Picture;
 
 /// A job whose output is for programs.
 #[derive(Clone, Copy, Debug, PartialEq, Eq)]
@@ -25,7 +25,7 @@ pub enum Work {
     /// Answer and explain the lines of a person.
     Talk,
     /// Play a session, and draw it.
-    Draw(PictureForm),
+    Draw(Picture),
 }
 
 /// What the arguments ask for.

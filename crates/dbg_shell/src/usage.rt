@@ -10,7 +10,7 @@ use clap::{Arg, ArgAction, ArgMatches, Command, Error};
 use dbg_base::limits::CALLS;
 use std::alloc::{AllocError, Global};
 use std::convert::AsStr;
-use ui_diagram::PictureForm;
+use ui_diagram::{Moment, Picture, PictureForm};
 
 static ABOUT: &str =
     "A debugger for processes that send each other messages: steps them, undoes events, halts at bad global states";
@@ -167,7 +167,7 @@ fn draw<'a>(alloc: Global) -> Result<Command<'a>, AllocError> {
     with_file(
         alloc,
         "draw",
-        "Plays a session, and draws its end; or, as html, a page to go through it",
+        "Plays a session, and draws its end, or another state; or, as html, a page to go through it",
         "The program and the first lines; those of standard input follow",
     )?
     .arg(
@@ -177,6 +177,20 @@ fn draw<'a>(alloc: Global) -> Result<Command<'a>, AllocError> {
             .default_value("text")
             .value_parser(ValueParser::Names(&PICTURES))
             .help("The form of the picture"),
+    )?
+    .arg(
+        Arg::new(alloc, "at")
+            .long("at")
+            .value_name("LINE")
+            .value_parser(clap::value_parser!(u32).range(1..))
+            .conflicts_with("at-halt")?
+            .help("Draws the state after this line of the input, from 1, in place of the end"),
+    )?
+    .arg(
+        Arg::new(alloc, "at-halt")
+            .long("at-halt")
+            .action(ArgAction::SetTrue)
+            .help("Draws the state at the first halt, in place of the end"),
     )
 }
 
@@ -188,6 +202,26 @@ fn named_form(name: Option<&str>) -> PictureForm {
         Some("shiviz") => PictureForm::Shiviz,
         _ => PictureForm::Text,
     }
+}
+
+// The state that the picture shows.
+fn named_moment(matches: &ArgMatches<'_>) -> Moment {
+    match matches.get_one::<u32>("at") {
+        Some(line) => Moment::Line(line),
+        None if matches.get_flag("at-halt") => Moment::Halt,
+        None => Moment::End,
+    }
+}
+
+// The picture that the arguments of `draw` ask for.
+fn named_picture(command: &mut Command<'_>, matches: &ArgMatches<'_>) -> Result<Picture, Error> {
+    let form = named_form(matches.get_str("as"));
+    let moment = named_moment(matches);
+    if form == PictureForm::Html && moment != Moment::End {
+        let why = "a page has all states: '--as html' cannot be used with '--at' or '--at-halt'";
+        return Err(command.error(ErrorKind::ArgumentConflict, why)?);
+    }
+    Ok(Picture { form, moment })
 }
 
 fn command<'a>(alloc: Global) -> Result<Command<'a>, AllocError> {
@@ -215,7 +249,7 @@ fn named_work(
     match name {
         "talk" => Ok(Work::Talk),
         "expand" => Ok(Work::Expand),
-        "draw" => Ok(Work::Draw(named_form(matches.get_str("as")))),
+        "draw" => Ok(Work::Draw(named_picture(command, matches)?)),
         "check" if matches.get_flag("explain") => Ok(Work::Explain),
         "check" => Ok(Work::Job(Job::Check)),
         "crew" => match matches.get_one::<u32>("turns") {

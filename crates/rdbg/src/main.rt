@@ -20,7 +20,9 @@ use std::process::ExitCode;
 use std::sync::Wait;
 use std::thread::Threads;
 use typing::{FileInput, Typing, open};
-use ui_repl::{SESSION_BYTES, Tested, converse, draw, expand, explain, test_session};
+use ui_repl::{
+    SESSION_BYTES, Tested, converse, draw, draw_status, expand, explain, test_session,
+};
 use ui_session::Typed;
 use words::{WordsFault, words};
 
@@ -56,7 +58,7 @@ fn work_from<R: Threads + Wait + Sync, I: Read + Typed + Drop, W: Sink, E: Sink>
         Work::Explain => status(&explain(alloc, &mut Noted::new(input), writer)),
         Work::Expand => status(&expand(alloc, &mut Noted::new(input), writer, errors)),
         Work::Talk => status(&converse(alloc, input, writer)),
-        Work::Draw(form) => status(&draw(alloc, form, input, writer, errors)),
+        Work::Draw(picture) => draw_status(&draw(alloc, picture, input, writer, errors)),
     }
 }
 

@@ -1,4 +1,4 @@
-//! The forms of pictures.
+//! What a picture of a session is to show, and how.
 
 /// How a session is drawn.
 #[derive(Clone, Copy, Debug, PartialEq, Eq)]
@@ -11,4 +11,22 @@ pub enum PictureForm {
     Html,
     /// The events with their clocks, as ShiViz reads them.
     Shiviz,
+}
+
+/// The state of a session that a picture shows.
+#[derive(Clone, Copy, Debug, PartialEq, Eq)]
+pub enum Moment {
+    /// The state at the end.
+    End,
+    /// The state after the line of this number was answered. The first line of the input has number 1.
+    Line(u32),
+    /// The state at the first halt.
+    Halt,
+}
+
+/// A picture that is asked for.
+#[derive(Clone, Copy, Debug, PartialEq, Eq)]
+pub struct Picture {
+    pub form: PictureForm,
+    pub moment: Moment,
 }

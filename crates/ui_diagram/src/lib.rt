@@ -9,6 +9,6 @@ mod text;
 mod timeline;
 
 pub use drawing::draw_drawing;
-pub use form::PictureForm;
+pub use form::{Moment, Picture, PictureForm};
 pub use log::write_log;
 pub use text::draw_text;

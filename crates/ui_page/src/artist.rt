@@ -1,9 +1,9 @@
-//! A picture of the end of a session.
+//! A picture of one state of a session.
 
-use dbg_base::Refusal;
+use dbg_base::{Refusal, Said};
 use dbg_command::SessionView;
 use std::alloc::{AllocError, Global};
-use ui_diagram::{PictureForm, draw_drawing, draw_text, write_log};
+use ui_diagram::{Moment, Picture, PictureForm, draw_drawing, draw_text, write_log};
 use ui_explain::{Explainer, Notes};
 
 // Lines, each with a line end.
@@ -27,20 +27,28 @@ fn picture_of(alloc: Global, form: PictureForm, view: SessionView<'_>) -> Result
     Ok(with_line_ends(alloc, notes.lines())?)
 }
 
-/// An explainer that draws the end of a session.
+// Whether this is the answer to a command after which a breakpoint halts the session.
+fn is_halt(said: &Said) -> bool {
+    match said {
+        Said::Accepted(reply) => reply.halted.is_some(),
+        Said::Answered(_) | Said::Refused(_) => false,
+    }
+}
+
+/// An explainer that draws one state of a session: the one at the first halt, if the picture shows that, or else the one at the end.
 #[derive(Drop)]
 pub struct Artist {
-    form: PictureForm,
-    picture: Vec<u8>,
+    wanted: Picture,
+    picture: Option<Vec<u8>>,
     is_out_of_memory: bool,
 }
 
 impl Artist {
-    /// An artist for a picture of this form.
-    pub fn new(alloc: Global, form: PictureForm) -> Artist {
+    /// An artist for this picture.
+    pub fn new(wanted: Picture) -> Artist {
         Artist {
-            form,
-            picture: Vec::new(alloc),
+            wanted,
+            picture: None,
             is_out_of_memory: false,
         }
     }
@@ -50,17 +58,34 @@ impl Artist {
         self.is_out_of_memory
     }
 
-    /// The picture.
-    pub fn picture(&self) -> &[u8] {
-        self.picture.as_slice()
+    /// The picture, unless the session did not come to what it shows.
+    pub fn picture(&self) -> Option<&[u8]> {
+        match &self.picture {
+            Some(picture) => Some(picture.as_slice()),
+            None => None,
+        }
+    }
+
+    fn draw(&mut self, alloc: Global, view: SessionView<'_>) {
+        match picture_of(alloc, self.wanted.form, view) {
+            Ok(picture) => self.picture = Some(picture),
+            Err(_) => self.is_out_of_memory = true,
+        }
     }
 }
 
 impl Explainer for Artist {
+    fn explain_call(&mut self, alloc: Global, view: SessionView<'_>, said: &Said) -> Notes {
+        let is_first = self.picture.is_none() && !self.is_out_of_memory;
+        if self.wanted.moment == Moment::Halt && is_first && is_halt(said) {
+            self.draw(alloc, view);
+        }
+        Notes::new(alloc)
+    }
+
     fn end(&mut self, alloc: Global, view: SessionView<'_>) {
-        match picture_of(alloc, self.form, view) {
-            Ok(picture) => self.picture = picture,
-            Err(_) => self.is_out_of_memory = true,
+        if self.wanted.moment != Moment::Halt {
+            self.draw(alloc, view);
         }
     }
 }

@@ -1,4 +1,4 @@
-//! Drawing a session: explainers that record each line for a page, or draw the end of the session, and the page.
+//! Drawing a session: explainers that record each line for a page, or draw one state of the session, and the page.
 #![tactic(auto)]
 
 mod artist;

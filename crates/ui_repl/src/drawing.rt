@@ -1,16 +1,52 @@
 //! Plays a session and draws it.
 
+use crate::first_lines::FirstLines;
 use crate::model::{Model, ProgramKind};
 use crate::model_faults::refuse;
 use crate::session_input::Beginning;
 use shell_io::{Noted, Sink, Source};
-use shell_print::{ServeFault, Served, hand_on, write_whole};
+use shell_print::{ServeFault, Served, hand_on, status, tell_too_long, write_whole};
 use shell_serve::play;
 use std::alloc::Global;
 use std::io::Read;
-use ui_diagram::PictureForm;
+use ui_diagram::{Moment, Picture, PictureForm};
+use ui_explain::{Notes, Part};
 use ui_page::{Artist, Recorder, write_page};
 use ui_session::{Dialogue, Typed};
+
+/// How a drawing ended if nothing failed.
+#[derive(Clone, Copy, Debug, PartialEq, Eq)]
+pub enum Drawn {
+    /// The session ended so. It was drawn, unless its program was refused.
+    Played(Served),
+    /// The session has no command line with the number that was given, and that was reported.
+    NoLine,
+    /// No breakpoint halts the session, and that was reported.
+    NoHalt,
+}
+
+/// The exit status: that of the session, or 2 if it has no such line, and 1 if nothing halts it.
+pub fn draw_status(outcome: &Result<Drawn, ServeFault>) -> u8 {
+    match outcome {
+        Ok(Drawn::Played(served)) => status(&Ok(*served)),
+        Ok(Drawn::NoLine) => 2,
+        Ok(Drawn::NoHalt) => 1,
+        Err(fault) => fault.status(),
+    }
+}
+
+// Reports why nothing is drawn.
+fn report<E: Sink>(alloc: Global, why: &[Part<'_>], errors: &mut E) -> Result<(), ServeFault> {
+    let mut notes = Notes::new(alloc);
+    notes.say(&[Part::Text("error: ")])?;
+    notes.add(why)?;
+    notes.add(&[Part::Text("\n")])?;
+    let written = match notes.lines().first() {
+        Some(line) => write_whole(errors, line.as_slice()),
+        None => Ok(()),
+    };
+    hand_on(written, errors)
+}
 
 // Whether a program was played.
 fn is_played(served: Served) -> bool {
@@ -23,7 +59,7 @@ fn draw_page<R: Source + Typed, W: Sink, E: Sink>(
     reader: &mut R,
     writer: &mut W,
     errors: &mut E,
-) -> Result<Served, ServeFault> {
+) -> Result<Drawn, ServeFault> {
     let source = model.map(|model| model.source());
     let mut dialogue = Dialogue::new(Recorder::new(alloc, source));
     let mut replies = Noted::new(Vec::new(alloc));
@@ -39,70 +75,122 @@ fn draw_page<R: Source + Typed, W: Sink, E: Sink>(
         let written = write_whole(errors, replies.as_slice());
         hand_on(written, errors)?;
     }
-    Ok(served)
+    Ok(Drawn::Played(served))
 }
 
-fn draw_end<R: Source + Typed, W: Sink, E: Sink>(
+fn draw_state<R: Source + Typed, W: Sink, E: Sink>(
     alloc: Global,
-    form: PictureForm,
+    picture: Picture,
     reader: &mut R,
     writer: &mut W,
     errors: &mut E,
-) -> Result<Served, ServeFault> {
-    let mut dialogue = Dialogue::new(Artist::new(alloc, form));
+) -> Result<Drawn, ServeFault> {
+    let mut dialogue = Dialogue::new(Artist::new(picture));
     let mut replies = Noted::new(Vec::new(alloc));
     let served = play(alloc, &mut dialogue, reader, &mut replies)?;
     let artist = dialogue.explainer();
     if artist.is_out_of_memory() {
         return Err(ServeFault::Memory);
     }
-    if is_played(served) {
-        let written = write_whole(writer, artist.picture());
-        hand_on(written, writer)?;
-    } else {
+    if !is_played(served) {
         let written = write_whole(errors, replies.into_inner().as_slice());
         hand_on(written, errors)?;
+    } else if let Some(picture) = artist.picture() {
+        let written = write_whole(writer, picture);
+        hand_on(written, writer)?;
+    } else {
+        report(alloc, &[Part::Text("no breakpoint halts the session")], errors)?;
+        return Ok(Drawn::NoHalt);
     }
-    Ok(served)
+    Ok(Drawn::Played(served))
 }
 
 // Plays a plain session, and draws it.
 fn draw_plain<R: Source + Typed, W: Sink, E: Sink>(
     alloc: Global,
-    form: PictureForm,
+    picture: Picture,
     model: Option<&Model>,
     reader: &mut R,
     writer: &mut W,
     errors: &mut E,
-) -> Result<Served, ServeFault> {
-    match form {
+) -> Result<Drawn, ServeFault> {
+    match picture.form {
         PictureForm::Html => draw_page(alloc, model, reader, writer, errors),
         PictureForm::Text | PictureForm::Svg | PictureForm::Shiviz => {
-            draw_end(alloc, form, reader, writer, errors)
+            draw_state(alloc, picture, reader, writer, errors)
         }
     }
 }
 
-/// Plays a session as `talk` does, and writes a picture of it: a picture of its end, or a page to go through it. If the input is too long,
-/// the picture is of the lines within the limit. The program and the lines may be in the model notation. A program that is refused is
-/// explained on the other writer, as `talk` explains it, and nothing is drawn. Errors: the reader or a writer failed, or memory ran out.
-pub fn draw<R: Read + Typed + Drop, W: Sink, E: Sink>(
+// Plays a session whose program and lines may be in the model notation, and draws it.
+fn draw_session<R: Read + Typed + Drop, W: Sink, E: Sink>(
     alloc: Global,
-    form: PictureForm,
+    picture: Picture,
     reader: R,
     writer: &mut W,
     errors: &mut E,
-) -> Result<Served, ServeFault> {
+) -> Result<Drawn, ServeFault> {
     let (beginning, reader) = Beginning::read(alloc, reader)?;
     match beginning.kind(alloc)? {
         ProgramKind::Plain => {
             let mut reader = Noted::new(beginning.whole(reader));
-            draw_plain(alloc, form, None, &mut reader, writer, errors)
+            draw_plain(alloc, picture, None, &mut reader, writer, errors)
         }
         ProgramKind::Model(model) => {
             let mut reader = Noted::new(beginning.expanded(alloc, &model, reader)?);
-            draw_plain(alloc, form, Some(&model), &mut reader, writer, errors)
+            draw_plain(alloc, picture, Some(&model), &mut reader, writer, errors)
         }
-        ProgramKind::Wrong(fault) => refuse(alloc, beginning.text(), &fault, errors),
+        ProgramKind::Wrong(fault) => {
+            let served = refuse(alloc, beginning.text(), &fault, errors)?;
+            Ok(Drawn::Played(served))
+        }
+    }
+}
+
+// Reports why the session has no command line of this number, if it has none.
+fn report_line<E: Sink>(
+    alloc: Global,
+    lines: &FirstLines,
+    number: usize,
+    errors: &mut E,
+) -> Result<Option<Drawn>, ServeFault> {
+    if lines.are_too_long() {
+        return Ok(Some(Drawn::Played(tell_too_long(errors)?)));
+    }
+    let (count, end) = (lines.count(), lines.end_line());
+    let line = Part::Count(number);
+    if count < number && end.is_some() {
+        let before = Part::Text("there is no line ");
+        let last = Part::Text(": the last line of the input is line ");
+        report(alloc, &[before, line, last, Part::Count(count)], errors)?;
+        return Ok(Some(Drawn::NoLine));
+    }
+    if count == number && (end.is_none() || end == Some(number)) {
+        let after = Part::Text(" is before the first command line, which follows the line `%%`");
+        report(alloc, &[Part::Text("line "), line, after], errors)?;
+        return Ok(Some(Drawn::NoLine));
+    }
+    Ok(None)
+}
+
+/// Plays a session as `talk` does, and writes a picture of it: of its end, of the state after a line or at the first halt, or a page to go
+/// through it. If the input is too long, the picture is of the lines within the limit. The program and the lines may be in the model
+/// notation. The other writer gets the explanation of a program that is refused, as `talk` explains it, or the report that the session has
+/// no such line or no halt; then nothing is drawn. Errors: the reader or a writer failed, or memory ran out.
+pub fn draw<R: Read + Typed + Drop, W: Sink, E: Sink>(
+    alloc: Global,
+    picture: Picture,
+    reader: R,
+    writer: &mut W,
+    errors: &mut E,
+) -> Result<Drawn, ServeFault> {
+    let Moment::Line(number) = picture.moment else {
+        return draw_session(alloc, picture, reader, writer, errors);
+    };
+    let number = number as usize;
+    let lines = FirstLines::read(alloc, reader, number)?;
+    match report_line(alloc, &lines, number, errors)? {
+        Some(drawn) => Ok(drawn),
+        None => draw_session(alloc, picture, lines.reader(), writer, errors),
     }
 }

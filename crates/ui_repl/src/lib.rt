@@ -3,6 +3,7 @@
 
 mod drawing;
 mod expanding;
+mod first_lines;
 mod history;
 mod model;
 mod model_faults;
@@ -11,7 +12,7 @@ mod sentences;
 mod session_input;
 mod testing;
 
-pub use drawing::draw;
+pub use drawing::{Drawn, draw, draw_status};
 pub use expanding::expand;
 pub use model::Model;
 pub use running::{converse, explain, talk};

@@ -4,7 +4,7 @@ use dbg_shell::{Job, Request, Work, asked, job};
 use std::alloc::Global;
 use std::process::Abort;
 use std::test::Fail;
-use ui_diagram::PictureForm;
+use ui_diagram::{Moment, Picture, PictureForm};
 
 #[test]
 fn words_ask_for_jobs(rt: HostRuntime) -> Result<(), Fail> {
@@ -32,8 +32,33 @@ fn expect_refused(rt: &impl Abort, alloc: Global, rows: &[Row]) {
     }
 }
 
-const OTHER_WORDS: [Row; 7] = [
+const OTHER_WORDS: [Row; 12] = [
     (&["rdbg", "draw", "--as", "png"], ErrorKind::InvalidValue, 2),
+    (
+        &["rdbg", "draw", "--at", "0"],
+        ErrorKind::ValueValidation,
+        2,
+    ),
+    (
+        &["rdbg", "draw", "--at", "last"],
+        ErrorKind::ValueValidation,
+        2,
+    ),
+    (
+        &["rdbg", "draw", "--at", "3", "--at-halt"],
+        ErrorKind::ArgumentConflict,
+        2,
+    ),
+    (
+        &["rdbg", "draw", "--as", "html", "--at", "3"],
+        ErrorKind::ArgumentConflict,
+        2,
+    ),
+    (
+        &["rdbg", "draw", "--as", "html", "--at-halt"],
+        ErrorKind::ArgumentConflict,
+        2,
+    ),
     (&["rdbg"], ErrorKind::MissingSubcommand, 2),
     (&["rdbg", "jump"], ErrorKind::InvalidSubcommand, 2),
     (&["rdbg", "run", "--now"], ErrorKind::UnknownArgument, 2),
@@ -117,14 +142,33 @@ fn other_work_is_no_job(rt: HostRuntime) {
 #[test]
 fn words_ask_for_pictures(rt: HostRuntime) {
     let alloc = rt.alloc();
-    let rows: [(&'static [&'static str], PictureForm); 4] = [
-        (&["rdbg", "draw"], PictureForm::Text),
-        (&["rdbg", "draw", "--as", "svg"], PictureForm::Svg),
-        (&["rdbg", "draw", "--as=html"], PictureForm::Html),
-        (&["rdbg", "draw", "--as", "shiviz"], PictureForm::Shiviz),
+    let rows: [(&'static [&'static str], PictureForm, Moment); 6] = [
+        (&["rdbg", "draw"], PictureForm::Text, Moment::End),
+        (
+            &["rdbg", "draw", "--as", "svg"],
+            PictureForm::Svg,
+            Moment::End,
+        ),
+        (&["rdbg", "draw", "--as=html"], PictureForm::Html, Moment::End),
+        (
+            &["rdbg", "draw", "--as", "shiviz"],
+            PictureForm::Shiviz,
+            Moment::End,
+        ),
+        (
+            &["rdbg", "draw", "--at", "12"],
+            PictureForm::Text,
+            Moment::Line(12),
+        ),
+        (
+            &["rdbg", "draw", "--at-halt", "--as=svg"],
+            PictureForm::Svg,
+            Moment::Halt,
+        ),
     ];
-    for (words, form) in rows {
-        expect_true(&rt, work_of(alloc, words) == Some(Work::Draw(form)));
+    for (words, form, moment) in rows {
+        let picture = Picture { form, moment };
+        expect_true(&rt, work_of(alloc, words) == Some(Work::Draw(picture)));
     }
 }
 
@@ -195,7 +239,7 @@ Commands:
   check   Reads a program and prints how many processes and commands it has, or what is wrong
   crew    Reads a program, gives `next` for each process N times, from threads, and prints how many calls there were
   test    Plays sessions, and compares the reply to each command line with the line `> REPLY` after it
-  draw    Plays a session, and draws its end; or, as html, a page to go through it
+  draw    Plays a session, and draws its end, or another state; or, as html, a page to go through it
   help    Print this message or the help of the given subcommand(s)
 
 Options:
