@@ -2,9 +2,8 @@
 
 mod head;
 
-use crate::timeline::{
-    NamedCut, ShownEvent, Timeline, event_of, exchange_of, named_cuts, received_by, size,
-};
+use crate::cuts::{NamedCut, named_cuts, size};
+use crate::timeline::{ShownEvent, Timeline, event_of, exchange_of, received_by};
 use dbg_base::{Pid, Refusal};
 use dbg_command::SessionView;
 use event_rows::{Exchange, Setting};
@@ -371,7 +370,7 @@ pub fn draw_drawing(
     notes: &mut Notes,
     view: SessionView<'_>,
 ) -> Result<(), Refusal> {
-    let mut cuts = named_cuts(alloc, view.book)?;
+    let mut cuts = named_cuts(alloc, view)?;
     let timeline = Timeline::of(alloc, view.world, cuts.as_mut_slice())?;
     let sheet = SvgSheet {
         view,

@@ -2,6 +2,7 @@
 #![tactic(auto)]
 
 mod canvas;
+mod cuts;
 mod drawing;
 mod form;
 mod log;

@@ -1,7 +1,8 @@
 //! A space-time diagram for a terminal: a column for each process, time downward.
 
 use crate::canvas::{Canvas, CanvasRow};
-use crate::timeline::{NamedCut, ShownEvent, Timeline, event_of, named_cuts, received_by, size};
+use crate::cuts::{NamedCut, bytes_of, halting, named_cuts, size};
+use crate::timeline::{ShownEvent, Timeline, event_of, received_by};
 use dbg_base::{Pid, Refusal};
 use dbg_command::SessionView;
 use event_rows::{Exchange, Setting};
@@ -26,13 +27,6 @@ fn words(alloc: Global, parts: &[Part<'_>]) -> Result<Notes, AllocError> {
     Ok(words)
 }
 
-fn bytes_of(words: &Notes) -> &[u8] {
-    match words.lines().first() {
-        Some(line) => line.as_slice(),
-        None => &[],
-    }
-}
-
 // Appends as much of a name to the words as fits, but at least one character. If some of it is left out, dots follow, if there is room for
 // them.
 fn put_shortened(line: &mut Notes, name: &[u8], room: usize) -> Result<(), AllocError> {
@@ -49,6 +43,14 @@ fn say_row(notes: &mut Notes, row: &CanvasRow) -> Result<(), AllocError> {
 impl TextSheet<'_> {
     fn processes(&self) -> u32 {
         self.view.program.processes()
+    }
+
+    // The predicate of the breakpoint that halts the session.
+    fn say_heading(&self, notes: &mut Notes, cuts: &[NamedCut]) -> Result<(), AllocError> {
+        match halting(cuts) {
+            Some(cut) => notes.say(&[Part::Bytes(bytes_of(&cut.heading(self.alloc)?))]),
+            None => Ok(()),
+        }
     }
 
     fn say_names(&self, notes: &mut Notes) -> Result<(), AllocError> {
@@ -319,7 +321,7 @@ impl TextSheet<'_> {
 /// set. There are arrows for the messages, also for those on their way, the redo lines in brackets, and lines across for the cuts of
 /// breakpoints. Of a long history the end is shown.
 pub fn draw_text(alloc: Global, notes: &mut Notes, view: SessionView<'_>) -> Result<(), Refusal> {
-    let mut cuts = named_cuts(alloc, view.book)?;
+    let mut cuts = named_cuts(alloc, view)?;
     let timeline = Timeline::of(alloc, view.world, cuts.as_mut_slice())?;
     let events = timeline.events();
     let sheet = TextSheet {
@@ -328,6 +330,7 @@ pub fn draw_text(alloc: Global, notes: &mut Notes, view: SessionView<'_>) -> Res
         grid: Canvas::new(view.program.processes()),
     };
     let first = events.len().saturating_sub(SHOWN);
+    sheet.say_heading(notes, cuts.as_slice())?;
     sheet.say_left_out(notes, events.get(..first).unwrap_or(&[]))?;
     sheet.say_names(notes)?;
     sheet.say_lines(notes)?;

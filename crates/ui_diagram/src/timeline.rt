@@ -1,71 +1,17 @@
 //! The events that a picture shows, in the order in which it shows them.
 
-use break_book::Book;
+use crate::cuts::{NamedCut, size};
 use causal_world::World;
-use dbg_base::{Cut, Name, Pid, Refusal};
+use dbg_base::{Cut, Pid, Refusal};
 use event_log::event_order;
 use event_rows::{Event, Exchange};
 use std::alloc::{AllocError, Global};
 
 /// An event that is shown: the n-th of its process, from 1.
-#[derive(Clone, Copy)]
+#[derive(Clone, Copy, PartialEq, Eq)]
 pub(crate) struct ShownEvent {
     pub(crate) pid: Pid,
     pub(crate) number: u32,
-}
-
-/// A cut that is shown, with the name of its breakpoint, and whether that halts the session.
-#[derive(Drop)]
-pub(crate) struct NamedCut {
-    pub(crate) name: Name,
-    pub(crate) cut: Cut,
-    pub(crate) halts: bool,
-    /// Whether its events are listed before all others.
-    pub(crate) is_front: bool,
-}
-
-// The cuts of the breakpoints that halt the session, or of the others.
-fn put_cuts(
-    cuts: &mut Vec<NamedCut>,
-    book: &Book,
-    marks: &[(Name, bool)],
-    halts: bool,
-) -> Result<(), Refusal> {
-    let halting = book.halted();
-    for (name, _) in marks {
-        let name = *name;
-        if (halting == Some(name)) == halts {
-            if let Some((_, breakpoint)) = book.find(name) {
-                if let Some(cut) = breakpoint.detector().cut() {
-                    cuts.push(NamedCut {
-                        name,
-                        cut: cut.copy()?,
-                        halts,
-                        is_front: false,
-                    })?;
-                }
-            }
-        }
-    }
-    Ok(())
-}
-
-/// The cuts of the breakpoints, that of the one that halts the session first.
-pub(crate) fn named_cuts(alloc: Global, book: &Book) -> Result<Vec<NamedCut>, Refusal> {
-    let marks = book.list(alloc)?;
-    let mut cuts = Vec::new(alloc);
-    put_cuts(&mut cuts, book, marks.items(), true)?;
-    put_cuts(&mut cuts, book, marks.items(), false)?;
-    Ok(cuts)
-}
-
-/// How many events of so many processes a cut has.
-pub(crate) fn size(cut: &Cut, processes: u32) -> usize {
-    let mut size = 0usize;
-    for p in 0..processes {
-        size = size.saturating_add(cut.count(Pid(p)) as usize);
-    }
-    size
 }
 
 /// All events of a world, in an order in which they can have happened, and for each process the positions of its events in it.
@@ -196,6 +142,32 @@ pub(crate) fn received_by(world: &World, shown: ShownEvent) -> Option<Received> 
         source,
         value: message,
         sender: tally.send_event(source, shown.pid, count),
+    })
+}
+
+/// A message that an event sent: to whom, its value, and whether it is on its way.
+#[derive(Clone, Copy)]
+pub(crate) struct Sent {
+    pub(crate) target: Pid,
+    pub(crate) value: i64,
+    pub(crate) is_on_its_way: bool,
+}
+
+/// The message that an event sent, if it did.
+pub(crate) fn sent_by(world: &World, shown: ShownEvent) -> Option<Sent> {
+    let Exchange::Sent {
+        target,
+        value,
+        count,
+    } = exchange_of(world, shown)
+    else {
+        return None;
+    };
+    let tally = world.tally();
+    Some(Sent {
+        target,
+        value,
+        is_on_its_way: count > tally.got(target, shown.pid, tally.len(target)),
     })
 }
 

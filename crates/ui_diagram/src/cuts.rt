@@ -1,0 +1,170 @@
+//! The cuts of breakpoints that a picture shows, with their predicates in words.
+
+use break_book::Breakpoint;
+use dbg_base::{Cut, Name, Pid, Refusal};
+use dbg_command::SessionView;
+use proc_lang::Program;
+use std::alloc::{AllocError, Global};
+use ui_explain::{Notes, Part, ProcessView};
+
+/// A cut that is shown, with its breakpoint.
+#[derive(Drop)]
+pub(crate) struct NamedCut {
+    pub(crate) name: Name,
+    /// The position of the breakpoint among all, from 0.
+    pub(crate) place: usize,
+    pub(crate) cut: Cut,
+    /// Whether the breakpoint halts the session.
+    pub(crate) halts: bool,
+    /// Whether the events of the cut are listed before all others.
+    pub(crate) is_front: bool,
+    /// The processes that the predicate names.
+    pub(crate) pids: Vec<Pid>,
+    /// The part of the predicate that each of them has, as `left (state = 2)`.
+    parts: Notes,
+}
+
+/// The first line, if there is one.
+pub(crate) fn bytes_of(words: &Notes) -> &[u8] {
+    match words.lines().first() {
+        Some(line) => line.as_slice(),
+        None => &[],
+    }
+}
+
+// Reads the parts of a predicate.
+fn put_parts(
+    pids: &mut Vec<Pid>,
+    parts: &mut Notes,
+    program: &Program,
+    breakpoint: &Breakpoint,
+) -> Result<(), AllocError> {
+    for at in 0..program.processes() {
+        let Some((pid, expr)) = breakpoint.detector().conjunct(at as usize) else {
+            break;
+        };
+        let scope = ProcessView::new(program, pid);
+        pids.push(pid)?;
+        parts.say(&[scope.name(), Part::Text(" ")])?;
+        scope.put_expression(parts, expr)?;
+    }
+    Ok(())
+}
+
+// The cut of the breakpoint of this name, if it has one.
+fn named_cut(alloc: Global, view: SessionView<'_>, name: Name) -> Result<Option<NamedCut>, Refusal> {
+    let Some((place, breakpoint)) = view.book.find(name) else {
+        return Ok(None);
+    };
+    let Some(cut) = breakpoint.detector().cut() else {
+        return Ok(None);
+    };
+    let mut pids = Vec::new(alloc);
+    let mut parts = Notes::new(alloc);
+    put_parts(&mut pids, &mut parts, view.program, breakpoint)?;
+    Ok(Some(NamedCut {
+        name,
+        place,
+        cut: cut.copy()?,
+        halts: view.book.halted() == Some(name),
+        is_front: false,
+        pids,
+        parts,
+    }))
+}
+
+// Appends the cuts of the breakpoints that halt the session, or of the others.
+fn put_cuts(
+    alloc: Global,
+    cuts: &mut Vec<NamedCut>,
+    view: SessionView<'_>,
+    marks: &[(Name, bool)],
+    halts: bool,
+) -> Result<(), Refusal> {
+    for (name, _) in marks {
+        if (view.book.halted() == Some(*name)) == halts {
+            if let Some(cut) = named_cut(alloc, view, *name)? {
+                cuts.push(cut)?;
+            }
+        }
+    }
+    Ok(())
+}
+
+/// The cuts of the breakpoints, that of the one that halts the session first.
+pub(crate) fn named_cuts(alloc: Global, view: SessionView<'_>) -> Result<Vec<NamedCut>, Refusal> {
+    let marks = view.book.list(alloc)?;
+    let mut cuts = Vec::new(alloc);
+    put_cuts(alloc, &mut cuts, view, marks.items(), true)?;
+    put_cuts(alloc, &mut cuts, view, marks.items(), false)?;
+    Ok(cuts)
+}
+
+/// The cut of the breakpoint that halts the session.
+pub(crate) fn halting(cuts: &[NamedCut]) -> Option<&NamedCut> {
+    match cuts.first() {
+        Some(cut) if cut.halts => Some(cut),
+        _ => None,
+    }
+}
+
+/// How many events of so many processes a cut has.
+pub(crate) fn size(cut: &Cut, processes: u32) -> usize {
+    let mut size = 0usize;
+    for p in 0..processes {
+        size = size.saturating_add(cut.count(Pid(p)) as usize);
+    }
+    size
+}
+
+impl NamedCut {
+    /// Appends what the breakpoint asks for to the last line: `left (state = 2) and right (state = 3)`.
+    pub(crate) fn put_predicate(&self, notes: &mut Notes) -> Result<(), AllocError> {
+        let mut word = "";
+        for part in self.parts.lines() {
+            notes.add(&[Part::Text(word), Part::Bytes(part.as_slice())])?;
+            word = " and ";
+        }
+        Ok(())
+    }
+
+    /// The name of the breakpoint and what it asks for, in one line: `split: left (state = 2) and right (state = 3)`.
+    pub(crate) fn heading(&self, alloc: Global) -> Result<Notes, AllocError> {
+        let mut heading = Notes::new(alloc);
+        heading.say(&[Part::Name(self.name), Part::Text(": ")])?;
+        self.put_predicate(&mut heading)?;
+        Ok(heading)
+    }
+
+    /// The same, with a line for each part.
+    pub(crate) fn heading_lines(&self, alloc: Global) -> Result<Notes, AllocError> {
+        let mut heading = Notes::new(alloc);
+        let mut word = Part::Name(self.name);
+        let mut between = ": ";
+        for part in self.parts.lines() {
+            heading.say(&[word, Part::Text(between), Part::Bytes(part.as_slice())])?;
+            word = Part::Text("and");
+            between = " ";
+        }
+        Ok(heading)
+    }
+
+    /// Appends how many events of each process the cut has to the last line.
+    pub(crate) fn put_counts(
+        &self,
+        notes: &mut Notes,
+        program: &Program,
+    ) -> Result<(), AllocError> {
+        let mut word = "";
+        for p in 0..program.processes() {
+            let count = self.cut.count(Pid(p));
+            if count > 0 {
+                let count = Part::Number(i64::from(count));
+                let name = ProcessView::new(program, Pid(p)).name();
+                notes.add(&[Part::Text(word), count, Part::Text(" of "), name])?;
+                word = ", ";
+            }
+        }
+        Ok(())
+    }
+}
