@@ -10,7 +10,7 @@ _rdbg() {
   elif [ "$word" = help ]; then
     choices='talk expand run check crew test draw help'
   elif [ "$before" = --as ]; then
-    choices='text svg html shiviz'
+    choices='text svg html shiviz mermaid'
   elif [ "$before" = --turns ] || [ "$before" = --at ]; then
     return
   elif [[ $current == -* ]]; then

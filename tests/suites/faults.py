@@ -12,7 +12,7 @@ PROGRAM = "process a { var x = 0; when true : x := (x + 1); }\n"
 SESSION = PROGRAM + "%%\n" + 20_000 * "1 next a\n"
 # What reads a program alone, and what reads a session.
 READ_PROGRAM = ["check", "check --explain", "crew --turns 3"]
-READ_SESSION = ["run", "talk", *(f"draw --as {form}" for form in ("text", "svg", "html", "shiviz"))]
+READ_SESSION = ["run", "talk", *(f"draw --as {form}" for form in ("text", "svg", "html", "shiviz", "mermaid"))]
 
 
 def start(suite, words, source, sink):

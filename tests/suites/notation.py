@@ -59,7 +59,7 @@ def check_direct(suite, example, plain):
     """Compares what the program does with an example and with its plain session, given as its input."""
     talks = [suite.rdbg("talk", example), suite.rdbg("talk", given=plain)]
     suite.same(f"{example.name}: an interactive session", *(without_explanations(talk.output).decode() for talk in talks))
-    for form in ["text", "svg", "shiviz"]:
+    for form in ["text", "svg", "shiviz", "mermaid"]:
         drawn = [suite.rdbg("draw", "--as", form, example), suite.rdbg("draw", "--as", form, given=plain)]
         suite.same(f"{example.name}: drawn as {form}", *(picture.output.decode() for picture in drawn))
     sizes = [suite.rdbg("check", "--explain", example), suite.rdbg("check", given=plain)]

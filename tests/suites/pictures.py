@@ -1,14 +1,22 @@
-"""The pictures of sessions: golden files, and pages that must know what the program answers.
+"""The pictures of sessions: golden files, diagrams that Mermaid must read, and pages that must know what the program answers.
 
 The pages of tests/pictures/, of examples/ and of 20 random sessions are replayed from what they know of each line. The state to which this
 leads, and the replies on the way, must be those of the program.
 """
+import re
+
 from harness import TOP, Fault, sessions, temporary_folder
 from harness.page_data import FinalState, read_page
 from harness.random_sessions import random_session
 from harness.session import Session, draw, short_name
 
+FORMS = ("text", "svg", "shiviz", "mermaid")
 RANDOM_SESSIONS = 20
+# A sequence diagram of Mermaid. In its texts, `#` begins a sign, `;` ends a line and `<` begins a tag.
+MERMAID_TEXT = r"(?:[^#;<\n]|#lt;)+"
+MERMAID = re.compile(
+    rf"sequenceDiagram\n(?:  %% .*\n)?(?:  participant p\d+ as \w+\n)+"
+    rf"(?:  (?:Note over p\d+(?:,p\d+)?|p\d+(?:->>|--\))p\d+): {MERMAID_TEXT}\n)*")
 GOLDEN_PAGE = TOP / "docs" / "two_phase_commit.html"
 
 
@@ -36,6 +44,14 @@ def page_problem(suite, file):
     return "\n".join(problems)
 
 
+def mermaid_problem(suite, file):
+    """The first line that Mermaid does not read."""
+    diagram = draw(suite, "mermaid", file).decode()
+    read = MERMAID.match(diagram)
+    rest = diagram[read.end():] if read else diagram
+    return rest and f"Mermaid does not read {rest.splitlines()[0]!r}"
+
+
 def check_golden(suite, golden, form, file):
     try:
         suite.golden(golden, draw(suite, form, file))
@@ -45,7 +61,7 @@ def check_golden(suite, golden, form, file):
 
 def run(suite):
     for file in sessions("tests/pictures"):
-        for form in ("text", "svg", "shiviz"):
+        for form in FORMS:
             check_golden(suite, file.with_suffix(f".{form}"), form, file)
     check_golden(suite, GOLDEN_PAGE, "html", TOP / "examples" / "two_phase_commit.rdbg")
     with temporary_folder() as room:
@@ -54,3 +70,4 @@ def run(suite):
             file.write_text(random_session(number))
         for file in [*sessions("tests/pictures", "examples"), *random_files]:
             suite.attempt(f"the page of {short_name(file)}", page_problem, suite, file)
+            suite.attempt(f"{short_name(file)} as mermaid", mermaid_problem, suite, file)

@@ -161,7 +161,7 @@ fn test<'a>(alloc: Global) -> Result<Command<'a>, AllocError> {
         )
 }
 
-static PICTURES: [&str; 4] = ["text", "svg", "html", "shiviz"];
+static PICTURES: [&str; 5] = ["text", "svg", "html", "shiviz", "mermaid"];
 
 fn draw<'a>(alloc: Global) -> Result<Command<'a>, AllocError> {
     with_file(
@@ -200,6 +200,7 @@ fn named_form(name: Option<&str>) -> PictureForm {
         Some("svg") => PictureForm::Svg,
         Some("html") => PictureForm::Html,
         Some("shiviz") => PictureForm::Shiviz,
+        Some("mermaid") => PictureForm::Mermaid,
         _ => PictureForm::Text,
     }
 }

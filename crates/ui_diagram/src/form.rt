@@ -11,6 +11,8 @@ pub enum PictureForm {
     Html,
     /// The events with their clocks, as ShiViz reads them.
     Shiviz,
+    /// A sequence diagram, as Mermaid reads it.
+    Mermaid,
 }
 
 /// The state of a session that a picture shows.

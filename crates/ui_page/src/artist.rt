@@ -3,7 +3,7 @@
 use dbg_base::{Refusal, Said};
 use dbg_command::SessionView;
 use std::alloc::{AllocError, Global};
-use ui_diagram::{Moment, Picture, PictureForm, draw_drawing, draw_text, write_log};
+use ui_diagram::{Moment, Picture, PictureForm, draw_drawing, draw_mermaid, draw_text, write_log};
 use ui_explain::{Explainer, Notes};
 
 // Lines, each with a line end.
@@ -22,6 +22,7 @@ fn picture_of(alloc: Global, form: PictureForm, view: SessionView<'_>) -> Result
     match form {
         PictureForm::Text => draw_text(alloc, &mut notes, view)?,
         PictureForm::Svg => draw_drawing(alloc, &mut notes, view)?,
+        PictureForm::Mermaid => draw_mermaid(alloc, &mut notes, view)?,
         PictureForm::Shiviz | PictureForm::Html => return write_log(alloc, view),
     }
     Ok(with_line_ends(alloc, notes.lines())?)

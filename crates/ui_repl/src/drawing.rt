@@ -116,7 +116,7 @@ fn draw_plain<R: Source + Typed, W: Sink, E: Sink>(
 ) -> Result<Drawn, ServeFault> {
     match picture.form {
         PictureForm::Html => draw_page(alloc, model, reader, writer, errors),
-        PictureForm::Text | PictureForm::Svg | PictureForm::Shiviz => {
+        PictureForm::Text | PictureForm::Svg | PictureForm::Shiviz | PictureForm::Mermaid => {
             draw_state(alloc, picture, reader, writer, errors)
         }
     }

@@ -142,7 +142,7 @@ fn other_work_is_no_job(rt: HostRuntime) {
 #[test]
 fn words_ask_for_pictures(rt: HostRuntime) {
     let alloc = rt.alloc();
-    let rows: [(&'static [&'static str], PictureForm, Moment); 6] = [
+    let rows: [(&'static [&'static str], PictureForm, Moment); 7] = [
         (&["rdbg", "draw"], PictureForm::Text, Moment::End),
         (
             &["rdbg", "draw", "--as", "svg"],
@@ -153,6 +153,11 @@ fn words_ask_for_pictures(rt: HostRuntime) {
         (
             &["rdbg", "draw", "--as", "shiviz"],
             PictureForm::Shiviz,
+            Moment::End,
+        ),
+        (
+            &["rdbg", "draw", "--as", "mermaid"],
+            PictureForm::Mermaid,
             Moment::End,
         ),
         (

@@ -1,0 +1,244 @@
+//! A session as a sequence diagram of Mermaid, which issue trackers draw.
+
+use crate::cuts::{NamedCut, bytes_of, halting, named_cuts, size};
+use crate::timeline::{ShownEvent, Timeline, event_of, received_by, sent_by};
+use dbg_base::{Pid, Refusal};
+use dbg_command::SessionView;
+use event_rows::Setting;
+use std::alloc::{AllocError, Global};
+use ui_explain::{Notes, Part, ProcessView};
+
+// The most events that are shown. Issue trackers draw no diagram of more than 50,000 characters.
+const SHOWN: usize = 400;
+
+/// A diagram that is being made.
+#[derive(Clone, Copy)]
+struct MermaidSheet<'a> {
+    alloc: Global,
+    view: SessionView<'a>,
+    timeline: &'a Timeline,
+}
+
+// Appends a text to the last line. Mermaid takes `<` for a tag.
+fn put_text(notes: &mut Notes, text: &[u8]) -> Result<(), AllocError> {
+    let mut rest = text;
+    for part in text.split(|byte| *byte == b'<') {
+        notes.add(&[Part::Bytes(part)])?;
+        rest = rest.get(part.len()..).unwrap_or(&[]);
+        if !rest.is_empty() {
+            notes.add(&[Part::Text("#lt;")])?;
+            rest = rest.get(1..).unwrap_or(&[]);
+        }
+    }
+    Ok(())
+}
+
+// Appends a variable with its value before and after to the last line.
+fn put_setting(
+    notes: &mut Notes,
+    scope: ProcessView<'_>,
+    setting: &Setting,
+) -> Result<(), AllocError> {
+    let (old, new) = (Part::Number(setting.old), Part::Number(setting.new));
+    notes.add(&[scope.variable(setting.variable)])?;
+    if setting.old == setting.new {
+        return notes.add(&[Part::Text(" stays "), new]);
+    }
+    notes.add(&[Part::Text(" "), old, Part::Text(" -> "), new])
+}
+
+impl MermaidSheet<'_> {
+    fn scope(&self, pid: Pid) -> ProcessView<'_> {
+        ProcessView::new(self.view.program, pid)
+    }
+
+    // Appends the name that a process has in the diagram. A name of the program may be a word of Mermaid.
+    fn put_alias(&self, notes: &mut Notes, pid: Pid) -> Result<(), AllocError> {
+        notes.add(&[Part::Text("p"), Part::Number(i64::from(pid.0))])
+    }
+
+    fn say_participants(&self, notes: &mut Notes) -> Result<(), AllocError> {
+        for p in 0..self.view.program.processes() {
+            notes.say(&[Part::Text("  participant ")])?;
+            self.put_alias(notes, Pid(p))?;
+            notes.add(&[Part::Text(" as "), self.scope(Pid(p)).name()])?;
+        }
+        Ok(())
+    }
+
+    // Begins a note over one process, or from the first to the last.
+    fn say_note(&self, notes: &mut Notes, first: Pid, last: Pid) -> Result<(), AllocError> {
+        notes.say(&[Part::Text("  Note over ")])?;
+        self.put_alias(notes, first)?;
+        if first != last {
+            notes.add(&[Part::Text(",")])?;
+            self.put_alias(notes, last)?;
+        }
+        notes.add(&[Part::Text(": ")])
+    }
+
+    fn say_wide_note(&self, notes: &mut Notes) -> Result<(), AllocError> {
+        let last = self.view.program.processes().saturating_sub(1);
+        self.say_note(notes, Pid(0), Pid(last))
+    }
+
+    // Begins an arrow.
+    fn say_arrow(
+        &self,
+        notes: &mut Notes,
+        from: Pid,
+        arrow: &'static str,
+        to: Pid,
+        value: i64,
+    ) -> Result<(), AllocError> {
+        notes.say(&[Part::Text("  ")])?;
+        self.put_alias(notes, from)?;
+        notes.add(&[Part::Text(arrow)])?;
+        self.put_alias(notes, to)?;
+        notes.add(&[Part::Text(": "), Part::Number(value)])
+    }
+
+    // The message that an event received. Its arrow is where it was received.
+    fn say_received(&self, notes: &mut Notes, shown: ShownEvent) -> Result<(), AllocError> {
+        let Some(received) = received_by(self.view.world, shown) else {
+            return Ok(());
+        };
+        self.say_arrow(notes, received.source, "->>", shown.pid, received.value)?;
+        let next = received.sender.saturating_add(1);
+        let row = self.timeline.row(shown.pid, shown.number);
+        match self.timeline.row(received.source, next) {
+            Some(after) if Some(after) < row => notes.add(&[Part::Text(" (sent earlier)")]),
+            _ => Ok(()),
+        }
+    }
+
+    // Whether the message that an event sent is received before the sender makes its next event.
+    fn is_received_next(&self, shown: ShownEvent) -> bool {
+        let row = self.timeline.row(shown.pid, shown.number).unwrap_or(0) as usize;
+        let later = self.timeline.events().get(row.saturating_add(1)..);
+        for next in later.unwrap_or(&[]) {
+            if next.pid == shown.pid {
+                return false;
+            }
+            match received_by(self.view.world, *next) {
+                Some(received) if received.source == shown.pid && received.sender == shown.number => {
+                    return true;
+                }
+                _ => {}
+            }
+        }
+        false
+    }
+
+    // What an event set, in parts of a note: nothing, if it set nothing.
+    fn settings(&self, shown: ShownEvent) -> Result<Notes, AllocError> {
+        let mut words = Notes::new(self.alloc);
+        let settings = match event_of(self.view.world, shown) {
+            Some(event) => event.settings(),
+            None => &[],
+        };
+        for setting in settings {
+            words.say(&[])?;
+            put_setting(&mut words, self.scope(shown.pid), setting)?;
+        }
+        Ok(words)
+    }
+
+    // A note of these parts, if there are some.
+    fn say_parts(&self, notes: &mut Notes, pid: Pid, parts: &Notes) -> Result<(), AllocError> {
+        if parts.lines().is_empty() {
+            return Ok(());
+        }
+        self.say_note(notes, pid, pid)?;
+        let mut word = "";
+        for part in parts.lines() {
+            notes.add(&[Part::Text(word), Part::Bytes(part.as_slice())])?;
+            word = ", ";
+        }
+        Ok(())
+    }
+
+    fn say_event(&self, notes: &mut Notes, shown: ShownEvent) -> Result<(), AllocError> {
+        self.say_received(notes, shown)?;
+        let mut parts = self.settings(shown)?;
+        let Some(sent) = sent_by(self.view.world, shown) else {
+            return self.say_parts(notes, shown.pid, &parts);
+        };
+        if !sent.is_on_its_way && !self.is_received_next(shown) {
+            let to = self.scope(sent.target).name();
+            let value = Part::Number(sent.value);
+            parts.say(&[Part::Text("sends "), value, Part::Text(" to "), to])?;
+        }
+        self.say_parts(notes, shown.pid, &parts)?;
+        if sent.is_on_its_way {
+            self.say_arrow(notes, shown.pid, "--)", sent.target, sent.value)?;
+            notes.add(&[Part::Text(" (on its way)")])?;
+        }
+        Ok(())
+    }
+
+    // The cuts that consist of the events before this position.
+    fn say_cuts(
+        &self,
+        notes: &mut Notes,
+        place: usize,
+        cuts: &[NamedCut],
+    ) -> Result<(), AllocError> {
+        let processes = self.view.program.processes();
+        for cut in cuts {
+            if cut.is_front && size(&cut.cut, processes) == place {
+                self.say_wide_note(notes)?;
+                let name = Part::Name(cut.name);
+                let word = Part::Text(if cut.halts { " halts here: " } else { ": " });
+                notes.add(&[name, word])?;
+                let mut predicate = Notes::new(self.alloc);
+                predicate.say(&[])?;
+                cut.put_predicate(&mut predicate)?;
+                put_text(notes, bytes_of(&predicate))?;
+            }
+        }
+        Ok(())
+    }
+
+    fn say_left_out(&self, notes: &mut Notes, count: usize) -> Result<(), AllocError> {
+        if count == 0 {
+            return Ok(());
+        }
+        self.say_wide_note(notes)?;
+        let are = Part::Text(if count == 1 {
+            " earlier event is left out"
+        } else {
+            " earlier events are left out"
+        });
+        notes.add(&[Part::Count(count), are])
+    }
+}
+
+/// Draws a session in its present state as a sequence diagram of Mermaid: its lines. An arrow is where its message was received, and a dashed
+/// one where a message was sent that is on its way. Notes say what the events set, and where the cuts of breakpoints are. Of a long history
+/// the end is shown.
+pub fn draw_mermaid(alloc: Global, notes: &mut Notes, view: SessionView<'_>) -> Result<(), Refusal> {
+    let mut cuts = named_cuts(alloc, view)?;
+    let timeline = Timeline::of(alloc, view.world, cuts.as_mut_slice())?;
+    let sheet = MermaidSheet {
+        alloc,
+        view,
+        timeline: &timeline,
+    };
+    notes.say(&[Part::Text("sequenceDiagram")])?;
+    if let Some(cut) = halting(cuts.as_slice()) {
+        let heading = cut.heading(alloc)?;
+        notes.say(&[Part::Text("  %% "), Part::Bytes(bytes_of(&heading))])?;
+    }
+    sheet.say_participants(notes)?;
+    let events = timeline.events();
+    let first = events.len().saturating_sub(SHOWN);
+    sheet.say_left_out(notes, first)?;
+    let mut place = first;
+    for shown in events.get(first..).unwrap_or(&[]) {
+        sheet.say_cuts(notes, place, cuts.as_slice())?;
+        sheet.say_event(notes, *shown)?;
+        place = place.saturating_add(1);
+    }
+    Ok(sheet.say_cuts(notes, place, cuts.as_slice())?)
+}
