@@ -6,17 +6,21 @@ _rdbg() {
   if [ "$current" = = ]; then current=; elif [ "$before" = = ]; then before=${COMP_WORDS[COMP_CWORD - 2]}; fi
   COMPREPLY=()
   if [ "$COMP_CWORD" -eq 1 ]; then
-    choices='talk expand run check crew test draw help --help'
+    choices='talk expand run check crew test draw help --help --version'
   elif [ "$word" = help ]; then
     choices='talk expand run check crew test draw help'
   elif [ "$before" = --as ]; then
     choices='text svg html shiviz mermaid'
+  elif [ "$before" = --color ]; then
+    choices='auto always never'
   elif [ "$before" = --turns ] || [ "$before" = --at ]; then
     return
   elif [[ $current == -* ]]; then
     case $word in
       check) choices='--explain --help' ;;
       crew) choices='--turns --help' ;;
+      talk) choices='--color --help' ;;
+      test) choices='--fill --help' ;;
       draw) choices='--as --at --at-halt --help' ;;
       *) choices='--help' ;;
     esac

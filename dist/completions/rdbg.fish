@@ -13,6 +13,8 @@ complete -c rdbg -n "not __fish_seen_subcommand_from $words" -a help -d 'Prints 
 complete -c rdbg -n '__fish_seen_subcommand_from help' -a 'talk expand run check crew test draw help'
 complete -c rdbg -n '__fish_seen_subcommand_from check' -l explain -d 'Print what is wrong, and where'
 complete -c rdbg -n '__fish_seen_subcommand_from crew' -l turns -x -d 'How often to give next for each process'
+complete -c rdbg -n '__fish_seen_subcommand_from talk' -l color -x -a 'auto always never' -d 'Whether output is coloured'
+complete -c rdbg -n '__fish_seen_subcommand_from test' -l fill -d 'Print the session with its replies'
 complete -c rdbg -n '__fish_seen_subcommand_from draw' -l as -x -a 'text svg html shiviz mermaid' -d 'The form of the picture'
 complete -c rdbg -n '__fish_seen_subcommand_from draw' -l at -x -d 'The state after this line'
 complete -c rdbg -n '__fish_seen_subcommand_from draw' -l at-halt -d 'The state at the first halt'

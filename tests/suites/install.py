@@ -111,7 +111,7 @@ def check_installation(suite, prefix):
     record = prefix / "share" / "rdbg" / "installed"
     if not check_status(suite, "install", 0, install, prefix, **named):
         return
-    for source, path in {suite.program: "bin/rdbg", **INSTALLED}.items():
+    for source, path in {suite.program: "libexec/rdbg", "dist/start": "bin/rdbg", **INSTALLED}.items():
         is_same = (TOP / source).read_bytes() == (prefix / path).read_bytes()
         suite.case(f"the installed {path}", "" if is_same else f"it is not as {source}")
     first = record.read_bytes()
@@ -252,7 +252,7 @@ def complete_in_zsh(word):
 def check_completions(suite, words):
     """The program's commands in the man page and the completions, and the options of each command."""
     check_words(suite, "the commands in the man page", re.findall(r"^\.Cm ([a-z]+)$", manual_section("SYNOPSIS"), re.M), words)
-    check_words(suite, "the commands in bash", complete_in_bash("rdbg", ""), [*words, "--help"])
+    check_words(suite, "the commands in bash", complete_in_bash("rdbg", ""), [*words, "--help", "--version"])
     check_words(suite, "the commands in zsh", re.findall(r"^    '([a-z]+):", (COMPLETIONS / "_rdbg").read_text(), re.M), words)
     check_words(suite, "the commands in fish", re.search(r"^set -l words (.*)", (COMPLETIONS / "rdbg.fish").read_text(), re.M)[1].split(), words)
     options = {word: OPTION.findall(suite.rdbg(word, "--help").output.decode()) for word in words if word != "help"}

@@ -2,17 +2,21 @@
 
 The next line is sent only after the reply to the line before it has come.
 """
+import fcntl
 import os
 import pty
 import select
+import struct
 import subprocess
+import termios
 
-from harness import Fault, temporary_folder
+from harness import TOP, Fault, temporary_folder
 
 PROGRAM = "process a { var x = 0; when (x < 2) : x := (x + 1); }\n%%\n"
 LINES = ["1 next a", "1 vars a", "1 next a", "1 next a", "1 undo a", "1 nonsense"]
 REPLIES = ["ok a 0", "vars a x=1", "ok a 0", "no 24", "ok a 0", "no 22"]
 PROMPT = "> "
+SIZE = 24, 80  # of a terminal: lines and columns
 SECONDS = 60  # to wait for output, at most
 
 
@@ -54,29 +58,136 @@ def pipe_problem(suite, words):
     return "" if started.returncode == 0 and not errors else f"status {started.returncode}, errors {errors!r}"
 
 
-def terminal_problem(suite, words, room):
-    """Types the lines at a terminal, which shows them itself, after a prompt."""
-    master, terminal = pty.openpty()
-    (room / "program.rdbg").write_text(PROGRAM)
-    started = subprocess.Popen([suite.program, *words, room / "program.rdbg"], stdin=terminal, stdout=terminal, stderr=terminal)
-    os.close(terminal)
-    conversation = Conversation(started, master)
-    shown = []
-    conversation.until(PROMPT)
+class Terminal(Conversation):
+    """A run of the program at a terminal, which shows what is typed."""
+
+    def __init__(self, *words, **environment):
+        master, terminal = pty.openpty()
+        fcntl.ioctl(terminal, termios.TIOCSWINSZ, struct.pack("HHHH", *SIZE, 0, 0))
+        named = {**os.environ, "NO_COLOR": "1", "TERM": "xterm", **environment}
+        # (the terminal is the one that controls the run, so that it sends Ctrl-C)
+        super().__init__(subprocess.Popen(words, stdin=terminal, stdout=terminal, stderr=terminal, env=named, start_new_session=True,
+                                          preexec_fn=lambda: fcntl.ioctl(0, termios.TIOCSCTTY, 0)), master)
+        os.close(terminal)
+
+    def type(self, text):
+        self.send(text, self.output)
+
+    def ended(self):
+        """What is written up to the end, and the status."""
+        try:
+            while select.select([self.output], [], [], SECONDS)[0]:
+                more = os.read(self.output, 4096).decode()
+                if not more:
+                    break
+                self.read += more.replace("\r\n", "\n")
+        except OSError:
+            pass  # (the terminal is closed)
+        status = self.started.wait(SECONDS)
+        os.close(self.output)
+        return self.read, status
+
+
+def terminal_problem(suite, file):
+    """Types the lines, of which each is asked for by a prompt."""
+    terminal, shown = Terminal(suite.program, "talk", file), []
+    terminal.until(PROMPT)
     for line, reply in zip(LINES, REPLIES):
-        conversation.send(f"{line}\n", master)
-        shown.append(conversation.until(f"{reply}\n"))
-        conversation.read = "\n" + conversation.read
-        conversation.until(f"\n{PROMPT}")
-    conversation.send("\x04", master)  # (Ctrl-D ends the input)
-    status = started.wait(SECONDS)
-    os.close(master)
+        terminal.type(f"{line}\n")
+        shown.append(terminal.until(f"{reply}\n"))
+        terminal.read = "\n" + terminal.read
+        terminal.until(f"\n{PROMPT}")
+    terminal.type("\x04")  # (Ctrl-D ends the input)
+    _, status = terminal.ended()
     wanted = [f"{line}\n{reply}\n" for line, reply in zip(LINES, REPLIES)]
     return "" if (status, shown) == (0, wanted) else f"status {status}, and the terminal shows {shown}"
+
+
+def prompt_problem(suite):
+    """Types a program, which has another prompt, and a line of a session."""
+    terminal = Terminal(suite.program, "talk")
+    shown = ""
+    for line in [*PROGRAM.splitlines(), "next a"]:
+        shown += terminal.until(PROMPT)
+        terminal.type(f"{line}\n")
+    shown += terminal.until("ok a 0\n")
+    terminal.type("quit\n")
+    _, status = terminal.ended()
+    program, end, _ = PROGRAM.splitlines(keepends=True) + [""]
+    wanted = f"program> {program}program> {end}> next a\nok a 0\n"
+    return "" if (status, shown) == (0, wanted) else f"status {status}, and the terminal shows {shown!r}"
+
+
+def program_file_problem(suite, file):
+    """Types a line of a session whose program is a file without a line `%%`."""
+    terminal = Terminal(suite.program, "talk", file)
+    terminal.until(PROMPT)
+    terminal.type("next a\n")
+    terminal.until("ok a 0\n")
+    terminal.type("exit\n")
+    _, status = terminal.ended()
+    return "" if status == 0 else f"status {status}"
+
+
+def picture_problem(suite, file):
+    """Draws a file. Nobody has to type anything."""
+    shown, status = Terminal(suite.program, "draw", file).ended()
+    return "" if status == 0 and shown.startswith("a\n") else f"status {status}, and the terminal shows {shown!r}"
+
+
+def color_problem(suite, file, wanted, environment, *words):
+    """Whether a refusal is coloured."""
+    terminal = Terminal(suite.program, "talk", *words, file, **environment)
+    terminal.until(PROMPT)
+    terminal.type("nonsense\n")
+    found = terminal.until("no 22")
+    terminal.type("\nquit\n")
+    _, status = terminal.ended()
+    is_red = found.endswith("\x1b[31mno 22")
+    return "" if (status, is_red) == (0, wanted) else f"status {status}, and the terminal shows {found!r}"
+
+
+def interrupt_problem(suite, file):
+    """Drops a line by Ctrl-C, in a session that dist/start begins."""
+    terminal = Terminal(TOP / "dist" / "start", "talk", "--no-rlwrap", file, RDBG_PROGRAM=str(suite.program))
+    terminal.until(PROMPT)
+    terminal.type("next a")
+    terminal.until("next a")
+    terminal.type("\x03vars a\n")
+    found = terminal.until("vars a x=0\n")
+    terminal.type("quit\n")
+    _, status = terminal.ended()
+    return "" if status == 0 and "ok a" not in found else f"status {status}, and the terminal shows {found!r}"
+
+
+def completion_problem(suite, file):
+    """Completes the name of a command and that of a process by the Tab key, under rlwrap."""
+    terminal = Terminal(TOP / "dist" / "start", "talk", file, RDBG_PROGRAM=str(suite.program))
+    terminal.until(PROMPT)
+    terminal.type("rollb\tcoun\t0\n")
+    terminal.until("ok counter=0")
+    terminal.type("quit\n")
+    _, status = terminal.ended()
+    return "" if status == 0 else f"status {status}"
 
 
 def run(suite):
     for words in (["run"], ["talk"]):
         suite.attempt(f"{words[0]}, line by line through a pipe", pipe_problem, suite, words)
     with temporary_folder() as room:
-        suite.attempt("talk, typed at a terminal", terminal_problem, suite, ["talk"], room)
+        session, program, counter = (room / f"{name}.rdbg" for name in ("session", "program", "counter"))
+        session.write_text(PROGRAM)
+        program.write_text(PROGRAM.partition("%%")[0])
+        counter.write_text(PROGRAM.replace("process a", "process counter"))
+        suite.attempt("talk, typed at a terminal", terminal_problem, suite, session)
+        suite.attempt("a program that is typed", prompt_problem, suite)
+        suite.attempt("a file without a line %%, at a terminal", program_file_problem, suite, program)
+        suite.attempt("a picture of a file, at a terminal", picture_problem, suite, session)
+        suite.attempt("colours at a terminal", color_problem, suite, session, True, {"NO_COLOR": ""})
+        suite.attempt("no colours with NO_COLOR", color_problem, suite, session, False, {})
+        suite.attempt("no colours at a dumb terminal", color_problem, suite, session, False, {"NO_COLOR": "", "TERM": "dumb"})
+        suite.attempt("no colours with --color never", color_problem, suite, session, False, {"NO_COLOR": ""}, "--color", "never")
+        suite.attempt("colours with --color always", color_problem, suite, session, True, {}, "--color", "always")
+        suite.attempt("Ctrl-C at a terminal", interrupt_problem, suite, session)
+        if suite.needs("rlwrap", "completion by rlwrap"):
+            suite.attempt("completion by rlwrap", completion_problem, suite, counter)

@@ -22,7 +22,7 @@ class Repository:
         self.top, self.kept, self.bin = room / "repository", room / "kept", room / "bin"
         for folder in (self.top / "dist", self.kept, self.bin):
             folder.mkdir(parents=True)
-        for file in ("rdbg", "dist/build.py", "HANDLES"):
+        for file in ("rdbg", "dist/build.py", "dist/start", "HANDLES"):
             shutil.copy(TOP / file, self.top / file)
         (self.top / "crates.txt").write_text(CRATES)
         for name in ("low", "high", "rdbg"):

@@ -19,4 +19,4 @@ IsWork work = Unit {0}
 
 abbrev pub IsRequest : request.Request → Type 0
 IsRequest (requests.Work work file) = IsWork work
-IsRequest (requests.Test files) = Unit {0}
+IsRequest request = Unit {0}

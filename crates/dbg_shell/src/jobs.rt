@@ -13,6 +13,15 @@ pub enum Job {
     Crew(u32),
 }
 
+/// Whether output is coloured.
+#[derive(Clone, Copy, Debug, PartialEq, Eq)]
+pub enum Coloring {
+    /// If it goes to a terminal that shows colours.
+    Auto,
+    Always,
+    Never,
+}
+
 /// The work on an input.
 #[derive(Clone, Copy, Debug, PartialEq, Eq)]
 pub enum Work {
@@ -23,7 +32,7 @@ pub enum Work {
     /// Print the plain session of one in the model notation.
     Expand,
     /// Answer and explain the lines of a person.
-    Talk,
+    Talk(Coloring),
     /// Play a session, and draw it.
     Draw(Picture),
 }
@@ -35,4 +44,8 @@ pub enum Request<'a> {
     Work(Work, Option<&'a str>),
     /// Play the sessions of these files, at least one, and compare their replies.
     Test(Vec<&'a str>),
+    /// Print the session of this file with the replies that it has now.
+    Fill(&'a str),
+    /// Print the version.
+    Version,
 }

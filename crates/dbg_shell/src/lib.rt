@@ -9,7 +9,7 @@ mod jobs;
 mod usage;
 
 pub use checking::check;
-pub use jobs::{Job, Request, Work};
+pub use jobs::{Coloring, Job, Request, Work};
 pub use shell_crew::{Closing, Crewed, Mismatch, crew_status, fits_turns, print_closing, run_crew};
 pub use shell_io::{Health, Noted, Sink, Source};
 pub use shell_parse::{Line, parse_line};

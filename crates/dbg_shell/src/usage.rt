@@ -3,7 +3,7 @@
 ghost use Rattle.std.specs.Prelude.{IfOk};
 ghost use Rattle.dbg_shell.specs.Jobs.{IsJob, IsWork, IsRequest};
 
-use crate::jobs::{Job, Request, Work};
+use crate::jobs::{Coloring, Job, Request, Work};
 use clap::builder::ValueParser;
 use clap::error::ErrorKind;
 use clap::{Arg, ArgAction, ArgMatches, Command, Error};
@@ -23,7 +23,8 @@ const _: () = prove!(TURNS as usize == CALLS);
 static GUIDE: &str =
     "The input is a program, a line `%%`, and for `talk`, `run` and `draw` command lines after it. For `check` and `crew`, all of it is
 the program if no line is `%%`. The input comes from FILE, if one is named; for `talk`, `run` and `draw` it continues with
-standard input. Otherwise all of it comes from standard input. An interactive session answers `help`, too.
+standard input (`draw` and `expand`: unless that is a terminal). Otherwise all of it comes from standard input. An interactive session
+answers `help`, too. `rdbg --version` prints the version.
 `talk`, `draw`, `test` and `check --explain` also read the model notation, and `expand` prints the plain session of one in it.
 
 Command lines, each after a seat from 1 to 16:
@@ -89,13 +90,32 @@ fn with_file<'a>(
         .arg(file(alloc).help(help))
 }
 
+static COLORINGS: [&str; 3] = ["auto", "always", "never"];
+
 fn talk<'a>(alloc: Global) -> Result<Command<'a>, AllocError> {
     with_file(
         alloc,
         "talk",
         "Interactive session: like `run`, with an explanation after each reply",
         "The program and the first lines; those of standard input follow",
+    )?
+    .arg(
+        Arg::new(alloc, "color")
+            .long("color")
+            .value_name("WHEN")
+            .default_value("auto")
+            .value_parser(ValueParser::Names(&COLORINGS))
+            .help("Whether output is coloured; `auto`: at a terminal, unless NO_COLOR is set or TERM is dumb"),
     )
+}
+
+// The coloring of this name.
+fn named_coloring(name: Option<&str>) -> Coloring {
+    match name {
+        Some("always") => Coloring::Always,
+        Some("never") => Coloring::Never,
+        _ => Coloring::Auto,
+    }
 }
 
 fn expand<'a>(alloc: Global) -> Result<Command<'a>, AllocError> {
@@ -158,6 +178,12 @@ fn test<'a>(alloc: Global) -> Result<Command<'a>, AllocError> {
                 .required(true)
                 .num_args(1..)
                 .help("The sessions"),
+        )?
+        .arg(
+            Arg::new(alloc, "fill")
+                .long("fill")
+                .action(ArgAction::SetTrue)
+                .help("Prints the session of one FILE with the replies that it has now, and compares nothing"),
         )
 }
 
@@ -248,7 +274,7 @@ fn named_work(
     ensures { IfOk result IsWork }
 {
     match name {
-        "talk" => Ok(Work::Talk),
+        "talk" => Ok(Work::Talk(named_coloring(matches.get_str("color")))),
         "expand" => Ok(Work::Expand),
         "draw" => Ok(Work::Draw(named_picture(command, matches)?)),
         "check" if matches.get_flag("explain") => Ok(Work::Explain),
@@ -270,15 +296,44 @@ fn named_files<'a>(alloc: Global, matches: &ArgMatches<'a>) -> Result<Vec<&'a st
     }
 }
 
+// The request of `test`.
+fn named_test<'a>(
+    alloc: Global,
+    command: &mut Command<'_>,
+    matches: &ArgMatches<'a>,
+) -> Result<Request<'a>, Error>
+    ensures { IfOk result IsRequest }
+{
+    let files = named_files(alloc, matches)?;
+    if !matches.get_flag("fill") {
+        return Ok(Request::Test(files));
+    }
+    match files.as_slice() {
+        [file] => Ok(Request::Fill(file)),
+        _ => Err(command.error(ErrorKind::TooManyValues, "'--fill' takes one file")?),
+    }
+}
+
+// Whether the arguments ask for the version.
+fn is_version<S: AsStr>(words: &[S]) -> bool {
+    match words {
+        [_, word] => matches!(word.as_str(), "--version" | "-V"),
+        _ => false,
+    }
+}
+
 /// What the arguments ask for; the first is the program's own name. The error is a request for help, or wrong arguments. It has the text to
 /// print and the exit status. A crew has 1 to 100,000 turns.
 pub fn asked<'a, S: AsStr>(alloc: Global, words: &'a [S]) -> Result<Request<'a>, Error>
     ensures { IfOk result IsRequest }
 {
+    if is_version(words) {
+        return Ok(Request::Version);
+    }
     let mut command = command(alloc)?;
     let matches = command.try_get_matches_from_mut(words)?;
     match matches.subcommand() {
-        Some(("test", own)) => Ok(Request::Test(named_files(alloc, own)?)),
+        Some(("test", own)) => named_test(alloc, &mut command, own),
         Some((name, own)) => {
             let work = named_work(&mut command, name, own)?;
             Ok(Request::Work(work, own.get_str("file")))

@@ -3,28 +3,37 @@
 
 mod buffer;
 mod output;
+mod paint;
 #[cfg(test)]
 mod tests;
 mod typing;
 mod words;
 
 use clap::error::ErrorKind;
-use dbg_shell::{Job, Request, Work, asked, check, crew_status, run_crew, serve, status};
+use dbg_shell::{Coloring, Job, Request, Work, asked, check, crew_status, run_crew, serve, status};
 use output::Output;
+use paint::Painted;
 use shell_io::{Noted, Sink, Source, one_behind_the_other};
 use std::alloc::Global;
+use std::env;
 use std::fs::File;
 use std::io;
-use std::io::{Error, Read};
+use std::io::{Error, IsTerminal, Read};
 use std::process::ExitCode;
 use std::sync::Wait;
 use std::thread::Threads;
-use typing::{FileInput, Typing, open};
+use typing::{Asks, FileInput, Typing, open};
 use ui_repl::{
-    SESSION_BYTES, Tested, converse, draw, draw_status, expand, explain, test_session,
+    SESSION_BYTES, Tested, converse, draw, draw_status, expand, explain, fill_session,
+    test_session,
 };
 use ui_session::Typed;
 use words::{WordsFault, words};
+
+static VERSION: &str = "rdbg 1.0";
+
+// The status if output could not be written.
+const NOT_WRITTEN: u8 = 1;
 
 // The status if a session did not have the expected replies.
 const DIFFERS: u8 = 1;
@@ -57,17 +66,23 @@ fn work_from<R: Threads + Wait + Sync, I: Read + Typed + Drop, W: Sink, E: Sink>
         Work::Job(job) => job_from(rt, alloc, job, &mut Noted::new(input), writer),
         Work::Explain => status(&explain(alloc, &mut Noted::new(input), writer)),
         Work::Expand => status(&expand(alloc, &mut Noted::new(input), writer, errors)),
-        Work::Talk => status(&converse(alloc, input, writer)),
+        Work::Talk(_) => status(&converse(alloc, input, writer)),
         Work::Draw(picture) => draw_status(&draw(alloc, picture, input, writer, errors)),
     }
 }
 
-// Whether standard input follows a file.
-fn reads_on(work: Work) -> bool {
-    matches!(
-        work,
-        Work::Job(Job::Run) | Work::Expand | Work::Talk | Work::Draw(_)
-    )
+// Whether standard input follows a file. Nobody is to type what a picture or an expanded session is made of.
+fn reads_on(work: Work, is_typed: bool) -> bool {
+    match work {
+        Work::Job(Job::Run) | Work::Talk(_) => true,
+        Work::Expand | Work::Draw(_) => !is_typed,
+        Work::Job(Job::Check | Job::Crew(_)) | Work::Explain => false,
+    }
+}
+
+// Whether a person types an interactive session.
+fn is_typed_session(work: Work, is_typed: bool) -> bool {
+    is_typed && matches!(work, Work::Talk(_))
 }
 
 // Does the work with this file.
@@ -79,20 +94,19 @@ fn work_with_file<R: Threads + Wait + Sync, W: Sink, E: Sink>(
     writer: &mut W,
     errors: &mut E,
 ) -> u8 {
-    if reads_on(work) {
-        let input = Typing::new(rt, work == Work::Talk);
-        let input = one_behind_the_other(file, input);
-        work_from(threads, rt.alloc(), work, input, writer, errors)
-    } else {
-        work_from(
-            threads,
-            rt.alloc(),
-            work,
-            FileInput { file },
-            writer,
-            errors,
-        )
+    let is_typed = rt.stdin().is_terminal();
+    if !reads_on(work, is_typed) {
+        let input = FileInput::new(file);
+        return work_from(threads, rt.alloc(), work, input, writer, errors);
     }
+    // At a terminal, the program ends with the file.
+    let (file, asks) = if is_typed_session(work, is_typed) {
+        (FileInput::with_end_line(file), Asks::Lines)
+    } else {
+        (FileInput::new(file), Asks::Nothing)
+    };
+    let input = one_behind_the_other(file, Typing::new(rt, asks));
+    work_from(threads, rt.alloc(), work, input, writer, errors)
 }
 
 // Reports that a file cannot be read, and returns the status of a usage error.
@@ -136,6 +150,19 @@ fn test<W: Sink>(rt: &HostRuntime, files: &[&str], writer: &mut W) -> u8 {
     worst
 }
 
+// Writes the session of this file with its replies, and returns the exit status.
+fn fill<W: Sink, E: Sink>(rt: &HostRuntime, name: &str, writer: &mut W, errors: &mut E) -> u8 {
+    match read_session(rt, name) {
+        Ok(session) => status(&fill_session(
+            rt.alloc(),
+            session.as_slice(),
+            writer,
+            errors,
+        )),
+        Err(error) => tell_unreadable(rt, name, &error),
+    }
+}
+
 // Does the work, and returns the exit status.
 fn do_work<R: Threads + Wait + Sync, W: Sink, E: Sink>(
     rt: &HostRuntime,
@@ -152,9 +179,35 @@ fn do_work<R: Threads + Wait + Sync, W: Sink, E: Sink>(
             Err(error) => tell_unreadable(rt, name, &error),
         },
         _ => {
-            let input = Typing::new(rt, work == Work::Talk);
+            let asks = match work {
+                Work::Talk(_) => Asks::Program,
+                _ => Asks::Nothing,
+            };
+            let input = Typing::new(rt, asks);
             work_from(threads, rt.alloc(), work, input, writer, errors)
         }
+    }
+}
+
+// Whether standard output is a terminal that shows colours.
+fn shows_colours(rt: &HostRuntime) -> bool {
+    let is_dumb = match env::var(rt, "TERM") {
+        Ok(term) => term.as_str() == "dumb",
+        Err(_) => true,
+    };
+    let is_unwanted = match env::var(rt, "NO_COLOR") {
+        Ok(value) => !value.is_empty(),
+        Err(_) => false,
+    };
+    rt.stdout().is_terminal() && !is_dumb && !is_unwanted
+}
+
+// Whether the output is coloured.
+fn is_coloured(rt: &HostRuntime, request: &Request<'_>) -> bool {
+    match request {
+        Request::Work(Work::Talk(Coloring::Auto), _) => shows_colours(rt),
+        Request::Work(Work::Talk(Coloring::Always), _) => true,
+        _ => false,
     }
 }
 
@@ -164,13 +217,19 @@ fn do_request<R: Threads + Wait + Sync>(
     threads: &R,
     request: &Request<'_>,
 ) -> u8 {
-    let mut writer = Output::new(rt.stdout());
+    let painted = Painted::new(rt.alloc(), rt.stdout(), is_coloured(rt, request));
+    let mut writer = Output::new(painted);
     let mut errors = Output::new(rt.stderr());
     match request {
         Request::Work(work, file) => {
             do_work(rt, threads, *work, *file, &mut writer, &mut errors)
         }
         Request::Test(files) => test(rt, files.as_slice(), &mut writer),
+        Request::Fill(file) => fill(rt, file, &mut writer, &mut errors),
+        Request::Version => match println!(rt; "{VERSION}") {
+            Ok(()) => 0,
+            Err(_) => NOT_WRITTEN,
+        },
     }
 }
 

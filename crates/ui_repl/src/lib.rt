@@ -3,10 +3,12 @@
 
 mod drawing;
 mod expanding;
+mod filling;
 mod first_lines;
 mod history;
 mod model;
 mod model_faults;
+mod playing;
 mod running;
 mod sentences;
 mod session_input;
@@ -14,6 +16,8 @@ mod testing;
 
 pub use drawing::{Drawn, draw, draw_status};
 pub use expanding::expand;
+pub use filling::fill_session;
 pub use model::Model;
+pub use playing::SESSION_BYTES;
 pub use running::{converse, explain, talk};
-pub use testing::{SESSION_BYTES, Tested, test_session};
+pub use testing::{Tested, test_session};

@@ -1,47 +1,13 @@
 //! Sessions with expectations.
 
-ghost use Rattle.std.specs.Prelude.{Some};
-
 use crate::expanding::write_text;
-use crate::model::{Model, ProgramKind};
-use crate::model_faults::refuse;
-use crate::running::talk;
-use crate::session_input::Beginning;
-use dbg_base::limits::INPUT_BYTES;
+use crate::playing::{PlayedSession, is_told, next_reply, replies_to, wanted};
 use itoa::Buffer;
-use shell_io::{Noted, Sink, Source};
+use shell_io::Sink;
 use shell_parse::{next_word, without_return};
 use shell_print::{ServeFault, Served};
 use std::alloc::{AllocError, Global};
-use std::io;
-use std::io::Read;
 use ui_explain::first_line;
-use ui_session::{Typed, is_directive};
-
-/// How many bytes of a session are read at most: one more than an input may have, which shows that it is too long.
-pub const SESSION_BYTES: u64 = 1_048_577;
-
-const _: () = prove!(SESSION_BYTES as usize == INPUT_BYTES + 1);
-
-// A text that is read, whose lines are not echoed.
-#[derive(Drop)]
-struct SessionText<'a> {
-    rest: &'a [u8],
-}
-
-impl Read for SessionText<'_> {
-    ghost remaining = { λ silent. Some silent.rest.now };
-
-    fn read(&mut self, bytes: &mut [u8]) -> io::Result<usize> {
-        self.rest.read(bytes)
-    }
-}
-
-impl Typed for SessionText<'_> {
-    fn is_typed(&self) -> bool {
-        true
-    }
-}
 
 /// The result of a session in which a line `> REPLY` gives the expected reply to the command line before it.
 #[derive(Clone, Copy, Debug, PartialEq, Eq)]
@@ -78,63 +44,22 @@ struct Comparison<'a> {
     compared: usize,
 }
 
-// The expected reply that this line gives, if it gives one.
-fn wanted(line: &[u8]) -> Option<&[u8]> {
-    let line = without_return(line);
-    match next_word(line).0.first() {
-        Some(b'>') => {
-            let from = line.iter().position(|byte| *byte == b'>')?;
-            Some(line.get(from.saturating_add(1)..)?.trim_ascii())
-        }
-        _ => None,
-    }
-}
-
 // Whether the line is blank or a comment.
 fn is_remark(line: &[u8]) -> bool {
     matches!(next_word(without_return(line)).0.first(), None | Some(b'#'))
-}
-
-fn is_told(line: &[u8]) -> bool {
-    matches!(line, [b' ', b' ', ..])
-}
-
-// The lines of a session after its program, each with its number.
-fn command_lines(session: &[u8]) -> (usize, &[u8]) {
-    let mut rest = session;
-    let mut number = 1usize;
-    for line in session.split(|byte| *byte == b'\n') {
-        rest = rest.get(line.len().saturating_add(1)..).unwrap_or(&[]);
-        number = number.saturating_add(1);
-        if line.trim_ascii_end() == b"%%".as_slice() {
-            break;
-        }
-    }
-    (number, rest)
-}
-
-// How many replies there are to a line.
-fn replies_to(alloc: Global, model: Option<&Model>, line: &[u8]) -> Result<usize, AllocError> {
-    match model {
-        Some(model) => model.replies(alloc, line),
-        None if is_directive(line) => Ok(0),
-        None => Ok(1),
-    }
 }
 
 // Compares the replies of a session with the output of the interactive session. The reply to a line of a model that stands for several
 // lines is the last one.
 fn compare<'a>(
     alloc: Global,
-    model: Option<&Model>,
-    session: &'a [u8],
-    page: &[u8],
+    played: &PlayedSession<'a>,
 ) -> Result<Comparison<'a>, AllocError> {
-    let (mut number, lines) = command_lines(session);
+    let (mut number, lines) = played.command_lines();
     let mut asked = None;
     let mut compared = 0usize;
     let mut replies = 0usize;
-    let mut rest = page;
+    let mut rest = played.page();
     let mut reply: &[u8] = &[];
     for line in lines.split(|byte| *byte == b'\n') {
         if let Some(wanted) = wanted(line) {
@@ -150,7 +75,7 @@ fn compare<'a>(
             asked = None;
         } else if !is_remark(line) {
             asked = None;
-            for _ in 0..replies_to(alloc, model, line)? {
+            for _ in 0..replies_to(alloc, played.model(), line)? {
                 asked = Some(Difference {
                     number,
                     line,
@@ -167,19 +92,6 @@ fn compare<'a>(
         wrong: None,
         compared,
     })
-}
-
-// The first reply, and the output after it.
-fn next_reply(page: &[u8]) -> (&[u8], &[u8]) {
-    let mut rest = page;
-    for _ in 0..page.len() {
-        let (line, behind) = first_line(rest);
-        if !is_told(line) {
-            return (line, behind);
-        }
-        rest = behind;
-    }
-    (&[], &[])
 }
 
 // Reports a line whose reply is not the expected one, with the explanation of that reply.
@@ -284,40 +196,6 @@ fn tell_comparison(
     }
 }
 
-// Plays a session whose reader and writer cannot fail.
-fn talk_alone<R: Source + Typed>(
-    alloc: Global,
-    model: Option<&Model>,
-    reader: &mut R,
-    page: &mut Noted<Vec<u8>>,
-) -> Result<Served, ServeFault> {
-    match talk(alloc, model, reader, page) {
-        Ok(served) => Ok(served),
-        Err(_) => Err(ServeFault::Memory),
-    }
-}
-
-// Plays a session whose text was read, or reports that its program is refused.
-fn play_alone(
-    alloc: Global,
-    kind: &ProgramKind,
-    beginning: &Beginning,
-    rest: SessionText<'_>,
-    page: &mut Noted<Vec<u8>>,
-) -> Result<Served, ServeFault> {
-    match kind {
-        ProgramKind::Plain => {
-            let mut reader = Noted::new(beginning.whole(rest));
-            talk_alone(alloc, None, &mut reader, page)
-        }
-        ProgramKind::Model(model) => {
-            let mut reader = Noted::new(beginning.expanded(alloc, model, rest)?);
-            talk_alone(alloc, Some(model), &mut reader, page)
-        }
-        ProgramKind::Wrong(fault) => refuse(alloc, beginning.text(), fault, page),
-    }
-}
-
 /// Plays the session of this name, which may be in the model notation. Writes how many replies were compared, or the first that was not the
 /// expected one, with its explanation. A line `> REPLY` gives the expected reply to the command line before it; between the two there are
 /// only comments and blank lines. A program that is refused, and input that is too long, are reported as an
@@ -328,15 +206,11 @@ pub fn test_session<W: Sink>(
     session: &[u8],
     writer: &mut W,
 ) -> Result<Tested, ServeFault> {
-    let mut page = Noted::new(Vec::new(alloc));
-    let (beginning, rest) = Beginning::read(alloc, SessionText { rest: session })?;
-    let kind = beginning.kind(alloc)?;
-    let served = play_alone(alloc, &kind, &beginning, rest, &mut page)?;
-    let page = page.into_inner();
-    match served {
+    let played = PlayedSession::play(alloc, session)?;
+    match played.served() {
         Served::Done => {}
         Served::Refused => {
-            let text = tell_named(alloc, name, page.as_slice())?;
+            let text = tell_named(alloc, name, played.page())?;
             write_text(text.as_slice(), writer)?;
             return Ok(Tested::Failed);
         }
@@ -346,12 +220,8 @@ pub fn test_session<W: Sink>(
             return Ok(Tested::Failed);
         }
     }
-    let model = match &kind {
-        ProgramKind::Model(model) => Some(model),
-        ProgramKind::Plain | ProgramKind::Wrong(_) => None,
-    };
-    let comparison = compare(alloc, model, session, page.as_slice())?;
-    let (text, tested) = tell_comparison(alloc, name, &comparison, page.as_slice())?;
+    let comparison = compare(alloc, &played)?;
+    let (text, tested) = tell_comparison(alloc, name, &comparison, played.page())?;
     write_text(text.as_slice(), writer)?;
     Ok(tested)
 }

@@ -1,6 +1,6 @@
 use crate::expecting::{expect_same, expect_true};
 use clap::error::ErrorKind;
-use dbg_shell::{Job, Request, Work, asked, job};
+use dbg_shell::{Coloring, Job, Request, Work, asked, job};
 use std::alloc::Global;
 use std::process::Abort;
 use std::test::Fail;
@@ -112,7 +112,7 @@ fn work_of(alloc: Global, words: &'static [&'static str]) -> Option<Work> {
 fn words_ask_for_talks(rt: HostRuntime) {
     let alloc = rt.alloc();
     let talk = work_of(alloc, ["rdbg", "talk"].as_slice());
-    expect_true(&rt, talk == Some(Work::Talk));
+    expect_true(&rt, talk == Some(Work::Talk(Coloring::Auto)));
     let explain = work_of(alloc, ["rdbg", "check", "--explain"].as_slice());
     expect_true(&rt, explain == Some(Work::Explain));
     let expand = work_of(alloc, ["rdbg", "expand"].as_slice());

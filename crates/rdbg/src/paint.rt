@@ -1,0 +1,214 @@
+//! Colours for a terminal.
+
+use std::alloc::{AllocError, Global};
+use std::io;
+use std::io::Write;
+
+// What a terminal is told: how text looks, by ISO 6429 (Select Graphic Rendition).
+const PLAIN: &str = "\x1b[0m";
+const BOLD: &str = "\x1b[1m";
+const FAINT: &str = "\x1b[2m";
+const INVERSE: &str = "\x1b[7m";
+const RED: &str = "\x1b[31m";
+
+// The colours of processes, in the order in which they are first shown.
+const HUES: [&str; 6] = [
+    "\x1b[36m", "\x1b[33m", "\x1b[35m", "\x1b[32m", "\x1b[34m", "\x1b[96m",
+];
+
+/// A writer for a terminal that colours the lines of an interactive session: refusals, halts, the processes and new values of events, and
+/// the places of commands. If it is off, it writes what it is given.
+#[derive(Drop)]
+pub(crate) struct Painted<W> {
+    inner: W,
+    is_on: bool,
+    // The line that has no end yet.
+    line: Vec<u8>,
+    // The processes that were shown.
+    names: Vec<Vec<u8>>,
+}
+
+// Where these bytes are first.
+fn find(bytes: &[u8], wanted: &[u8]) -> Option<usize> {
+    for at in 0..bytes.len() {
+        if bytes.get(at..).unwrap_or(&[]).starts_with(wanted) {
+            return Some(at);
+        }
+    }
+    None
+}
+
+// The bytes before and after a position.
+fn split(bytes: &[u8], at: usize) -> (&[u8], &[u8]) {
+    match (bytes.get(..at), bytes.get(at..)) {
+        (Some(front), Some(rest)) => (front, rest),
+        _ => (bytes, &[]),
+    }
+}
+
+// Appends bytes that look so.
+fn put(text: &mut Vec<u8>, look: &str, bytes: &[u8]) -> Result<(), AllocError> {
+    if bytes.is_empty() {
+        return Ok(());
+    }
+    text.extend_from_slice(look.as_bytes())?;
+    text.extend_from_slice(bytes)?;
+    text.extend_from_slice(PLAIN.as_bytes())
+}
+
+fn is_word_byte(byte: u8) -> bool {
+    byte.is_ascii_alphanumeric() || byte == b'_'
+}
+
+// The length of the first bytes that are so.
+fn length_of(bytes: &[u8], is_so: fn(u8) -> bool) -> usize {
+    let mut length = 0usize;
+    for byte in bytes {
+        if !is_so(*byte) {
+            break;
+        }
+        length = length.saturating_add(1);
+    }
+    length
+}
+
+// A line about an event, or about a process in a cut: the blanks before the name, the name, and the rest, which begins with the number.
+#[derive(Clone, Copy)]
+struct ProcessLine<'a> {
+    blanks: &'a [u8],
+    name: &'a [u8],
+    rest: &'a [u8],
+}
+
+// Whether bytes that begin with a number say nothing else, or continue in another column or with a second number.
+fn is_numbered(bytes: &[u8]) -> bool {
+    let (number, rest) = split(bytes, length_of(bytes, |byte| byte.is_ascii_digit()));
+    if number.is_empty() {
+        return false;
+    }
+    let is_part = rest.starts_with(b" of ") && rest.get(4).is_some_and(|byte| byte.is_ascii_digit());
+    rest.is_empty() || rest.starts_with(b"  ") || is_part
+}
+
+impl<'a> ProcessLine<'a> {
+    fn of(line: &'a [u8]) -> Option<ProcessLine<'a>> {
+        let (blanks, begun) = split(line, length_of(line, |byte| byte == b' '));
+        let (name, rest) = split(begun, length_of(begun, is_word_byte));
+        let (_, number) = split(rest, length_of(rest, |byte| byte == b' '));
+        if blanks.len() < 2 || name.is_empty() || rest.len() == number.len() || !is_numbered(number) {
+            return None;
+        }
+        Some(ProcessLine { blanks, name, rest })
+    }
+}
+
+// Appends what an event changed, with its new values bold.
+fn put_changes(text: &mut Vec<u8>, changes: &[u8]) -> Result<(), AllocError> {
+    let mut rest = changes;
+    for _ in 0..changes.len() {
+        let Some(at) = find(rest, b"-> ") else {
+            break;
+        };
+        let (front, behind) = split(rest, at.saturating_add(3));
+        let (value, others) = split(behind, length_of(behind, |byte| byte != b',' && byte != b' '));
+        text.extend_from_slice(front)?;
+        put(text, BOLD, value)?;
+        rest = others;
+    }
+    text.extend_from_slice(rest)
+}
+
+impl<W: Write> Painted<W> {
+    /// A writer on top of this one.
+    pub(crate) fn new(alloc: Global, inner: W, is_on: bool) -> Painted<W> {
+        Painted {
+            inner,
+            is_on,
+            line: Vec::new(alloc),
+            names: Vec::new(alloc),
+        }
+    }
+
+    // The colour of a process.
+    fn hue(&mut self, name: &[u8]) -> Result<&'static str, AllocError> {
+        let alloc = *self.line.allocator();
+        let known = self.names.iter().position(|known| known.as_slice() == name);
+        let place = match known {
+            Some(place) => place,
+            None => {
+                self.names.push(Vec::from_slice(alloc, name)?)?;
+                self.names.len().saturating_sub(1)
+            }
+        };
+        Ok(HUES.get(place % HUES.len()).copied().unwrap_or(PLAIN))
+    }
+
+    fn put_process_line(
+        &mut self,
+        text: &mut Vec<u8>,
+        line: ProcessLine<'_>,
+    ) -> Result<(), AllocError> {
+        let hue = self.hue(line.name)?;
+        text.extend_from_slice(line.blanks)?;
+        put(text, hue, line.name)?;
+        let (changes, place) = match find(line.rest, b"  :") {
+            Some(at) => split(line.rest, at),
+            None => (line.rest, b"".as_slice()),
+        };
+        put_changes(text, changes)?;
+        put(text, FAINT, place)
+    }
+
+    // A line, coloured.
+    fn painted(&mut self, line: &[u8]) -> Result<Vec<u8>, AllocError> {
+        let mut text = Vec::new(*self.line.allocator());
+        if let Some(found) = ProcessLine::of(line) {
+            self.put_process_line(&mut text, found)?;
+        } else if line.starts_with(b"no ") || line.starts_with(b"program refused") {
+            put(&mut text, RED, line)?;
+        } else if line.starts_with(b"  halted by ") {
+            put(&mut text, BOLD, line)?;
+        } else if let (true, Some(at)) = (line.starts_with(b"ok"), find(line, b"halted ")) {
+            let (front, halted) = split(line, at);
+            text.extend_from_slice(front)?;
+            put(&mut text, INVERSE, halted)?;
+        } else {
+            text.extend_from_slice(line)?;
+        }
+        Ok(text)
+    }
+
+    // Writes the line that is complete.
+    fn write_line(&mut self) -> io::Result<()> {
+        let alloc = *self.line.allocator();
+        let line = Vec::from_slice(alloc, self.line.as_slice())?;
+        self.line.clear();
+        let mut text = self.painted(line.as_slice())?;
+        text.push(b'\n')?;
+        self.inner.write_all(text.as_slice())
+    }
+}
+
+impl<W: Write> Write for Painted<W> {
+    fn write(&mut self, bytes: &[u8]) -> io::Result<usize> {
+        if !self.is_on {
+            return self.inner.write(bytes);
+        }
+        for byte in bytes {
+            if *byte == b'\n' {
+                self.write_line()?;
+            } else {
+                self.line.push(*byte)?;
+            }
+        }
+        Ok(bytes.len())
+    }
+
+    fn flush(&mut self) -> io::Result<()> {
+        if !self.line.is_empty() {
+            self.inner.write_all(self.line.as_slice())?;
+            self.line.clear();
+        }
+        self.inner.flush()
+    }
+}

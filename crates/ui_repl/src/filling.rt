@@ -1,0 +1,84 @@
+//! A session is written with the replies that it has.
+
+use crate::expanding::write_text;
+use crate::model::Model;
+use crate::playing::{PlayedSession, next_reply, replies_to, wanted};
+use shell_io::Sink;
+use shell_print::{ServeFault, Served};
+use std::alloc::{AllocError, Global};
+
+// Appends a line to the text.
+fn put_line(text: &mut Vec<u8>, begin: &[u8], line: &[u8]) -> Result<(), AllocError> {
+    text.extend_from_slice(begin)?;
+    text.extend_from_slice(line)?;
+    text.push(b'\n')?;
+    Ok(())
+}
+
+// The last of so many replies, and the output after them. There is none if the session has ended.
+fn last_reply(page: &[u8], count: usize) -> (Option<&[u8]>, &[u8]) {
+    let mut rest = page;
+    let mut last = None;
+    for _ in 0..count {
+        if rest.is_empty() {
+            break;
+        }
+        let (reply, behind) = next_reply(rest);
+        last = Some(reply);
+        rest = behind;
+    }
+    (last, rest)
+}
+
+// The lines of a session, each command line with its reply after it. The replies are those of the output.
+fn put_lines(
+    alloc: Global,
+    text: &mut Vec<u8>,
+    model: Option<&Model>,
+    lines: &[u8],
+    page: &[u8],
+) -> Result<(), AllocError> {
+    let mut rest = page;
+    for line in lines.split(|byte| *byte == b'\n') {
+        if wanted(line).is_some() {
+            continue;
+        }
+        put_line(text, b"", line)?;
+        let (reply, behind) = last_reply(rest, replies_to(alloc, model, line)?);
+        rest = behind;
+        if let Some(reply) = reply {
+            put_line(text, b"> ", reply)?;
+        }
+    }
+    Ok(())
+}
+
+/// Plays a session, which may be in the model notation, and writes it with its replies: a line `> REPLY` after each command line, in place of
+/// those that it has. A program that is refused is explained on the other writer. Returns how the session ended.
+pub fn fill_session<W: Sink, E: Sink>(
+    alloc: Global,
+    session: &[u8],
+    writer: &mut W,
+    errors: &mut E,
+) -> Result<Served, ServeFault> {
+    let played = PlayedSession::play(alloc, session)?;
+    match played.served() {
+        Served::Done => {}
+        Served::Refused => {
+            write_text(played.page(), errors)?;
+            return Ok(Served::Refused);
+        }
+        Served::TooLong => {
+            write_text(b"input too long\n", errors)?;
+            return Ok(Served::TooLong);
+        }
+    }
+    let (_, lines) = played.command_lines();
+    let program = session.len().saturating_sub(lines.len());
+    let mut text = Vec::from_slice(alloc, session.get(..program).unwrap_or(session))?;
+    // (a last line end ends no further line)
+    let lines = lines.strip_suffix(b"\n".as_slice()).unwrap_or(lines);
+    put_lines(alloc, &mut text, played.model(), lines, played.page())?;
+    write_text(text.as_slice(), writer)?;
+    Ok(Served::Done)
+}

@@ -1,0 +1,177 @@
+//! Sessions that are played into memory.
+
+ghost use Rattle.std.specs.Prelude.{Some};
+
+use crate::model::{Model, ProgramKind};
+use crate::model_faults::refuse;
+use crate::running::talk;
+use crate::session_input::Beginning;
+use dbg_base::limits::INPUT_BYTES;
+use shell_io::{Noted, Source};
+use shell_parse::{next_word, without_return};
+use shell_print::{ServeFault, Served};
+use std::alloc::{AllocError, Global};
+use std::io;
+use std::io::Read;
+use ui_explain::first_line;
+use ui_session::{Typed, is_directive};
+
+/// How many bytes of a session are read at most: one more than an input may have, which shows that it is too long.
+pub const SESSION_BYTES: u64 = 1_048_577;
+
+const _: () = prove!(SESSION_BYTES as usize == INPUT_BYTES + 1);
+
+// A text that is read, whose lines are not echoed.
+#[derive(Drop)]
+struct SessionText<'a> {
+    rest: &'a [u8],
+}
+
+impl Read for SessionText<'_> {
+    ghost remaining = { λ silent. Some silent.rest.now };
+
+    fn read(&mut self, bytes: &mut [u8]) -> io::Result<usize> {
+        self.rest.read(bytes)
+    }
+}
+
+impl Typed for SessionText<'_> {
+    fn is_typed(&self) -> bool {
+        true
+    }
+}
+
+/// The expected reply that this line gives, if it gives one.
+pub(crate) fn wanted(line: &[u8]) -> Option<&[u8]> {
+    let line = without_return(line);
+    match next_word(line).0.first() {
+        Some(b'>') => {
+            let from = line.iter().position(|byte| *byte == b'>')?;
+            Some(line.get(from.saturating_add(1)..)?.trim_ascii())
+        }
+        _ => None,
+    }
+}
+
+/// Whether a line of output is one of an explanation.
+pub(crate) fn is_told(line: &[u8]) -> bool {
+    matches!(line, [b' ', b' ', ..])
+}
+
+// The lines of a session after its program, each with its number.
+fn command_lines(session: &[u8]) -> (usize, &[u8]) {
+    let mut rest = session;
+    let mut number = 1usize;
+    for line in session.split(|byte| *byte == b'\n') {
+        rest = rest.get(line.len().saturating_add(1)..).unwrap_or(&[]);
+        number = number.saturating_add(1);
+        if line.trim_ascii_end() == b"%%".as_slice() {
+            break;
+        }
+    }
+    (number, rest)
+}
+
+/// How many replies there are to a line.
+pub(crate) fn replies_to(alloc: Global, model: Option<&Model>, line: &[u8]) -> Result<usize, AllocError> {
+    match model {
+        Some(model) => model.replies(alloc, line),
+        None if is_directive(line) => Ok(0),
+        None => Ok(1),
+    }
+}
+
+/// The first reply, and the output after it.
+pub(crate) fn next_reply(page: &[u8]) -> (&[u8], &[u8]) {
+    let mut rest = page;
+    for _ in 0..page.len() {
+        let (line, behind) = first_line(rest);
+        if !is_told(line) {
+            return (line, behind);
+        }
+        rest = behind;
+    }
+    (&[], &[])
+}
+
+// Plays a session whose reader and writer cannot fail.
+fn talk_alone<R: Source + Typed>(
+    alloc: Global,
+    model: Option<&Model>,
+    reader: &mut R,
+    page: &mut Noted<Vec<u8>>,
+) -> Result<Served, ServeFault> {
+    match talk(alloc, model, reader, page) {
+        Ok(served) => Ok(served),
+        Err(_) => Err(ServeFault::Memory),
+    }
+}
+
+// Plays a session whose text was read, or reports that its program is refused.
+fn play_alone(
+    alloc: Global,
+    kind: &ProgramKind,
+    beginning: &Beginning,
+    rest: SessionText<'_>,
+    page: &mut Noted<Vec<u8>>,
+) -> Result<Served, ServeFault> {
+    match kind {
+        ProgramKind::Plain => {
+            let mut reader = Noted::new(beginning.whole(rest));
+            talk_alone(alloc, None, &mut reader, page)
+        }
+        ProgramKind::Model(model) => {
+            let mut reader = Noted::new(beginning.expanded(alloc, model, rest)?);
+            talk_alone(alloc, Some(model), &mut reader, page)
+        }
+        ProgramKind::Wrong(fault) => refuse(alloc, beginning.text(), fault, page),
+    }
+}
+
+/// A session that was played, and what was written: its replies with their explanations, or why its program is refused.
+#[derive(Drop)]
+pub(crate) struct PlayedSession<'a> {
+    session: &'a [u8],
+    kind: ProgramKind,
+    served: Served,
+    page: Vec<u8>,
+}
+
+impl<'a> PlayedSession<'a> {
+    /// Plays a session, which may be in the model notation.
+    pub(crate) fn play(alloc: Global, session: &'a [u8]) -> Result<PlayedSession<'a>, ServeFault> {
+        let mut page = Noted::new(Vec::new(alloc));
+        let (beginning, rest) = Beginning::read(alloc, SessionText { rest: session })?;
+        let kind = beginning.kind(alloc)?;
+        let served = play_alone(alloc, &kind, &beginning, rest, &mut page)?;
+        Ok(PlayedSession {
+            session,
+            kind,
+            served,
+            page: page.into_inner(),
+        })
+    }
+
+    /// How the session ended.
+    pub(crate) fn served(&self) -> Served {
+        self.served
+    }
+
+    /// What was written.
+    pub(crate) fn page(&self) -> &[u8] {
+        self.page.as_slice()
+    }
+
+    /// The model, if the program is one.
+    pub(crate) fn model(&self) -> Option<&Model> {
+        match &self.kind {
+            ProgramKind::Model(model) => Some(model),
+            ProgramKind::Plain | ProgramKind::Wrong(_) => None,
+        }
+    }
+
+    /// The lines after the program, and the number of the first of them, from 1.
+    pub(crate) fn command_lines(&self) -> (usize, &'a [u8]) {
+        command_lines(self.session)
+    }
+}
