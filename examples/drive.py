@@ -74,13 +74,15 @@ class Session:
             pass  # (rdbg has ended; what it wrote before says why)
 
     def ask(self, line):
-        """What the session writes for a line after the line itself: the reply to a command, and explanations, which begin with two blanks."""
+        """What the session writes for a line after the line itself: the reply to a command, and explanations, which begin with two blanks.
+        Blank lines separate them from others."""
         self.send(f"{line}\n#\n")  # (rdbg writes the comment once it has written all of that)
         written = []
         for text in self.run.stdout:
             if text == "#\n":
                 return written[1:]
-            written.append(text.rstrip("\n"))
+            if text != "\n":
+                written.append(text.rstrip("\n"))
         return sys.exit("\n".join(["drive.py: rdbg has ended", *written]))
 
     def give(self, command):

@@ -15,6 +15,7 @@ OFFERS = [
     (re.compile(r"^`(pass \w+)` lets the session continue"), r"ok"),
     (re.compile(r"^`(pass \w+)` disarms it, and then the breakpoint (?P<next>\w+) halts"), r"ok halted {next}"),
     (re.compile(r"^`(arm \w+)` arms it"), r"ok( halted \w+)?"),
+    (re.compile(r"^`(goto \w+)` undoes the events"), r"ok .*"),
 ]
 FIRES = re.compile(r"^(\w+): command (\d+) in line \d+: ")
 
@@ -27,7 +28,7 @@ class Talked:
 
     def offers(self):
         """The commands that the explanation of a refusal offers, with a pattern of the reply that is due."""
-        for note in self.notes if self.reply.startswith("no ") else []:
+        for note in self.notes if self.reply.startswith("no ") or " halted " in self.reply else []:
             for offer, due in OFFERS:
                 found = offer.search(note)
                 if found:
@@ -45,7 +46,7 @@ def answers(suite, text):
 def talk(suite, program, lines):
     """The lines of an interactive session, as far as they have a reply, and what it writes after the last one for `on`."""
     ran = suite.rdbg("talk", given=program + "".join(f"{line}\n" for line in [*lines, "on"]))
-    written, talked = iter(ran.output.decode().splitlines()), []
+    written, talked = filter(None, ran.output.decode().splitlines()), []
     ahead = next(written, None)
 
     def notes():

@@ -7,35 +7,102 @@ use dbg_base::{Call, Cause, Choice, Elimination, Head, Name, Pid, Query, Refusal
 use least_cut::Detector;
 use std::alloc::{AllocError, Global};
 
-// At most this many eliminations are shown.
-const TOLD: usize = 12;
+// What a search has ruled out of the states of one process.
+#[derive(Clone, Copy)]
+struct RuledOut {
+    // In how many states the part of the process is false, and the number of events before the last of them.
+    false_states: usize,
+    last_false: u32,
+    // The last state that another process depends on, by its number of events, with that process and its event.
+    needed: Option<Needed>,
+}
 
-impl SourceView<'_> {
-    fn tell_elimination(
-        &self,
-        notes: &mut Notes,
-        elimination: &Elimination,
-    ) -> Result<(), AllocError> {
-        let scope = self.scope(elimination.pid);
+// So many events of a process are needed, because an event of another process depends on the last of them.
+#[derive(Clone, Copy)]
+struct Needed {
+    events: u32,
+    by: Pid,
+    event: u32,
+}
+
+// What was ruled out of the states of a process.
+fn ruled_out(trail: &[Elimination], pid: Pid) -> RuledOut {
+    let mut found = RuledOut {
+        false_states: 0,
+        last_false: 0,
+        needed: None,
+    };
+    for elimination in trail.iter().filter(|elimination| elimination.pid == pid) {
         match elimination.cause {
             Cause::FalseAt => {
-                notes.say(&[scope.name(), Part::Text(" after ")])?;
-                put_events(notes, elimination.from)?;
-                notes.add(&[Part::Text(": its part is false")])
+                found.false_states = found.false_states.saturating_add(1);
+                found.last_false = elimination.from;
             }
-            Cause::Passed(pid, count) => {
-                let count = Part::Number(i64::from(count));
-                notes.say(&[scope.name(), Part::Text(" needs ")])?;
-                put_events(notes, elimination.to)?;
-                notes.add(&[
-                    Part::Text(": event "),
-                    count,
-                    Part::Text(" of "),
-                    scope.process(pid),
-                    Part::Text(" depends on that"),
-                ])
+            Cause::Passed(by, event) => {
+                let events = elimination.to;
+                found.needed = Some(Needed { events, by, event });
             }
         }
+    }
+    found
+}
+
+impl SourceView<'_> {
+    // Says in which states of a process its part is false.
+    fn tell_false(
+        &self,
+        notes: &mut Notes,
+        pid: Pid,
+        states: usize,
+        last: u32,
+    ) -> Result<(), AllocError> {
+        notes.say(&[self.scope(pid).name(), Part::Text(": its part is false ")])?;
+        if states == 1 {
+            notes.add(&[Part::Text("after ")])?;
+        } else {
+            notes.add(&[
+                Part::Text("in "),
+                Part::Count(states),
+                Part::Text(" states, the last of them after "),
+            ])?;
+        }
+        put_events(notes, last)
+    }
+
+    // Says how many events of a process are needed, and for which event of another one.
+    fn tell_needed(
+        &self,
+        notes: &mut Notes,
+        pid: Pid,
+        needed: Needed,
+    ) -> Result<(), AllocError> {
+        let scope = self.scope(pid);
+        notes.say(&[scope.name(), Part::Text(": at least ")])?;
+        put_events(notes, needed.events)?;
+        notes.add(&[
+            Part::Text(", since event "),
+            Part::Number(i64::from(needed.event)),
+            Part::Text(" of "),
+            scope.process(needed.by),
+        ])?;
+        notes.add(&[
+            Part::Text(" depends on its event "),
+            Part::Number(i64::from(needed.events)),
+        ])
+    }
+
+    // Says what was ruled out of the states of all processes.
+    fn tell_ruled_out(&self, notes: &mut Notes, trail: &[Elimination]) -> Result<(), AllocError> {
+        for p in 0..self.session.program.processes() {
+            let found = ruled_out(trail, Pid(p));
+            if found.false_states > 0 {
+                self.tell_false(notes, Pid(p), found.false_states, found.last_false)?;
+            }
+            if let Some(needed) = found.needed {
+                self.tell_needed(notes, Pid(p), needed)?;
+            }
+        }
+        Ok(())
     }
 
     // Says why the part of a process does not hold yet, and which of its commands can fire now.
@@ -107,17 +174,12 @@ impl SourceView<'_> {
         let Some((_, breakpoint)) = self.session.book.find(name) else {
             return Ok(());
         };
-        let trail = breakpoint.detector().why();
-        let told = trail.len().min(TOLD);
-        if told < trail.len() {
-            notes.say(&[
-                Part::Count(trail.len()),
-                Part::Text(" states were ruled out; the last of them are:"),
-            ])?;
+        let detector = breakpoint.detector();
+        self.tell_ruled_out(notes, detector.why())?;
+        if let Some(cut) = detector.cut() {
+            notes.say(&[Part::Text("what is left is the earliest state:")])?;
+            return Ok(self.tell_cut_state(notes, detector, cut)?);
         }
-        for elimination in trail.get(trail.len() - told..).unwrap_or(&[]) {
-            self.tell_elimination(notes, elimination)?;
-        }
-        self.tell_past(alloc, notes, breakpoint.detector())
+        self.tell_past(alloc, notes, detector)
     }
 }

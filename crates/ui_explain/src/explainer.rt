@@ -7,6 +7,17 @@ use dbg_command::SessionView;
 use proc_lang::Program;
 use std::alloc::{AllocError, Global};
 
+/// How a line is written before its reply.
+#[derive(Clone, Copy, Debug, PartialEq, Eq)]
+pub enum Echo {
+    /// Not at all.
+    Nothing,
+    /// As it is.
+    Line,
+    /// After a blank line.
+    Separated,
+}
+
 /// Explains each line of a session. It borrows the session, so it does not change it. The default methods explain nothing.
 pub trait Explainer {
     /// A program with this text was read. Error: memory ran out.
@@ -19,9 +30,9 @@ pub trait Explainer {
         Ok(())
     }
 
-    /// A line is about to be answered, typed at a terminal or not. Returns whether the line is written before its reply.
-    fn hear(&mut self, _alloc: Global, _line: &[u8], _is_typed: bool) -> bool {
-        false
+    /// A line is about to be answered, typed at a terminal or not. Returns how the line is written before its reply.
+    fn hear(&mut self, _alloc: Global, _line: &[u8], _is_typed: bool) -> Echo {
+        Echo::Nothing
     }
 
     /// A call is about to be made.

@@ -27,7 +27,7 @@ mod view;
 
 pub use accepted::Before;
 pub use directive::Directive;
-pub use explainer::Explainer;
+pub use explainer::{Echo, Explainer};
 pub use expressions::ProcessView;
 pub use faults::{foreign_correction, tell_correction, tell_no_end_line};
 pub use forms::{tell_help, tell_too_long};

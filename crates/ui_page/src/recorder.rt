@@ -13,7 +13,7 @@ use dbg_command::SessionView;
 use lines::RecordedLines;
 use proc_lang::Program;
 use std::alloc::{AllocError, Global};
-use ui_explain::{Explainer, Notes, ProgramText};
+use ui_explain::{Echo, Explainer, Notes, ProgramText};
 
 // The kind of a call, as far as a page needs it.
 #[derive(Clone, Copy)]
@@ -227,10 +227,10 @@ impl Explainer for Recorder<'_> {
         }
     }
 
-    fn hear(&mut self, _alloc: Global, line: &[u8], _is_typed: bool) -> bool {
+    fn hear(&mut self, _alloc: Global, line: &[u8], _is_typed: bool) -> Echo {
         let begun = self.lines.begin(line);
         self.note(begun);
-        false
+        Echo::Nothing
     }
 
     fn prepare(&mut self, _alloc: Global, view: SessionView<'_>, call: &Call) {

@@ -8,7 +8,7 @@ use proc_lang::Program;
 use std::alloc::{AllocError, Global};
 use ui_diagram::draw_text;
 use ui_explain::{
-    Before, Directive, Explainer, Notes, Part, ProgramText, SourceView, tell_help,
+    Before, Directive, Echo, Explainer, Notes, Part, ProgramText, SourceView, tell_help,
     tell_too_long,
 };
 
@@ -29,7 +29,30 @@ pub(crate) struct Sentences<'a> {
     pending: Option<PendingCall>,
     // The line that is being answered. It is empty after memory ran out.
     line: Vec<u8>,
+    last_kind: LineKind,
     history: History,
+}
+
+// The kinds of lines, for the blank lines between them.
+#[derive(Clone, Copy, PartialEq, Eq)]
+enum LineKind {
+    // No line was there yet that is not blank.
+    None,
+    Blank,
+    Comment,
+    Expectation,
+    Command,
+}
+
+impl LineKind {
+    fn of(line: &[u8]) -> LineKind {
+        match line.trim_ascii().first() {
+            None => LineKind::Blank,
+            Some(b'#') => LineKind::Comment,
+            Some(b'>') => LineKind::Expectation,
+            Some(_) => LineKind::Command,
+        }
+    }
 }
 
 // The line without its seat.
@@ -48,6 +71,7 @@ impl<'a> Sentences<'a> {
             text: ProgramText::new(alloc, &[])?,
             pending: None,
             line: Vec::new(alloc),
+            last_kind: LineKind::None,
             history: History::new(alloc),
         })
     }
@@ -193,10 +217,23 @@ impl Explainer for Sentences<'_> {
         Ok(())
     }
 
-    // The terminal already shows what was typed.
-    fn hear(&mut self, alloc: Global, line: &[u8], is_typed: bool) -> bool {
+    // The terminal already shows what was typed. Of other lines, those that belong together are together: comments, a command, and the
+    // reply that is expected to it.
+    fn hear(&mut self, alloc: Global, line: &[u8], is_typed: bool) -> Echo {
+        let before = self.last_kind;
+        let kind = LineKind::of(line);
+        if before != LineKind::None || kind != LineKind::Blank {
+            self.last_kind = kind;
+        }
         self.line = Vec::from_slice(alloc, line.trim_ascii()).unwrap_or(Vec::new(alloc));
-        !is_typed
+        if is_typed {
+            return Echo::Nothing;
+        }
+        match (before, kind) {
+            (_, LineKind::Blank) => Echo::Nothing,
+            (LineKind::None | LineKind::Comment, _) | (_, LineKind::Expectation) => Echo::Line,
+            (LineKind::Blank | LineKind::Command | LineKind::Expectation, _) => Echo::Separated,
+        }
     }
 
     fn prepare(&mut self, alloc: Global, view: SessionView<'_>, call: &Call) {

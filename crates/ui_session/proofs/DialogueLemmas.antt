@@ -12,7 +12,7 @@ use Rattle.shell_print.specs.Writing.{Writes}
 use Rattle.shell_print.proofs.WriteLemmas.{front_then, stopped, writes_then}
 use Rattle.shell_input.specs.Spans.{is_unended}
 use Rattle.shell_serve.specs.Sessions.{MayBeQuiet, WritesForm}
-use Rattle.ui_session.specs.Dialogues.{explanation_line, explanation_text, IsExplanation, IsEcho, interactive}
+use Rattle.ui_session.specs.Dialogues.{explanation_line, explanation_text, IsExplanation, IsEcho, IsGap, interactive}
 
 -- nothing is explained
 none_explained : IsExplanation []
@@ -66,10 +66,19 @@ explains_stops {r = Err f} a b c line h one wrote same = record {
 pub no_echo : {A : Type 0} {u : A} (line : List ℕ) (a : Seen) → WritesForm {A = A} (IsEcho line) a (Ok u) a
 no_echo line a = record { text = []; form = inl refl; written = record { whole = appended_none a; part = tt; fault = tt } }
 
-pub echoed : {A B : Type 0} {u : A} {r : Result B ServeFault} (line : List ℕ) (a b c : Seen) → Writes {A = A} a b (Ok u) line
-    → Writes b c r (10 ∷ []) → WritesForm (IsEcho line) a r c
-echoed line a b c h k = record { text = as_line line; form = inr refl; written = writes_then h k }
+pub echoed : {A B C : Type 0} {u : A} {v : B} {r : Result C ServeFault} (line gap : List ℕ) (a b c d : Seen) → IsGap gap
+    → Writes {A = A} a b (Ok u) gap → Writes {A = B} b c (Ok v) line → Writes c d r (10 ∷ []) → WritesForm (IsEcho line) a r d
+echoed line gap a b c d is h k l =
+    record { text = gap ++ as_line line; form = inr (gap, is, refl); written = writes_then h (writes_then k l) }
 
-pub echo_stops : {A B : Type 0} {e : ServeFault} {r : Result B ServeFault} (line : List ℕ) (a b : Seen) → Writes {A = A} a b (Err e) line
-    → IsErrAnd r (λ f. f ≡ e) → WritesForm (IsEcho line) a r b
-echo_stops line a b h same = record { text = as_line line; form = inr refl; written = stopped (10 ∷ []) h same }
+-- the gap was not written
+pub gap_stops : {A B : Type 0} {e : ServeFault} {r : Result B ServeFault} (line gap : List ℕ) (a b : Seen) → IsGap gap
+    → Writes {A = A} a b (Err e) gap → IsErrAnd r (λ f. f ≡ e) → WritesForm (IsEcho line) a r b
+gap_stops line gap a b is h same =
+    record { text = gap ++ as_line line; form = inr (gap, is, refl); written = stopped (as_line line) h same }
+
+-- the gap was written, and the line was not
+pub echo_stops : {A B C : Type 0} {u : A} {e : ServeFault} {r : Result C ServeFault} (line gap : List ℕ) (a b c : Seen) → IsGap gap
+    → Writes {A = A} a b (Ok u) gap → Writes {A = B} b c (Err e) line → IsErrAnd r (λ f. f ≡ e) → WritesForm (IsEcho line) a r c
+echo_stops line gap a b c is h k same =
+    record { text = gap ++ as_line line; form = inr (gap, is, refl); written = writes_then h (stopped (10 ∷ []) k same) }

@@ -51,9 +51,13 @@ explanation_text lines = flat_map explanation_line lines
 abbrev pub IsExplanation : List ℕ → Type 0
 IsExplanation text = (lines : List (List ℕ)) × AllByRecursion (λ line. is_unended line ≡ true) lines × (text ≡ explanation_text lines)
 
--- the line itself, or nothing
+-- a blank line, or nothing
+abbrev pub IsGap : List ℕ → Type 0
+IsGap gap = (gap ≡ []) ⊎ (gap ≡ as_line [])
+
+-- nothing, or the line itself, which may come after a blank line
 abbrev pub IsEcho : List ℕ → List ℕ → Type 0
-IsEcho line echo = (echo ≡ []) ⊎ (echo ≡ as_line line)
+IsEcho line echo = (echo ≡ []) ⊎ ((gap : List ℕ) × IsGap gap × (echo ≡ gap ++ as_line line))
 
 -- the line ends the session: nothing but a remark is after its first word
 abbrev pub is_quit : List ℕ → Bool

@@ -60,8 +60,8 @@ impl<T: Explainer, R: Typed> Observer<R> for Dialogue<T> {
         reader: &R,
         writer: &mut W,
     ) -> Result<(), ServeFault> {
-        let echoes = self.explainer.hear(alloc, line, reader.is_typed());
-        write_echo(echoes, line, writer)
+        let echo = self.explainer.hear(alloc, line, reader.is_typed());
+        write_echo(echo, line, writer)
     }
 
     fn direct<W: Sink>(

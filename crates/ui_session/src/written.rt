@@ -1,14 +1,14 @@
 //! Output besides the replies.
 
-ghost use Rattle.std.specs.Prelude.{◌≡◌};
+ghost use Rattle.std.specs.Prelude.{◌≡◌, IfSome};
 ghost use Rattle.shell_print.specs.Writing.{Writes};
 ghost use Rattle.shell_input.specs.Spans.{is_unended};
 ghost use Rattle.shell_serve.specs.Sessions.{WritesForm};
-ghost use Rattle.ui_session.specs.Dialogues.{IsExplanation, IsEcho, explanation_line};
+ghost use Rattle.ui_session.specs.Dialogues.{IsExplanation, IsEcho, IsGap, explanation_line};
 
 use shell_io::Sink;
 use shell_print::{ServeFault, hand_on, write_whole};
-use ui_explain::Notes;
+use ui_explain::{Echo, Notes};
 
 fn is_unended(line: &[u8]) -> bool
     ensures { result ≡ is_unended line.now }
@@ -47,17 +47,29 @@ pub(crate) fn explain<W: Sink>(notes: &Notes, writer: &mut W) -> Result<(), Serv
     hand_on(written, writer)
 }
 
-/// Writes the line itself, if it was not typed.
+// What is written before a line that is echoed. None if it is not echoed.
+fn gap_before(echo: Echo) -> Option<&'static [u8]>
+    ensures { IfSome result (λ gap. IsGap gap.now) }
+{
+    match echo {
+        Echo::Nothing => None,
+        Echo::Line => Some(&[]),
+        Echo::Separated => Some(b"\n"),
+    }
+}
+
+/// Writes the line itself, or nothing.
 pub(crate) fn write_echo<W: Sink>(
-    echoes: bool,
+    echo: Echo,
     line: &[u8],
     writer: &mut W,
 ) -> Result<(), ServeFault>
     ensures written { WritesForm (IsEcho line.now) (W.seen writer.old) result (W.seen writer.new) }
 {
-    if !echoes {
+    let Some(gap) = gap_before(echo) else {
         return Ok(());
-    }
+    };
+    write_whole(writer, gap)?;
     write_whole(writer, line)?;
     write_whole(writer, b"\n")
 }
