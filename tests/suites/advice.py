@@ -1,6 +1,6 @@
 """What an interactive session says of random sessions: its replies are those of `run`, its advice is accepted, and what it says can fire does.
 
-After each refusal the commands that the explanation offers are given in its place. After the last line the commands that `on` lists are given.
+After each refusal and each halt, the commands that the explanation offers are given. After the last line the commands that `on` lists are given.
 """
 import re
 
@@ -9,7 +9,7 @@ from harness.random_sessions import random_session
 
 SESSIONS = 60
 END = "%%\n"
-# What the explanation of a refusal offers, and the replies that the command may have.
+# What the explanation of a refusal or a halt offers, and the replies that the command may have.
 OFFERS = [
     (re.compile(r"^`(rollback \w+ \d+)` undoes this event"), r"ok .*"),
     (re.compile(r"^`(pass \w+)` lets the session continue"), r"ok"),
@@ -27,7 +27,7 @@ class Talked:
         self.line, self.reply, self.notes = line, reply, notes
 
     def offers(self):
-        """The commands that the explanation of a refusal offers, with a pattern of the reply that is due."""
+        """The commands that the explanation of a refusal or of a halt offers, with a pattern of the reply that is due."""
         for note in self.notes if self.reply.startswith("no ") or " halted " in self.reply else []:
             for offer, due in OFFERS:
                 found = offer.search(note)
