@@ -4,7 +4,7 @@ use crate::expressions::ProcessView;
 use crate::notes::{Notes, Part};
 use crate::source::ProgramText;
 use dbg_base::Choice;
-use std::alloc::AllocError;
+use std::alloc::{AllocError, Global};
 
 impl ProcessView<'_> {
     /// Appends a command to the last line: its label, its number, and the line of the text at which it begins.
@@ -46,16 +46,15 @@ impl ProcessView<'_> {
         notes.add(&[Part::Bytes(label)])
     }
 
-    /// Appends the text of the line at which a command begins to the last line.
+    /// Appends the text of a command to the last line.
     pub(crate) fn put_text(
         &self,
+        alloc: Global,
         notes: &mut Notes,
         source: &ProgramText,
         choice: Choice,
     ) -> Result<(), AllocError> {
-        match source.place(self.pid, choice) {
-            Some(place) => notes.add(&[Part::Text(": "), Part::Bytes(source.line(place))]),
-            None => Ok(()),
-        }
+        let text = source.command_text(alloc, self.pid, choice)?;
+        notes.add(&[Part::Text(": "), Part::Bytes(text.as_slice())])
     }
 }

@@ -11,12 +11,16 @@ pub struct TextLine {
     to: usize,
 }
 
-// The line at which a command begins, and its label. A command without a label has an empty one.
+// The offset at which a command begins, its line, and its label. A command without a label has an empty one.
 #[derive(Debug, Drop)]
 struct CommandPlace {
+    at: usize,
     line: TextLine,
     label: Vec<u8>,
 }
+
+// The longest text of a command that is shown, in bytes.
+const SHOWN: usize = 160;
 
 /// A program's text, as it was written, with the place of each command.
 #[derive(Debug, Drop)]
@@ -38,6 +42,7 @@ fn note_word(
     commands: &mut Vec<Vec<CommandPlace>>,
     alloc: Global,
     word: &[u8],
+    at: usize,
     line: TextLine,
 ) -> Result<(), AllocError> {
     if word == b"process".as_slice() {
@@ -45,7 +50,7 @@ fn note_word(
     } else if word == b"when".as_slice() {
         if let Some(process) = commands.last_mut() {
             let label = Vec::new(alloc);
-            process.push(CommandPlace { line, label })?;
+            process.push(CommandPlace { at, line, label })?;
         }
     }
     Ok(())
@@ -60,8 +65,10 @@ fn places(alloc: Global, text: &[u8]) -> Result<Vec<Vec<CommandPlace>>, AllocErr
         number = number.saturating_add(1);
         let to = from.saturating_add(line.len());
         let place = TextLine { number, from, to };
+        let mut at = from;
         for word in line.split(|byte| !is_word_byte(*byte)) {
-            note_word(&mut commands, alloc, word, place)?;
+            note_word(&mut commands, alloc, word, at, place)?;
+            at = at.saturating_add(word.len()).saturating_add(1);
         }
         from = to.saturating_add(1);
     }
@@ -77,6 +84,33 @@ fn line_starts(alloc: Global, text: &[u8]) -> Result<Vec<usize>, AllocError> {
         from = from.saturating_add(line.len()).saturating_add(1);
     }
     Ok(starts)
+}
+
+// The text up to a `;`, in one line.
+fn one_line(alloc: Global, text: &[u8]) -> Result<Vec<u8>, AllocError> {
+    let mut line = Vec::new(alloc);
+    let mut is_comment = false;
+    let mut is_blank = false;
+    for byte in text {
+        is_comment = (is_comment || *byte == b'#') && *byte != b'\n';
+        if is_comment || byte.is_ascii_whitespace() {
+            is_blank = true;
+            continue;
+        }
+        if line.len() >= SHOWN {
+            line.extend_from_slice(b" ..")?;
+            break;
+        }
+        if is_blank {
+            line.push(b' ')?;
+            is_blank = false;
+        }
+        line.push(*byte)?;
+        if *byte == b';' {
+            break;
+        }
+    }
+    Ok(line)
 }
 
 impl ProgramText {
@@ -135,7 +169,7 @@ impl ProgramText {
         let line = self.line_at(at);
         let label = Vec::from_slice(alloc, label.unwrap_or(&[]))?;
         if let Some(process) = self.commands.last_mut() {
-            process.push(CommandPlace { line, label })?;
+            process.push(CommandPlace { at, line, label })?;
         }
         Ok(())
     }
@@ -156,6 +190,20 @@ impl ProgramText {
         match self.command(pid, choice) {
             Some(command) => command.label.as_slice(),
             None => &[],
+        }
+    }
+
+    /// The text of a command, up to its `;`. Blanks, line ends and comments in it are one blank. Of a long text it is the beginning. Error:
+    /// memory ran out.
+    pub fn command_text(
+        &self,
+        alloc: Global,
+        pid: Pid,
+        choice: Choice,
+    ) -> Result<Vec<u8>, AllocError> {
+        match self.command(pid, choice) {
+            Some(command) => one_line(alloc, self.text.get(command.at..).unwrap_or(&[])),
+            None => Ok(Vec::new(alloc)),
         }
     }
 

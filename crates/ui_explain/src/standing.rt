@@ -40,7 +40,7 @@ impl SourceView<'_> {
                 any = true;
                 notes.say(&[scope.name(), Part::Text(": ")])?;
                 scope.put_command(notes, self.text, choice)?;
-                scope.put_text(notes, self.text, choice)?;
+                scope.put_text(alloc, notes, self.text, choice)?;
             }
         }
         Ok(any)
@@ -91,7 +91,7 @@ impl SourceView<'_> {
         let scope = self.scope(pid);
         notes.say(&[scope.name(), Part::Text(": ")])?;
         scope.put_command(notes, self.text, choice)?;
-        scope.put_text(notes, self.text, choice)?;
+        scope.put_text(alloc, notes, self.text, choice)?;
         notes.say(&[Part::Text("  ")])?;
         scope.put_verdict(alloc, notes, self.session.world, choice)
     }
