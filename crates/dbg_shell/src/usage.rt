@@ -105,7 +105,9 @@ fn talk<'a>(alloc: Global) -> Result<Command<'a>, AllocError> {
             .value_name("WHEN")
             .default_value("auto")
             .value_parser(ValueParser::Names(&COLORINGS))
-            .help("Whether output is coloured; `auto`: at a terminal, unless NO_COLOR is set or TERM is dumb"),
+            .help(
+                "Whether output is coloured; `auto`: at a terminal, unless NO_COLOR is set or TERM is dumb",
+            ),
     )
 }
 
@@ -183,7 +185,9 @@ fn test<'a>(alloc: Global) -> Result<Command<'a>, AllocError> {
             Arg::new(alloc, "fill")
                 .long("fill")
                 .action(ArgAction::SetTrue)
-                .help("Prints the session of one FILE with the replies that it has now, and compares nothing"),
+                .help(
+                    "Prints the session of one FILE with the replies that it has now, and compares nothing",
+                ),
         )
 }
 

@@ -15,17 +15,15 @@ use output::Output;
 use paint::Painted;
 use shell_io::{Noted, Sink, Source, one_behind_the_other};
 use std::alloc::Global;
-use std::env;
 use std::fs::File;
-use std::io;
 use std::io::{Error, IsTerminal, Read};
 use std::process::ExitCode;
 use std::sync::Wait;
 use std::thread::Threads;
+use std::{env, io};
 use typing::{Asks, FileInput, Typing, open};
 use ui_repl::{
-    SESSION_BYTES, Tested, converse, draw, draw_status, expand, explain, fill_session,
-    test_session,
+    SESSION_BYTES, Tested, converse, draw, draw_status, expand, explain, fill_session, test_session,
 };
 use ui_session::Typed;
 use words::{WordsFault, words};
@@ -153,12 +151,7 @@ fn test<W: Sink>(rt: &HostRuntime, files: &[&str], writer: &mut W) -> u8 {
 // Writes the session of this file with its replies, and returns the exit status.
 fn fill<W: Sink, E: Sink>(rt: &HostRuntime, name: &str, writer: &mut W, errors: &mut E) -> u8 {
     match read_session(rt, name) {
-        Ok(session) => status(&fill_session(
-            rt.alloc(),
-            session.as_slice(),
-            writer,
-            errors,
-        )),
+        Ok(session) => status(&fill_session(rt.alloc(), session.as_slice(), writer, errors)),
         Err(error) => tell_unreadable(rt, name, &error),
     }
 }

@@ -6,9 +6,13 @@ use std::io::Write;
 
 // What a terminal is told: how text looks, by ISO 6429 (Select Graphic Rendition).
 const PLAIN: &str = "\x1b[0m";
+
 const BOLD: &str = "\x1b[1m";
+
 const FAINT: &str = "\x1b[2m";
+
 const INVERSE: &str = "\x1b[7m";
+
 const RED: &str = "\x1b[31m";
 
 // The colours of processes, in the order in which they are first shown.
@@ -86,7 +90,8 @@ fn is_numbered(bytes: &[u8]) -> bool {
     if number.is_empty() {
         return false;
     }
-    let is_part = rest.starts_with(b" of ") && rest.get(4).is_some_and(|byte| byte.is_ascii_digit());
+    let is_part = rest.starts_with(b" of ")
+        && rest.get(4).is_some_and(|byte| byte.is_ascii_digit());
     rest.is_empty() || rest.starts_with(b"  ") || is_part
 }
 
@@ -95,7 +100,11 @@ impl<'a> ProcessLine<'a> {
         let (blanks, begun) = split(line, length_of(line, |byte| byte == b' '));
         let (name, rest) = split(begun, length_of(begun, is_word_byte));
         let (_, number) = split(rest, length_of(rest, |byte| byte == b' '));
-        if blanks.len() < 2 || name.is_empty() || rest.len() == number.len() || !is_numbered(number) {
+        if blanks.len() < 2
+            || name.is_empty()
+            || rest.len() == number.len()
+            || !is_numbered(number)
+        {
             return None;
         }
         Some(ProcessLine { blanks, name, rest })
@@ -110,7 +119,10 @@ fn put_changes(text: &mut Vec<u8>, changes: &[u8]) -> Result<(), AllocError> {
             break;
         };
         let (front, behind) = split(rest, at.saturating_add(3));
-        let (value, others) = split(behind, length_of(behind, |byte| byte != b',' && byte != b' '));
+        let (value, others) = split(
+            behind,
+            length_of(behind, |byte| byte != b',' && byte != b' '),
+        );
         text.extend_from_slice(front)?;
         put(text, BOLD, value)?;
         rest = others;

@@ -29,12 +29,7 @@ impl SourceView<'_> {
     }
 
     // Says what the last event of a process did, if it has one.
-    fn tell_last(
-        &self,
-        notes: &mut Notes,
-        news: EventNews,
-        pid: Pid,
-    ) -> Result<(), AllocError> {
+    fn tell_last(&self, notes: &mut Notes, news: EventNews, pid: Pid) -> Result<(), AllocError> {
         self.tell_event(notes, news, pid, self.session.world.rows().len(pid))
     }
 

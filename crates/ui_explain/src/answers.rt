@@ -70,12 +70,7 @@ impl SourceView<'_> {
     }
 
     // Says how many events of a process are needed, and for which event of another one.
-    fn tell_needed(
-        &self,
-        notes: &mut Notes,
-        pid: Pid,
-        needed: Needed,
-    ) -> Result<(), AllocError> {
+    fn tell_needed(&self, notes: &mut Notes, pid: Pid, needed: Needed) -> Result<(), AllocError> {
         let scope = self.scope(pid);
         notes.say(&[scope.name(), Part::Text(": at least ")])?;
         put_events(notes, needed.events)?;

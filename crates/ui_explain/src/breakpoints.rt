@@ -151,11 +151,7 @@ impl SourceView<'_> {
         let Some((_, breakpoint)) = self.session.book.find(name) else {
             return Ok(());
         };
-        notes.say(&[
-            Part::Text("halted by "),
-            Part::Name(name),
-            Part::Text(": "),
-        ])?;
+        notes.say(&[Part::Text("halted by "), Part::Name(name), Part::Text(": ")])?;
         put_conjuncts(notes, self.session.program, breakpoint.detector())?;
         notes.say(&[Part::Text("the earliest global state in which this holds:")])?;
         self.tell_cut_of(notes, name)

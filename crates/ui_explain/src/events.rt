@@ -172,7 +172,11 @@ impl ProcessView<'_> {
         event: &Event,
     ) -> Result<(), AllocError> {
         self.put_settings(notes, event)?;
-        let word = if event.settings().is_empty() { "" } else { ", " };
+        let word = if event.settings().is_empty() {
+            ""
+        } else {
+            ", "
+        };
         self.put_exchange(notes, world, word, &event.exchange())
     }
 
@@ -236,7 +240,11 @@ impl SourceView<'_> {
         };
         let scope = self.scope(pid);
         let columns = Columns::of(self.session.program);
-        let begin = if news == EventNews::MadeByBatch { "  " } else { "" };
+        let begin = if news == EventNews::MadeByBatch {
+            "  "
+        } else {
+            ""
+        };
         notes.say(&[
             Part::Text(begin),
             scope.name(),

@@ -47,7 +47,11 @@ fn begins(bytes: &[u8], with: &[u8]) -> bool {
 const FOREIGN: [(&str, &str, &str); 9] = [
     ("", "//", "a comment begins with `#`"),
     ("", "--", "a comment begins with `#`"),
-    ("", "/*", "a comment begins with `#`, and ends with its line"),
+    (
+        "",
+        "/*",
+        "a comment begins with `#`, and ends with its line",
+    ),
     ("=", "=", "to compare two values, write `=`, and not `==`"),
     ("<", ">", "unequal is `!=`"),
     ("=", "<", "at most is `<=`"),
@@ -99,7 +103,9 @@ pub fn foreign_correction(text: &[u8], at: usize) -> Option<&'static str> {
         Some(byte) if byte.is_ascii_uppercase() => {
             Some("names and words have small letters only, with digits and `_`")
         }
-        Some(byte) if !byte.is_ascii() => Some("outside of comments, a program has ASCII signs only"),
+        Some(byte) if !byte.is_ascii() => Some(
+            "outside of comments, a program has ASCII signs only",
+        ),
         _ => foreign_word(before, at),
     }
 }
@@ -170,7 +176,10 @@ impl<'a> UnknownName<'a> {
     }
 
     fn before(&self) -> &'a [u8] {
-        self.text.get(..self.at).unwrap_or(self.text).trim_ascii_end()
+        self.text
+            .get(..self.at)
+            .unwrap_or(self.text)
+            .trim_ascii_end()
     }
 
     // Whether brackets with an index follow the name.
@@ -183,7 +192,10 @@ impl<'a> UnknownName<'a> {
     // Whether the name of a process is expected.
     fn is_of_process(&self) -> bool {
         let before = self.before();
-        let open = before.strip_suffix(b"(".as_slice()).unwrap_or(&[]).trim_ascii_end();
+        let open = before
+            .strip_suffix(b"(".as_slice())
+            .unwrap_or(&[])
+            .trim_ascii_end();
         ends_with_word(before, b"send")
             || ends_with_word(before, b"recv")
             || ends_with_word(open, b"sent")

@@ -91,7 +91,10 @@ impl SourceView<'_> {
             Part::Text(" received the message of event "),
         ])?;
         notes.add(&[Part::Count(events), Part::Text(" of "), scope.name()])?;
-        notes.add(&[Part::Text(" by its event "), Part::Number(i64::from(received))])?;
+        notes.add(&[
+            Part::Text(" by its event "),
+            Part::Number(i64::from(received)),
+        ])?;
         notes.say(&[Part::Text("`rollback "), scope.name(), Part::Text(" ")])?;
         notes.add(&[
             Part::Count(events.saturating_sub(1)),
@@ -140,9 +143,7 @@ impl SourceView<'_> {
                 Part::Text("` undoes the events that are not in its cut; "),
             ])?;
         }
-        notes.add(&[Part::Text(
-            "`undo`, `rollback` and `back` undo what led there",
-        )])?;
+        notes.add(&[Part::Text("`undo`, `rollback` and `back` undo what led there")])?;
         Ok(())
     }
 

@@ -99,7 +99,11 @@ fn draw_state<R: Source + Typed, W: Sink, E: Sink>(
         let written = write_whole(writer, picture);
         hand_on(written, writer)?;
     } else {
-        report(alloc, &[Part::Text("no breakpoint halts the session")], errors)?;
+        report(
+            alloc,
+            &[Part::Text("no breakpoint halts the session")],
+            errors,
+        )?;
         return Ok(Drawn::NoHalt);
     }
     Ok(Drawn::Played(served))

@@ -119,7 +119,11 @@ impl Model {
         program: &Program,
         label: usize,
     ) -> Result<Option<Pid>, AllocError> {
-        let Some(rest) = line.get(..label).unwrap_or(line).strip_prefix(b"step".as_slice()) else {
+        let Some(rest) = line
+            .get(..label)
+            .unwrap_or(line)
+            .strip_prefix(b"step".as_slice())
+        else {
             return Ok(None);
         };
         let mut asked = Vec::from_slice(alloc, b"next")?;
@@ -132,10 +136,15 @@ impl Model {
         let Some(plain) = plain.lines().first() else {
             return Ok(None);
         };
-        let word = plain.as_slice().trim_ascii().split(|byte| *byte == b' ').last();
-        Ok(word
-            .and_then(Name::new)
-            .and_then(|name| program.find_process(name)))
+        let word = plain
+            .as_slice()
+            .trim_ascii()
+            .split(|byte| *byte == b' ')
+            .last();
+        Ok(
+            word.and_then(Name::new)
+                .and_then(|name| program.find_process(name)),
+        )
     }
 
     // Says which labels the process of a line `step P LABEL` has.

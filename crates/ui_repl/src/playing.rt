@@ -73,7 +73,11 @@ fn command_lines(session: &[u8]) -> (usize, &[u8]) {
 }
 
 /// How many replies there are to a line.
-pub(crate) fn replies_to(alloc: Global, model: Option<&Model>, line: &[u8]) -> Result<usize, AllocError> {
+pub(crate) fn replies_to(
+    alloc: Global,
+    model: Option<&Model>,
+    line: &[u8],
+) -> Result<usize, AllocError> {
     match model {
         Some(model) => model.replies(alloc, line),
         None if is_directive(line) => Ok(0),

@@ -51,10 +51,7 @@ fn is_remark(line: &[u8]) -> bool {
 
 // Compares the replies of a session with the output of the interactive session. The reply to a line of a model that stands for several
 // lines is the last one.
-fn compare<'a>(
-    alloc: Global,
-    played: &PlayedSession<'a>,
-) -> Result<Comparison<'a>, AllocError> {
+fn compare<'a>(alloc: Global, played: &PlayedSession<'a>) -> Result<Comparison<'a>, AllocError> {
     let (mut number, lines) = played.command_lines();
     let mut asked = None;
     let mut compared = 0usize;

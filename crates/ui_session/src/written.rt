@@ -59,11 +59,7 @@ fn gap_before(echo: Echo) -> Option<&'static [u8]>
 }
 
 /// Writes the line itself, or nothing.
-pub(crate) fn write_echo<W: Sink>(
-    echo: Echo,
-    line: &[u8],
-    writer: &mut W,
-) -> Result<(), ServeFault>
+pub(crate) fn write_echo<W: Sink>(echo: Echo, line: &[u8], writer: &mut W) -> Result<(), ServeFault>
     ensures written { WritesForm (IsEcho line.now) (W.seen writer.old) result (W.seen writer.new) }
 {
     let Some(gap) = gap_before(echo) else {
