@@ -1,4 +1,4 @@
-"""The pictures of sessions: golden files, diagrams that Mermaid must read, and pages that must know what the program answers.
+"""The pictures of sessions: golden files, drawings, diagrams that Mermaid must read, and pages that must know what the program answers.
 
 The pages of tests/pictures/, of examples/ and of 20 random sessions are replayed from what they know of each line. The state to which this
 leads, and the replies on the way, must be those of the program.
@@ -6,6 +6,7 @@ leads, and the replies on the way, must be those of the program.
 import re
 
 from harness import TOP, Fault, sessions, temporary_folder
+from harness.drawing import Drawing
 from harness.page_data import FinalState, read_page
 from harness.random_sessions import random_session
 from harness.session import Session, draw, short_name
@@ -44,6 +45,25 @@ def page_problem(suite, file):
     return "\n".join(problems)
 
 
+def drawing_problem(suite, file):
+    """What is wrong with the drawing of a session at its end."""
+    drawing, events = Drawing(draw(suite, "svg", file)), len(draw(suite, "shiviz", file).splitlines()) // 2
+    problems = drawing.problems()
+    if drawing.events() != events:
+        problems.append(f"{drawing.events()} events are drawn, and there are {events}")
+    return "\n".join(problems)
+
+
+def halt_problem(suite, file):
+    """What is wrong with the drawing of a session at its first halt, if it has one."""
+    ran = suite.rdbg("draw", "--as", "svg", "--at-halt", file)
+    if ran.status == 1 and ran.errors == b"error: no breakpoint halts the session\n":
+        return ""
+    drawing = Drawing(ran.output)
+    halting = [cut for cut in drawing.cuts() if "halts" in drawing.kinds(cut)]
+    return "\n".join([*drawing.problems(), *([] if len(halting) == 1 else [f"{len(halting)} cuts halt the session"])])
+
+
 def mermaid_problem(suite, file):
     """The first line that Mermaid does not read."""
     diagram = draw(suite, "mermaid", file).decode()
@@ -71,3 +91,5 @@ def run(suite):
         for file in [*sessions("tests/pictures", "examples"), *random_files]:
             suite.attempt(f"the page of {short_name(file)}", page_problem, suite, file)
             suite.attempt(f"{short_name(file)} as mermaid", mermaid_problem, suite, file)
+            suite.attempt(f"the drawing of {short_name(file)}", drawing_problem, suite, file)
+            suite.attempt(f"the drawing of {short_name(file)} at its first halt", halt_problem, suite, file)

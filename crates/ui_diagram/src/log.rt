@@ -8,7 +8,6 @@ ghost use Rattle.proc_lang.specs.Programs.{program_of};
 ghost use Rattle.causal_world.specs.Scenes.{IsWorldOf};
 ghost use Rattle.ui_diagram.specs.Logs.{behind_commas, listed, counted, count_text, clock_text, entry_text, IsOneLine, IsLog};
 
-use crate::timeline::{ShownEvent, event_of};
 use dbg_base::{Cut, Pid, Refusal};
 use dbg_command::SessionView;
 use event_log::{TimedEvent, timed_events};
@@ -16,6 +15,7 @@ use itoa::Buffer;
 use proc_lang::Program;
 use std::alloc::{AllocError, Global};
 use ui_explain::{Notes, Part, ProcessView};
+use ui_timeline::{ShownEvent, event_of};
 
 // The processes of which a clock counts at least one event, in order.
 fn counted(alloc: Global, program: &Program, clock: &Cut) -> Result<Vec<Pid>, AllocError>

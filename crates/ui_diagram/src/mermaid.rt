@@ -1,12 +1,14 @@
 //! A session as a sequence diagram of Mermaid, which issue trackers draw.
 
-use crate::cuts::{NamedCut, bytes_of, halting, named_cuts, size};
-use crate::timeline::{ShownEvent, Timeline, event_of, received_by, sent_by};
 use dbg_base::{Pid, Refusal};
 use dbg_command::SessionView;
 use event_rows::Setting;
 use std::alloc::{AllocError, Global};
 use ui_explain::{Notes, Part, ProcessView};
+use ui_timeline::{
+    NamedCut, ShownEvent, Timeline, bytes_of, event_of, halting, named_cuts, received_by, sent_by,
+    size,
+};
 
 // The most events that are shown. Issue trackers draw no diagram of more than 50,000 characters.
 const SHOWN: usize = 400;
@@ -121,9 +123,10 @@ impl MermaidSheet<'_> {
                 return false;
             }
             match received_by(self.view.world, *next) {
-                Some(received) if received.source == shown.pid && received.sender == shown.number => {
-                    return true;
-                }
+                Some(received) if received.source == shown.pid && received.sender == shown.number =>
+                    {
+                        return true;
+                    }
                 _ => {}
             }
         }
@@ -217,7 +220,11 @@ impl MermaidSheet<'_> {
 /// Draws a session in its present state as a sequence diagram of Mermaid: its lines. An arrow is where its message was received, and a dashed
 /// one where a message was sent that is on its way. Notes say what the events set, and where the cuts of breakpoints are. Of a long history
 /// the end is shown.
-pub fn draw_mermaid(alloc: Global, notes: &mut Notes, view: SessionView<'_>) -> Result<(), Refusal> {
+pub fn draw_mermaid(
+    alloc: Global,
+    notes: &mut Notes,
+    view: SessionView<'_>,
+) -> Result<(), Refusal> {
     let mut cuts = named_cuts(alloc, view)?;
     let timeline = Timeline::of(alloc, view.world, cuts.as_mut_slice())?;
     let sheet = MermaidSheet {

@@ -1,13 +1,14 @@
 //! A space-time diagram for a terminal: a column for each process, time downward.
 
 use crate::canvas::{Canvas, CanvasRow};
-use crate::cuts::{NamedCut, bytes_of, halting, named_cuts, size};
-use crate::timeline::{ShownEvent, Timeline, event_of, received_by};
 use dbg_base::{Pid, Refusal};
 use dbg_command::SessionView;
 use event_rows::{Exchange, Setting};
 use std::alloc::{AllocError, Global};
 use ui_explain::{Notes, Part, ProcessView};
+use ui_timeline::{
+    NamedCut, ShownEvent, Timeline, bytes_of, event_of, halting, named_cuts, received_by, size,
+};
 
 // The most events that are shown.
 const SHOWN: usize = 60;

@@ -3,7 +3,8 @@
 use dbg_base::{Refusal, Said};
 use dbg_command::SessionView;
 use std::alloc::{AllocError, Global};
-use ui_diagram::{Moment, Picture, PictureForm, draw_drawing, draw_mermaid, draw_text, write_log};
+use ui_diagram::{Moment, Picture, PictureForm, draw_mermaid, draw_text, write_log};
+use ui_drawing::draw_drawing;
 use ui_explain::{Explainer, Notes};
 
 // Lines, each with a line end.
@@ -16,10 +17,10 @@ fn with_line_ends(alloc: Global, lines: &[Vec<u8>]) -> Result<Vec<u8>, AllocErro
     Ok(text)
 }
 
-// A picture in this form.
-fn picture_of(alloc: Global, form: PictureForm, view: SessionView<'_>) -> Result<Vec<u8>, Refusal> {
+// The picture that is wanted.
+fn picture_of(alloc: Global, wanted: Picture, view: SessionView<'_>) -> Result<Vec<u8>, Refusal> {
     let mut notes = Notes::new(alloc);
-    match form {
+    match wanted.form {
         PictureForm::Text => draw_text(alloc, &mut notes, view)?,
         PictureForm::Svg => draw_drawing(alloc, &mut notes, view)?,
         PictureForm::Mermaid => draw_mermaid(alloc, &mut notes, view)?,
@@ -68,7 +69,7 @@ impl Artist {
     }
 
     fn draw(&mut self, alloc: Global, view: SessionView<'_>) {
-        match picture_of(alloc, self.wanted.form, view) {
+        match picture_of(alloc, self.wanted, view) {
             Ok(picture) => self.picture = Some(picture),
             Err(_) => self.is_out_of_memory = true,
         }

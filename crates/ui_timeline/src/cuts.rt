@@ -9,23 +9,23 @@ use ui_explain::{Notes, Part, ProcessView};
 
 /// A cut that is shown, with its breakpoint.
 #[derive(Drop)]
-pub(crate) struct NamedCut {
-    pub(crate) name: Name,
+pub struct NamedCut {
+    pub name: Name,
     /// The position of the breakpoint among all, from 0.
-    pub(crate) place: usize,
-    pub(crate) cut: Cut,
+    pub place: usize,
+    pub cut: Cut,
     /// Whether the breakpoint halts the session.
-    pub(crate) halts: bool,
+    pub halts: bool,
     /// Whether the events of the cut are listed before all others.
-    pub(crate) is_front: bool,
+    pub is_front: bool,
     /// The processes that the predicate names.
-    pub(crate) pids: Vec<Pid>,
+    pub pids: Vec<Pid>,
     /// The part of the predicate that each of them has, as `left (state = 2)`.
     parts: Notes,
 }
 
 /// The first line, if there is one.
-pub(crate) fn bytes_of(words: &Notes) -> &[u8] {
+pub fn bytes_of(words: &Notes) -> &[u8] {
     match words.lines().first() {
         Some(line) => line.as_slice(),
         None => &[],
@@ -52,7 +52,11 @@ fn put_parts(
 }
 
 // The cut of the breakpoint of this name, if it has one.
-fn named_cut(alloc: Global, view: SessionView<'_>, name: Name) -> Result<Option<NamedCut>, Refusal> {
+fn named_cut(
+    alloc: Global,
+    view: SessionView<'_>,
+    name: Name,
+) -> Result<Option<NamedCut>, Refusal> {
     let Some((place, breakpoint)) = view.book.find(name) else {
         return Ok(None);
     };
@@ -92,7 +96,7 @@ fn put_cuts(
 }
 
 /// The cuts of the breakpoints, that of the one that halts the session first.
-pub(crate) fn named_cuts(alloc: Global, view: SessionView<'_>) -> Result<Vec<NamedCut>, Refusal> {
+pub fn named_cuts(alloc: Global, view: SessionView<'_>) -> Result<Vec<NamedCut>, Refusal> {
     let marks = view.book.list(alloc)?;
     let mut cuts = Vec::new(alloc);
     put_cuts(alloc, &mut cuts, view, marks.items(), true)?;
@@ -101,7 +105,7 @@ pub(crate) fn named_cuts(alloc: Global, view: SessionView<'_>) -> Result<Vec<Nam
 }
 
 /// The cut of the breakpoint that halts the session.
-pub(crate) fn halting(cuts: &[NamedCut]) -> Option<&NamedCut> {
+pub fn halting(cuts: &[NamedCut]) -> Option<&NamedCut> {
     match cuts.first() {
         Some(cut) if cut.halts => Some(cut),
         _ => None,
@@ -109,7 +113,7 @@ pub(crate) fn halting(cuts: &[NamedCut]) -> Option<&NamedCut> {
 }
 
 /// How many events of so many processes a cut has.
-pub(crate) fn size(cut: &Cut, processes: u32) -> usize {
+pub fn size(cut: &Cut, processes: u32) -> usize {
     let mut size = 0usize;
     for p in 0..processes {
         size = size.saturating_add(cut.count(Pid(p)) as usize);
@@ -118,8 +122,16 @@ pub(crate) fn size(cut: &Cut, processes: u32) -> usize {
 }
 
 impl NamedCut {
+    /// The name of the breakpoint, and whether it halts the session.
+    pub fn title(&self, alloc: Global) -> Result<Notes, AllocError> {
+        let mut title = Notes::new(alloc);
+        let halts = Part::Text(if self.halts { " halts here" } else { "" });
+        title.say(&[Part::Name(self.name), halts])?;
+        Ok(title)
+    }
+
     /// Appends what the breakpoint asks for to the last line: `left (state = 2) and right (state = 3)`.
-    pub(crate) fn put_predicate(&self, notes: &mut Notes) -> Result<(), AllocError> {
+    pub fn put_predicate(&self, notes: &mut Notes) -> Result<(), AllocError> {
         let mut word = "";
         for part in self.parts.lines() {
             notes.add(&[Part::Text(word), Part::Bytes(part.as_slice())])?;
@@ -129,7 +141,7 @@ impl NamedCut {
     }
 
     /// The name of the breakpoint and what it asks for, in one line: `split: left (state = 2) and right (state = 3)`.
-    pub(crate) fn heading(&self, alloc: Global) -> Result<Notes, AllocError> {
+    pub fn heading(&self, alloc: Global) -> Result<Notes, AllocError> {
         let mut heading = Notes::new(alloc);
         heading.say(&[Part::Name(self.name), Part::Text(": ")])?;
         self.put_predicate(&mut heading)?;
@@ -137,7 +149,7 @@ impl NamedCut {
     }
 
     /// The same, with a line for each part.
-    pub(crate) fn heading_lines(&self, alloc: Global) -> Result<Notes, AllocError> {
+    pub fn heading_lines(&self, alloc: Global) -> Result<Notes, AllocError> {
         let mut heading = Notes::new(alloc);
         let mut word = Part::Name(self.name);
         let mut between = ": ";
@@ -150,11 +162,7 @@ impl NamedCut {
     }
 
     /// Appends how many events of each process the cut has to the last line.
-    pub(crate) fn put_counts(
-        &self,
-        notes: &mut Notes,
-        program: &Program,
-    ) -> Result<(), AllocError> {
+    pub fn put_counts(&self, notes: &mut Notes, program: &Program) -> Result<(), AllocError> {
         let mut word = "";
         for p in 0..program.processes() {
             let count = self.cut.count(Pid(p));

@@ -4,19 +4,19 @@ use crate::cuts::{NamedCut, size};
 use causal_world::World;
 use dbg_base::{Cut, Pid, Refusal};
 use event_log::event_order;
-use event_rows::{Event, Exchange};
+use event_rows::Event;
 use std::alloc::{AllocError, Global};
 
 /// An event that is shown: the n-th of its process, from 1.
 #[derive(Clone, Copy, PartialEq, Eq)]
-pub(crate) struct ShownEvent {
-    pub(crate) pid: Pid,
-    pub(crate) number: u32,
+pub struct ShownEvent {
+    pub pid: Pid,
+    pub number: u32,
 }
 
 /// All events of a world, in an order in which they can have happened, and for each process the positions of its events in it.
 #[derive(Drop)]
-pub(crate) struct Timeline {
+pub struct Timeline {
     events: Vec<ShownEvent>,
     rows: Vec<Vec<u32>>,
 }
@@ -50,11 +50,7 @@ fn are_nested(one: &Cut, other: &Cut, processes: u32) -> bool {
 
 impl Timeline {
     /// The events of a world, those of the first of the cuts first; and which of the cuts go across.
-    pub(crate) fn of(
-        alloc: Global,
-        world: &World,
-        cuts: &mut [NamedCut],
-    ) -> Result<Timeline, Refusal> {
+    pub fn of(alloc: Global, world: &World, cuts: &mut [NamedCut]) -> Result<Timeline, Refusal> {
         let timeline = Timeline::ordered(alloc, world, cuts)?;
         let processes = world.tally().processes();
         for named in cuts {
@@ -96,83 +92,19 @@ impl Timeline {
     }
 
     /// The events, in order.
-    pub(crate) fn events(&self) -> &[ShownEvent] {
+    pub fn events(&self) -> &[ShownEvent] {
         self.events.as_slice()
     }
 
     /// The position of the n-th event of a process, from 0.
-    pub(crate) fn row(&self, pid: Pid, number: u32) -> Option<u32> {
+    pub fn row(&self, pid: Pid, number: u32) -> Option<u32> {
         let own = self.rows.get(pid.0 as usize)?;
         own.get(number.checked_sub(1)? as usize).copied()
     }
 }
 
-/// The message that an event sent or received, if any.
-pub(crate) fn exchange_of(world: &World, shown: ShownEvent) -> Exchange {
-    let at = (shown.number as usize).saturating_sub(1);
-    match world.rows().event(shown.pid, at) {
-        Some(event) => event.exchange(),
-        None => Exchange::Nothing,
-    }
-}
-
-/// A message that an event received: who sent it, its value, and the number, from 1, of the event that sent it.
-#[derive(Clone, Copy)]
-pub(crate) struct Received {
-    pub(crate) source: Pid,
-    pub(crate) value: i64,
-    pub(crate) sender: u32,
-}
-
-/// The message that an event received, if it did.
-pub(crate) fn received_by(world: &World, shown: ShownEvent) -> Option<Received> {
-    let Exchange::Took {
-        source,
-        message,
-        count,
-    } = exchange_of(world, shown)
-    else {
-        return None;
-    };
-    let tally = world.tally();
-    if count < 1 || count > tally.sent(source, shown.pid, tally.len(source)) {
-        return None;
-    }
-    Some(Received {
-        source,
-        value: message,
-        sender: tally.send_event(source, shown.pid, count),
-    })
-}
-
-/// A message that an event sent: to whom, its value, and whether it is on its way.
-#[derive(Clone, Copy)]
-pub(crate) struct Sent {
-    pub(crate) target: Pid,
-    pub(crate) value: i64,
-    pub(crate) is_on_its_way: bool,
-}
-
-/// The message that an event sent, if it did.
-pub(crate) fn sent_by(world: &World, shown: ShownEvent) -> Option<Sent> {
-    let Exchange::Sent {
-        target,
-        value,
-        count,
-    } = exchange_of(world, shown)
-    else {
-        return None;
-    };
-    let tally = world.tally();
-    Some(Sent {
-        target,
-        value,
-        is_on_its_way: count > tally.got(target, shown.pid, tally.len(target)),
-    })
-}
-
 /// The event that is shown.
-pub(crate) fn event_of(world: &World, shown: ShownEvent) -> Option<&Event> {
+pub fn event_of(world: &World, shown: ShownEvent) -> Option<&Event> {
     world
         .rows()
         .event(shown.pid, (shown.number as usize).saturating_sub(1))

@@ -1,0 +1,177 @@
+//! The words at the events and arrows of a drawing, and above and below it.
+
+use crate::sheet::Scene;
+use crate::svg::shortened;
+use dbg_base::Pid;
+use std::alloc::AllocError;
+use ui_explain::{Notes, Part, ProcessView};
+use ui_timeline::{NamedCut, ShownEvent, bytes_of, event_of, halting, received_by, sent_by, size};
+
+// The most variables that are shown at an event.
+const WORDS: usize = 2;
+
+// The most characters at an event.
+const LABEL: usize = 44;
+
+// The most characters of a line above or below the drawing.
+const SENTENCE: usize = 100;
+
+/// The choices of a redo line that are drawn, at most.
+pub(crate) const AGAIN: u32 = 4;
+
+impl<'a> Scene<'a> {
+    pub(crate) fn processes(&self) -> u32 {
+        self.view.program.processes()
+    }
+
+    pub(crate) fn scope(&self, pid: Pid) -> ProcessView<'a> {
+        ProcessView::new(self.view.program, pid)
+    }
+
+    /// The words at an event: its number, its command, and the first variables that it set.
+    pub(crate) fn event_label(&self, shown: ShownEvent) -> Result<Vec<u8>, AllocError> {
+        let mut words = Notes::new(self.alloc);
+        words.say(&[Part::Number(i64::from(shown.number))])?;
+        if let Some(event) = event_of(self.view.world, shown) {
+            words.add(&[Part::Text(":"), Part::Number(i64::from(event.choice().0))])?;
+            let scope = self.scope(shown.pid);
+            for setting in event.settings().iter().take(WORDS) {
+                let (name, value) = (scope.variable(setting.variable), Part::Number(setting.new));
+                words.add(&[Part::Text(" "), name, Part::Text("="), value])?;
+            }
+            if event.settings().len() > WORDS {
+                words.add(&[Part::Text(" ..")])?;
+            }
+        }
+        shortened(self.alloc, bytes_of(&words), LABEL)
+    }
+
+    /// The words at the message that an event received, or that it sent and that is on its way. None if there is no such message.
+    pub(crate) fn message_label(&self, shown: ShownEvent) -> Result<Option<Notes>, AllocError> {
+        let mut words = Notes::new(self.alloc);
+        if let Some(received) = received_by(self.view.world, shown) {
+            words.say(&[Part::Number(received.value)])?;
+            return Ok(Some(words));
+        }
+        match sent_by(self.view.world, shown) {
+            Some(sent) if sent.is_on_its_way => {
+                let name = self.scope(sent.target).name();
+                words.say(&[Part::Number(sent.value), Part::Text(" > "), name])?;
+                Ok(Some(words))
+            }
+            _ => Ok(None),
+        }
+    }
+
+    /// The two processes of that message, the one that sent it first.
+    pub(crate) fn message_ends(&self, shown: ShownEvent) -> Option<(Pid, Pid)> {
+        if let Some(received) = received_by(self.view.world, shown) {
+            return Some((received.source, shown.pid));
+        }
+        match sent_by(self.view.world, shown) {
+            Some(sent) if sent.is_on_its_way => Some((shown.pid, sent.target)),
+            _ => None,
+        }
+    }
+
+    /// Whether a message is on its way.
+    pub(crate) fn is_waiting(&self) -> bool {
+        let mut events = self.timeline.events().iter();
+        events.any(|shown| match sent_by(self.view.world, *shown) {
+            Some(sent) => sent.is_on_its_way,
+            None => false,
+        })
+    }
+
+    /// How many events of a process are drawn that can be redone.
+    pub(crate) fn again(&self, pid: Pid) -> u32 {
+        let world = self.view.world;
+        let length = world.line_len(pid);
+        length.saturating_sub(world.place(pid)).min(AGAIN)
+    }
+
+    /// The words at such an event, the n-th of its process, from 0: its command. After the last one that is drawn, how many others there are.
+    pub(crate) fn again_label(&self, pid: Pid, n: u32) -> Result<Notes, AllocError> {
+        let world = self.view.world;
+        let mut words = Notes::new(self.alloc);
+        words.say(&[])?;
+        let place = world.place(pid).saturating_add(n);
+        if let Some(choice) = world.choice(pid, place) {
+            words.add(&[Part::Number(i64::from(choice.0))])?;
+        }
+        let next = place.saturating_add(1);
+        let left = world.line_len(pid).saturating_sub(next);
+        if n.saturating_add(1) == self.again(pid) && left > 0 {
+            let left = Part::Number(i64::from(left));
+            words.add(&[Part::Text(" and "), left, Part::Text(" more")])?;
+        }
+        Ok(words)
+    }
+
+    /// The most such events of a process.
+    pub(crate) fn most_again(&self) -> u32 {
+        let mut again = 0u32;
+        for p in 0..self.processes() {
+            again = again.max(self.again(Pid(p)));
+        }
+        again
+    }
+}
+
+impl Scene<'_> {
+    /// What a drawing shows: the predicate of the breakpoint that halts the session, or how many events there are.
+    pub(crate) fn heading(&self) -> Result<Notes, AllocError> {
+        let mut heading = Notes::new(self.alloc);
+        let Some(cut) = halting(self.cuts) else {
+            let count = self.timeline.events().len();
+            let events = Part::Text(if count == 1 { " event" } else { " events" });
+            heading.say(&[Part::Count(count), events, Part::Text(", not halted")])?;
+            return Ok(heading);
+        };
+        let line = cut.heading(self.alloc)?;
+        if bytes_of(&line).len() <= SENTENCE {
+            return Ok(line);
+        }
+        for line in cut.heading_lines(self.alloc)?.lines() {
+            let line = shortened(self.alloc, line.as_slice(), SENTENCE)?;
+            heading.say(&[Part::Bytes(line.as_slice())])?;
+        }
+        Ok(heading)
+    }
+
+    /// What a cut is, below a drawing: its breakpoint, and the events in it.
+    pub(crate) fn cut_sentence(&self, cut: &NamedCut) -> Result<Vec<u8>, AllocError> {
+        let mut line = Notes::new(self.alloc);
+        line.say(&[Part::Name(cut.name)])?;
+        if !cut.halts {
+            line.add(&[Part::Text(": ")])?;
+            cut.put_predicate(&mut line)?;
+        }
+        line.add(&[Part::Text(" holds first ")])?;
+        if size(&cut.cut, self.processes()) == 0 {
+            line.add(&[Part::Text("at the start")])?;
+        } else {
+            line.add(&[Part::Text("after ")])?;
+            cut.put_counts(&mut line, self.view.program)?;
+        }
+        shortened(self.alloc, bytes_of(&line), SENTENCE)
+    }
+
+    /// What the marks of a drawing mean.
+    pub(crate) fn key(&self) -> Result<Notes, AllocError> {
+        let mut key = Notes::new(self.alloc);
+        key.say(&[Part::Text("3:0 is the third event of its process, by command 0.")])?;
+        if !self.cuts.is_empty() {
+            key.say(&[Part::Text(
+                "After the events with large marks, the parts of a predicate hold.",
+            )])?;
+        }
+        if self.is_waiting() {
+            key.say(&[Part::Text("Dashed arrows are messages on their way.")])?;
+        }
+        if self.most_again() > 0 {
+            key.say(&[Part::Text("Dotted marks are events that can be redone.")])?;
+        }
+        Ok(key)
+    }
+}
