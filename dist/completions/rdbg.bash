@@ -13,7 +13,7 @@ _rdbg() {
     choices='text svg html shiviz mermaid'
   elif [ "$before" = --color ]; then
     choices='auto always never'
-  elif [ "$before" = --turns ] || [ "$before" = --at ]; then
+  elif [ "$before" = --turns ] || [ "$before" = --at ] || [ "$before" = --width ]; then
     return
   elif [[ $current == -* ]]; then
     case $word in
@@ -21,7 +21,7 @@ _rdbg() {
       crew) choices='--turns --help' ;;
       talk) choices='--color --help' ;;
       test) choices='--fill --help' ;;
-      draw) choices='--as --at --at-halt --help' ;;
+      draw) choices='--as --at --at-halt --width --help' ;;
       *) choices='--help' ;;
     esac
   fi

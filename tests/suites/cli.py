@@ -40,6 +40,7 @@ RUNS = [
     ("draw_at_line_without_program", "draw --at 2", "process a { }\n"),
     ("draw_at_line_of_refused", "draw --at 6 refused.rdbg", ""),
     ("draw_without_halt", "draw --at-halt program.rdbg", "1 next a"),
+    ("draw_in_60_characters", "draw --width 60 ../pictures/long_names.rdbg", ""),
     ("draw_notation_at", "draw --at 36 notation_session.rdbg", ""),
     ("test_notation_passes", "test notation_expected.rdbg", ""),
     ("test_notation_fails", "test notation_unexpected.rdbg notation_fault.rdbg", ""),

@@ -10,7 +10,7 @@ use clap::{Arg, ArgAction, ArgMatches, Command, Error};
 use dbg_base::limits::CALLS;
 use std::alloc::{AllocError, Global};
 use std::convert::AsStr;
-use ui_diagram::{Moment, Picture, PictureForm};
+use ui_diagram::{Moment, Picture, PictureForm, WIDTH};
 
 static ABOUT: &str =
     "A debugger for processes that send each other messages: steps them, undoes events, halts at bad global states";
@@ -221,6 +221,15 @@ fn draw<'a>(alloc: Global) -> Result<Command<'a>, AllocError> {
             .long("at-halt")
             .action(ArgAction::SetTrue)
             .help("Draws the state at the first halt, in place of the end"),
+    )?
+    .arg(
+        Arg::new(alloc, "width")
+            .long("width")
+            .value_name("N")
+            .value_parser(clap::value_parser!(u32).range(20..=1_000))
+            .help(
+                "How many characters wide a text picture is at most, from 20 to 1000, if not 120",
+            ),
     )
 }
 
@@ -248,11 +257,20 @@ fn named_moment(matches: &ArgMatches<'_>) -> Moment {
 fn named_picture(command: &mut Command<'_>, matches: &ArgMatches<'_>) -> Result<Picture, Error> {
     let form = named_form(matches.get_str("as"));
     let moment = named_moment(matches);
+    let width = matches.get_one::<u32>("width");
     if form == PictureForm::Html && moment != Moment::End {
         let why = "a page has all states: '--as html' cannot be used with '--at' or '--at-halt'";
         return Err(command.error(ErrorKind::ArgumentConflict, why)?);
     }
-    Ok(Picture { form, moment })
+    if form != PictureForm::Text && width.is_some() {
+        let why = "only a text picture has a width: '--width' cannot be used with another form";
+        return Err(command.error(ErrorKind::ArgumentConflict, why)?);
+    }
+    Ok(Picture {
+        form,
+        moment,
+        width: width.unwrap_or(WIDTH),
+    })
 }
 
 fn command<'a>(alloc: Global) -> Result<Command<'a>, AllocError> {

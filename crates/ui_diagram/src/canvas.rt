@@ -3,18 +3,16 @@
 use dbg_base::Pid;
 use std::alloc::{AllocError, Global};
 
-// The width of a picture whose columns need not be wider.
-const WIDTH: usize = 120;
-
+// The least width of a column.
 const NARROWEST: usize = 8;
 
-const WIDEST: usize = 26;
-
-/// How many columns there are, and how wide each is.
-#[derive(Clone, Copy)]
+/// The columns of the processes.
+#[derive(Drop)]
 pub(crate) struct Canvas {
-    processes: usize,
-    width: usize,
+    // Where each column begins.
+    places: Vec<usize>,
+    // Where the last one ends.
+    end: usize,
 }
 
 /// A row of characters.
@@ -23,29 +21,65 @@ pub(crate) struct CanvasRow {
     bytes: Vec<u8>,
 }
 
-impl Canvas {
-    pub(crate) fn new(processes: u32) -> Canvas {
-        let processes = (processes as usize).max(1);
-        Canvas {
-            processes,
-            width: (WIDTH / processes).clamp(NARROWEST, WIDEST),
+// How wide a column is that needs so much, if no column is wider than another number, except that none is narrower than the least.
+fn column(need: usize, widest: usize) -> usize {
+    need.min(widest).max(NARROWEST)
+}
+
+// How wide all columns are.
+fn total(needs: &[usize], widest: usize) -> usize {
+    let mut total = 0usize;
+    for need in needs {
+        total = total.saturating_add(column(*need, widest));
+    }
+    total
+}
+
+// The largest number that no column may exceed, so that all are within this width.
+fn widest(needs: &[usize], width: usize) -> usize {
+    let mut widest = NARROWEST;
+    for more in NARROWEST..=width {
+        if total(needs, more) > width {
+            break;
         }
+        widest = more;
+    }
+    widest
+}
+
+impl Canvas {
+    /// Columns that need so much, within this width. If that is too little, the widest columns get less than they need.
+    pub(crate) fn new(alloc: Global, needs: &[usize], width: usize) -> Result<Canvas, AllocError> {
+        let widest = widest(needs, width);
+        let mut places = Vec::new(alloc);
+        let mut end = 0usize;
+        for need in needs {
+            places.push(end)?;
+            end = end.saturating_add(column(*need, widest));
+        }
+        Ok(Canvas { places, end })
     }
 
-    /// How wide a column is.
-    pub(crate) fn width(&self) -> usize {
-        self.width
+    /// Makes the last column so wide that the rows have this width at least.
+    pub(crate) fn widen(&mut self, width: usize) {
+        self.end = self.end.max(width);
     }
 
     /// The position of the line of a process.
     pub(crate) fn place(&self, pid: Pid) -> usize {
-        (pid.0 as usize).saturating_mul(self.width)
+        self.places.get(pid.0 as usize).copied().unwrap_or(self.end)
+    }
+
+    /// How many characters a column has room for, with a blank before the next one.
+    pub(crate) fn room(&self, pid: Pid) -> usize {
+        let next = self.place(Pid(pid.0.saturating_add(1)));
+        next.saturating_sub(self.place(pid)).saturating_sub(1)
     }
 
     /// A row that is filled with this character.
     pub(crate) fn filled(&self, alloc: Global, with: u8) -> Result<CanvasRow, AllocError> {
         let mut bytes = Vec::new(alloc);
-        for _ in 0..self.processes.saturating_mul(self.width) {
+        for _ in 0..self.end {
             bytes.push(with)?;
         }
         Ok(CanvasRow { bytes })
@@ -54,8 +88,8 @@ impl Canvas {
     /// A row with the line of each process.
     pub(crate) fn lines(&self, alloc: Global) -> Result<CanvasRow, AllocError> {
         let mut row = self.filled(alloc, b' ')?;
-        for p in 0..self.processes {
-            row.put(p.saturating_mul(self.width), b"|");
+        for place in &self.places {
+            row.put(*place, b"|");
         }
         Ok(row)
     }

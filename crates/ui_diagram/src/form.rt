@@ -31,4 +31,6 @@ pub enum Moment {
 pub struct Picture {
     pub form: PictureForm,
     pub moment: Moment,
+    /// How many characters wide a diagram of characters is.
+    pub width: u32,
 }

@@ -73,7 +73,7 @@ impl SvgSheet<'_> {
         ])?;
         if let Some(event) = event_of(self.scene.view.world, shown) {
             title.add(&[Part::Text(": ")])?;
-            scope.put_event(&mut title, self.scene.view.world.rows(), event)?;
+            scope.put_event(&mut title, self.scene.view.world, event)?;
             let choice = event.choice();
             let number = Part::Number(i64::from(choice.0));
             title.add(&[Part::Text("; command "), number, Part::Text(": ")])?;

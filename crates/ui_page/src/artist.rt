@@ -3,7 +3,7 @@
 use dbg_base::{Refusal, Said};
 use dbg_command::SessionView;
 use std::alloc::{AllocError, Global};
-use ui_diagram::{Moment, Picture, PictureForm, draw_mermaid, draw_text, write_log};
+use ui_diagram::{Moment, Picture, PictureForm, draw_mermaid, draw_text_within, write_log};
 use ui_drawing::draw_drawing;
 use ui_explain::{Explainer, Notes};
 
@@ -21,7 +21,7 @@ fn with_line_ends(alloc: Global, lines: &[Vec<u8>]) -> Result<Vec<u8>, AllocErro
 fn picture_of(alloc: Global, wanted: Picture, view: SessionView<'_>) -> Result<Vec<u8>, Refusal> {
     let mut notes = Notes::new(alloc);
     match wanted.form {
-        PictureForm::Text => draw_text(alloc, &mut notes, view)?,
+        PictureForm::Text => draw_text_within(alloc, &mut notes, view, wanted.width as usize)?,
         PictureForm::Svg => draw_drawing(alloc, &mut notes, view)?,
         PictureForm::Mermaid => draw_mermaid(alloc, &mut notes, view)?,
         PictureForm::Shiviz | PictureForm::Html => return write_log(alloc, view),

@@ -32,8 +32,23 @@ fn expect_refused(rt: &impl Abort, alloc: Global, rows: &[Row]) {
     }
 }
 
-const OTHER_WORDS: [Row; 12] = [
+const OTHER_WORDS: [Row; 15] = [
     (&["rdbg", "draw", "--as", "png"], ErrorKind::InvalidValue, 2),
+    (
+        &["rdbg", "draw", "--width", "19"],
+        ErrorKind::ValueValidation,
+        2,
+    ),
+    (
+        &["rdbg", "draw", "--width", "1001"],
+        ErrorKind::ValueValidation,
+        2,
+    ),
+    (
+        &["rdbg", "draw", "--as", "svg", "--width", "80"],
+        ErrorKind::ArgumentConflict,
+        2,
+    ),
     (
         &["rdbg", "draw", "--at", "0"],
         ErrorKind::ValueValidation,
@@ -149,7 +164,11 @@ fn words_ask_for_pictures(rt: HostRuntime) {
             PictureForm::Svg,
             Moment::End,
         ),
-        (&["rdbg", "draw", "--as=html"], PictureForm::Html, Moment::End),
+        (
+            &["rdbg", "draw", "--as=html"],
+            PictureForm::Html,
+            Moment::End,
+        ),
         (
             &["rdbg", "draw", "--as", "shiviz"],
             PictureForm::Shiviz,
@@ -172,9 +191,20 @@ fn words_ask_for_pictures(rt: HostRuntime) {
         ),
     ];
     for (words, form, moment) in rows {
-        let picture = Picture { form, moment };
+        let picture = Picture {
+            form,
+            moment,
+            width: 120,
+        };
         expect_true(&rt, work_of(alloc, words) == Some(Work::Draw(picture)));
     }
+    let picture = Picture {
+        form: PictureForm::Text,
+        moment: Moment::End,
+        width: 1000,
+    };
+    let wide = work_of(alloc, ["rdbg", "draw", "--width", "1000"].as_slice());
+    expect_true(&rt, wide == Some(Work::Draw(picture)));
 }
 
 #[test]

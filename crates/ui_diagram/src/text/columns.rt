@@ -1,0 +1,138 @@
+//! How wide the columns of a diagram are.
+
+use super::words::TextScene;
+use crate::canvas::Canvas;
+use dbg_base::{Pid, Refusal};
+use std::alloc::AllocError;
+use ui_explain::Notes;
+use ui_timeline::{NamedCut, ShownEvent, bytes_of, received_by};
+
+// What an arrow has besides its words: the line, its head, and a sign on each side.
+const ARROW: usize = 4;
+
+/// How much each column needs.
+#[derive(Drop)]
+struct Needs {
+    columns: Vec<usize>,
+}
+
+impl Needs {
+    // A column needs so many characters, and a blank.
+    fn add(&mut self, pid: Pid, characters: usize) {
+        if let Some(need) = self.columns.get_mut(pid.0 as usize) {
+            *need = (*need).max(characters.saturating_add(1));
+        }
+    }
+
+    // The words of an arrow between neighbours have to fit between their lines. Between others there is more room.
+    fn add_arrow(&mut self, from: Pid, to: Pid, label: &Notes) {
+        if from.0.abs_diff(to.0) == 1 {
+            let left = Pid(from.0.min(to.0));
+            self.add(left, bytes_of(label).len().saturating_add(ARROW));
+        }
+    }
+}
+
+impl TextScene<'_> {
+    fn measure_process(&self, needs: &mut Needs, pid: Pid) -> Result<(), AllocError> {
+        let name = match self.view.program.process_name(pid) {
+            Some(name) => name.bytes().len(),
+            None => 0,
+        };
+        needs.columns.push(name.saturating_add(1))?;
+        if let Some(again) = self.again(pid)? {
+            needs.add(pid, bytes_of(&again).len());
+        }
+        Ok(())
+    }
+
+    fn measure_event(&self, needs: &mut Needs, shown: ShownEvent) -> Result<(), AllocError> {
+        let words = self.event(shown, usize::MAX)?;
+        needs.add(shown.pid, bytes_of(&words).len());
+        if let Some(received) = received_by(self.view.world, shown) {
+            let label = self.received(received)?;
+            needs.add_arrow(received.source, shown.pid, &label);
+        }
+        Ok(())
+    }
+
+    // The arrows of the messages on their way between a process and the next one.
+    fn measure_waiting(&self, needs: &mut Needs, pid: Pid) -> Result<(), Refusal> {
+        let next = Pid(pid.0.saturating_add(1));
+        if next.0 >= self.processes() {
+            return Ok(());
+        }
+        for (from, to) in [(pid, next), (next, pid)] {
+            if let Some(label) = self.waiting(from, to)? {
+                needs.add_arrow(from, to, &label);
+            }
+        }
+        Ok(())
+    }
+
+    // The marks of a cut that does not go across are in each column.
+    fn measure_part(&self, needs: &mut Needs, cut: &NamedCut) {
+        let name = cut.name.bytes().len().saturating_add(3);
+        for p in 0..self.processes() {
+            if !cut.is_front {
+                needs.add(Pid(p), name);
+            }
+        }
+    }
+
+    // What the processes need.
+    fn measure_processes(&self, needs: &mut Needs) -> Result<(), Refusal> {
+        for p in 0..self.processes() {
+            self.measure_process(needs, Pid(p))?;
+        }
+        for p in 0..self.processes() {
+            self.measure_waiting(needs, Pid(p))?;
+        }
+        Ok(())
+    }
+
+    // What the events that are shown and the cuts need.
+    fn measure_events(
+        &self,
+        needs: &mut Needs,
+        events: &[ShownEvent],
+        cuts: &[NamedCut],
+    ) -> Result<(), AllocError> {
+        for shown in events {
+            self.measure_event(needs, *shown)?;
+        }
+        for cut in cuts {
+            self.measure_part(needs, cut);
+        }
+        Ok(())
+    }
+
+    // The width that the names of the cuts need that go across.
+    fn across_width(&self, cuts: &[NamedCut]) -> Result<usize, AllocError> {
+        let mut width = 0usize;
+        for cut in cuts {
+            if cut.is_front {
+                let title = cut.title(self.alloc)?;
+                width = width.max(bytes_of(&title).len().saturating_add(6));
+            }
+        }
+        Ok(width)
+    }
+
+    /// Columns for these events and cuts, as wide as they need to be within this width.
+    pub(super) fn canvas(
+        &self,
+        events: &[ShownEvent],
+        cuts: &[NamedCut],
+        width: usize,
+    ) -> Result<Canvas, Refusal> {
+        let mut needs = Needs {
+            columns: Vec::new(self.alloc),
+        };
+        self.measure_processes(&mut needs)?;
+        self.measure_events(&mut needs, events, cuts)?;
+        let mut canvas = Canvas::new(self.alloc, needs.columns.as_slice(), width)?;
+        canvas.widen(self.across_width(cuts)?.min(width));
+        Ok(canvas)
+    }
+}

@@ -1,0 +1,173 @@
+//! The words of a diagram: at events and arrows, and at what can be redone.
+
+use dbg_base::{Pid, Refusal};
+use dbg_command::SessionView;
+use event_rows::Setting;
+use std::alloc::{AllocError, Global};
+use ui_explain::{Notes, Part, ProcessView};
+use ui_timeline::{Received, ShownEvent, bytes_of, event_of, sent_by};
+
+/// What a diagram shows.
+#[derive(Clone, Copy)]
+pub(super) struct TextScene<'a> {
+    pub(super) alloc: Global,
+    pub(super) view: SessionView<'a>,
+}
+
+/// The characters of a line that is made of parts.
+pub(super) fn words(alloc: Global, parts: &[Part<'_>]) -> Result<Notes, AllocError> {
+    let mut words = Notes::new(alloc);
+    words.say(parts)?;
+    Ok(words)
+}
+
+// Appends as much of a name to the words as fits, but at least one character. If some of it is left out, dots follow, if there is room for
+// them.
+fn put_shortened(line: &mut Notes, name: &[u8], room: usize) -> Result<(), AllocError> {
+    let dots = if name.len() > room && room >= 4 { 2 } else { 0 };
+    let kept = room.saturating_sub(dots).max(1);
+    line.add(&[Part::Bytes(name.get(..kept).unwrap_or(name))])?;
+    line.add(&[Part::Text(if dots > 0 { ".." } else { "" })])
+}
+
+impl<'a> TextScene<'a> {
+    pub(super) fn processes(&self) -> u32 {
+        self.view.program.processes()
+    }
+
+    pub(super) fn scope(&self, pid: Pid) -> ProcessView<'a> {
+        ProcessView::new(self.view.program, pid)
+    }
+
+    // A variable that an event set, in so much room: its name is cut before its value is.
+    fn setting(
+        &self,
+        scope: ProcessView<'_>,
+        setting: &Setting,
+        room: usize,
+    ) -> Result<Notes, AllocError> {
+        let mut line = words(self.alloc, &[Part::Text(" ")])?;
+        let name = words(self.alloc, &[scope.variable(setting.variable)])?;
+        let value = words(self.alloc, &[Part::Text("="), Part::Number(setting.new)])?;
+        let used = bytes_of(&value).len().saturating_add(1);
+        put_shortened(&mut line, bytes_of(&name), room.saturating_sub(used))?;
+        line.add(&[Part::Bytes(bytes_of(&value))])?;
+        Ok(line)
+    }
+
+    // All variables that an event set.
+    fn all_settings(
+        &self,
+        scope: ProcessView<'_>,
+        settings: &[Setting],
+    ) -> Result<Notes, AllocError> {
+        let mut line = words(self.alloc, &[])?;
+        for setting in settings {
+            let setting = self.setting(scope, setting, usize::MAX)?;
+            line.add(&[Part::Bytes(bytes_of(&setting))])?;
+        }
+        Ok(line)
+    }
+
+    // The variables that an event set, in so much room. Two dots mean that more were set.
+    fn settings(
+        &self,
+        scope: ProcessView<'_>,
+        settings: &[Setting],
+        room: usize,
+    ) -> Result<Notes, AllocError> {
+        let all = self.all_settings(scope, settings)?;
+        if bytes_of(&all).len() <= room {
+            return Ok(all);
+        }
+        if let [first, others @ ..] = settings {
+            let dots = if others.is_empty() { "" } else { " .." };
+            let mut line = self.setting(scope, first, room.saturating_sub(dots.len()))?;
+            line.add(&[Part::Text(dots)])?;
+            if bytes_of(&line).len() <= room {
+                return Ok(line);
+            }
+        }
+        words(self.alloc, &[Part::Text(if room < 3 { "" } else { " .." })])
+    }
+
+    // The message that an event sent, in so much room: the name of its recipient is cut before its value is.
+    fn sent(&self, shown: ShownEvent, room: usize) -> Result<Notes, AllocError> {
+        let mut line = words(self.alloc, &[])?;
+        if let Some(sent) = sent_by(self.view.world, shown) {
+            line.add(&[Part::Text(" "), Part::Number(sent.value), Part::Text(">")])?;
+            let name = words(self.alloc, &[self.scope(sent.target).name()])?;
+            let used = bytes_of(&line).len();
+            put_shortened(&mut line, bytes_of(&name), room.saturating_sub(used))?;
+        }
+        Ok(line)
+    }
+
+    /// What an event did, in few words, within so much room. What it set is left out before what it sent.
+    pub(super) fn event(&self, shown: ShownEvent, room: usize) -> Result<Notes, AllocError> {
+        let number = Part::Number(i64::from(shown.number));
+        let mut line = words(self.alloc, &[Part::Text("o "), number])?;
+        let Some(event) = event_of(self.view.world, shown) else {
+            return Ok(line);
+        };
+        let choice = Part::Number(i64::from(event.choice().0));
+        line.add(&[Part::Text(":"), choice])?;
+        let room = room.saturating_sub(bytes_of(&line).len());
+        let sent = self.sent(shown, room)?;
+        let room = room.saturating_sub(bytes_of(&sent).len());
+        let settings = self.settings(self.scope(shown.pid), event.settings(), room)?;
+        line.add(&[
+            Part::Bytes(bytes_of(&settings)),
+            Part::Bytes(bytes_of(&sent)),
+        ])?;
+        Ok(line)
+    }
+
+    /// The words at the arrow of a message that was received.
+    pub(super) fn received(&self, received: Received) -> Result<Notes, AllocError> {
+        let value = Part::Number(received.value);
+        let sender = Part::Number(i64::from(received.sender));
+        words(
+            self.alloc,
+            &[
+                Part::Text(" "),
+                value,
+                Part::Text(" of "),
+                sender,
+                Part::Text(" "),
+            ],
+        )
+    }
+
+    /// The words at the arrow of the messages of a channel that are on their way, if there are some.
+    pub(super) fn waiting(&self, from: Pid, to: Pid) -> Result<Option<Notes>, Refusal> {
+        let messages = self.view.world.channel(self.alloc, from, to)?;
+        if messages.items().is_empty() {
+            return Ok(None);
+        }
+        let mut label = words(self.alloc, &[Part::Text(" ")])?;
+        for message in messages.items() {
+            label.add(&[Part::Number(*message), Part::Text(" ")])?;
+        }
+        Ok(Some(label))
+    }
+
+    /// The choices that a process can make again, in brackets, if there are some.
+    pub(super) fn again(&self, pid: Pid) -> Result<Option<Notes>, AllocError> {
+        let world = self.view.world;
+        if world.line_len(pid) <= world.place(pid) {
+            return Ok(None);
+        }
+        let mut line = words(self.alloc, &[Part::Text("[")])?;
+        let mut between = "";
+        for at in world.place(pid)..world.line_len(pid) {
+            if let Some(choice) = world.choice(pid, at) {
+                let choice = Part::Number(i64::from(choice.0));
+                line.add(&[Part::Text(between), choice])?;
+                between = " ";
+            }
+        }
+        line.add(&[Part::Text("]")])?;
+        Ok(Some(line))
+    }
+}
