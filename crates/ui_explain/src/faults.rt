@@ -1,6 +1,6 @@
 //! The faults of a program text.
 
-use crate::names::{Declared, DeclaredAs, declared, near_name, process_around};
+use crate::names::{Declaration, DeclaredAs, find_declaration, near_name, process_around};
 use crate::notes::{Notes, Part};
 use crate::source::is_word_byte;
 use dbg_base::{FaultKind, ProgFault};
@@ -203,7 +203,7 @@ impl<'a> UnknownName<'a> {
     }
 
     // What the name may be, by what it is declared as. None if nothing can be said.
-    fn misuse(&self, found: &Declared<'_>) -> Option<&'static str> {
+    fn misuse(&self, found: &Declaration<'_>) -> Option<&'static str> {
         match found.kind {
             DeclaredAs::Process | DeclaredAs::Variable if found.is_family && self.has_index() => {
                 Some("` is a family, and has no member of this index")
@@ -240,7 +240,7 @@ impl<'a> UnknownName<'a> {
 
     // Says why nothing has the name, or which name may be meant.
     fn tell(&self, notes: &mut Notes) -> Result<(), AllocError> {
-        let found = declared(self.text, self.name);
+        let found = find_declaration(self.text, self.name);
         let misuse = found.and_then(|found| self.misuse(&found));
         if let Some(misuse) = misuse {
             return notes.say(&[Part::Text("`"), Part::Bytes(self.name), Part::Text(misuse)]);

@@ -31,7 +31,7 @@ pub use explainer::{Echo, Explainer};
 pub use expressions::ProcessView;
 pub use faults::{foreign_correction, tell_correction, tell_no_end_line};
 pub use forms::{tell_help, tell_too_long};
-pub use names::{Declared, DeclaredAs, declared};
+pub use names::{Declaration, DeclaredAs, find_declaration};
 pub use notes::{Notes, Part, first_line};
 pub use source::{ProgramText, TextLine};
 pub use view::SourceView;

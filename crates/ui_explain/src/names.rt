@@ -14,7 +14,7 @@ pub enum DeclaredAs {
 
 /// A declaration of a name.
 #[derive(Clone, Copy, Debug)]
-pub struct Declared<'a> {
+pub struct Declaration<'a> {
     pub name: &'a [u8],
     pub kind: DeclaredAs,
     /// The offset of the name.
@@ -90,7 +90,7 @@ impl<'a> Declarations<'a> {
         }
     }
 
-    fn next(&mut self) -> Option<Declared<'a>> {
+    fn next(&mut self) -> Option<Declaration<'a>> {
         let text = self.words.text;
         for _ in 0..=text.len() {
             let (at, name) = self.words.next()?;
@@ -101,7 +101,7 @@ impl<'a> Declarations<'a> {
             self.before = declares(name);
             if let Some(kind) = before {
                 let is_family = text.get(at.saturating_add(name.len())) == Some(&b'[');
-                return Some(Declared {
+                return Some(Declaration {
                     name,
                     kind,
                     at,
@@ -114,7 +114,7 @@ impl<'a> Declarations<'a> {
 }
 
 /// The first declaration of a name in a text.
-pub fn declared<'a>(text: &'a [u8], name: &[u8]) -> Option<Declared<'a>> {
+pub fn find_declaration<'a>(text: &'a [u8], name: &[u8]) -> Option<Declaration<'a>> {
     let mut declarations = Declarations::of(text);
     for _ in 0..=text.len() {
         let found = declarations.next()?;

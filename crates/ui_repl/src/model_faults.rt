@@ -5,7 +5,7 @@ use notation::{Fault, Problem, likely, message};
 use shell_io::Sink;
 use shell_print::{ServeFault, Served, hand_on, tell_fault, write_whole};
 use std::alloc::{AllocError, Global};
-use ui_explain::{DeclaredAs, Notes, Part, declared, foreign_correction, tell_correction};
+use ui_explain::{DeclaredAs, Notes, Part, find_declaration, foreign_correction, tell_correction};
 
 // The kind of a fault, as the process language counts them.
 fn fault_kind(problem: Problem) -> FaultKind {
@@ -37,7 +37,7 @@ fn fault_kind(problem: Problem) -> FaultKind {
 // What is wrong with a name of which the value would have to be known before the session, and what can be done, by what the name is declared as
 // in the text.
 fn computed_name(text: &[u8], name: &[u8], at: usize) -> Option<(&'static str, &'static str)> {
-    match declared(text, name) {
+    match find_declaration(text, name) {
         None => Some((
             "nothing has this name",
             "a constant, a definition or a member of a range can be named here",
