@@ -6,7 +6,6 @@ import json
 
 from harness import Fault
 
-TRAIL_LENGTH = 12  # eliminations of a search, at most, that an interactive session shows
 
 
 def read_page(page):
@@ -121,14 +120,20 @@ class FinalState:
         counts = " ".join(f"{process}={head}" for process, head in zip(self.names, heads))
         self.answers[f"cut {name}"] = f"cut {name} " + ("none" if "past" in heads else counts)
         self.answers[f"why {name}"] = f"why {name} {counts}"
-        more = [f"{len(trail)} states were ruled out; the last of them are:"] if len(trail) > TRAIL_LENGTH else []
-        self.reasons[name] = more + [self.reason(*step) for step in trail[-TRAIL_LENGTH:]]
+        self.reasons[name] = [reason for p in range(len(self.names)) for reason in self.reasons_of(p, trail)]
 
-    def reason(self, p, to, *cause):
-        """What an interactive session says of an elimination."""
-        if cause:
-            return f"{self.names[p]} needs {events(to)}: event {cause[1]} of {self.names[cause[0]]} depends on that"
-        return f"{self.names[p]} after {events(to - 1)}: its part is false"
+    def reasons_of(self, process, trail):
+        """What an interactive session says of the eliminations of a process."""
+        false = [to - 1 for p, to, *cause in trail if p == process and not cause]
+        needed = [(to, *cause) for p, to, *cause in trail if p == process and cause]
+        name = self.names[process]
+        if len(false) == 1:
+            yield f"{name}: its part is false after {events(false[0])}"
+        elif false:
+            yield f"{name}: its part is false in {len(false)} states, the last of them after {events(false[-1])}"
+        if needed:
+            to, by, event = needed[-1]
+            yield f"{name}: at least {events(to)}, since event {event} of {self.names[by]} depends on its event {to}"
 
 
 def events(count):

@@ -3,6 +3,7 @@
 The pages of tests/pictures/, of examples/ and of 20 random sessions are replayed from what they know of each line. The state to which this
 leads, and the replies on the way, must be those of the program.
 """
+import itertools
 import re
 
 from harness import TOP, Fault, sessions, temporary_folder
@@ -26,7 +27,8 @@ def shown_reasons(session, name):
     question = f"1 why {name}"
     lines = session.run([*session.calls.values(), question], "talk")
     asked = max(number for number, line in enumerate(lines) if line == question)
-    return [line.strip() for line in lines[asked + 2:] if not line.strip().startswith("not yet in ")]
+    reasons = itertools.takewhile(lambda line: line != "  what is left is the earliest state:", lines[asked + 2:])
+    return [line.strip() for line in reasons if not line.strip().startswith("not yet in ")]
 
 
 def wrong_answers(wanted, shown):
