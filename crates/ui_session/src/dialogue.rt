@@ -5,7 +5,7 @@ ghost use Rattle.ui_session.specs.Dialogues.{interactive};
 use crate::directives::{directive, is_directive, is_quit, needs_seat};
 use crate::refusing::explain_no_end_line;
 use crate::typed::Typed;
-use crate::written::{explain, write_echo};
+use crate::written::{explain, gap_before, write_echo};
 use dbg_base::{Call, Refusal, Said};
 use dbg_command::SessionView;
 use proc_lang::{ProgFault, Program};
@@ -13,7 +13,7 @@ use shell_io::Sink;
 use shell_print::ServeFault;
 use shell_serve::Observer;
 use std::alloc::{AllocError, Global};
-use ui_explain::{Explainer, Notes};
+use ui_explain::{Echo, Explainer, Notes};
 
 /// The observer of an interactive session. It writes each line that was not typed, and an explanation after the reply. A directive has only
 /// an explanation. A command line without a seat is one of seat 1.
@@ -61,7 +61,7 @@ impl<T: Explainer, R: Typed> Observer<R> for Dialogue<T> {
         writer: &mut W,
     ) -> Result<(), ServeFault> {
         let echo = self.explainer.hear(alloc, line, reader.is_typed());
-        write_echo(echo, line, writer)
+        write_echo(echo != Echo::Nothing, gap_before(echo), line, writer)
     }
 
     fn direct<W: Sink>(

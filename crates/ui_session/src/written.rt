@@ -1,6 +1,6 @@
 //! Output besides the replies.
 
-ghost use Rattle.std.specs.Prelude.{◌≡◌, IfSome};
+ghost use Rattle.std.specs.Prelude.{◌≡◌};
 ghost use Rattle.shell_print.specs.Writing.{Writes};
 ghost use Rattle.shell_input.specs.Spans.{is_unended};
 ghost use Rattle.shell_serve.specs.Sessions.{WritesForm};
@@ -47,24 +47,29 @@ pub(crate) fn explain<W: Sink>(notes: &Notes, writer: &mut W) -> Result<(), Serv
     hand_on(written, writer)
 }
 
-// What is written before a line that is echoed. None if it is not echoed.
-fn gap_before(echo: Echo) -> Option<&'static [u8]>
-    ensures { IfSome result (λ gap. IsGap gap.now) }
+/// What is written before a line that is echoed.
+pub(crate) fn gap_before(echo: Echo) -> &'static [u8]
+    ensures { IsGap result.now }
 {
     match echo {
-        Echo::Nothing => None,
-        Echo::Line => Some(&[]),
-        Echo::Separated => Some(b"\n"),
+        Echo::Separated => b"\n",
+        Echo::Nothing | Echo::Line => &[],
     }
 }
 
-/// Writes the line itself, or nothing.
-pub(crate) fn write_echo<W: Sink>(echo: Echo, line: &[u8], writer: &mut W) -> Result<(), ServeFault>
+/// Writes the line itself after this gap, or nothing.
+pub(crate) fn write_echo<W: Sink>(
+    echoes: bool,
+    gap: &[u8],
+    line: &[u8],
+    writer: &mut W,
+) -> Result<(), ServeFault>
+    requires { IsGap gap.now }
     ensures written { WritesForm (IsEcho line.now) (W.seen writer.old) result (W.seen writer.new) }
 {
-    let Some(gap) = gap_before(echo) else {
+    if !echoes {
         return Ok(());
-    };
+    }
     write_whole(writer, gap)?;
     write_whole(writer, line)?;
     write_whole(writer, b"\n")
