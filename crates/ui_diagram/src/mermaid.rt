@@ -2,12 +2,10 @@
 
 use dbg_base::{Pid, Refusal};
 use dbg_command::SessionView;
-use event_rows::Setting;
 use std::alloc::{AllocError, Global};
 use ui_explain::{Notes, Part, ProcessView};
 use ui_timeline::{
-    NamedCut, ShownEvent, Timeline, bytes_of, event_of, halting, named_cuts, received_by, sent_by,
-    size,
+    NamedCut, ShownEvent, Timeline, bytes_of, event_of, halting, named_cuts, put_setting, size,
 };
 
 // The most events that are shown. Issue trackers draw no diagram of more than 50,000 characters.
@@ -33,20 +31,6 @@ fn put_text(notes: &mut Notes, text: &[u8]) -> Result<(), AllocError> {
         }
     }
     Ok(())
-}
-
-// Appends a variable with its value before and after to the last line.
-fn put_setting(
-    notes: &mut Notes,
-    scope: ProcessView<'_>,
-    setting: &Setting,
-) -> Result<(), AllocError> {
-    let (old, new) = (Part::Number(setting.old), Part::Number(setting.new));
-    notes.add(&[scope.variable(setting.variable)])?;
-    if setting.old == setting.new {
-        return notes.add(&[Part::Text(" stays "), new]);
-    }
-    notes.add(&[Part::Text(" "), old, Part::Text(" -> "), new])
 }
 
 impl MermaidSheet<'_> {
@@ -102,7 +86,7 @@ impl MermaidSheet<'_> {
 
     // The message that an event received. Its arrow is where it was received.
     fn say_received(&self, notes: &mut Notes, shown: ShownEvent) -> Result<(), AllocError> {
-        let Some(received) = received_by(self.view.world, shown) else {
+        let Some(received) = self.timeline.received_by(self.view.world, shown) else {
             return Ok(());
         };
         self.say_arrow(notes, received.source, "->>", shown.pid, received.value)?;
@@ -122,7 +106,7 @@ impl MermaidSheet<'_> {
             if next.pid == shown.pid {
                 return false;
             }
-            match received_by(self.view.world, *next) {
+            match self.timeline.received_by(self.view.world, *next) {
                 Some(received) if received.source == shown.pid && received.sender == shown.number =>
                     {
                         return true;
@@ -164,7 +148,7 @@ impl MermaidSheet<'_> {
     fn say_event(&self, notes: &mut Notes, shown: ShownEvent) -> Result<(), AllocError> {
         self.say_received(notes, shown)?;
         let mut parts = self.settings(shown)?;
-        let Some(sent) = sent_by(self.view.world, shown) else {
+        let Some(sent) = self.timeline.sent_by(self.view.world, shown) else {
             return self.say_parts(notes, shown.pid, &parts);
         };
         if !sent.is_on_its_way && !self.is_received_next(shown) {

@@ -8,9 +8,7 @@ use dbg_base::{Pid, Refusal};
 use dbg_command::SessionView;
 use std::alloc::{AllocError, Global};
 use ui_explain::{Notes, Part};
-use ui_timeline::{
-    NamedCut, ShownEvent, Timeline, bytes_of, halting, named_cuts, received_by, size,
-};
+use ui_timeline::{NamedCut, ShownEvent, Timeline, bytes_of, halting, named_cuts, size};
 use words::{TextScene, words};
 
 // The most events that are shown.
@@ -85,7 +83,11 @@ impl TextSheet<'_> {
 
     // The arrow of a message that an event received.
     fn say_message(&self, notes: &mut Notes, shown: ShownEvent) -> Result<(), AllocError> {
-        match received_by(self.scene.view.world, shown) {
+        match self
+            .scene
+            .timeline
+            .received_by(self.scene.view.world, shown)
+        {
             Some(received) => {
                 let label = self.scene.received(received)?;
                 self.say_arrow(notes, received.source, shown.pid, b'-', &label)
@@ -288,7 +290,11 @@ pub fn draw_text_within(
     let timeline = Timeline::of(alloc, view.world, cuts.as_mut_slice())?;
     let events = timeline.events();
     let first = events.len().saturating_sub(SHOWN);
-    let scene = TextScene { alloc, view };
+    let scene = TextScene {
+        alloc,
+        view,
+        timeline: &timeline,
+    };
     let shown = events.get(first..).unwrap_or(&[]);
     let canvas = scene.canvas(shown, cuts.as_slice(), width)?;
     let sheet = TextSheet {

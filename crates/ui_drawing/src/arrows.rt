@@ -6,7 +6,7 @@ use crate::svg::{Point, end_text, escaped, put_ends, say_text};
 use dbg_base::Pid;
 use std::alloc::AllocError;
 use ui_explain::{Notes, Part};
-use ui_timeline::{ShownEvent, bytes_of, received_by, sent_by};
+use ui_timeline::{ShownEvent, bytes_of};
 
 // From the middle of an event to its arrow.
 const ASIDE: i64 = 8;
@@ -58,7 +58,11 @@ impl Arrow {
 impl SvgSheet<'_> {
     // The arrow of a message that an event received.
     fn received(&self, shown: ShownEvent) -> Result<Option<Arrow>, AllocError> {
-        let Some(received) = received_by(self.scene.view.world, shown) else {
+        let Some(received) = self
+            .scene
+            .timeline
+            .received_by(self.scene.view.world, shown)
+        else {
             return Ok(None);
         };
         let from = self
@@ -87,7 +91,7 @@ impl SvgSheet<'_> {
 
     // The arrow of a message that an event sent and that is on its way. It ends just before the line of its recipient.
     fn waiting(&self, shown: ShownEvent) -> Result<Option<Arrow>, AllocError> {
-        let sent = match sent_by(self.scene.view.world, shown) {
+        let sent = match self.scene.timeline.sent_by(self.scene.view.world, shown) {
             Some(sent) if sent.is_on_its_way => sent,
             _ => return Ok(None),
         };

@@ -3,63 +3,46 @@
 use crate::sheet::SvgSheet;
 use crate::svg::{Point, end_text, escaped, say_circle, say_text};
 use dbg_base::Pid;
-use event_rows::Exchange;
-use proc_lang::{Action, Guarded};
+use event_rows::{Event, Exchange};
 use std::alloc::AllocError;
-use ui_explain::{Notes, Part, ProcessView};
-use ui_timeline::{ShownEvent, bytes_of, event_of, exchange_of, halting};
+use ui_explain::{Notes, Part};
+use ui_timeline::{ShownEvent, bytes_of, event_of, exchange_of, halting, put_command, put_setting};
 
 // The radius of the mark of an event.
 const RADIUS: i64 = 5;
 
-// Appends what a command sends or receives to the last line.
-fn put_action(
-    notes: &mut Notes,
-    scope: ProcessView<'_>,
-    action: &Action,
-) -> Result<(), AllocError> {
-    match action {
-        Action::Local => Ok(()),
-        Action::Send { target, value } => {
-            notes.add(&[
-                Part::Text(" send "),
-                scope.process(*target),
-                Part::Text(" "),
-            ])?;
-            scope.put_expression(notes, value)
-        }
-        Action::Receive { source, variable } => {
-            let source = scope.process(*source);
-            let variable = scope.variable(*variable);
-            notes.add(&[Part::Text(" recv "), source, Part::Text(" "), variable])
-        }
-    }
-}
-
-// Appends a command to the last line, as the process language has it.
-fn put_command(
-    notes: &mut Notes,
-    scope: ProcessView<'_>,
-    command: &Guarded,
-) -> Result<(), AllocError> {
-    notes.add(&[Part::Text("when ")])?;
-    scope.put_expression(notes, &command.guard)?;
-    notes.add(&[Part::Text(" :")])?;
-    put_action(notes, scope, &command.action)?;
-    let mut word = match command.action {
-        Action::Local => " ",
-        _ => ", ",
-    };
-    for assignment in command.assignments.items() {
-        let variable = scope.variable(assignment.variable);
-        notes.add(&[Part::Text(word), variable, Part::Text(" := ")])?;
-        scope.put_expression(notes, &assignment.value)?;
+// Appends these parts to the last line, with commas between them.
+fn put_parts(notes: &mut Notes, parts: &Notes) -> Result<(), AllocError> {
+    let mut word = "";
+    for part in parts.lines() {
+        notes.add(&[Part::Text(word), Part::Bytes(part.as_slice())])?;
         word = ", ";
     }
     Ok(())
 }
 
 impl SvgSheet<'_> {
+    // What an event did: a line for each variable that it set, and for its message.
+    fn deeds(&self, shown: ShownEvent, event: &Event) -> Result<Notes, AllocError> {
+        let mut deeds = Notes::new(self.scene.alloc);
+        for setting in event.settings() {
+            deeds.say(&[])?;
+            put_setting(&mut deeds, self.scene.scope(shown.pid), setting)?;
+        }
+        let world = self.scene.view.world;
+        if let Some(received) = self.scene.timeline.received_by(world, shown) {
+            let value = Part::Number(received.value);
+            let name = self.scene.scope(received.source).name();
+            deeds.say(&[Part::Text("received "), value, Part::Text(" from "), name])?;
+        }
+        if let Some(sent) = self.scene.timeline.sent_by(world, shown) {
+            let value = Part::Number(sent.value);
+            let name = self.scene.scope(sent.target).name();
+            deeds.say(&[Part::Text("sent "), value, Part::Text(" to "), name])?;
+        }
+        Ok(deeds)
+    }
+
     // What an event did, and the whole text of its command.
     fn event_title(&self, shown: ShownEvent) -> Result<Vec<u8>, AllocError> {
         let scope = self.scene.scope(shown.pid);
@@ -73,7 +56,7 @@ impl SvgSheet<'_> {
         ])?;
         if let Some(event) = event_of(self.scene.view.world, shown) {
             title.add(&[Part::Text(": ")])?;
-            scope.put_event(&mut title, self.scene.view.world, event)?;
+            put_parts(&mut title, &self.deeds(shown, event)?)?;
             let choice = event.choice();
             let number = Part::Number(i64::from(choice.0));
             title.add(&[Part::Text("; command "), number, Part::Text(": ")])?;

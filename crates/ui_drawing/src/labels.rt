@@ -5,7 +5,7 @@ use crate::svg::shortened;
 use dbg_base::Pid;
 use std::alloc::AllocError;
 use ui_explain::{Notes, Part, ProcessView};
-use ui_timeline::{NamedCut, ShownEvent, bytes_of, event_of, halting, received_by, sent_by, size};
+use ui_timeline::{NamedCut, ShownEvent, bytes_of, event_of, halting, size};
 
 // The most variables that are shown at an event.
 const WORDS: usize = 2;
@@ -49,11 +49,11 @@ impl<'a> Scene<'a> {
     /// The words at the message that an event received, or that it sent and that is on its way. None if there is no such message.
     pub(crate) fn message_label(&self, shown: ShownEvent) -> Result<Option<Notes>, AllocError> {
         let mut words = Notes::new(self.alloc);
-        if let Some(received) = received_by(self.view.world, shown) {
+        if let Some(received) = self.timeline.received_by(self.view.world, shown) {
             words.say(&[Part::Number(received.value)])?;
             return Ok(Some(words));
         }
-        match sent_by(self.view.world, shown) {
+        match self.timeline.sent_by(self.view.world, shown) {
             Some(sent) if sent.is_on_its_way => {
                 let name = self.scope(sent.target).name();
                 words.say(&[Part::Number(sent.value), Part::Text(" > "), name])?;
@@ -65,10 +65,10 @@ impl<'a> Scene<'a> {
 
     /// The two processes of that message, the one that sent it first.
     pub(crate) fn message_ends(&self, shown: ShownEvent) -> Option<(Pid, Pid)> {
-        if let Some(received) = received_by(self.view.world, shown) {
+        if let Some(received) = self.timeline.received_by(self.view.world, shown) {
             return Some((received.source, shown.pid));
         }
-        match sent_by(self.view.world, shown) {
+        match self.timeline.sent_by(self.view.world, shown) {
             Some(sent) if sent.is_on_its_way => Some((shown.pid, sent.target)),
             _ => None,
         }
@@ -77,7 +77,7 @@ impl<'a> Scene<'a> {
     /// Whether a message is on its way.
     pub(crate) fn is_waiting(&self) -> bool {
         let mut events = self.timeline.events().iter();
-        events.any(|shown| match sent_by(self.view.world, *shown) {
+        events.any(|shown| match self.timeline.sent_by(self.view.world, *shown) {
             Some(sent) => sent.is_on_its_way,
             None => false,
         })

@@ -1,10 +1,14 @@
 //! What a picture of a session shows: its events in order, their messages, and the cuts of breakpoints with their predicates.
 #![tactic(auto)]
 
+mod commands;
 mod cuts;
 mod listing;
 mod messages;
+mod settings;
 
+pub use commands::put_command;
 pub use cuts::{NamedCut, bytes_of, halting, named_cuts, size};
 pub use listing::{ShownEvent, Timeline, event_of};
-pub use messages::{Received, Sent, exchange_of, received_by, sent_by};
+pub use messages::{Received, Sent, exchange_of};
+pub use settings::put_setting;

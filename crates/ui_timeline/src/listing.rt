@@ -1,6 +1,7 @@
 //! The events that a picture shows, in the order in which it shows them.
 
 use crate::cuts::{NamedCut, size};
+use crate::messages::{Messages, Received, Sent};
 use causal_world::World;
 use dbg_base::{Cut, Pid, Refusal};
 use event_log::event_order;
@@ -14,27 +15,12 @@ pub struct ShownEvent {
     pub number: u32,
 }
 
-/// All events of a world, in an order in which they can have happened, and for each process the positions of its events in it.
+/// All events of a world, in an order in which they can have happened, for each process the positions of its events in it, and the messages.
 #[derive(Drop)]
 pub struct Timeline {
     events: Vec<ShownEvent>,
     rows: Vec<Vec<u32>>,
-}
-
-// Appends the next event of a process to the others.
-fn put_next(
-    events: &mut Vec<ShownEvent>,
-    rows: &mut Vec<Vec<u32>>,
-    pid: Pid,
-) -> Result<(), AllocError> {
-    // (a history has fewer events than a `u32` counts)
-    let row = u32::try_from(events.len()).unwrap_or(u32::MAX);
-    if let Some(own) = rows.get_mut(pid.0 as usize) {
-        own.push(row)?;
-        let number = u32::try_from(own.len()).unwrap_or(u32::MAX);
-        events.push(ShownEvent { pid, number })?;
-    }
-    Ok(())
+    messages: Messages,
 }
 
 // Whether one of two cuts of so many processes contains the other.
@@ -72,15 +58,38 @@ impl Timeline {
             }
         }
         let order = event_order(alloc, world, plain.as_slice())?;
+        let mut timeline = Timeline::new(alloc, processes)?;
+        for pid in order.items() {
+            timeline.add(world, *pid)?;
+        }
+        Ok(timeline)
+    }
+
+    // No events of so many processes.
+    fn new(alloc: Global, processes: u32) -> Result<Timeline, AllocError> {
         let mut rows = Vec::new(alloc);
         for _ in 0..processes {
             rows.push(Vec::new(alloc))?;
         }
-        let mut events = Vec::new(alloc);
-        for pid in order.items() {
-            put_next(&mut events, &mut rows, *pid)?;
+        Ok(Timeline {
+            events: Vec::new(alloc),
+            rows,
+            messages: Messages::new(alloc, processes)?,
+        })
+    }
+
+    // Appends the next event of a process.
+    fn add(&mut self, world: &World, pid: Pid) -> Result<(), AllocError> {
+        // (a history has fewer events than a `u32` counts)
+        let row = u32::try_from(self.events.len()).unwrap_or(u32::MAX);
+        if let Some(own) = self.rows.get_mut(pid.0 as usize) {
+            own.push(row)?;
+            let number = u32::try_from(own.len()).unwrap_or(u32::MAX);
+            let shown = ShownEvent { pid, number };
+            self.events.push(shown)?;
+            self.messages.note(world, shown)?;
         }
-        Ok(Timeline { events, rows })
+        Ok(())
     }
 
     // Whether the events of a cut are listed before all others.
@@ -94,6 +103,16 @@ impl Timeline {
     /// The events, in order.
     pub fn events(&self) -> &[ShownEvent] {
         self.events.as_slice()
+    }
+
+    /// The message that an event received, if it did.
+    pub fn received_by(&self, world: &World, shown: ShownEvent) -> Option<Received> {
+        self.messages.received_by(world, shown)
+    }
+
+    /// The message that an event sent, if it did.
+    pub fn sent_by(&self, world: &World, shown: ShownEvent) -> Option<Sent> {
+        self.messages.sent_by(world, shown)
     }
 
     /// The position of the n-th event of a process, from 0.

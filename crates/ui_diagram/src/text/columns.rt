@@ -5,7 +5,7 @@ use crate::canvas::Canvas;
 use dbg_base::{Pid, Refusal};
 use std::alloc::AllocError;
 use ui_explain::Notes;
-use ui_timeline::{NamedCut, ShownEvent, bytes_of, received_by};
+use ui_timeline::{NamedCut, ShownEvent, bytes_of};
 
 // What an arrow has besides its words: the line, its head, and a sign on each side.
 const ARROW: usize = 4;
@@ -49,7 +49,7 @@ impl TextScene<'_> {
     fn measure_event(&self, needs: &mut Needs, shown: ShownEvent) -> Result<(), AllocError> {
         let words = self.event(shown, usize::MAX)?;
         needs.add(shown.pid, bytes_of(&words).len());
-        if let Some(received) = received_by(self.view.world, shown) {
+        if let Some(received) = self.timeline.received_by(self.view.world, shown) {
             let label = self.received(received)?;
             needs.add_arrow(received.source, shown.pid, &label);
         }

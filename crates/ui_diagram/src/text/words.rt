@@ -5,13 +5,14 @@ use dbg_command::SessionView;
 use event_rows::Setting;
 use std::alloc::{AllocError, Global};
 use ui_explain::{Notes, Part, ProcessView};
-use ui_timeline::{Received, ShownEvent, bytes_of, event_of, sent_by};
+use ui_timeline::{Received, ShownEvent, Timeline, bytes_of, event_of};
 
 /// What a diagram shows.
 #[derive(Clone, Copy)]
 pub(super) struct TextScene<'a> {
     pub(super) alloc: Global,
     pub(super) view: SessionView<'a>,
+    pub(super) timeline: &'a Timeline,
 }
 
 /// The characters of a line that is made of parts.
@@ -94,7 +95,7 @@ impl<'a> TextScene<'a> {
     // The message that an event sent, in so much room: the name of its recipient is cut before its value is.
     fn sent(&self, shown: ShownEvent, room: usize) -> Result<Notes, AllocError> {
         let mut line = words(self.alloc, &[])?;
-        if let Some(sent) = sent_by(self.view.world, shown) {
+        if let Some(sent) = self.timeline.sent_by(self.view.world, shown) {
             line.add(&[Part::Text(" "), Part::Number(sent.value), Part::Text(">")])?;
             let name = words(self.alloc, &[self.scope(sent.target).name()])?;
             let used = bytes_of(&line).len();

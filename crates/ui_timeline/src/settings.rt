@@ -1,0 +1,19 @@
+//! What an event set, in words.
+
+use event_rows::Setting;
+use std::alloc::AllocError;
+use ui_explain::{Notes, Part, ProcessView};
+
+/// Appends a variable with its value before and after an event to the last line.
+pub fn put_setting(
+    notes: &mut Notes,
+    scope: ProcessView<'_>,
+    setting: &Setting,
+) -> Result<(), AllocError> {
+    let (old, new) = (Part::Number(setting.old), Part::Number(setting.new));
+    notes.add(&[scope.variable(setting.variable)])?;
+    if setting.old == setting.new {
+        return notes.add(&[Part::Text(" stays "), new]);
+    }
+    notes.add(&[Part::Text(" "), old, Part::Text(" -> "), new])
+}
