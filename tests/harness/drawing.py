@@ -64,7 +64,8 @@ class Drawing:
         """Names that another part of a page may have, too."""
         style = self.root.find(f"{SVG}style").text
         selectors = [selector.strip() for rule in re.findall(r"([^{}]+)\{", style) for selector in rule.split(",") if "@" not in rule]
-        yield from (f"the style of {selector} is not of this drawing alone" for selector in selectors if not selector.startswith(".rdbg-drawing "))
+        general = [selector for selector in selectors if not selector.startswith(".rdbg-drawing ")]
+        yield from (f"the style of {selector} is not of this drawing alone" for selector in general)
         for element, _ in self.shapes:
             names = [*(element.get("class") or "").split(), *filter(None, [element.get("id")])]
             yield from (f"the name {name} has no prefix" for name in names if not name.startswith("rdbg-"))
