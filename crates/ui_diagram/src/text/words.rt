@@ -117,10 +117,8 @@ impl<'a> TextScene<'a> {
         let sent = self.sent(shown, room)?;
         let room = room.saturating_sub(bytes_of(&sent).len());
         let settings = self.settings(self.scope(shown.pid), event.settings(), room)?;
-        line.add(&[
-            Part::Bytes(bytes_of(&settings)),
-            Part::Bytes(bytes_of(&sent)),
-        ])?;
+        line.add(&[Part::Bytes(bytes_of(&settings))])?;
+        line.add(&[Part::Bytes(bytes_of(&sent))])?;
         Ok(line)
     }
 
