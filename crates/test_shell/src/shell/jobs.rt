@@ -32,7 +32,7 @@ fn expect_refused(rt: &impl Abort, alloc: Global, rows: &[Row]) {
     }
 }
 
-const OTHER_WORDS: [Row; 15] = [
+const OTHER_WORDS: [Row; 17] = [
     (&["rdbg", "draw", "--as", "png"], ErrorKind::InvalidValue, 2),
     (
         &["rdbg", "draw", "--width", "19"],
@@ -79,6 +79,16 @@ const OTHER_WORDS: [Row; 15] = [
     (&["rdbg", "run", "--now"], ErrorKind::UnknownArgument, 2),
     (&["rdbg", "test"], ErrorKind::MissingRequiredArgument, 2),
     (
+        &["rdbg", "test", "--fill", "one", "two"],
+        ErrorKind::TooManyValues,
+        2,
+    ),
+    (
+        &["rdbg", "talk", "--color", "sometimes"],
+        ErrorKind::InvalidValue,
+        2,
+    ),
+    (
         &["rdbg", "run", "one", "two"],
         ErrorKind::UnknownArgument,
         2,
@@ -91,7 +101,8 @@ fn file_of(alloc: Global, words: &'static [&'static str]) -> Option<&'static str
     match asked(alloc, words) {
         Ok(Request::Work(_, file)) => file,
         Ok(Request::Test(files)) => files.first().copied(),
-        Err(_) => None,
+        Ok(Request::Fill(file)) => Some(file),
+        Ok(Request::Version) | Err(_) => None,
     }
 }
 
@@ -112,6 +123,8 @@ fn words_name_files(rt: HostRuntime) {
     expect_true(&rt, file_of(alloc, dashes) == Some("--now"));
     let tests = ["rdbg", "test", "one", "two"].as_slice();
     expect_true(&rt, file_of(alloc, tests) == Some("one"));
+    let fill = ["rdbg", "test", "--fill", "one"].as_slice();
+    expect_true(&rt, file_of(alloc, fill) == Some("one"));
     expect_true(&rt, file_of(alloc, ["rdbg", "run"].as_slice()).is_none());
 }
 
@@ -128,6 +141,10 @@ fn words_ask_for_talks(rt: HostRuntime) {
     let alloc = rt.alloc();
     let talk = work_of(alloc, ["rdbg", "talk"].as_slice());
     expect_true(&rt, talk == Some(Work::Talk(Coloring::Auto)));
+    let coloured = work_of(alloc, ["rdbg", "talk", "--color", "always"].as_slice());
+    expect_true(&rt, coloured == Some(Work::Talk(Coloring::Always)));
+    let plain = work_of(alloc, ["rdbg", "talk", "--color=never"].as_slice());
+    expect_true(&rt, plain == Some(Work::Talk(Coloring::Never)));
     let explain = work_of(alloc, ["rdbg", "check", "--explain"].as_slice());
     expect_true(&rt, explain == Some(Work::Explain));
     let expand = work_of(alloc, ["rdbg", "expand"].as_slice());
@@ -136,6 +153,10 @@ fn words_ask_for_talks(rt: HostRuntime) {
     expect_true(&rt, run == Some(Work::Job(Job::Run)));
     let test = asked(alloc, ["rdbg", "test", "one"].as_slice());
     expect_true(&rt, matches!(test, Ok(Request::Test(_))));
+    let fill = asked(alloc, ["rdbg", "test", "one", "--fill"].as_slice());
+    expect_true(&rt, matches!(fill, Ok(Request::Fill("one"))));
+    let version = asked(alloc, ["rdbg", "--version"].as_slice());
+    expect_true(&rt, matches!(version, Ok(Request::Version)));
 }
 
 #[test]
