@@ -60,20 +60,33 @@ fn put(text: &mut Vec<u8>, look: &str, bytes: &[u8]) -> Result<(), AllocError> {
     text.extend_from_slice(PLAIN.as_bytes())
 }
 
-fn is_word_byte(byte: u8) -> bool {
-    byte.is_ascii_alphanumeric() || byte == b'_'
+// The number of blanks at the start.
+fn blank_length(bytes: &[u8]) -> usize {
+    bytes.iter().take_while(|byte| **byte == b' ').count()
 }
 
-// The length of the first bytes that are so.
-fn length_of(bytes: &[u8], is_so: fn(u8) -> bool) -> usize {
-    let mut length = 0usize;
-    for byte in bytes {
-        if !is_so(*byte) {
-            break;
-        }
-        length = length.saturating_add(1);
-    }
-    length
+// The length of the number at the start.
+fn number_length(bytes: &[u8]) -> usize {
+    bytes
+        .iter()
+        .take_while(|byte| byte.is_ascii_digit())
+        .count()
+}
+
+// The length of the name at the start.
+fn name_length(bytes: &[u8]) -> usize {
+    bytes
+        .iter()
+        .take_while(|byte| byte.is_ascii_alphanumeric() || **byte == b'_')
+        .count()
+}
+
+// The length of the value at the start.
+fn value_length(bytes: &[u8]) -> usize {
+    bytes
+        .iter()
+        .take_while(|byte| **byte != b',' && **byte != b' ')
+        .count()
 }
 
 // A line about an event, or about a process in a cut: the blanks before the name, the name, and the rest, which begins with the number.
@@ -86,7 +99,7 @@ struct ProcessLine<'a> {
 
 // Whether bytes that begin with a number say nothing else, or continue in another column or with a second number.
 fn is_numbered(bytes: &[u8]) -> bool {
-    let (number, rest) = split(bytes, length_of(bytes, |byte| byte.is_ascii_digit()));
+    let (number, rest) = split(bytes, number_length(bytes));
     if number.is_empty() {
         return false;
     }
@@ -97,9 +110,9 @@ fn is_numbered(bytes: &[u8]) -> bool {
 
 impl<'a> ProcessLine<'a> {
     fn of(line: &'a [u8]) -> Option<ProcessLine<'a>> {
-        let (blanks, begun) = split(line, length_of(line, |byte| byte == b' '));
-        let (name, rest) = split(begun, length_of(begun, is_word_byte));
-        let (_, number) = split(rest, length_of(rest, |byte| byte == b' '));
+        let (blanks, begun) = split(line, blank_length(line));
+        let (name, rest) = split(begun, name_length(begun));
+        let (_, number) = split(rest, blank_length(rest));
         if blanks.len() < 2
             || name.is_empty()
             || rest.len() == number.len()
@@ -119,10 +132,7 @@ fn put_changes(text: &mut Vec<u8>, changes: &[u8]) -> Result<(), AllocError> {
             break;
         };
         let (front, behind) = split(rest, at.saturating_add(3));
-        let (value, others) = split(
-            behind,
-            length_of(behind, |byte| byte != b',' && byte != b' '),
-        );
+        let (value, others) = split(behind, value_length(behind));
         text.extend_from_slice(front)?;
         put(text, BOLD, value)?;
         rest = others;
