@@ -303,7 +303,8 @@ Options:
 
 The input is a program, a line `%%`, and for `talk`, `run` and `draw` command lines after it. For `check` and `crew`, all of it is
 the program if no line is `%%`. The input comes from FILE, if one is named; for `talk`, `run` and `draw` it continues with
-standard input. Otherwise all of it comes from standard input. An interactive session answers `help`, too.
+standard input (`draw` and `expand`: unless that is a terminal). Otherwise all of it comes from standard input. An interactive session
+answers `help`, too. `rdbg --version` prints the version.
 `talk`, `draw`, `test` and `check --explain` also read the model notation, and `expand` prints the plain session of one in it.
 
 Command lines, each after a seat from 1 to 16:
