@@ -51,7 +51,6 @@ RUNS = [
     ("test_fill_notation", "test --fill notation_unexpected.rdbg", ""),
     ("test_fill_without_replies", "test --fill directives.rdbg", ""),
     ("test_fill_refused", "test --fill notation_fault.rdbg", ""),
-    ("test_fill_two_files", "test --fill expected.rdbg unexpected.rdbg", ""),
     ("talk_coloured", "talk --color always lists.rdbg", ""),
     ("version", "--version", ""),
     ("test_nothing_expected", "test directives.rdbg", ""),
