@@ -147,14 +147,14 @@ def color_problem(suite, file, wanted, environment, *words):
     return "" if (status, is_red) == (0, wanted) else f"status {status}, and the terminal shows {found!r}"
 
 
-def interrupt_problem(suite, file):
+def interrupt_problem(suite, file, *words):
     """Drops a line by Ctrl-C, in a session that dist/start begins."""
-    terminal = Terminal(TOP / "dist" / "start", "talk", "--no-rlwrap", file, RDBG_PROGRAM=str(suite.program))
+    terminal = Terminal(TOP / "dist" / "start", "talk", *words, file, RDBG_PROGRAM=str(suite.program))
     terminal.until(PROMPT)
     terminal.type("next a")
     terminal.until("next a")
     terminal.type("\x03vars a\n")
-    found = terminal.until("vars a x=0\n")
+    found = terminal.until("vars a x=0")
     terminal.type("quit\n")
     _, status = terminal.ended()
     return "" if status == 0 and "ok a" not in found else f"status {status}, and the terminal shows {found!r}"
@@ -188,6 +188,7 @@ def run(suite):
         suite.attempt("no colours at a dumb terminal", color_problem, suite, session, False, {"NO_COLOR": "", "TERM": "dumb"})
         suite.attempt("no colours with --color never", color_problem, suite, session, False, {"NO_COLOR": ""}, "--color", "never")
         suite.attempt("colours with --color always", color_problem, suite, session, True, {}, "--color", "always")
-        suite.attempt("Ctrl-C at a terminal", interrupt_problem, suite, session)
-        if suite.needs("rlwrap", "completion by rlwrap"):
+        suite.attempt("Ctrl-C at a terminal", interrupt_problem, suite, session, "--no-rlwrap")
+        if suite.needs("rlwrap", "Ctrl-C and completion under rlwrap"):
+            suite.attempt("Ctrl-C under rlwrap", interrupt_problem, suite, session)
             suite.attempt("completion by rlwrap", completion_problem, suite, counter)
