@@ -10,7 +10,8 @@ LAST_LINES = 6  # of a session that reaches a limit, in its page
 
 # Files for `talk`. Each has a page of the same name.
 TALKS = ["directives", "lists", "directives_with_a_seat", "refusals", "more_refusals", "batches", "refused", "notation_session", "notation_fault",
-         "advice_after_a_refused_undo", "advice_after_a_refused_arm", "advice_at_two_halts", "seats_and_long_lines"]
+         "advice_after_a_refused_undo", "advice_after_a_refused_arm", "advice_at_two_halts", "seats_and_long_lines",
+         "control_bytes", "control_bytes_in_program"]
 
 # The name of a page, the arguments of the run, and its input.
 RUNS = [

@@ -98,9 +98,21 @@ def terminal_problem(suite, file):
         terminal.read = "\n" + terminal.read
         terminal.until(f"\n{PROMPT}")
     terminal.type("\x04")  # (Ctrl-D ends the input)
-    _, status = terminal.ended()
+    end, status = terminal.ended()
     wanted = [f"{line}\n{reply}\n" for line, reply in zip(LINES, REPLIES)]
-    return "" if (status, shown) == (0, wanted) else f"status {status}, and the terminal shows {shown}"
+    return "" if (status, shown, end) == (0, wanted, "\n") else f"status {status}, and the terminal shows {shown} and at its end {end!r}"
+
+
+def control_problem(suite, file):
+    """Types a line with an escape sequence, which is shown as text."""
+    terminal = Terminal(suite.program, "talk", "--color", "always", file)
+    terminal.until(PROMPT)
+    terminal.type("\x16\x1b[31mnext\n")  # (after Ctrl-V, the terminal takes the next key as it is)
+    terminal.until("no 22")
+    shown = terminal.until(f"\n{PROMPT}")
+    terminal.type("quit\n")
+    _, status = terminal.ended()
+    return "" if status == 0 and "\\x1b[31mnext" in shown else f"status {status}, and the terminal shows {shown!r}"
 
 
 def prompt_problem(suite):
@@ -181,6 +193,7 @@ def run(suite):
         counter.write_text(PROGRAM.replace("process a", "process counter"))
         suite.attempt("talk, typed at a terminal", terminal_problem, suite, session)
         suite.attempt("a program that is typed", prompt_problem, suite)
+        suite.attempt("an escape sequence, at a terminal", control_problem, suite, session)
         suite.attempt("a file without a line %%, at a terminal", program_file_problem, suite, program)
         suite.attempt("a picture of a file, at a terminal", picture_problem, suite, session)
         suite.attempt("colours at a terminal", color_problem, suite, session, True, {"NO_COLOR": ""})

@@ -2,17 +2,20 @@
 #![tactic(auto)]
 
 mod buffer;
+mod held;
 mod output;
 mod paint;
+mod serving;
 #[cfg(test)]
 mod tests;
 mod typing;
 mod words;
 
 use clap::error::ErrorKind;
-use dbg_shell::{Coloring, Job, Request, Work, asked, check, crew_status, run_crew, serve, status};
+use dbg_shell::{Coloring, Job, Request, Work, asked, check, crew_status, run_crew, status};
 use output::Output;
-use paint::Painted;
+use paint::{Look, Painted};
+use serving::run;
 use shell_io::{Noted, Sink, Source, one_behind_the_other};
 use std::alloc::Global;
 use std::fs::File;
@@ -22,6 +25,7 @@ use std::sync::Wait;
 use std::thread::Threads;
 use std::{env, io};
 use typing::{Asks, FileInput, Typing, open};
+use ui_diagram::PictureForm;
 use ui_repl::{
     SESSION_BYTES, Tested, converse, draw, draw_status, expand, explain, fill_session, test_session,
 };
@@ -45,7 +49,7 @@ fn job_from<R: Threads + Wait + Sync, I: Source, W: Sink>(
     writer: &mut W,
 ) -> u8 {
     match job {
-        Job::Run => status(&serve(alloc, reader, writer)),
+        Job::Run => run(alloc, reader, writer),
         Job::Check => status(&check(alloc, reader, writer)),
         Job::Crew(turns) => crew_status(&run_crew(rt, alloc, turns, reader, writer)),
     }
@@ -195,12 +199,16 @@ fn shows_colours(rt: &HostRuntime) -> bool {
     rt.stdout().is_terminal() && !is_dumb && !is_unwanted
 }
 
-// Whether the output is coloured.
-fn is_coloured(rt: &HostRuntime, request: &Request<'_>) -> bool {
+// How the output of a request is written. What a program reads goes out as it is, and what a person reads as text.
+fn look_of(rt: &HostRuntime, request: &Request<'_>) -> Look {
     match request {
-        Request::Work(Work::Talk(Coloring::Auto), _) => shows_colours(rt),
-        Request::Work(Work::Talk(Coloring::Always), _) => true,
-        _ => false,
+        Request::Work(Work::Talk(Coloring::Auto), _) if shows_colours(rt) => Look::Coloured,
+        Request::Work(Work::Talk(Coloring::Always), _) => Look::Coloured,
+        Request::Work(Work::Talk(_) | Work::Explain, _) | Request::Test(_) => Look::Visible,
+        Request::Work(Work::Draw(picture), _) if picture.form == PictureForm::Text => Look::Visible,
+        Request::Work(Work::Job(_) | Work::Expand | Work::Draw(_), _)
+        | Request::Fill(_)
+        | Request::Version => Look::Raw,
     }
 }
 
@@ -210,9 +218,9 @@ fn do_request<R: Threads + Wait + Sync>(
     threads: &R,
     request: &Request<'_>,
 ) -> u8 {
-    let painted = Painted::new(rt.alloc(), rt.stdout(), is_coloured(rt, request));
-    let mut writer = Output::new(painted);
-    let mut errors = Output::new(rt.stderr());
+    let look = look_of(rt, request);
+    let mut writer = Output::new(Painted::new(rt.alloc(), rt.stdout(), look));
+    let mut errors = Output::new(Painted::new(rt.alloc(), rt.stderr(), Look::Visible));
     match request {
         Request::Work(work, file) => {
             do_work(rt, threads, *work, *file, &mut writer, &mut errors)

@@ -1,10 +1,12 @@
-//! Colours for a terminal.
+//! Text and colours for a terminal.
 
+use crate::held::{Held, plain_length, write_fully};
 use std::alloc::{AllocError, Global};
 use std::io;
 use std::io::Write;
+use ui_text::{Start, escaped, put_visible, start_of};
 
-// What a terminal is told: how text looks, by ISO 6429 (Select Graphic Rendition).
+// Escape sequences that set how text looks: Select Graphic Rendition of ISO 6429.
 const PLAIN: &str = "\x1b[0m";
 
 const BOLD: &str = "\x1b[1m";
@@ -20,13 +22,25 @@ const HUES: [&str; 6] = [
     "\x1b[36m", "\x1b[33m", "\x1b[35m", "\x1b[32m", "\x1b[34m", "\x1b[96m",
 ];
 
-/// A writer for a terminal that colours the lines of an interactive session: refusals, halts, the processes and new values of events, and
-/// the places of commands. If it is off, it writes what it is given.
+/// How bytes are written.
+#[derive(Clone, Copy, PartialEq, Eq)]
+pub(crate) enum Look {
+    /// As they are.
+    Raw,
+    /// As text that cannot drive a terminal: control bytes are written as `\x1b`.
+    Visible,
+    /// The same, with colours.
+    Coloured,
+}
+
+/// A writer for text. In colours, it paints the lines of an interactive session: refusals, halts, the processes and new values of events,
+/// and the places of commands.
 #[derive(Drop)]
 pub(crate) struct Painted<W> {
     inner: W,
-    is_on: bool,
-    // The line that has no end yet.
+    look: Look,
+    held: Held,
+    // In colours: the line that has no end yet.
     line: Vec<u8>,
     // The processes that were shown.
     names: Vec<Vec<u8>>,
@@ -131,8 +145,8 @@ fn put_changes(text: &mut Vec<u8>, changes: &[u8]) -> Result<(), AllocError> {
         let Some(at) = find(rest, b"-> ") else {
             break;
         };
-        let (front, behind) = split(rest, at.saturating_add(3));
-        let (value, others) = split(behind, value_length(behind));
+        let (front, begun) = split(rest, at.saturating_add(3));
+        let (value, others) = split(begun, value_length(begun));
         text.extend_from_slice(front)?;
         put(text, BOLD, value)?;
         rest = others;
@@ -142,10 +156,11 @@ fn put_changes(text: &mut Vec<u8>, changes: &[u8]) -> Result<(), AllocError> {
 
 impl<W: Write> Painted<W> {
     /// A writer on top of this one.
-    pub(crate) fn new(alloc: Global, inner: W, is_on: bool) -> Painted<W> {
+    pub(crate) fn new(alloc: Global, inner: W, look: Look) -> Painted<W> {
         Painted {
             inner,
-            is_on,
+            look,
+            held: Held::new(),
             line: Vec::new(alloc),
             names: Vec::new(alloc),
         }
@@ -200,22 +215,23 @@ impl<W: Write> Painted<W> {
         Ok(text)
     }
 
+    // The line so far, as text.
+    fn take_line(&mut self) -> Result<Vec<u8>, AllocError> {
+        let mut line = Vec::new(*self.line.allocator());
+        put_visible(&mut line, self.line.as_slice())?;
+        self.line.clear();
+        Ok(line)
+    }
+
     // Writes the line that is complete.
     fn write_line(&mut self) -> io::Result<()> {
-        let alloc = *self.line.allocator();
-        let line = Vec::from_slice(alloc, self.line.as_slice())?;
-        self.line.clear();
+        let line = self.take_line()?;
         let mut text = self.painted(line.as_slice())?;
         text.push(b'\n')?;
-        self.inner.write_all(text.as_slice())
+        write_fully(&mut self.inner, text.as_slice())
     }
-}
 
-impl<W: Write> Write for Painted<W> {
-    fn write(&mut self, bytes: &[u8]) -> io::Result<usize> {
-        if !self.is_on {
-            return self.inner.write(bytes);
-        }
+    fn write_coloured(&mut self, bytes: &[u8]) -> io::Result<()> {
         for byte in bytes {
             if *byte == b'\n' {
                 self.write_line()?;
@@ -223,13 +239,81 @@ impl<W: Write> Write for Painted<W> {
                 self.line.push(*byte)?;
             }
         }
+        Ok(())
+    }
+
+    // Writes the bytes that are held, as far as they are whole characters or part of none.
+    fn write_held(&mut self) -> io::Result<()> {
+        for _ in 0..self.held.bytes().len() {
+            let held = self.held;
+            let Some(first) = held.bytes().first() else {
+                break;
+            };
+            match start_of(held.bytes()) {
+                Start::Part => break,
+                Start::Character(length) => {
+                    write_fully(&mut self.inner, held.bytes().get(..length).unwrap_or(&[]))?;
+                    self.held = held.without(length);
+                }
+                Start::Hidden => {
+                    write_fully(&mut self.inner, &escaped(*first))?;
+                    self.held = held.without(1);
+                }
+            }
+        }
+        Ok(())
+    }
+
+    // Writes bytes as text. It allocates nothing.
+    fn write_visible(&mut self, bytes: &[u8]) -> io::Result<()> {
+        let mut rest = bytes;
+        for _ in 0..bytes.len() {
+            if rest.is_empty() {
+                break;
+            }
+            let length = if self.held.bytes().is_empty() {
+                plain_length(rest)
+            } else {
+                0
+            };
+            if length > 0 {
+                write_fully(&mut self.inner, rest.get(..length).unwrap_or(&[]))?;
+                rest = rest.get(length..).unwrap_or(&[]);
+            } else if let Some((first, others)) = rest.split_first() {
+                self.held.push(*first);
+                self.write_held()?;
+                rest = others;
+            }
+        }
+        Ok(())
+    }
+
+    // Writes the bytes of a character that did not come to its end.
+    fn write_rest(&mut self) -> io::Result<()> {
+        let held = self.held;
+        self.held = Held::new();
+        for byte in held.bytes() {
+            write_fully(&mut self.inner, &escaped(*byte))?;
+        }
+        Ok(())
+    }
+}
+
+impl<W: Write> Write for Painted<W> {
+    fn write(&mut self, bytes: &[u8]) -> io::Result<usize> {
+        match self.look {
+            Look::Raw => return self.inner.write(bytes),
+            Look::Visible => self.write_visible(bytes)?,
+            Look::Coloured => self.write_coloured(bytes)?,
+        }
         Ok(bytes.len())
     }
 
     fn flush(&mut self) -> io::Result<()> {
+        self.write_rest()?;
         if !self.line.is_empty() {
-            self.inner.write_all(self.line.as_slice())?;
-            self.line.clear();
+            let line = self.take_line()?;
+            write_fully(&mut self.inner, line.as_slice())?;
         }
         self.inner.flush()
     }

@@ -112,11 +112,23 @@ impl<'a> Typing<'a> {
     }
 }
 
+impl Typing<'_> {
+    // Ends the line of the prompt, at the end of the input. A line end that cannot be written is left out.
+    fn end_line(&self) {
+        if self.asks != Asks::Nothing {
+            let _ = eprint!(self.rt; "\n");
+        }
+    }
+}
+
 impl Read for Typing<'_> {
     fn read(&mut self, bytes: &mut [u8]) -> io::Result<usize> {
         self.is_begun = true;
         self.prompt();
         let count = self.input.read(bytes)?;
+        if count == 0 {
+            self.end_line();
+        }
         self.end.note(bytes.get(..count).unwrap_or(&[]));
         Ok(count)
     }
