@@ -18,7 +18,7 @@ use Rattle.dbg_base.specs.declared.refusal.Refusal.TheVariants.{BreakTaken, Brea
 use Rattle.dbg_base.specs.Breakpoints.{Breakpoint, named, without, with_mark, name_refusal}
 use Rattle.indexmap.specs.IndexMap.{insert_entry, move_index, index_before, set_value_at, shift_remove_entry}
 use Rattle.indexmap.proofs.MapLemmas.{absent_from_lookup, or_len-absent}
-use Rattle.break_book.specs.Books.{Kept, Entry, breakpoint_of, breakpoints_of, new_breakpoint, marked_at, StandsAt}
+use Rattle.break_book.specs.Books.{Kept, Entry, breakpoint_of, breakpoints_of, new_breakpoint, marked_at, IsPlacedAt}
 
 abbrev names_of : List Entry → List (List ℕ)
 names_of book = map (λ (entry : Entry). entry.0) book
@@ -88,7 +88,7 @@ module _ (name : List ℕ) where
 
   -- the breakpoint is at this position, and returns to it among the others
   pub record Here (book : List Entry) (i : ℕ) (kept : Kept) : Type 0 where
-    pub stands : StandsAt name book i kept
+    pub placed_at : IsPlacedAt name book i kept
     pub place : i ≤ length (shift_remove_entry (bytes_eq name) book)
     pub whole : book ≡ insert (shift_remove_entry (bytes_eq name) book) i (name, kept)
 
@@ -96,7 +96,7 @@ module _ (name : List ℕ) where
   here_first entry book same =
       let e : name ≡ entry.0 = (bytes_eq-Decides name entry.0).0 same in
       record {
-        stands = record {
+        placed_at = record {
           is = ap (λ (b : Bool). if b then Some (breakpoint_of entry) else named name (breakpoints_of book)) same
               ∙ (λ i. Some (breakpoint_of (sym e i, entry.1)));
           entry = λ i. Some (sym e i, entry.1);
@@ -112,21 +112,21 @@ module _ (name : List ℕ) where
             (sym (ap (λ (b : Bool). cond b book (entry ∷ shift_remove_entry (bytes_eq name) book)) same));
       }
 
-  here_behind : (entry : Entry) (book : List Entry) (i : ℕ) (kept : Kept) → bytes_eq name entry.0 ≡ false → Here book i kept
+  here_after : (entry : Entry) (book : List Entry) (i : ℕ) (kept : Kept) → bytes_eq name entry.0 ≡ false → Here book i kept
       → Here (entry ∷ book) (suc i) kept
-  here_behind entry book i kept other here =
+  here_after entry book i kept other here =
       let rest = shift_remove_entry (bytes_eq name) book in
-      let less = here.stands.within in
+      let less = here.placed_at.within in
       let fits = here.place in
       let all : shift_remove_entry (bytes_eq name) (entry ∷ book) ≡ entry ∷ rest =
       ap (λ (b : Bool). cond b book (entry ∷ rest)) other in
       record {
-        stands = record {
-          is = ap (λ (b : Bool). if b then Some (breakpoint_of entry) else named name (breakpoints_of book)) other ∙ here.stands.is;
-          entry = here.stands.entry;
+        placed_at = record {
+          is = ap (λ (b : Bool). if b then Some (breakpoint_of entry) else named name (breakpoints_of book)) other ∙ here.placed_at.is;
+          entry = here.placed_at.entry;
           within = omega (arith, less);
-          detector = λ w are. here.stands.detector w are.1;
-          marked = λ armed. ap (λ (l : List Breakpoint). breakpoint_of entry ∷ l) (here.stands.marked armed)
+          detector = λ w are. here.placed_at.detector w are.1;
+          marked = λ armed. ap (λ (l : List Breakpoint). breakpoint_of entry ∷ l) (here.placed_at.marked armed)
               ∙ sym (ap (λ (b : Bool).
               if b then record { name = entry.0; conjuncts = (breakpoint_of entry).conjuncts; armed = armed } ∷ breakpoints_of book
               else breakpoint_of entry ∷ with_mark name armed (breakpoints_of book)) other);
@@ -149,7 +149,7 @@ module _ (name : List ℕ) where
           (here_first entry book is)
       from (entry ∷ book) (suc i) less is before found =
           let other = before 0 (omega arith) in
-          here_behind entry book i kept other
+          here_after entry book i kept other
           (from book i (omega (arith, less)) is (λ k lt. before (suc k) (omega (arith, lt)))
           (sym (ap (λ (b : Bool). cond b (Some entry.1) (lookup (bytes_eq name) book)) other) ∙ found))
 
@@ -197,7 +197,7 @@ pub cleared : (name : List ℕ) (book new : List Entry) (i : ℕ) (kept : Kept) 
 cleared name book new i kept at found entries =
     let spot = here name book i kept at found in
     subst (λ (l : List Entry). IsCleared name book l i kept) (sym entries)
-    (record { is = spot.stands.is; left = left name book; place = spot.place; whole = spot.whole })
+    (record { is = spot.placed_at.is; left = left name book; place = spot.place; whole = spot.whole })
 
 -- a mark is set, and the rest stays
 pub written : (book : List Entry) (i : ℕ) (kept next : Kept) (armed : Bool)

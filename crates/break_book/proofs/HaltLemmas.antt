@@ -30,10 +30,10 @@ match_both true A B x y = x
 match_both false A B x y = y
 
 -- the cut that is found is the least, and if none is found there is none
-pub told_cut : (P : Program) (H : History) (conjuncts : List Conjunct) (found : Option (Bor (List ℕ)))
+pub reported_cut : (P : Program) (H : History) (conjuncts : List Conjunct) (found : Option (Bor (List ℕ)))
     → MatchOption found (NoCut P H conjuncts) (λ cut. IsLeast P H conjuncts cut.now) → TellsWhether P H conjuncts (is_some found)
-told_cut P H conjuncts None none = none
-told_cut P H conjuncts (Some cut) least = (cut.now, least)
+reported_cut P H conjuncts None none = none
+reported_cut P H conjuncts (Some cut) least = (cut.now, least)
 
 module _ (P : Program) (H : History) (kept : Kept) where
   -- an armed breakpoint halts if it has a cut
@@ -49,9 +49,9 @@ module _ (P : Program) (H : History) (kept : Kept) where
       match_true kept.armed ((HasCut P H b × (Some name ≡ Some name)) ⊎ (NoCut P H b.conjuncts × IsHaltedBy P H rest (Some name)))
       (IsHaltedBy P H rest (Some name)) halts.0 (inl ((halts.1, halts.2), refl))
 
-  pub halts_behind : (name : List ℕ) (rest : List Breakpoint) (halted : Option (List ℕ)) → HaltsNot P H kept → IsHaltedBy P H rest halted
+  pub halts_after : (name : List ℕ) (rest : List Breakpoint) (halted : Option (List ℕ)) → HaltsNot P H kept → IsHaltedBy P H rest halted
       → IsHaltedBy P H (breakpoint_of (name, kept) ∷ rest) halted
-  halts_behind name rest halted halts_not later =
+  halts_after name rest halted halts_not later =
       let b = breakpoint_of (name, kept) in
       let here : Type 0 = (HasCut P H b × (halted ≡ Some name)) ⊎ (NoCut P H b.conjuncts × IsHaltedBy P H rest halted) in
       ⊎_elim (λ (off : kept.armed ≡ false). match_false kept.armed here (IsHaltedBy P H rest halted) off later)
@@ -85,9 +85,9 @@ halted_there P H (b ∷ breakpoints) name is none =
     by false later false eq none rest = rest later none
 
 -- an entry at a position from 0 is a breakpoint at the next position, from 1
-pub stands_there : (book : List Entry) (i : ℕ) (kept : Entry) → slice_get book i ≡ Some kept
+pub is_there : (book : List Entry) (i : ℕ) (kept : Entry) → slice_get book i ≡ Some kept
     → slice_get (breakpoints_of book) (i + 1 - 1) ≡ Some (breakpoint_of kept)
-stands_there book i kept is =
+is_there book i kept is =
     let place : i + 1 - 1 ≡ i = omega arith in
     ap (λ (k : ℕ). slice_get (breakpoints_of book) k) place ∙ slice_get-map breakpoint_of book i
     ∙ ap (λ (o : Option Entry). option_map breakpoint_of o) is

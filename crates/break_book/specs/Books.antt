@@ -107,7 +107,7 @@ marked_at zero armed (entry ∷ book) = (entry.0, record entry.1 { armed = armed
 marked_at (suc position) armed (entry ∷ book) = entry ∷ marked_at position armed book
 
 -- the breakpoint of this name is at this position, from 0, and this is kept of it
-pub record StandsAt (name : List ℕ) (book : List Entry) (i : ℕ) (kept : Kept) : Type 0 where
+pub record IsPlacedAt (name : List ℕ) (book : List Entry) (i : ℕ) (kept : Kept) : Type 0 where
   pub is : named name (breakpoints_of book) ≡ Some (breakpoint_of (name, kept))
   pub entry : slice_get book i ≡ Some (name, kept)
   pub within : i < length book

@@ -15,7 +15,7 @@ ghost use Rattle.causal_world.specs.Scenes.{Scene, IsWorldOf};
 ghost use Rattle.least_cut.specs.Watches.{scan_of};
 ghost use Rattle.least_cut.specs.Detectors.{IsDetectorOf};
 ghost use Rattle.dbg_base.specs.Breakpoints as model;
-ghost use Rattle.break_book.specs.Books.{breakpoint_of, breakpoints_of, new_breakpoint, AreDetectorsOf, HasDistinctNames, StandsAt};
+ghost use Rattle.break_book.specs.Books.{breakpoint_of, breakpoints_of, new_breakpoint, AreDetectorsOf, HasDistinctNames, IsPlacedAt};
 ghost use Rattle.break_book.specs.Books.{marked_at, arm_refusal, MayPass, CannotPass};
 
 mod following;
@@ -274,7 +274,7 @@ impl Book {
 
     // The breakpoint of this name with its position, from 0. Error: `UnknownBreak` if there is none.
     fn entry(&self, name: Name) -> Result<(usize, &Breakpoint), Refusal>
-        ensures found { IfOk result (λ found. StandsAt name self.now found.0 found.1.now) }
+        ensures found { IfOk result (λ found. IsPlacedAt name self.now found.0 found.1.now) }
         ensures refuses { IfErr result (λ refusal. (named name (breakpoints_of self.now) ≡ None) × (refusal ≡ UnknownBreak)) }
         ensures few { length self.now ≤ BREAKPOINTS }
     {

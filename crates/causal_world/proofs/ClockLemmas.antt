@@ -30,7 +30,7 @@ got_grows kinds j i m n le = count_grows (gets_from i) (get_or kinds j []) m n l
 pub record Continues (kinds more : List (List Kind)) : Type 0 where
   pub size : length more ≡ length kinds
   pub longer : (q : ℕ) → length (get_or kinds q []) ≤ length (get_or more q [])
-  pub fronts : (q n : ℕ) → n ≤ length (get_or kinds q []) → take n (get_or more q []) ≡ take n (get_or kinds q [])
+  pub prefixes : (q n : ℕ) → n ≤ length (get_or kinds q []) → take n (get_or more q []) ≡ take n (get_or kinds q [])
 
 module _ (kinds : List (List Kind)) (p : ℕ) (kind : Kind) (here : p < length kinds) where
   pub one_longer : length (get_or (with_kind kinds p kind) p []) ≡ length (get_or kinds p []) + 1
@@ -47,7 +47,7 @@ module _ (kinds : List (List Kind)) (p : ℕ) (kind : Kind) (here : p < length k
         ap (λ (l : List Kind). length l) (push_other kinds p q kind (λ x. apart (sym x))) in
         omega (arith, line))
         (cases_eq p q);
-    fronts = λ q n le. ⊎_elim
+    prefixes = λ q n le. ⊎_elim
         (λ (same : p ≡ q). subst
         (λ (x : ℕ). n ≤ length (get_or kinds x []) → take n (get_or (with_kind kinds p kind) x []) ≡ take n (get_or kinds x [])) same
         (λ y. ap (λ (l : List Kind). take n l) (push_same kinds p kind here) ∙ take-append-le n (get_or kinds p []) (kind ∷ []) y) le)
@@ -83,7 +83,7 @@ module _ (kinds : List (List Kind)) (p : ℕ) (here : p < length kinds) where
         ap (λ (l : List Kind). length l) (get_or-set_other kinds p q (without_back (get_or kinds p [])) [] (λ x. apart (sym x))) in
         omega (arith, line))
         (cases_eq p q);
-    fronts = λ q n le. ⊎_elim
+    prefixes = λ q n le. ⊎_elim
         (λ (same : p ≡ q). subst (λ (x : ℕ). n ≤ length (get_or (without_kind kinds p) x [])
         → take n (get_or kinds x []) ≡ take n (get_or (without_kind kinds p) x [])) same
         (λ y.
@@ -143,10 +143,10 @@ meet_consistent kinds cut other a b = record {
 
 module _ (kinds more : List (List Kind)) (continues : Continues kinds more) where
   pub same_sent : (i j n : ℕ) → n ≤ length (get_or kinds i []) → sent_by more i j n ≡ sent_by kinds i j n
-  same_sent i j n le = ap (λ (l : List Kind). count_by (sends_to j) l) (continues.fronts i n le)
+  same_sent i j n le = ap (λ (l : List Kind). count_by (sends_to j) l) (continues.prefixes i n le)
 
   pub same_got : (j i n : ℕ) → n ≤ length (get_or kinds j []) → got_by more j i n ≡ got_by kinds j i n
-  same_got j i n le = ap (λ (l : List Kind). count_by (gets_from i) l) (continues.fronts j n le)
+  same_got j i n le = ap (λ (l : List Kind). count_by (gets_from i) l) (continues.prefixes j n le)
 
   -- a consistent cut stays one; and if it is within the first events, it was one
   pub cut_more : (cut : List ℕ) → IsConsistentCut kinds cut → IsConsistentCut more cut

@@ -17,7 +17,7 @@ use Rattle.event_rows.specs.EventValues.{EventValue}
 use Rattle.event_rows.specs.Settings.{new_values, settings_of}
 use Rattle.event_rows.proofs.UndoneEventLemmas.{new_values_of}
 use Rattle.dbg_laws.proofs.Moves.{guard_true, completed, effect_sent}
-use Rattle.causal_world.specs.Deciding.{TakesFront, Takes, MakesEvent, DecidesBy, Decides}
+use Rattle.causal_world.specs.Deciding.{TakesPrefix, Takes, MakesEvent, DecidesBy, Decides}
 use Rattle.causal_world.specs.Scenes.{message_for, exchange_for, event_by, event_of, event_if, with_done}
 
 -- Commands that are tried one after the other.
@@ -85,7 +85,7 @@ sent_done c p k target value sets z =
 taken_done : (c : Configuration) (p k source variable : ℕ) (m : ℤ) (rest : List ℤ) (effect : Effect) → channel_of c source p ≡ m ∷ rest
     → after_effect (with_channel c source p rest) p (Receives source variable) effect
     ≡ with_done c p (event_by k (Receives source variable) (state_in c p) (message_for c p (Receives source variable)) effect)
-taken_done c p k source variable m rest effect front =
+taken_done c p k source variable m rest effect prefix =
     let state = state_in c p in
     let action : Action = Receives source variable in
     let known = new_values (settings_of state.values effect.sets) in
@@ -102,8 +102,8 @@ taken_done c p k source variable m rest effect front =
     ∙ ap (λ (messages : List ℤ). record {
       states = set c.states p (state_after state action known);
       channels = (with_channel c source p (drop 1 messages)).channels;
-    }) (sym front)
-    ∙ ap taking (sym front)
+    }) (sym prefix)
+    ∙ ap taking (sym prefix)
 
 -- Process p makes this event at c, which leads to d.
 pub record Makes (o : Option Command) (c : Configuration) (p k : ℕ) (d : Configuration) : Type 0 where
@@ -123,19 +123,19 @@ effect_done command action c p k effect same e =
 received : (command : Command) (source variable : ℕ) (c : Configuration) (p k : ℕ) (d : Configuration) (messages : List ℤ)
     → command.action ≡ Receives source variable → channel_of c source p ≡ messages → receive command c p source messages ≡ Ok d
     → Makes (Some command) c p k d
-received command source variable c p k d [] same front e = cc
-received command source variable c p k d (m ∷ rest) same front e =
+received command source variable c p k d [] same prefix e = cc
+received command source variable c p k d (m ∷ rest) same prefix e =
     let done = completed (with_channel c source p rest) p command.action (effect_of command (state_in c p) (Some m)) d e in
     let effect = done.0 in
     let action : Action = Receives source variable in
-    let taken : message_for c p action ≡ Some m = ap (λ (messages : List ℤ). slice_get messages 0) front in
+    let taken : message_for c p action ≡ Some m = ap (λ (messages : List ℤ). slice_get messages 0) prefix in
     record {
       event = event_by k action (state_in c p) (message_for c p action) effect;
       is = effect_done command action c p k effect same
           (ap (effect_by action command.assignments (state_in c p)) taken
           ∙ ap (λ (a : Action). effect_by a command.assignments (state_in c p) (Some m)) (sym same) ∙ done.1);
       leads = done.2 ∙ ap (λ (a : Action). after_effect (with_channel c source p rest) p a effect) same
-          ∙ taken_done c p k source variable m rest effect front;
+          ∙ taken_done c p k source variable m rest effect prefix;
     }
 
 proceeds : (command : Command) (action : Action) (c : Configuration) (p k : ℕ) (d : Configuration) → command.action ≡ action
@@ -184,17 +184,17 @@ Leads command action c p k event =
 received_by : (command : Command) (source variable : ℕ) (c : Configuration) (p k : ℕ) (effect : Effect) (messages : List ℤ)
     → command.action ≡ Receives source variable → channel_of c source p ≡ messages
     → effect_by (Receives source variable) command.assignments (state_in c p) (slice_get messages 0) ≡ Some effect
-    → TakesFront (Ok (slice_get messages 0)) (slice_get messages 0)
+    → TakesPrefix (Ok (slice_get messages 0)) (slice_get messages 0)
     → receive command c p source messages
     ≡ Ok (with_done c p (event_by k (Receives source variable) (state_in c p) (slice_get messages 0) effect))
-received_by command source variable c p k effect [] same front e takes = cc
-received_by command source variable c p k effect (m ∷ rest) same front e takes =
+received_by command source variable c p k effect [] same prefix e takes = cc
+received_by command source variable c p k effect (m ∷ rest) same prefix e takes =
     let action : Action = Receives source variable in
     ap (complete (with_channel c source p rest) p command.action)
     (ap (λ (a : Action). effect_by a command.assignments (state_in c p) (Some m)) same ∙ e)
     ∙ ap (λ (a : Action). Ok (after_effect (with_channel c source p rest) p a effect)) same
-    ∙ ap (λ (d : Configuration). Ok d) (taken_done c p k source variable m rest effect front)
-    ∙ ap (λ (messages : List ℤ). Ok (with_done c p (event_by k action (state_in c p) (slice_get messages 0) effect))) front
+    ∙ ap (λ (d : Configuration). Ok d) (taken_done c p k source variable m rest effect prefix)
+    ∙ ap (λ (messages : List ℤ). Ok (with_done c p (event_by k action (state_in c p) (slice_get messages 0) effect))) prefix
 
 leads_by : (command : Command) (action : Action) (c : Configuration) (p k : ℕ) (effect : Effect) → command.action ≡ action
     → effect_by action command.assignments (state_in c p) (message_for c p action) ≡ Some effect
@@ -218,14 +218,14 @@ leads_by command (Receives source variable) c p k effect same e takes = (
   received_by command source variable c p k effect (channel_of c source p) same refl e takes,
 )
 
-front_taken : (taken first : Option ℤ) → TakesFront (Ok taken) first → taken ≡ first
-front_taken taken None takes = cc
-front_taken taken (Some m) takes = cc
+prefix_taken : (taken first : Option ℤ) → TakesPrefix (Ok taken) first → taken ≡ first
+prefix_taken taken None takes = cc
+prefix_taken taken (Some m) takes = cc
 
 takes_is : (action : Action) (c : Configuration) (p : ℕ) (taken : Option ℤ) → Takes (Ok taken) action c p → taken ≡ message_for c p action
 takes_is Local c p taken takes = cc
 takes_is (Sends target value) c p taken takes = cc
-takes_is (Receives source variable) c p taken takes = front_taken taken (slice_get (channel_of c source p) 0) takes
+takes_is (Receives source variable) c p taken takes = prefix_taken taken (slice_get (channel_of c source p) 0) takes
 
 -- a command whose event is known fires, and leads where the event leads
 pub decided : (command : Command) (c : Configuration) (p k : ℕ) (taken : Option ℤ) (event : EventValue)
@@ -246,7 +246,7 @@ decided command c p k taken event takes e =
 received_fault : (command : Command) (source variable : ℕ) (c : Configuration) (p : ℕ) (messages : List ℤ)
     → command.action ≡ Receives source variable
     → effect_by (Receives source variable) command.assignments (state_in c p) (slice_get messages 0) ≡ None
-    → TakesFront (Ok (slice_get messages 0)) (slice_get messages 0) → receive command c p source messages ≡ Err Fault
+    → TakesPrefix (Ok (slice_get messages 0)) (slice_get messages 0) → receive command c p source messages ≡ Err Fault
 received_fault command source variable c p [] same e takes = cc
 received_fault command source variable c p (m ∷ rest) same e takes =
     ap (complete (with_channel c source p rest) p command.action)

@@ -45,14 +45,14 @@ module _ {A : Type 0} where
   shorter_at (l ∷ lists) (suc p) (suc q) = shorter_at lists p q
 
   -- a prefix of a prefix
-  front_of : (line front : List A) (m n : ℕ) → front ≡ take m line → n ≤ length front → take n line ≡ take n front
-  front_of line front m n same le =
-      let size : length front ≡ length (take m line) = ap (λ (l : List A). length l) same in
+  prefix_of : (line prefix : List A) (m n : ℕ) → prefix ≡ take m line → n ≤ length prefix → take n line ≡ take n prefix
+  prefix_of line prefix m n same le =
+      let size : length prefix ≡ length (take m line) = ap (λ (l : List A). length l) same in
       sym (ap (λ (l : List A). take n l) same ∙ take-take n m line (omega (arith, length-take m line)))
 
-  item_of : (line front : List A) (m n : ℕ) (d : A) → front ≡ take m line → n < length front → get_or line n d ≡ get_or front n d
-  item_of line front m n d same lt =
-      let size : length front ≡ length (take m line) = ap (λ (l : List A). length l) same in
+  item_of : (line prefix : List A) (m n : ℕ) (d : A) → prefix ≡ take m line → n < length prefix → get_or line n d ≡ get_or prefix n d
+  item_of line prefix m n d same lt =
+      let size : length prefix ≡ length (take m line) = ap (λ (l : List A). length l) same in
       sym (ap (λ (l : List A). get_or l n d) same ∙ get_or-take m line n d (omega (arith, length-take m line)))
 
 -- a world without its last event is earlier
@@ -63,7 +63,7 @@ earlier_unmade P w p event of was = record {
   starts = refl;
   events = λ q n le.
       let short = shorter_at w.events p q in
-      front_of (get_or w.events q []) (get_or (unmade w p event).events q []) short.0 n short.1 le;
+      prefix_of (get_or w.events q []) (get_or (unmade w p event).events q []) short.0 n short.1 le;
   clocks = λ q n lt.
       let short = shorter_at w.clocks p q in
       item_of (get_or w.clocks q []) (get_or (unmade w p event).clocks q []) short.0 n [] short.1 lt;
@@ -172,8 +172,8 @@ module _ (P : Program) (v w : Scene) (of : IsWorldOf P v) (other : IsWorldOf P w
   continues = record {
     size = length_kinds P more ∙ sym sizes ∙ sym (length_kinds P H);
     longer = λ q. (let le = longer q in omega (arith, le, length_at P H q, length_at P more q));
-    fronts = λ q n le.
-        front_of (get_or (kinds_of P more) q []) (get_or (kinds_of P H) q []) (length (get_or H q [])) n
+    prefixes = λ q n le.
+        prefix_of (get_or (kinds_of P more) q []) (get_or (kinds_of P H) q []) (length (get_or H q [])) n
         (kinds_at P H q ∙ ap (map (kind_at P q)) (begins q)
         ∙ sym (take-map (kind_at P q) (length (get_or H q [])) (get_or more q []))
         ∙ ap (λ (l : List Kind). take (length (get_or H q [])) l) (sym (kinds_at P more q))) le;
@@ -208,7 +208,7 @@ module _ (P : Program) (v w : Scene) (of : IsWorldOf P v) (other : IsWorldOf P w
 
   -- an event that the first world does not have is undone
   begins_less : (p : ℕ) (event : EventValue) → p < length P → get_or cut p 0 < length (get_or more p []) → Begins v (unmade w p event)
-  begins_less p event here behind q =
+  begins_less p event here beyond q =
       let k : ℕ = length (get_or H q []) in
       let less : history_of (unmade w p event).state ≡ without_last more p = history_without P w.state p other.state here in
       begins q

@@ -29,7 +29,7 @@ use Rattle.dbg_laws.proofs.Moves.{Move, Keeps, Puts, Takes, IsReady, move_source
 use Rattle.dbg_laws.proofs.Moves.{effect_sent}
 use Rattle.dbg_laws.proofs.Lists.{push}
 use Rattle.dbg_laws.proofs.PlayLemmas.{goes_marked}
-use Rattle.dbg_laws.proofs.UndoneCutLemmas.{cut_of, front_consistent, undos_to, front_after}
+use Rattle.dbg_laws.proofs.UndoneCutLemmas.{cut_of, prefix_consistent, undos_to, prefix_after}
 use Rattle.dbg_laws.proofs.ConsistentCutLemmas.{line_at}
 use Rattle.dbg_laws.proofs.UndoLemmas.{within_by}
 use Rattle.causal_world.specs.Scenes.{message_for, event_of, event_if, event_at, with_event, events_then, events_from, exchange_for}
@@ -237,7 +237,7 @@ places_from P s (choices ∷ H) =
 -- all events of a possible history
 pub whole_kinds : (P : Program) (H : History) → IsPossible P H → IsWhole (kinds_of P H)
 whole_kinds P H all =
-    let own = front_consistent P H H all (record { size = refl; lines = λ q. ([], sym (append-nil (get_or H q []))) }) in
+    let own = prefix_consistent P H H all (record { size = refl; lines = λ q. ([], sym (append-nil (get_or H q []))) }) in
     subst (λ (cut : List ℕ). IsConsistentCut (kinds_of P H) cut) (sym (places_from P 0 H)) (consistent_cut P H (cut_of H) own)
 
 pub clock_kinds : (P : Program) (H : History) (p n : ℕ) (cut : List ℕ) → IsClockOf (kinds_of P H) p n cut → IsClock P H p n cut
@@ -306,8 +306,8 @@ first_undo P H cut [] is permitted leads =
     ap (λ (X : History). length (get_or X p [])) leads ∙ size_at P H cut p is in
     omega arith)
 first_undo P H cut (p ∷ undos) is permitted leads =
-    let behind = front_after P (without_last H p) undos permitted.1 in
-    let line = behind.lines p in
+    let beyond = prefix_after P (without_last H p) undos permitted.1 in
+    let line = beyond.lines p in
     let whole : length (get_or (without_last H p) p []) ≡ length (get_or (after_undos (without_last H p) undos) p []) + length line.0 =
     ap (λ (l : List ℕ). length l) line.1 ∙ length-append (get_or (after_undos (without_last H p) undos) p []) line.0 in
     let size : length (get_or (after_undos (without_last H p) undos) p []) ≡ get_or cut p 0 =

@@ -174,35 +174,35 @@ puts_counted (t ∷ taken) i j =
 
 -- The last event of the list.
 
-pub record Again (P : Program) (before w : Scene) (front : List Taken) (t : Taken) : Type 0 where
+pub record Again (P : Program) (before w : Scene) (prefix : List Taken) (t : Taken) : Type 0 where
   pub of : IsWorldOf P w
   pub choice : ℕ
   pub makes : Makes P w t.pid.0 choice t.event
   pub next : slice_get (line_of w.state t.pid.0) (place_at w.state t.pid.0) ≡ Some choice
-  pub left : IsRolledFrom P before front (unmade_all before front)
+  pub left : IsRolledFrom P before prefix (unmade_all before prefix)
   pub same : (clocks : List (List (List ℕ))) → AreClocksOf (with_kind w.kinds t.pid.0 (kind_done t.event.exchange)) clocks
-      → made w t.pid.0 t.event (after_redo w.state t.pid.0) clocks ≡ unmade_all before front
+      → made w t.pid.0 t.event (after_redo w.state t.pid.0) clocks ≡ unmade_all before prefix
 
 -- the events before the last one, and the last one
-record Parted (P : Program) (before : Scene) (front : List Taken) (t : Taken) : Type 0 where
-  took : AreTakenBack P before front
-  of : IsWorldOf P (unmade_all before front)
-  was : last_event (unmade_all before front) t.pid.0 ≡ Some t.event
-  shorter : IsWorldOf P (unmade (unmade_all before front) t.pid.0 t.event)
+record Parted (P : Program) (before : Scene) (prefix : List Taken) (t : Taken) : Type 0 where
+  took : AreTakenBack P before prefix
+  of : IsWorldOf P (unmade_all before prefix)
+  was : last_event (unmade_all before prefix) t.pid.0 ≡ Some t.event
+  shorter : IsWorldOf P (unmade (unmade_all before prefix) t.pid.0 t.event)
 
-parted : (P : Program) (before : Scene) (front : List Taken) (t : Taken) → IsWorldOf P before → AreTakenBack P before (front ++ t ∷ [])
-    → Parted P before front t
+parted : (P : Program) (before : Scene) (prefix : List Taken) (t : Taken) → IsWorldOf P before → AreTakenBack P before (prefix ++ t ∷ [])
+    → Parted P before prefix t
 parted P before [] t of took = record { took = tt; of = of; was = took.0; shorter = took.1 }
-parted P before (x ∷ front) t of took =
-    let rest = parted P (unmade before x.pid.0 x.event) front t took.1 took.2 in
+parted P before (x ∷ prefix) t of took =
+    let rest = parted P (unmade before x.pid.0 x.event) prefix t took.1 took.2 in
     record { took = (took.0, took.1, rest.took); of = rest.of; was = rest.was; shorter = rest.shorter }
 
-pub again : (P : Program) (before w : Scene) (front : List Taken) (t : Taken) → IsRolledFrom P before (front ++ t ∷ []) w
-    → Again P before w front t
-again P before w front t r =
-    let parts = parted P before front t r.of r.took in
-    let v = unmade_all before front in
-    let same : unmade v t.pid.0 t.event ≡ w = sym (unmade_more before front t) ∙ sym r.is in
+pub again : (P : Program) (before w : Scene) (prefix : List Taken) (t : Taken) → IsRolledFrom P before (prefix ++ t ∷ []) w
+    → Again P before w prefix t
+again P before w prefix t r =
+    let parts = parted P before prefix t r.of r.took in
+    let v = unmade_all before prefix in
+    let same : unmade v t.pid.0 t.event ≡ w = sym (unmade_more before prefix t) ∙ sym r.is in
     let made_again = remade P v t.pid.0 t.event parts.of parts.was parts.shorter in
     record {
       of = subst (IsWorldOf P) same parts.shorter;
@@ -219,10 +219,10 @@ again P before w front t r =
 -- Room.
 
 -- for the message of the last event, if both processes exist
-pub room_for_last : (processes : ℕ) (grid : GridState) (front : List Taken) (t : Taken) → t.pid.0 < processes
-    → ((j : ℕ) → j < length (get_or grid.channels t.pid.0 []) → j < processes) → HasRoomForth processes grid.room (front ++ t ∷ [])
+pub room_for_last : (processes : ℕ) (grid : GridState) (prefix : List Taken) (t : Taken) → t.pid.0 < processes
+    → ((j : ℕ) → j < length (get_or grid.channels t.pid.0 []) → j < processes) → HasRoomForth processes grid.room (prefix ++ t ∷ [])
     → HasRoomsAfter grid t.pid.0 t.event.exchange 1
-room_for_last processes grid front t here inside room = by t.event.exchange refl
+room_for_last processes grid prefix t here inside room = by t.event.exchange refl
   where
     by : (exchange : Exchange) → t.event.exchange ≡ exchange → HasRoomsAfter grid t.pid.0 exchange 1
     by Nothing e = tt
@@ -231,52 +231,52 @@ room_for_last processes grid front t here inside room = by t.event.exchange refl
         let one : puts_after t.pid.0 t.event.exchange t.pid.0 target.0 ≡ 1 =
         ap (λ (x : Exchange). puts_after t.pid.0 x t.pid.0 target.0) e ∙ one_of_both (t.pid.0 == t.pid.0) (target.0 == target.0)
         (eq-eqb t.pid.0 t.pid.0 refl) (eq-eqb target.0 target.0 refl) in
-        omega (arith, enough, one, puts_push front t t.pid.0 target.0)
+        omega (arith, enough, one, puts_push prefix t t.pid.0 target.0)
     by (Took source message count) e = tt
 
 -- there is room for the others
-pub room_behind : (processes : ℕ) (old new : List (List ℕ)) (front : List Taken) (t : Taken)
+pub room_after : (processes : ℕ) (old new : List (List ℕ)) (prefix : List Taken) (t : Taken)
     → ((i j : ℕ) → room_at old i j ≤ room_at new i j + puts_after t.pid.0 t.event.exchange i j)
-    → HasRoomForth processes old (front ++ t ∷ []) → HasRoomForth processes new front
-room_behind processes old new front t changes room i j i_there j_there =
+    → HasRoomForth processes old (prefix ++ t ∷ []) → HasRoomForth processes new prefix
+room_after processes old new prefix t changes room i j i_there j_there =
     let enough = room i j i_there j_there in
     let change = changes i j in
-    omega (arith, enough, change, puts_push front t i j)
+    omega (arith, enough, change, puts_push prefix t i j)
 
-counted_push : (p : ℕ) (front : List Taken) (t : Taken) → count_by (is_of p) (front ++ t ∷ [])
-    ≡ count_by (is_of p) front + cond (t.pid.0 == p) 1 0
-counted_push p front t = sum_by_push (λ (x : Taken). cond (is_of p x) 1 0) front t
+counted_push : (p : ℕ) (prefix : List Taken) (t : Taken) → count_by (is_of p) (prefix ++ t ∷ [])
+    ≡ count_by (is_of p) prefix + cond (t.pid.0 == p) 1 0
+counted_push p prefix t = sum_by_push (λ (x : Taken). cond (is_of p x) 1 0) prefix t
 
-pub room_one : (past : PastState) (front : List Taken) (t : Taken) → t.pid.0 < length past.kinds → HasRoomForEach past (front ++ t ∷ [])
+pub room_one : (past : PastState) (prefix : List Taken) (t : Taken) → t.pid.0 < length past.kinds → HasRoomForEach past (prefix ++ t ∷ [])
     → HasRoomFor past t.pid.0 1
-room_one past front t here room =
+room_one past prefix t here room =
     let enough = room t.pid.0 here in
     let one : cond {A = ℕ} (t.pid.0 == t.pid.0) 1 0 ≡ 1 = ap (λ (b : Bool). cond {A = ℕ} b 1 0) (eq-eqb t.pid.0 t.pid.0 refl) in
-    let some : 1 ≤ count_by (is_of t.pid.0) (front ++ t ∷ []) = omega (arith, counted_push t.pid.0 front t, one) in
+    let some : 1 ≤ count_by (is_of t.pid.0) (prefix ++ t ∷ []) = omega (arith, counted_push t.pid.0 prefix t, one) in
     let event = enough.event in
     let kind = enough.kind in
     let clock = enough.clock in
     record { event = omega (arith, event, some); kind = omega (arith, kind, some); clock = omega (arith, clock, some) }
 
-pub room_each : (old new : PastState) (front : List Taken) (t : Taken) → length new.kinds ≡ length old.kinds
+pub room_each : (old new : PastState) (prefix : List Taken) (t : Taken) → length new.kinds ≡ length old.kinds
     → ((n : ℕ) → HasRoomFor old t.pid.0 n → HasRoomFor new t.pid.0 (n - 1))
     → ((q n : ℕ) → q ≢ t.pid.0 → HasRoomFor old q n → HasRoomFor new q n)
-    → HasRoomForEach old (front ++ t ∷ []) → HasRoomForEach new front
-room_each old new front t size own others room p here =
+    → HasRoomForEach old (prefix ++ t ∷ []) → HasRoomForEach new prefix
+room_each old new prefix t size own others room p here =
     let enough = room p (omega (arith, here, size)) in
     ⊎_elim
     (λ (same : p ≡ t.pid.0).
     let one : cond {A = ℕ} (t.pid.0 == p) 1 0 ≡ 1 = ap (λ (b : Bool). cond {A = ℕ} b 1 0) (eq-eqb t.pid.0 p (sym same)) in
-    let less : count_by (is_of p) (front ++ t ∷ []) - 1 ≡ count_by (is_of p) front = omega (arith, counted_push p front t, one) in
+    let less : count_by (is_of p) (prefix ++ t ∷ []) - 1 ≡ count_by (is_of p) prefix = omega (arith, counted_push p prefix t, one) in
     subst (λ (n : ℕ). HasRoomFor new p n) less
-    (subst (λ (x : ℕ). HasRoomFor new x (count_by (is_of p) (front ++ t ∷ []) - 1)) (sym same)
-    (own (count_by (is_of p) (front ++ t ∷ []))
-    (subst (λ (x : ℕ). HasRoomFor old x (count_by (is_of p) (front ++ t ∷ []))) same enough))))
+    (subst (λ (x : ℕ). HasRoomFor new x (count_by (is_of p) (prefix ++ t ∷ []) - 1)) (sym same)
+    (own (count_by (is_of p) (prefix ++ t ∷ []))
+    (subst (λ (x : ℕ). HasRoomFor old x (count_by (is_of p) (prefix ++ t ∷ []))) same enough))))
     (λ (apart : p ≢ t.pid.0).
     let none : cond {A = ℕ} (t.pid.0 == p) 1 0 ≡ 0 =
     ap (λ (b : Bool). cond {A = ℕ} b 1 0) (ne_eqb t.pid.0 p (λ x. apart (sym x))) in
-    let same : count_by (is_of p) (front ++ t ∷ []) ≡ count_by (is_of p) front = omega (arith, counted_push p front t, none) in
-    others p (count_by (is_of p) front) apart (subst (λ (n : ℕ). HasRoomFor old p n) same enough))
+    let same : count_by (is_of p) (prefix ++ t ∷ []) ≡ count_by (is_of p) prefix = omega (arith, counted_push p prefix t, none) in
+    others p (count_by (is_of p) prefix) apart (subst (λ (n : ℕ). HasRoomFor old p n) same enough))
     (cases_eq p t.pid.0)
 
 -- Room that is made event by event.

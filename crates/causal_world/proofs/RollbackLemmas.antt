@@ -80,7 +80,7 @@ puts_one : (s p : ℕ) → ◌≡◌ {A = ℕ} (if (s == s) && (p == p) then 1 e
 puts_one s p = one_of_both (s == s) (p == p) (eq-eqb s s refl) (eq-eqb p p refl)
 
 module _ (w : Scene) (p : ℕ) (event : EventValue) (cut : List ℕ) (last : LastKind w p event) (consistent : IsConsistentCut w.kinds cut)
-    (behind : get_or cut p 0 < length (get_or w.kinds p [])) where
+    (beyond : get_or cut p 0 < length (get_or w.kinds p [])) where
   abbrev pub less : List (List Kind)
   less = without_kind w.kinds p
 
@@ -89,7 +89,7 @@ module _ (w : Scene) (p : ℕ) (event : EventValue) (cut : List ℕ) (last : Las
   within_left q =
       ⊎_elim
       (λ (same : q ≡ p). subst (λ (x : ℕ). get_or cut x 0 ≤ length (get_or less x [])) (sym same)
-      (omega (arith, behind, one_shorter w.kinds p last.here)))
+      (omega (arith, beyond, one_shorter w.kinds p last.here)))
       (λ (apart : q ≢ p).
       let within = consistent.within q in
       let line : length (get_or less q []) ≡ length (get_or w.kinds q []) =
@@ -169,7 +169,7 @@ pub reverses_on : (before w new : Scene) (old room : List (List ℕ)) (cut : Lis
     → new ≡ unmade w t.pid.0 t.event
     → ((i j : ℕ) → room_at old i j ≤ room_at room i j + puts_before t.pid.0 t.event.exchange i j)
     → Reverses before new room cut (taken ++ t ∷ [])
-reverses_on before w new old room cut taken t some r behind was may same changes =
+reverses_on before w new old room cut taken t some r beyond was may same changes =
     let p = t.pid.0 in
     let of = rolled_of some.0 before w taken (r.back some.0 some.1) in
     let last = last_kind some.0 w p t.event of was in
@@ -179,9 +179,9 @@ reverses_on before w new old room cut taken t some r behind was may same changes
           let from = r.back P is in
           subst (IsRolledFrom P before (taken ++ t ∷ [])) (sym same)
           (rolled_more P before w taken t from was (may P (rolled_of P before w taken from)));
-      consistent = subst (λ (k : List (List Kind)). IsConsistentCut k cut) (sym kinds) (still_cut w p t.event cut last r.consistent behind);
+      consistent = subst (λ (k : List (List Kind)). IsConsistentCut k cut) (sym kinds) (still_cut w p t.event cut last r.consistent beyond);
       ways = subst (λ (k : List (List Kind)). HasRoomBack room k cut) (sym kinds)
-          (still_room w p t.event cut last r.consistent behind old room r.ways changes);
+          (still_room w p t.event cut last r.consistent beyond old room r.ways changes);
     }
 
 -- one event less
@@ -192,10 +192,10 @@ fewer w p event some was = let last = last_kind some.0 w p event some.1 was in s
 -- if a process has events beyond the cut, the sum of the places is greater than that of the cut
 pub more_left : (kinds : List (List Kind)) (cut : List ℕ) (p : ℕ) → IsConsistentCut kinds cut
     → get_or cut p 0 < length (get_or kinds p []) → sum cut < sum (places kinds)
-more_left kinds cut p consistent behind =
+more_left kinds cut p consistent beyond =
     sum_strict cut (places kinds) p (consistent.sizes ∙ sym (length-map kinds (λ (l : List Kind). length l)))
     (λ q. let within = consistent.within q in omega (arith, within, placed kinds q))
-    (omega (arith, behind, placed kinds p))
+    (omega (arith, beyond, placed kinds p))
 
 -- the lines stay
 lines_kept : (w : Scene) (taken : List Taken) → (unmade_all w taken).state.lines ≡ w.state.lines
@@ -231,9 +231,9 @@ choices_counted P w p of =
     ap (λ (l : List ℕ). length l) (line_at w.state.lines w.state.places p)
     ∙ length-take-le (place_at w.state p) (line_of w.state p) (of.state.within p)
 
-pub none_behind : (w : Scene) (cut : List ℕ) → IsSomeWorld w → IsConsistentCut w.kinds cut → AreStuck w cut (length w.kinds)
+pub none_after : (w : Scene) (cut : List ℕ) → IsSomeWorld w → IsConsistentCut w.kinds cut → AreStuck w cut (length w.kinds)
     → (p : ℕ) → length (get_or w.kinds p []) ≤ get_or cut p 0
-none_behind w cut some consistent stuck =
+none_after w cut some consistent stuck =
     let P = some.0 in
     let of = some.1 in
     let H = history_of w.state in
@@ -249,16 +249,16 @@ none_behind w cut some consistent stuck =
     events_counted P w found.0 of ∙ sym (choices_counted P w found.0 of) in
     ⊎_elim
     (λ (below : place_at w.state found.0 ≤ get_or cut found.0 0).
-    absurd (let behind = found.1 in omega (arith, below, behind, choices_counted P w found.0 of)))
+    absurd (let beyond = found.1 in omega (arith, below, beyond, choices_counted P w found.0 of)))
     (λ (never : (P : Program) → IsWorldOf P w → MayUndo P (history_of w.state) found.0 → ⊥). absurd (never P of found.2))
-    (stuck found.0 (has_events w.kinds found.0 (let behind = found.1 in omega (arith, behind, size)))))
+    (stuck found.0 (has_events w.kinds found.0 (let beyond = found.1 in omega (arith, beyond, size)))))
     (some_undo P H cut of.possible (cut_consistent P H cut (subst (λ (k : List (List Kind)). IsConsistentCut k cut) of.counts consistent)))
 
 -- by the exchange of its last event
 pub next_by : (w : Scene) (cut : List ℕ) (p : ℕ) (exchange : Exchange) → LastExchange w.events w.standing.channels p (Ok exchange)
     → get_or cut p 0 < place_at w.state p → IsSomeWorld w → IsNextBack w cut p
-next_by w cut p exchange last behind some =
-    (omega (arith, behind, events_counted some.0 w p some.1), (exchange, undoable_by w p (Ok exchange) last))
+next_by w cut p exchange last beyond some =
+    (omega (arith, beyond, events_counted some.0 w p some.1), (exchange, undoable_by w p (Ok exchange) last))
 
 pub stuck_by : (w : Scene) (p : ℕ) (refusal : Refusal) → LastExchange w.events w.standing.channels p (Err refusal)
     → (P : Program) → IsWorldOf P w → MayUndo P (history_of w.state) p → ⊥

@@ -22,7 +22,7 @@ use Rattle.dbg_laws.proofs.LineStates.{history_undo, length_cut}
 use Rattle.dbg_laws.proofs.LastChoiceLemmas.{IsWaiting}
 use Rattle.dbg_laws.proofs.UndoLemmas.{waits}
 use Rattle.dbg_laws.proofs.Moves.{kept_state}
-use Rattle.dbg_laws.proofs.PrefixLemmas.{last_stands}
+use Rattle.dbg_laws.proofs.PrefixLemmas.{last_is_there}
 use Rattle.dbg_laws.proofs.Lists.{push, push_same, push_other, length-push, none_in_replicate}
 use Rattle.dbg_laws.proofs.PlayLemmas.{states_step, same_states}
 use Rattle.causal_world.specs.Pasts.{kind_done, with_kind, kinds_of, AreClocksOf}
@@ -166,7 +166,7 @@ recalled_more start line own now event is =
       size = length_push line (after_event event now) ∙ omega arith;
       each = λ n le.
           ⊎_elim
-          (λ (behind : length own < n).
+          (λ (beyond : length own < n).
           let here : n ≡ length own + 1 = omega arith in
           get_or_push line (after_event event now) no_state n (omega arith)
           ∙ sym whole ∙ ap (past_of start (own ++ event ∷ [])) (sym here))
@@ -274,8 +274,8 @@ module _ (P : Program) (w : Scene) (p : ℕ) (of : IsWorldOf P w) (here : p < le
   pub events_numbered : length (get_or w.events p []) ≡ place_at w.state p
   events_numbered =
       let r = all_recalled in
-      let stands = last_stands P H p of.possible here in
-      omega (arith, r.size, stands.size, choices_counted P w p of)
+      let last_there = last_is_there P H p of.possible here in
+      omega (arith, r.size, last_there.size, choices_counted P w p of)
 
 -- the local state of a process after its n-th event is the start followed by the first n events
 pub remembered : (P : Program) (w : Scene) (p n : ℕ) → IsWorldOf P w → p < length P → n ≤ place_at w.state p

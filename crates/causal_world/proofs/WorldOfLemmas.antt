@@ -23,11 +23,11 @@ use Rattle.event_rows.specs.Events.{after_event, before_event, Fits}
 use Rattle.event_rows.proofs.UndoneEventLemmas.{has_old_values}
 use Rattle.event_rows.proofs.UndoneEventLemmas as events
 use Rattle.fifo_grid.specs.Grids.{messages_at}
-use Rattle.fifo_grid.proofs.RestoredChannelLemmas.{unpushed_back, unpopped_front}
+use Rattle.fifo_grid.proofs.RestoredChannelLemmas.{unpushed_back, unpopped_prefix}
 use Rattle.dbg_laws.proofs.Lists.{within_or_past, none_in_replicate, push, push_same, set_push}
 use Rattle.dbg_laws.proofs.OrderSwapLemmas.{IsOrderOf, first_step, takes, IsEmpty, joined}
 use Rattle.dbg_laws.proofs.PlayLemmas.{possible, listed}
-use Rattle.dbg_laws.proofs.PrefixLemmas.{order_both, one_event, order_more, front_within, last_fires}
+use Rattle.dbg_laws.proofs.PrefixLemmas.{order_both, one_event, order_more, prefix_within, last_fires}
 use Rattle.dbg_laws.proofs.Moves.{fires}
 use Rattle.dbg_laws.proofs.LastChoiceLemmas.{IsWaiting}
 use Rattle.dbg_laws.proofs.UndoLemmas.{undone, back_off}
@@ -178,26 +178,26 @@ exchange_fits state (Receives source variable) sent None = tt
 exchange_fits state (Receives source variable) sent (Some m) = refl
 
 -- the message that an exchange received is at the head
-abbrev IsFront : Configuration → ℕ → Exchange → Type 0
-IsFront c p (Took source message count) = slice_get (messages_at c.channels source.0 p) 0 ≡ Some message
-IsFront c p exchange = Unit {0}
+abbrev IsPrefix : Configuration → ℕ → Exchange → Type 0
+IsPrefix c p (Took source message count) = slice_get (messages_at c.channels source.0 p) 0 ≡ Some message
+IsPrefix c p exchange = Unit {0}
 
-front_by : (c : Configuration) (p source variable : ℕ) (state : LocalState) (sent taken : Option ℤ)
-    → slice_get (messages_at c.channels source p) 0 ≡ taken → IsFront c p (exchange_for state (Receives source variable) sent taken)
-front_by c p source variable state sent None e = tt
-front_by c p source variable state sent (Some m) e = e
+prefix_by : (c : Configuration) (p source variable : ℕ) (state : LocalState) (sent taken : Option ℤ)
+    → slice_get (messages_at c.channels source p) 0 ≡ taken → IsPrefix c p (exchange_for state (Receives source variable) sent taken)
+prefix_by c p source variable state sent None e = tt
+prefix_by c p source variable state sent (Some m) e = e
 
-exchange_front : (c : Configuration) (p : ℕ) (state : LocalState) (action : Action) (sent : Option ℤ)
-    → IsFront c p (exchange_for state action sent (message_for c p action))
-exchange_front c p state Local sent = tt
-exchange_front c p state (Sends target value) None = tt
-exchange_front c p state (Sends target value) (Some z) = tt
-exchange_front c p state (Receives source variable) sent =
-    front_by c p source variable state sent (message_for c p (Receives source variable)) refl
+exchange_prefix : (c : Configuration) (p : ℕ) (state : LocalState) (action : Action) (sent : Option ℤ)
+    → IsPrefix c p (exchange_for state action sent (message_for c p action))
+exchange_prefix c p state Local sent = tt
+exchange_prefix c p state (Sends target value) None = tt
+exchange_prefix c p state (Sends target value) (Some z) = tt
+exchange_prefix c p state (Receives source variable) sent =
+    prefix_by c p source variable state sent (message_for c p (Receives source variable)) refl
 
 record Fitting (c : Configuration) (p : ℕ) (event : EventValue) : Type 0 where
   fits : Fits event (state_in c p)
-  front : IsFront c p event.exchange
+  prefix : IsPrefix c p event.exchange
 
 fitting : (c : Configuration) (p k : ℕ) (o : Option Command) (event : EventValue) → event_if c p k o ≡ Some event → Fitting c p event
 fitting c p k None event is = cc
@@ -210,14 +210,14 @@ fitting c p k (Some command) event is =
         old_values = has_old_values state.values known.0.sets;
         next_count = exchange_fits state command.action known.0.message taken;
       };
-      front = exchange_front c p state command.action known.0.message;
+      prefix = exchange_prefix c p state command.action known.0.message;
     })
 
-channels_back : (c : Configuration) (p : ℕ) (exchange : Exchange) → IsFront c p exchange
+channels_back : (c : Configuration) (p : ℕ) (exchange : Exchange) → IsPrefix c p exchange
     → channels_before (channels_after c.channels p exchange) p exchange ≡ c.channels
-channels_back c p Nothing front = refl
-channels_back c p (Sent target value count) front = unpushed_back c.channels _ _ p target.0 value refl refl
-channels_back c p (Took source message count) front = unpopped_front c.channels _ _ source.0 p message front refl refl
+channels_back c p Nothing prefix = refl
+channels_back c p (Sent target value count) prefix = unpushed_back c.channels _ _ p target.0 value refl refl
+channels_back c p (Took source message count) prefix = unpopped_prefix c.channels _ _ source.0 p message prefix refl refl
 
 pub taken_back : (c : Configuration) (p k : ℕ) (o : Option Command) (event : EventValue) → p < length c.states
     → event_if c p k o ≡ Some event → with_undone (with_done c p event) p event ≡ c
@@ -229,7 +229,7 @@ taken_back c p k o event there is =
     ∙ ap (λ (s : LocalState). set c.states p (before_event event s)) (get_or-set_same c.states p (after_event event state) no_state there)
     ∙ ap (set c.states p) (events.undone event state f.fits)
     ∙ set-get_or c.states p no_state in
-    let channels = channels_back c p event.exchange f.front in
+    let channels = channels_back c p event.exchange f.prefix in
     λ i. record { states = states i; channels = channels i }
 
 -- Sizes.
@@ -264,7 +264,7 @@ pub order_is : (n : ℕ) (H : History) (E : List Event) → length H ≡ n → I
 order_is n H [] size empty = ap (λ (m : ℕ). replicate m []) (sym size) ∙ empty_is H empty
 order_is n H (e ∷ E) size order =
     let p = e.process in
-    let there : p < length H = front_within H p e.choice order.0 order.1 in
+    let there : p < length H = prefix_within H p e.choice order.0 order.1 in
     ap (λ (X : History). set X p (e.choice ∷ get_or X p [])) (order_is n (set H p order.0) E (length-set H p order.0 ∙ size) order.2)
     ∙ set-set H p order.0 (e.choice ∷ get_or (set H p order.0) p [])
     ∙ ap (λ (l : List ℕ). set H p (e.choice ∷ l)) (get_or-set_same H p order.0 [] there)

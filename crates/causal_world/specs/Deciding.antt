@@ -18,13 +18,13 @@ abbrev pub CanCount : LocalState → Type 0
 CanCount state = (direction : Direction) (q : ℕ) → slice_index_or (counts_of direction state) q 0 < EVENTS
 
 -- the message of an action that receives; an error if there is none
-abbrev pub TakesFront : Result (Option ℤ) Refusal → Option ℤ → Type 0
-TakesFront taken None = taken ≡ Err ChannelEmpty
-TakesFront taken (Some message) = taken ≡ Ok (Some message)
+abbrev pub TakesPrefix : Result (Option ℤ) Refusal → Option ℤ → Type 0
+TakesPrefix taken None = taken ≡ Err ChannelEmpty
+TakesPrefix taken (Some message) = taken ≡ Ok (Some message)
 
 -- the message that the action receives, or an error if there is nothing to receive
 abbrev pub Takes : Result (Option ℤ) Refusal → Action → Configuration → ℕ → Type 0
-Takes taken (Receives source variable) c p = TakesFront taken (slice_get (channel_of c source p) 0)
+Takes taken (Receives source variable) c p = TakesPrefix taken (slice_get (channel_of c source p) 0)
 Takes taken action c p = taken ≡ Ok None
 
 -- the event of the command in this local state, with this received message, or a fault of an evaluation

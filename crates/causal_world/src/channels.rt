@@ -42,7 +42,7 @@ pub(crate) fn go_after(grid: &mut Grid, pid: Pid, exchange: Exchange)
             }
         }
         Exchange::Took { source, .. } => {
-            let _front = grid.pop_front(source, pid);
+            let _prefix = grid.pop_front(source, pid);
         }
     }
 }

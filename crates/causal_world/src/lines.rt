@@ -71,7 +71,7 @@ fn replace_end(line: &mut Vec<u32>, place: usize, choices: &[u32]) -> Result<(),
 }
 
 // The choices of a line from a place on.
-fn behind(line: &[u32], place: usize) -> &[u32]
+fn beyond(line: &[u32], place: usize) -> &[u32]
     ensures { result.now ≡ drop place line.now }
 {
     line.get(place..).unwrap_or(&[])
@@ -155,7 +155,7 @@ impl ChoiceLines {
     pub(crate) fn redo_line(&self, alloc: Global, pid: Pid) -> Result<Vec<u32>, AllocError>
         ensures { IfOk result (λ choices. choices.items ≡ redo_line self.now pid.0) }
     {
-        Vec::from_slice(alloc, behind(self.line(pid), self.place(pid) as usize))
+        Vec::from_slice(alloc, beyond(self.line(pid), self.place(pid) as usize))
     }
 
     /// Cuts the line at its place, appends the choice, and moves the place forward by one. If an allocation fails, nothing changes.

@@ -27,7 +27,7 @@ use local_eval::Env;
 use std::alloc::AllocError;
 
 /// How many events there are beyond the cut.
-pub(crate) fn behind(tally: &Tally, cut: &[u32]) -> usize
+pub(crate) fn beyond(tally: &Tally, cut: &[u32]) -> usize
     ensures { sum (places tally.now.kinds) ≤ result + sum cut.now }
 {
     let mut more = 0usize;

@@ -19,8 +19,8 @@ module _ (p : Kind → Bool) where
   count_no kinds x no_x = sum_by_push (λ y. cond (p y) 1 0) kinds x ∙ ap (λ b. count_by p kinds + cond b 1 0) no_x ∙ omega arith
 
   -- the count up to and including it
-  pub place_behind : (kinds : List Kind) (k place : ℕ) → IsPlace p kinds k place → count_by p (take (place + 1) kinds) ≡ k + 1
-  place_behind kinds k place is = count_by_more_yes p kinds place Local is.within (is.passes Local) ∙ ap (λ n. n + 1) is.count
+  pub place_after : (kinds : List Kind) (k place : ℕ) → IsPlace p kinds k place → count_by p (take (place + 1) kinds) ≡ k + 1
+  place_after kinds k place is = count_by_more_yes p kinds place Local is.within (is.passes Local) ∙ ap (λ n. n + 1) is.count
 
   -- a position stays with one more event, and with one less event after it
   place_more : (kinds : List Kind) (x : Kind) (k place : ℕ) → IsPlace p kinds k place → IsPlace p (kinds ++ x ∷ []) k place
@@ -56,7 +56,7 @@ module _ (p : Kind → Bool) where
           | inl pos ↦
               let lt : get_or places (m - 1) 0 < n = below pos in
               let count : count_by p (take (get_or places (m - 1) 0 + 1) kinds) ≡ m - 1 + 1 =
-              place_behind kinds (m - 1) (get_or places (m - 1) 0) (are.1 (m - 1) (omega arith)) in
+              place_after kinds (m - 1) (get_or places (m - 1) 0) (are.1 (m - 1) (omega arith)) in
               let grows : count_by p (take (get_or places (m - 1) 0 + 1) kinds) ≤ count_by p (take n kinds) =
               count_grows p kinds (get_or places (m - 1) 0 + 1) n (omega arith) in
               omega arith

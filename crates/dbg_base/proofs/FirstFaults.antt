@@ -216,8 +216,8 @@ expression_spread scope wanted tokens (Binary at operator left right) lo hi deri
 
 -- the faults of several elements, one after the other; `seen` describes the elements before
 module _ {A S : Type 0} (Derives : List Placed → A → Type 0) (F : S → List A → List ProgFault) (here : S → A → List ProgFault)
-    (behind : S → A → S) where
-  in_turn : ((seen : S) → F seen [] ≡ []) → ((seen : S) (x : A) (xs : List A) → F seen (x ∷ xs) ≡ here seen x ++ F (behind seen x) xs)
+    (beyond : S → A → S) where
+  in_turn : ((seen : S) → F seen [] ≡ []) → ((seen : S) (x : A) (xs : List A) → F seen (x ∷ xs) ≡ here seen x ++ F (beyond seen x) xs)
       → ((seen : S) (tokens : List Placed) (x : A) (lo hi : ℕ) → Derives tokens x → Spans lo tokens hi
       → Spread (16 * lo) (here seen x) (16 * hi))
       → (seen : S) (tokens : List Placed) (xs : List A) (lo hi : ℕ) → DeriveInTurn Derives tokens xs → Spans lo tokens hi
@@ -228,8 +228,8 @@ module _ {A S : Type 0} (Derives : List Placed → A → Type 0) (F : S → List
   in_turn none turn each seen tokens (x ∷ xs) lo hi derives s =
       let t = spans_both derives.0 derives.1 lo hi (subst (λ (l : List Placed). Spans lo l hi) derives.4 s) in
       subst (λ (l : List ProgFault). Spread (16 * lo) l (16 * hi)) (sym (turn seen x xs))
-      (spread_both (here seen x) (F (behind seen x) xs) (16 * lo) (16 * t.0) (16 * hi) (each seen derives.0 x lo t.0 derives.2 t.1)
-      (in_turn none turn each (behind seen x) derives.1 xs t.0 hi derives.3 t.2))
+      (spread_both (here seen x) (F (beyond seen x) xs) (16 * lo) (16 * t.0) (16 * hi) (each seen derives.0 x lo t.0 derives.2 t.1)
+      (in_turn none turn each (beyond seen x) derives.1 xs t.0 hi derives.3 t.2))
 
 assigned_spread : (scope : Scope) (earlier : List (List ℕ)) (tokens : List Placed) (a : WrittenAssignment) (lo hi : ℕ)
     → DerivesAssignment tokens a → Spans lo tokens hi → Spread (16 * lo) (assigned_faults scope earlier a) (16 * hi)

@@ -4,7 +4,7 @@ use Rattle.std.specs.Prelude.{codes}
 use Rattle.dbg_base.specs.declared.refusal.Refusal.{Refusal}
 use Rattle.dbg_base.specs.declared.refusal.Refusal.TheVariants.{UnknownProcess, BadLine}
 use Rattle.dbg_base.specs.Calls.{Call, Give, Batch, Step, Next, Undo, Rollback, Goto, Back, Ask, Vars, Chan, Clock, Why, Breaks}
-use Rattle.dbg_base.specs.CommandLines.{give, next_word, after_word, predicate_front, parts_in, commands_of}
+use Rattle.dbg_base.specs.CommandLines.{give, next_word, after_word, predicate_prefix, parts_in, commands_of}
 use Rattle.dbg_base.specs.Requests.{Asks}
 use Rattle.dbg_base.proofs.Rows.{system}
 
@@ -99,18 +99,18 @@ no_name = (_, refl, refl)
 first_of_words : next_word (codes "  break k ") ≡ codes "break"
 first_of_words = refl
 
-behind_first : after_word (codes "  break k ") ≡ codes " k "
-behind_first = refl
+after_first : after_word (codes "  break k ") ≡ codes " k "
+after_first = refl
 
 -- a predicate ends at the parenthesis that closes its first one; its blanks count
-front_in_parentheses : predicate_front (codes "((x) = 1) b") ≡ codes "((x) = 1)"
-front_in_parentheses = refl
+prefix_in_parentheses : predicate_prefix (codes "((x) = 1) b") ≡ codes "((x) = 1)"
+prefix_in_parentheses = refl
 
-front_that_is_not_closed : predicate_front (codes "((x = 1) b") ≡ codes "((x = 1) b"
-front_that_is_not_closed = refl
+prefix_that_is_not_closed : predicate_prefix (codes "((x = 1) b") ≡ codes "((x = 1) b"
+prefix_that_is_not_closed = refl
 
-front_without_parentheses : predicate_front (codes "true) b (") ≡ codes "true)"
-front_without_parentheses = refl
+prefix_without_parentheses : predicate_prefix (codes "true) b (") ≡ codes "true)"
+prefix_without_parentheses = refl
 
 -- the parts of a line
 two_parts : parts_in (codes " a (x) b y ") ≡ Some ((codes "a", codes "(x)") ∷ (codes "b", codes "y") ∷ [])
@@ -143,11 +143,11 @@ three_commands = refl
 separator_in_parentheses : commands_of (codes "break k a (x ; (y ; 1) ; z) ; undo b") ≡ codes "break k a (x ; (y ; 1) ; z) " ∷ codes " undo b" ∷ []
 separator_in_parentheses = refl
 
-separator_behind_open_parenthesis : commands_of (codes "undo ( ; undo b") ≡ codes "undo ( " ∷ codes " undo b" ∷ []
-separator_behind_open_parenthesis = refl
+separator_after_open_parenthesis : commands_of (codes "undo ( ; undo b") ≡ codes "undo ( " ∷ codes " undo b" ∷ []
+separator_after_open_parenthesis = refl
 
-no_blank_behind_parenthesis : commands_of (codes "break k a (x); next a") ≡ codes "break k a (x); next a" ∷ []
-no_blank_behind_parenthesis = refl
+no_blank_after_parenthesis : commands_of (codes "break k a (x); next a") ≡ codes "break k a (x); next a" ∷ []
+no_blank_after_parenthesis = refl
 
 reads_batch : AsksFor (codes "1 batch next a ; undo b") 1 (Give (Batch (Next 0 ∷ Undo 1 ∷ [])))
 reads_batch = (_, (_, (_, _, refl, (_, _, refl, refl, refl), refl), refl), refl)

@@ -72,10 +72,10 @@ no_such_process = refl
 
 one_swap : IsSwap early late
 one_swap = record {
-  front = sent ∷ [];
+  prefix = sent ∷ [];
   one = received;
   other = sent;
-  behind = [];
+  beyond = [];
   before = refl;
   after = refl;
   apart = λ e. cc;
@@ -104,8 +104,8 @@ cut_at_one : history_at two_and_one (1 ∷ 1 ∷ []) ≡ (0 ∷ []) ∷ (0 ∷ [
 cut_at_one = refl
 
 -- the play makes the receive after the two sends, since the lower-numbered process goes first
-receives_behind_both : before_last system two_and_one 1 ≡ play system ((0 ∷ 0 ∷ []) ∷ [] ∷ [])
-receives_behind_both = refl
+receives_after_both : before_last system two_and_one 1 ≡ play system ((0 ∷ 0 ∷ []) ∷ [] ∷ [])
+receives_after_both = refl
 
 sends_at_the_start : before_last system ((0 ∷ []) ∷ (0 ∷ []) ∷ []) 0 ≡ start_of system
 sends_at_the_start = refl
@@ -147,6 +147,6 @@ seven_and_eight =
 took_the_first : channel_of (play seven_and_eight ((0 ∷ 1 ∷ []) ∷ (0 ∷ []) ∷ [])) 0 1 ≡ pos 8 ∷ []
 took_the_first = refl
 
-goes_to_the_front : channel_of (unfire seven_and_eight ((0 ∷ 1 ∷ []) ∷ (0 ∷ []) ∷ [])
+goes_to_the_start : channel_of (unfire seven_and_eight ((0 ∷ 1 ∷ []) ∷ (0 ∷ []) ∷ [])
     (play seven_and_eight ((0 ∷ 1 ∷ []) ∷ (0 ∷ []) ∷ [])) 1) 0 1 ≡ pos 7 ∷ pos 8 ∷ []
-goes_to_the_front = refl
+goes_to_the_start = refl

@@ -25,17 +25,17 @@ divides_by_0 = record { process = 0; expression = Binary Equal (Binary Divide (V
 true_at_the_start : is_true system two_and_one x_is_0 0 ≡ true
 true_at_the_start = refl
 
-false_behind_one : is_true system two_and_one x_is_0 1 ≡ false
-false_behind_one = refl
+false_after_one : is_true system two_and_one x_is_0 1 ≡ false
+false_after_one = refl
 
-true_behind_the_receive : is_true system two_and_one n_is_1 1 ≡ true
-true_behind_the_receive = refl
+true_after_the_receive : is_true system two_and_one n_is_1 1 ≡ true
+true_after_the_receive = refl
 
 a_fault_is_not_true : is_true system two_and_one divides_by_0 0 ≡ false
 a_fault_is_not_true = refl
 
-ruled_out_behind_one : is_ruled_out system two_and_one (x_is_0 ∷ n_is_1 ∷ []) 0 1 ≡ true
-ruled_out_behind_one = refl
+ruled_out_after_one : is_ruled_out system two_and_one (x_is_0 ∷ n_is_1 ∷ []) 0 1 ≡ true
+ruled_out_after_one = refl
 
 not_at_the_start : is_ruled_out system two_and_one (x_is_0 ∷ n_is_1 ∷ []) 0 0 ≡ false
 not_at_the_start = refl
@@ -52,8 +52,8 @@ steps =
 reaches_past_the_counter : reach two_and_one steps ≡ 3 ∷ 1 ∷ []
 reaches_past_the_counter = refl
 
-told_as_past : heads_of two_and_one (reach two_and_one steps) ≡ Past ∷ At 1 ∷ []
-told_as_past = refl
+reported_as_past : heads_of two_and_one (reach two_and_one steps) ≡ Past ∷ At 1 ∷ []
+reported_as_past = refl
 
 at_most_five_steps : most_steps two_and_one ≡ 5
 at_most_five_steps = refl

@@ -65,9 +65,9 @@ place_here first name n names same = record {
   place = rw same (ap (λ (k : ℕ). Some k) (omega arith));
 }
 
-place_behind : (first : ℕ) (name n : List ℕ) (names : List (List ℕ)) → bytes_eq n name ≡ false → HasPlace (first + 1) name names
+place_after : (first : ℕ) (name n : List ℕ) (names : List (List ℕ)) → bytes_eq n name ≡ false → HasPlace (first + 1) name names
     → HasPlace first name (n ∷ names)
-place_behind first name n names other h = record {
+place_after first name n names other h = record {
   index = suc h.index;
   within = omega (arith, h.within);
   there = h.there;
@@ -76,12 +76,12 @@ place_behind first name n names other h = record {
 
 place_by : (first : ℕ) (name n : List ℕ) (names : List (List ℕ)) (b : Bool) → bytes_eq n name ≡ b
     → (bytes_eq n name ≡ false → HasPlace (first + 1) name names) → HasPlace first name (n ∷ names)
-place_by first name n names true is behind = place_here first name n names is
-place_by first name n names false is behind = place_behind first name n names is (behind is)
+place_by first name n names true is beyond = place_here first name n names is
+place_by first name n names false is beyond = place_after first name n names is (beyond is)
 
-among_behind : (name n : List ℕ) (names : List (List ℕ)) → is_among name (n ∷ names) ≡ true → bytes_eq n name ≡ false
+among_after : (name n : List ℕ) (names : List (List ℕ)) → is_among name (n ∷ names) ≡ true → bytes_eq n name ≡ false
     → is_among name names ≡ true
-among_behind name n names among other =
+among_after name n names among other =
     let apart : bytes_eq name n ≡ false =
     false_from_ne_true _ (λ is. differ n name other (sym ((bytes_eq-Decides name n).0 is))) in
     rw apart at among
@@ -89,7 +89,7 @@ among_behind name n names among other =
 has_place : (first : ℕ) (name : List ℕ) (names : List (List ℕ)) → is_among name names ≡ true → HasPlace first name names
 has_place first name [] among = absurd (let e : false ≡ true = among in cc)
 has_place first name (n ∷ names) among =
-    place_by first name n names (bytes_eq n name) refl (λ other. has_place (first + 1) name names (among_behind name n names among other))
+    place_by first name n names (bytes_eq n name) refl (λ other. has_place (first + 1) name names (among_after name n names among other))
 
 -- a name among these has an index within them, and the index leads to it
 record IsKnown (names : List (List ℕ)) (name : List ℕ) : Type 0 where
@@ -174,10 +174,10 @@ module _ (scope : Scope) (bounds : Bounds) (same : Matches scope bounds) where
       let first = both_empty (unknown scope.variables a.variable ++ _) (expression_faults scope sort.Number a.value) parts.0 in
       let name = both_empty (unknown scope.variables a.variable) _ first.0 in
       let here = named_known scope.variables a.variable name.0 in
-      let behind = all_assigned (a.variable.name ∷ earlier) all (here, known) parts.1 in
+      let beyond = all_assigned (a.variable.name ∷ earlier) all (here, known) parts.1 in
       record {
-        fit = both_true (both_true (variable_fits _ here) (phrase_fits sort.Number a.value first.1)) behind.fit;
-        unset_before = both_true (ap not (unset _ earlier here known (fails _ _ _ name.1))) behind.unset_before;
+        fit = both_true (both_true (variable_fits _ here) (phrase_fits sort.Number a.value first.1)) beyond.fit;
+        unset_before = both_true (ap not (unset _ earlier here known (fails _ _ _ name.1))) beyond.unset_before;
       }
 
   record ActionFits (action : WrittenAction) : Type 0 where
@@ -215,8 +215,8 @@ module _ (scope : Scope) (bounds : Bounds) (same : Matches scope bounds) where
       let parts = both_empty (fault_where (eqb earlier COMMANDS) _ command.at ++ command_faults scope command) _ none in
       let here = both_empty (fault_where (eqb earlier COMMANDS) _ command.at) _ parts.0 in
       let room : earlier < COMMANDS = below_limit earlier COMMANDS few (fails _ _ _ here.0) in
-      let behind = commands_fit (earlier + 1) all (omega arith) parts.1 in
-      record { few = omega (arith, behind.few); fit = both_true (command_fit command here.1) behind.fit }
+      let beyond = commands_fit (earlier + 1) all (omega arith) parts.1 in
+      record { few = omega (arith, beyond.few); fit = both_true (command_fit command here.1) beyond.fit }
 
 -- names that differ from all earlier ones, and whose number with the earlier ones is within the limit
 record NamesFit (limit : ℕ) (earlier names : List (List ℕ)) : Type 0 where
@@ -275,8 +275,8 @@ process_fit names own process here none =
     (both_true variables.fresh commands.fit)
 
 -- the first element of the rest of a list
-front_there : (names : List (List ℕ)) (k : ℕ) (n : List ℕ) (others : List (List ℕ)) → drop k names ≡ n ∷ others → get_or names k [] ≡ n
-front_there names k n others here =
+prefix_there : (names : List (List ℕ)) (k : ℕ) (n : List ℕ) (others : List (List ℕ)) → drop k names ≡ n ∷ others → get_or names k [] ≡ n
+prefix_there names k n others here =
     ap (λ (i : ℕ). get_or names i []) (omega arith) ∙ sym (get_or-drop k names 0 []) ∙ ap (λ (l : List (List ℕ)). get_or l 0 []) here
 
 drop_next : (names : List (List ℕ)) (k : ℕ) (n : List ℕ) (others : List (List ℕ)) → drop k names ≡ n ∷ others → drop (k + 1) names ≡ others
@@ -298,7 +298,7 @@ processes_all names earlier own (process ∷ all) few here none =
     let rest = processes_all names (process.name.name ∷ earlier) (own + 1) all name.room (drop_next names own _ _ here) parts.1 in
     record {
       named = one_name_more PROCESSES earlier _ process.name name rest.named;
-      fit = both_true (process_fit names own process (front_there names own _ _ here) first.1) rest.fit;
+      fit = both_true (process_fit names own process (prefix_there names own _ _ here) first.1) rest.fit;
     }
 
 -- a parsed program that passes all checks

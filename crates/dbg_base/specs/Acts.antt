@@ -34,7 +34,7 @@ Refuses refusal M said M' = (said ≡ Refused refusal) × (M' ≡ M)
 pub record Accepts (P : Program) (done : Done) (said : Said) (M' : ModelState) : Type 0 where
   pub halted : Option (List ℕ)
   pub is : IsHalted P M' halted
-  pub told : said ≡ Accepted (record { done = done; halted = halted })
+  pub reported : said ≡ Accepted (record { done = done; halted = halted })
 
 -- The process makes this choice, which leaves the system given by `after`; or it makes none, for this reason.
 abbrev pub Plays : Program → ℕ → Result ℕ Refusal → (ℕ → SystemState) → ModelState → Said → ModelState → Type 0
@@ -52,20 +52,20 @@ pub record TakesBack (P : Program) (p : ℕ) (M : ModelState) (said : Said) (M' 
   pub may : MayUndo P (history_of M.system) p
   pub choice : ℕ
   pub was : last_choice M.system p ≡ Some choice
-  pub told : Accepts P (Undone (record { 0 = p }) (record { 0 = choice })) said M'
+  pub reported : Accepts P (Undone (record { 0 = p }) (record { 0 = choice })) said M'
   pub left : M' ≡ with_system M (after_undo M.system p)
 
 -- the last event of process p stays, for this reason
 pub record KeepsEvent (P : Program) (p : ℕ) (M : ModelState) (said : Said) (M' : ModelState) : Type 0 where
   pub refusal : Refusal
   pub why : CannotUndo P M.system p refusal
-  pub told : Refuses refusal M said M'
+  pub reported : Refuses refusal M said M'
 
 -- Process p is rolled back to n: the events beyond the cut are undone, and the reply shows the places.
 pub record RollsBack (P : Program) (p n : ℕ) (M : ModelState) (said : Said) (M' : ModelState) : Type 0 where
   pub cut : List ℕ
   pub is : IsRollback P (history_of M.system) p n cut
-  pub told : Accepts P (Places cut) said M'
+  pub reported : Accepts P (Places cut) said M'
   pub left : M' ≡ with_system M (after_rollback M.system cut)
 
 -- it is rolled back, unless n is above its place
@@ -88,7 +88,7 @@ WithBreak name Does M said M' = WithFound (named name M.breakpoints) Does M said
 pub record GoesTo (P : Program) (b : Breakpoint) (M : ModelState) (said : Said) (M' : ModelState) : Type 0 where
   pub cut : List ℕ
   pub is : IsLeast P (history_of M.system) b.conjuncts cut
-  pub told : Accepts P (Places cut) said M'
+  pub reported : Accepts P (Places cut) said M'
   pub left : M' ≡ with_system M (after_rollback M.system cut)
 
 -- the breakpoint has no cut

@@ -153,29 +153,29 @@ without_blanks [] = []
 without_blanks (b ∷ bytes) = if is_blank b then without_blanks bytes else b ∷ bytes
 
 -- the bytes before the first blank
-abbrev pub word_front : List ℕ → List ℕ
-word_front [] = []
-word_front (b ∷ bytes) = if is_blank b then [] else b ∷ word_front bytes
+abbrev pub word_prefix : List ℕ → List ℕ
+word_prefix [] = []
+word_prefix (b ∷ bytes) = if is_blank b then [] else b ∷ word_prefix bytes
 
 -- the first word, which may be empty, and the bytes after it
 abbrev pub next_word : List ℕ → List ℕ
-next_word bytes = word_front (without_blanks bytes)
+next_word bytes = word_prefix (without_blanks bytes)
 
 abbrev pub after_word : List ℕ → List ℕ
 after_word bytes = drop (length (next_word bytes)) (without_blanks bytes)
 
 -- The bytes up to the parenthesis that closes all open ones, of which `depth` are open already; all bytes if none closes them.
-abbrev pub closed_front : ℕ → List ℕ → List ℕ
-closed_front depth [] = []
-closed_front depth (b ∷ bytes) =
-    if b == 40 then b ∷ closed_front (depth + 1) bytes
-    else (if b == 41 then (if nat_le depth 1 then b ∷ [] else b ∷ closed_front (depth - 1) bytes)
-    else b ∷ closed_front depth bytes)
+abbrev pub closed_prefix : ℕ → List ℕ → List ℕ
+closed_prefix depth [] = []
+closed_prefix depth (b ∷ bytes) =
+    if b == 40 then b ∷ closed_prefix (depth + 1) bytes
+    else (if b == 41 then (if nat_le depth 1 then b ∷ [] else b ∷ closed_prefix (depth - 1) bytes)
+    else b ∷ closed_prefix depth bytes)
 
 -- the text of a predicate at the beginning of these bytes
-abbrev pub predicate_front : List ℕ → List ℕ
-predicate_front [] = []
-predicate_front (b ∷ bytes) = if b == 40 then closed_front 0 (b ∷ bytes) else word_front (b ∷ bytes)
+abbrev pub predicate_prefix : List ℕ → List ℕ
+predicate_prefix [] = []
+predicate_prefix (b ∷ bytes) = if b == 40 then closed_prefix 0 (b ∷ bytes) else word_prefix (b ∷ bytes)
 
 -- the bytes are empty or begin with a blank
 abbrev pub is_apart : List ℕ → Bool
@@ -197,7 +197,7 @@ part_then (Some name) (b ∷ text) rest next = if is_apart rest then with_part (
 
 -- the same, if the text is at the beginning of these bytes
 abbrev pub part_at : Option (List ℕ) → List ℕ → (List ℕ → Option (List Part)) → Option (List Part)
-part_at name bytes next = part_then name (predicate_front bytes) (drop (length (predicate_front bytes)) bytes) next
+part_at name bytes next = part_then name (predicate_prefix bytes) (drop (length (predicate_prefix bytes)) bytes) next
 
 -- the processes and predicates of these bytes, at most so many, or nothing if the bytes do not have this form
 abbrev pub parts_within : ℕ → List ℕ → Option (List Part)
@@ -223,20 +223,20 @@ abbrev pub begun_by : Bool → ℕ → Spot
 begun_by grouped b = if grouped && (b == 40) then InParentheses 1 else InWord
 
 -- the spot after a byte of a word
-abbrev pub word_behind : ℕ → Spot
-word_behind b = if is_blank b then Between else InWord
+abbrev pub word_after : ℕ → Spot
+word_after b = if is_blank b then Between else InWord
 
 -- the spot after a byte within so many open parentheses
-abbrev pub parentheses_behind : ℕ → ℕ → Spot
-parentheses_behind depth b =
+abbrev pub parentheses_after : ℕ → ℕ → Spot
+parentheses_after depth b =
     if b == 40 then InParentheses (depth + 1)
     else (if b == 41 then (if nat_le depth 1 then InWord else InParentheses (depth - 1))
     else InParentheses depth)
 
-abbrev pub spot_behind : Bool → Spot → ℕ → Spot
-spot_behind grouped Between b = if is_blank b then Between else begun_by grouped b
-spot_behind grouped InWord b = word_behind b
-spot_behind grouped (InParentheses depth) b = parentheses_behind depth b
+abbrev pub spot_after : Bool → Spot → ℕ → Spot
+spot_after grouped Between b = if is_blank b then Between else begun_by grouped b
+spot_after grouped InWord b = word_after b
+spot_after grouped (InParentheses depth) b = parentheses_after depth b
 
 -- the byte is the word `;`, and these bytes follow it
 abbrev pub is_separator : Spot → ℕ → List ℕ → Bool
@@ -252,7 +252,7 @@ abbrev pub commands_from : Bool → Spot → List ℕ → List (List ℕ)
 commands_from grouped spot [] = [] ∷ []
 commands_from grouped spot (b ∷ bytes) =
     if is_separator spot b bytes then [] ∷ commands_from (sets_break bytes) Between bytes
-    else before_first_word b (commands_from grouped (spot_behind grouped spot b) bytes)
+    else before_first_word b (commands_from grouped (spot_after grouped spot b) bytes)
 
 -- the commands of a batch
 abbrev pub commands_of : List ℕ → List (List ℕ)

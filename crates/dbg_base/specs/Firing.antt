@@ -41,10 +41,10 @@ abbrev pub assigned : List (ℕ × Tree) → LocalState → Option (List (ℕ ×
 assigned [] state = Some []
 assigned (a ∷ assignments) state = and_set a.0 (number_of (evaluate a.1 state)) (assigned assignments state)
 
--- the settings `front`, then the assigned ones, with the value to send
+-- the settings `prefix`, then the assigned ones, with the value to send
 abbrev pub effect_with : List (ℕ × ℤ) → Option ℤ → Option (List (ℕ × ℤ)) → Option Effect
-effect_with front message None = None
-effect_with front message (Some sets) = Some (record { sets = front ++ sets; message = message })
+effect_with prefix message None = None
+effect_with prefix message (Some sets) = Some (record { sets = prefix ++ sets; message = message })
 
 -- continues with the value to send
 abbrev pub sending : Option ℤ → (ℤ → Option Effect) → Option Effect

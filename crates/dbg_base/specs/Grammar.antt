@@ -199,6 +199,6 @@ DerivesNothing {A} Derives tokens = (written : A) → Derives tokens written →
 abbrev pub IsGrammarFault : {A : Type 0} → (List Placed → A → Type 0) → ℕ → List Placed → ProgFault → Type 0
 IsGrammarFault Derives text_length tokens found =
     (found.kind ≡ fault.Grammar)
-    × (((front others : List Placed) × (p : Placed) × (tokens ≡ front ++ p ∷ others) × Begins Derives front
-    × ¬ Begins Derives (front ++ p ∷ []) × (found.at ≡ p.at))
+    × (((prefix others : List Placed) × (p : Placed) × (tokens ≡ prefix ++ p ∷ others) × Begins Derives prefix
+    × ¬ Begins Derives (prefix ++ p ∷ []) × (found.at ≡ p.at))
     ⊎ (Begins Derives tokens × DerivesNothing Derives tokens × (found.at ≡ text_length)))

@@ -51,8 +51,8 @@ Leads P (given ∷ others) M M' =
     (reply : Reply) × (between : ModelState) × Follows P given.order M (Accepted reply) between × Leads P others between M'
 
 -- the state of the session if these orders count: they alone lead to it from the opening state
-abbrev pub StandsAt : Program → List Given → ModelState → Type 0
-StandsAt P given M = Leads P given (opening P) M
+abbrev pub LeadsTo : Program → List Given → ModelState → Type 0
+LeadsTo P given M = Leads P given (opening P) M
 
 -- the last of these orders
 abbrev pub last_given : List Given → Option Given
@@ -63,14 +63,14 @@ last_given given = slice_get given (length given - 1)
 abbrev pub AnswersBack : Program → List Given → ℕ → Option Given → Said → Type 0
 AnswersBack P given seat None said = said ≡ Refused NothingBack
 AnswersBack P given seat (Some last) said =
-    MatchBool (last.seat == seat) ((M : ModelState) × StandsAt P (without_back given) M × Accepts P Plain said M)
+    MatchBool (last.seat == seat) ((M : ModelState) × LeadsTo P (without_back given) M × Accepts P Plain said M)
     (said ≡ Refused (OtherSeat last.seat))
 
 -- the answer that is due to a seat's call, if these orders count
 abbrev pub IsDue : Program → List Given → ℕ → Call → Said → Type 0
-IsDue P given seat (Give order) said = (M after : ModelState) × StandsAt P given M × Follows P order M said after
+IsDue P given seat (Give order) said = (M after : ModelState) × LeadsTo P given M × Follows P order M said after
 IsDue P given seat Back said = AnswersBack P given seat (last_given given) said
-IsDue P given seat (Ask query) said = (M : ModelState) × StandsAt P given M × Answers P M query said
+IsDue P given seat (Ask query) said = (M : ModelState) × LeadsTo P given M × Answers P M query said
 
 -- A seat's call was entered in the journal J, with the answer that is due.
 pub record Enters (P : Program) (J : Journal) (seat : ℕ) (call : Call) (said : Said) (J' : Journal) : Type 0 where
@@ -79,13 +79,13 @@ pub record Enters (P : Program) (J : Journal) (seat : ℕ) (call : Call) (said :
 
 -- it was refused as out of memory, and not entered
 pub record Misses (J : Journal) (said : Said) (J' : Journal) : Type 0 where
-  pub told : said ≡ Refused Memory
+  pub reported : said ≡ Refused Memory
   pub left : J' ≡ J
 
 -- it was refused and not entered, since the journal has reached the limit of calls
 pub record Overflows (J : Journal) (said : Said) (J' : Journal) : Type 0 where
   pub full : length J ≡ CALLS
-  pub told : said ≡ Refused JournalFull
+  pub reported : said ≡ Refused JournalFull
   pub left : J' ≡ J
 
 -- what a seat's call makes of a journal that has room for so many calls

@@ -68,12 +68,12 @@ states_of P E = states_from P (start_of P) (map (λ state. state ∷ []) (start_
 
 -- F is E with two neighbours of different processes exchanged
 pub record IsSwap (E F : List Event) : Type 0 where
-  pub front : List Event
+  pub prefix : List Event
   pub one : Event
   pub other : Event
-  pub behind : List Event
-  pub before : E ≡ front ++ one ∷ other ∷ behind
-  pub after : F ≡ front ++ other ∷ one ∷ behind
+  pub beyond : List Event
+  pub before : E ≡ prefix ++ one ∷ other ∷ beyond
+  pub after : F ≡ prefix ++ other ∷ one ∷ beyond
   pub apart : one.process ≢ other.process
 
 -- The first list becomes the second by swaps of neighbours of different processes, and each list between them is legal from c.

@@ -27,13 +27,13 @@ byte_before b [] rest = record { whole = []; rest = b ∷ rest }
 byte_before b (line ∷ whole) rest = record { whole = (b ∷ line) ∷ whole; rest = rest }
 
 -- the lines with one more byte before them; a line end makes an empty first line
-abbrev pub with_front : ℕ → Lines → Lines
-with_front b lines =
+abbrev pub with_prefix : ℕ → Lines → Lines
+with_prefix b lines =
     if b == 10 then record { whole = [] ∷ lines.whole; rest = lines.rest } else byte_before b lines.whole lines.rest
 
 abbrev pub lines_of : List ℕ → Lines
 lines_of [] = record { whole = []; rest = [] }
-lines_of (b ∷ bytes) = with_front b (lines_of bytes)
+lines_of (b ∷ bytes) = with_prefix b (lines_of bytes)
 
 -- whether the input is longer than its limit
 abbrev pub is_too_long : List ℕ → Bool

@@ -98,20 +98,20 @@ IsWithinLimits (Number value) = value < 2 ^ 63
 IsWithinLimits (Symbol sign) = Unit {0}
 
 -- how many parentheses are open after a token; the count never goes below 0
-abbrev pub open_behind : ℕ → Token → ℕ
-open_behind depth (Symbol OpenParenthesis) = depth + 1
-open_behind depth (Symbol CloseParenthesis) = depth - 1
-open_behind depth token = depth
+abbrev pub still_open : ℕ → Token → ℕ
+still_open depth (Symbol OpenParenthesis) = depth + 1
+still_open depth (Symbol CloseParenthesis) = depth - 1
+still_open depth token = depth
 
 -- the same after several tokens
 abbrev pub open_after : ℕ → List Placed → ℕ
 open_after depth [] = depth
-open_after depth (p ∷ tokens) = open_after (open_behind depth p.token) tokens
+open_after depth (p ∷ tokens) = open_after (still_open depth p.token) tokens
 
 -- the number of open parentheses is always within its limit
 abbrev pub StaysShallow : ℕ → List Placed → Type 0
 StaysShallow depth [] = Unit {0}
-StaysShallow depth (p ∷ tokens) = (open_behind depth p.token ≤ OPEN_PARENTHESES) × StaysShallow (open_behind depth p.token) tokens
+StaysShallow depth (p ∷ tokens) = (still_open depth p.token ≤ OPEN_PARENTHESES) × StaysShallow (still_open depth p.token) tokens
 
 -- tokens that meet the limits
 abbrev pub AreWithinLimits : List Placed → Type 0
@@ -141,14 +141,14 @@ abbrev pub OpensTooDeep : ℕ → List ℕ → Type 0
 OpensTooDeep depth bytes = (depth ≡ OPEN_PARENTHESES) × (more : List ℕ) × (bytes ≡ sign_bytes OpenParenthesis ++ more)
 
 -- the fault at the beginning, while so many parentheses are open
-abbrev pub FaultsInFront : FaultKind → ℕ → List ℕ → Type 0
-FaultsInFront fault.Byte depth bytes = BeginsWithNoSpace bytes × BeginsWithNoToken bytes
-FaultsInFront fault.Token depth bytes = BeginsWithTooLarge bytes
-FaultsInFront fault.Limit depth bytes = OpensTooDeep depth bytes
-FaultsInFront kind depth bytes = ⊥
+abbrev pub FaultsBefore : FaultKind → ℕ → List ℕ → Type 0
+FaultsBefore fault.Byte depth bytes = BeginsWithNoSpace bytes × BeginsWithNoToken bytes
+FaultsBefore fault.Token depth bytes = BeginsWithTooLarge bytes
+FaultsBefore fault.Limit depth bytes = OpensTooDeep depth bytes
+FaultsBefore kind depth bytes = ⊥
 
 -- the first fault of the tokens: the tokens before it have none
 abbrev pub IsTokenFault : List ℕ → ProgFault → Type 0
 IsTokenFault text found =
     (tokens : List Placed) × (rest : List ℕ) × BeginsWith 0 text tokens found.at rest × AreWithinLimits tokens
-    × FaultsInFront found.kind (open_after 0 tokens) rest
+    × FaultsBefore found.kind (open_after 0 tokens) rest

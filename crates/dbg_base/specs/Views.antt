@@ -21,19 +21,19 @@ use Rattle.dbg_base.specs.Choices.{CannotUndo}
 
 -- the answer to a query about a process, if the process exists
 abbrev pub about : Program → ℕ → Answer → Said
-about P p told = if nat_lt p (length P) then Answered told else Refused UnknownProcess
+about P p reported = if nat_lt p (length P) then Answered reported else Refused UnknownProcess
 
 -- the answer is the clock of process p at its place
 pub record TellsClock (P : Program) (M : SystemState) (p : ℕ) (said : Said) : Type 0 where
   pub cut : List ℕ
   pub is : IsClock P (history_of M) p (place_at M p) cut
-  pub told : said ≡ Answered (Counts cut)
+  pub reported : said ≡ Answered (Counts cut)
 
 -- the answer is why the last event may not be undone
 pub record TellsWhy (P : Program) (M : SystemState) (p : ℕ) (said : Said) : Type 0 where
   pub refusal : Refusal
   pub why : CannotUndo P M p refusal
-  pub told : said ≡ Answered (CanUndo (Err refusal))
+  pub reported : said ≡ Answered (CanUndo (Err refusal))
 
 -- the answer is that the last event of process p may be undone, or why not
 abbrev pub TellsUndo : Program → SystemState → ℕ → Said → Type 0
@@ -54,7 +54,7 @@ TellsCut P M b said =
 pub record TellsFrontier (P : Program) (M : ModelState) (b : Breakpoint) (said : Said) : Type 0 where
   pub tuple : List ℕ
   pub is : IsFrontier P (history_of M.system) b.conjuncts tuple
-  pub told : said ≡ Answered (Frontier (heads_of (history_of M.system) tuple))
+  pub reported : said ≡ Answered (Frontier (heads_of (history_of M.system) tuple))
 
 -- the name of a breakpoint, and its mark
 abbrev pub mark_of : Breakpoint → List ℕ × Bool

@@ -8,8 +8,8 @@ use Rattle.dbg_board.specs.Words.{code_of, glance_of}
 pub begins_itself : (pairs : List Glance) → Begins pairs pairs
 begins_itself pairs = ([], sym (append-nil pairs))
 
-pub begins_more : (front whole more : List Glance) → Begins front whole → Begins front (whole ++ more)
-begins_more front whole more h = (h.0 ++ more, ap (λ pairs. pairs ++ more) h.1 ∙ append_assoc front h.0 more)
+pub begins_more : (prefix whole more : List Glance) → Begins prefix whole → Begins prefix (whole ++ more)
+begins_more prefix whole more h = (h.0 ++ more, ap (λ pairs. pairs ++ more) h.1 ∙ append_assoc prefix h.0 more)
 
 pub last_pushed : (earlier pair : Glance) (pairs : List Glance) → last_from earlier (pairs ++ pair ∷ []) ≡ pair
 last_pushed earlier pair [] = refl

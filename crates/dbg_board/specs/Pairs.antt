@@ -5,7 +5,7 @@ use Rattle.dbg_board.specs.declared.glance.Glance.{Glance}
 
 -- The first list is a prefix of the second.
 abbrev pub Begins : List Glance → List Glance → Type 0
-Begins front whole = (others : List Glance) × (whole ≡ front ++ others)
+Begins prefix whole = (others : List Glance) × (whole ≡ prefix ++ others)
 
 -- the last of these pairs, or `earlier` if there is none
 abbrev pub last_from : Glance → List Glance → Glance

@@ -57,7 +57,7 @@ impl Publisher {
         requires { view.old.board ≡ self.old.board }
         ensures kept { self.new ≡ self.old }
         ensures begins { Begins view.old.pairs view.new.pairs }
-        ensures told { view.new ≡ self.old }
+        ensures reported { view.new ≡ self.old }
     {
         let shared = &self.word.shared;
         // The view is replaced by one that has seen all. What it had seen is compared with what was published.

@@ -56,10 +56,10 @@ shown_state t u same = λ i. record {
   breakpoints = seen_breakpoints t.book u.book (λ j. (same j).book) i;
 }
 
-tells_either : (i : ℕ) (refusal told : Refusal) → TellsWithin i refusal told
-    → (told ≡ Memory) ⊎ (told ≡ InBatch (i + 1) (refusal_number refusal))
-tells_either i Memory told tells = inl tells
-tells_either i refusal told tells = inr tells
+tells_either : (i : ℕ) (refusal reported : Refusal) → TellsWithin i refusal reported
+    → (reported ≡ Memory) ⊎ (reported ≡ InBatch (i + 1) (refusal_number refusal))
+tells_either i Memory reported tells = inl tells
+tells_either i refusal reported tells = inr tells
 
 -- The commands before this position, from 0, were accepted: the result of the others, from here on, is the result of all.
 pub record GoesOn (P : Program) (start : ModelState) (items : List given.Plan) (i : ℕ) (M : ModelState) : Type 0 where
@@ -72,8 +72,8 @@ goes_begin P start items = record { rest = λ said M' batches. batches }
 module _ (P : Program) (start : ModelState) (items : List given.Plan) (i : ℕ) (M : ModelState) (goes : GoesOn P start items i M)
     (x : given.Plan) (here : x ≡ get_or items i x) (lt : i < length items) where
   -- the next command, and those after it
-  in_front : (p : Plan) → order_of x ≡ One p → plans_in (drop i items) ≡ p ∷ plans_in (drop (i + 1) items)
-  in_front p is =
+  before : (p : Plan) → order_of x ≡ One p → plans_in (drop i items) ≡ p ∷ plans_in (drop (i + 1) items)
+  before p is =
       ap plans_in (drop_more items i x lt ∙ ap (λ (y : given.Plan). y ∷ drop (i + 1) items) (sym here))
       ∙ ap (λ (o : Order). plans_of o ++ plans_in (drop (i + 1) items)) is
 
@@ -81,7 +81,7 @@ module _ (P : Program) (start : ModelState) (items : List given.Plan) (i : ℕ) 
   then_all : (p : Plan) → order_of x ≡ One p → (said : Said) (M' : ModelState)
       → Batches P start (i + 1) (p ∷ plans_in (drop (i + 1) items)) M said M' → Batches P start 1 (plans_in items) start said M'
   then_all p is said M' batches =
-      goes.rest said M' (subst (λ (plans : List Plan). Batches P start (i + 1) plans M said M') (sym (in_front p is)) batches)
+      goes.rest said M' (subst (λ (plans : List Plan). Batches P start (i + 1) plans M said M') (sym (before p is)) batches)
 
   pub goes_more : (o : Order) (reply : Reply) (N : ModelState) → order_of x ≡ o → IsOne o → FollowsOrRefuses P o M (Ok reply) N
       → GoesOn P start items (i + 1) N
@@ -91,20 +91,20 @@ module _ (P : Program) (start : ModelState) (items : List given.Plan) (i : ℕ) 
     rest = λ said M' batches. then_all p is said M' (inl (reply, N, acts, batches));
   }
 
-  pub goes_refused : (o : Order) (refusal told : Refusal) (N : ModelState) → order_of x ≡ o → IsOne o
-      → FollowsOrRefuses P o M (Err refusal) N → N ≡ M → TellsWithin i refusal told
-      → (told ≡ Memory) ⊎ Batches P start 1 (plans_in items) start (Refused told) start
-  goes_refused (Batch plans) refusal told N is one follows same tells = absurd one
-  goes_refused (One p) refusal told N is one (inr refuses) same tells =
+  pub goes_refused : (o : Order) (refusal reported : Refusal) (N : ModelState) → order_of x ≡ o → IsOne o
+      → FollowsOrRefuses P o M (Err refusal) N → N ≡ M → TellsWithin i refusal reported
+      → (reported ≡ Memory) ⊎ Batches P start 1 (plans_in items) start (Refused reported) start
+  goes_refused (Batch plans) refusal reported N is one follows same tells = absurd one
+  goes_refused (One p) refusal reported N is one (inr refuses) same tells =
       let memory : refusal ≡ Memory = let e = refuses.0 in cc in
-      inl (subst (λ (r : Refusal). TellsWithin i r told) memory tells)
-  goes_refused (One p) refusal told N is one (inl acts) same tells =
-      ⊎_elim (λ (memory : told ≡ Memory). inl memory)
-      (λ (within : told ≡ InBatch (i + 1) (refusal_number refusal)). inr (then_all p is (Refused told) start (inr (
+      inl (subst (λ (r : Refusal). TellsWithin i r reported) memory tells)
+  goes_refused (One p) refusal reported N is one (inl acts) same tells =
+      ⊎_elim (λ (memory : reported ≡ Memory). inl memory)
+      (λ (within : reported ≡ InBatch (i + 1) (refusal_number refusal)). inr (then_all p is (Refused reported) start (inr (
         refusal,
         subst (λ (A : ModelState). Acts P p M (Refused refusal) A) same acts,
         (ap (λ (r : Refusal). Refused r) within, refl),
-      )))) (tells_either i refusal told tells)
+      )))) (tells_either i refusal reported tells)
 
 -- all were accepted
 pub goes_all : (P : Program) (start : ModelState) (items : List given.Plan) (i : ℕ) (M : ModelState) → GoesOn P start items i M

@@ -40,7 +40,7 @@ pub accepted : (P : Program) (M : ModelState) (did : Done) (reply : Reply) → R
 accepted P M did reply replies = record {
   halted = reply.halted;
   is = replies.halted;
-  told = ap (λ (d : Done). Accepted (record { done = d; halted = reply.halted })) replies.done;
+  reported = ap (λ (d : Done). Accepted (record { done = d; halted = reply.halted })) replies.done;
 }
 
 pub with_process : (P : Program) (p : ℕ) (Does : Type 0) (M : ModelState) (said : Said) (M' : ModelState) → p < length P → Does
@@ -57,7 +57,7 @@ taken_back P M M' p k reply here may was left replies =
       may = may;
       choice = k;
       was = was;
-      told = accepted P M' (Undone (record { 0 = p }) (record { 0 = k })) reply replies;
+      reported = accepted P M' (Undone (record { 0 = p }) (record { 0 = k })) reply replies;
       left = left;
     })))
 
@@ -68,7 +68,7 @@ not_taken_back P M M' p refusal here (inl why) same =
     inl (with_process P p _ M (Refused refusal) M' here (inr (record {
       refusal = refusal;
       why = why;
-      told = refused M M' refusal refusal refl same;
+      reported = refused M M' refusal refusal refl same;
     })))
 not_taken_back P M M' p refusal here (inr e) same = inr (refused M M' refusal Memory e same)
 
@@ -79,7 +79,7 @@ rolled_back P M M' p n cut (Err refusal) here within is back = inr (refused M M'
 rolled_back P M M' p n cut (Ok reply) here within is back =
     let said : Said = Accepted reply in
     let rolled : RollsBack P p n M said M' =
-    record { cut = cut; is = is; told = accepted P M' (Places cut) reply back.replies; left = back.moves } in
+    record { cut = cut; is = is; reported = accepted P M' (Places cut) reply back.replies; left = back.moves } in
     let acts : RollsBackAt P p n M said M' =
     subst (λ (t : Bool). MatchBool t (Refuses BadPlace M said M') (RollsBack P p n M said M'))
     (sym (le-ltb (place_at M.system p) n within)) rolled in
@@ -94,7 +94,7 @@ went_to P M M' name cut (Ok reply) has back =
     M said M') (sym has.1) (inl (record {
       cut = cut;
       is = has.2;
-      told = accepted P M' (Places cut) reply back.replies;
+      reported = accepted P M' (Places cut) reply back.replies;
       left = back.moves;
     })))
 

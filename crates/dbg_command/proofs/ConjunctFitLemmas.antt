@@ -36,13 +36,13 @@ or_turned false false = refl
 module _ (P : Program) (cs : List given.Conjunct) (i : ℕ) (are : AreFitting P cs i) (x : given.Conjunct) (here : x ≡ get_or cs i x)
     (lt : i < length cs) where
   -- the rest of the conjuncts, with the next one first
-  in_front : conjuncts_refusal P are.before (map conjunct_of (x ∷ drop (i + 1) cs)) ≡ conjuncts_refusal P [] (map conjunct_of cs)
-  in_front =
+  is_before : conjuncts_refusal P are.before (map conjunct_of (x ∷ drop (i + 1) cs)) ≡ conjuncts_refusal P [] (map conjunct_of cs)
+  is_before =
       ap (λ (c : given.Conjunct). conjuncts_refusal P are.before (map conjunct_of (c ∷ drop (i + 1) cs))) here
       ∙ ap (λ (l : List given.Conjunct). conjuncts_refusal P are.before (map conjunct_of l)) (sym (drop_more cs i x lt)) ∙ are.rest
 
   pub refused_unknown : length P ≤ x.pid.0 → conjuncts_refusal P [] (map conjunct_of cs) ≡ Some UnknownProcess
-  refused_unknown none = sym in_front ∙ search (le-ltb x.pid.0 (length P) none, rules)
+  refused_unknown none = sym is_before ∙ search (le-ltb x.pid.0 (length P) none, rules)
 
   module _ (known : x.pid.0 < length P) where
     -- its process exists, so it is a predicate if it fits
@@ -51,12 +51,12 @@ module _ (P : Program) (cs : List given.Conjunct) (i : ℕ) (are : AreFitting P 
 
     pub refused_unfit : is_predicate P x.pid.0 (tree_of x.expr) ≡ false → conjuncts_refusal P [] (map conjunct_of cs) ≡ Some BadPredicate
     refused_unfit is =
-        let unfit = sym fit ∙ is in sym in_front ∙ search (lt-ltb x.pid.0 (length P) known, unfit, rules)
+        let unfit = sym fit ∙ is in sym is_before ∙ search (lt-ltb x.pid.0 (length P) known, unfit, rules)
 
     pub refused_twice : list_any (λ (c : given.Conjunct). c.pid.0 == x.pid.0) (take i cs) ≡ true
         → conjuncts_refusal P [] (map conjunct_of cs) ≡ Some BadPredicate
     refused_twice twice =
-        let seen = are.seen x.pid.0 ∙ twice in sym in_front ∙ search (lt-ltb x.pid.0 (length P) known, seen, rules)
+        let seen = are.seen x.pid.0 ∙ twice in sym is_before ∙ search (lt-ltb x.pid.0 (length P) known, seen, rules)
 
     pub more_fitting : is_predicate P x.pid.0 (tree_of x.expr) ≡ true
         → list_any (λ (c : given.Conjunct). c.pid.0 == x.pid.0) (take i cs) ≡ false → AreFitting P cs (i + 1)
@@ -69,7 +69,7 @@ module _ (P : Program) (cs : List given.Conjunct) (i : ℕ) (are : AreFitting P 
               ap (λ (b : Bool). (x.pid.0 == p) || b) (are.seen p) ∙ or_turned (x.pid.0 == p) _
               ∙ ap (λ (c : given.Conjunct). list_any (λ (d : given.Conjunct). d.pid.0 == p) (take i cs) || (c.pid.0 == p)) here
               ∙ sym (list_any_more (λ (d : given.Conjunct). d.pid.0 == p) cs i x lt);
-          rest = search (lt-ltb x.pid.0 (length P) known, seen, fits, in_front, rules);
+          rest = search (lt-ltb x.pid.0 (length P) known, seen, fits, is_before, rules);
         }
 
 pub all_fitting : (P : Program) (cs : List given.Conjunct) (i : ℕ) → AreFitting P cs i → length cs ≤ i

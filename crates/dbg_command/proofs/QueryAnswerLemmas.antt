@@ -26,7 +26,7 @@ pub tells_clock : (P : Program) (M : ModelState) (p : ℕ) (cut : List ℕ) → 
     → IsClock P (history_of M.system) p (place_at M.system p) cut → AnswersOrRefuses P M (Clock p) (Ok (Counts cut))
 tells_clock P M p cut here is = inl (subst
     (λ (t : Bool). MatchBool t (TellsClock P M.system p (Answered (Counts cut))) (Answered (Counts cut) ≡ Refused UnknownProcess))
-    (sym (lt-ltb p (length P) here)) (record { cut = cut; is = is; told = refl }))
+    (sym (lt-ltb p (length P) here)) (record { cut = cut; is = is; reported = refl }))
 
 -- the cut of a breakpoint, as an answer
 pub tells_cut : (P : Program) (M : ModelState) (name : List ℕ) (cut : Option (List ℕ)) → IsCutOf P M name (Ok cut)
@@ -85,10 +85,10 @@ module _ (P : Program) (t : TableState) (is : IsTableOf P t) (name : List ℕ) (
       → detector.TellsFrontier Q (history_of w.state) (conjuncts_of d) heads) → AnswersOrRefuses P M (Why name) (Ok (Frontier heads))
   tells_frontier heads tells =
       let said : Said = Answered (Frontier heads) in
-      let told = subst (λ (x : DetectorState). detector.TellsFrontier P (history_of t.world.state) (conjuncts_of x) heads) own
+      let reported = subst (λ (x : DetectorState). detector.TellsFrontier P (history_of t.world.state) (conjuncts_of x) heads) own
       (tells t.world P detects is.world) in
       inl (found (λ b. TellsFrontier P M b said) said (record {
-        tuple = told.tuple;
-        is = told.is;
-        told = ap (λ (l : List Head). Answered (Frontier l)) told.told;
+        tuple = reported.tuple;
+        is = reported.is;
+        reported = ap (λ (l : List Head). Answered (Frontier l)) reported.reported;
       }))

@@ -126,17 +126,17 @@ GivesEach P plans M (Err refusal) N = (refusal ≡ Memory) ⊎ Batches P M 1 pla
 
 -- the refusal of a batch whose command at this position, from 0, was refused like this; "out of memory" stays as it is
 abbrev pub TellsWithin : ℕ → Refusal → Refusal → Type 0
-TellsWithin i Memory told = told ≡ Memory
-TellsWithin i refusal told = told ≡ InBatch (i + 1) (refusal_number refusal)
+TellsWithin i Memory reported = reported ≡ Memory
+TellsWithin i refusal reported = reported ≡ InBatch (i + 1) (refusal_number refusal)
 
 -- a plan that may be given: if it is a batch, it has at most 32 commands, none of which is a batch
 abbrev pub IsGivable : plan.Plan → Type 0
 IsGivable given = (batch : Vec plan.Plan Global) → given ≡ plans.Batch batch → AreCommands batch.items
 
 -- the answer to a query that was answered or refused
-abbrev pub told_of : Result Answer Refusal → Said
-told_of (Ok told) = Answered told
-told_of (Err refusal) = Refused refusal
+abbrev pub reported_of : Result Answer Refusal → Said
+reported_of (Ok reported) = Answered reported
+reported_of (Err refusal) = Refused refusal
 
 -- Whether answering the query may allocate: the place of a process does not, and whether its last event may be undone does not.
 abbrev pub asks_memory : Query → Bool
@@ -146,4 +146,4 @@ asks_memory query = true
 
 -- the query had this answer, or memory ran out
 abbrev pub AnswersOrRefuses : Program → ModelState → Query → Result Answer Refusal → Type 0
-AnswersOrRefuses P M query result = Answers P M query (told_of result) ⊎ (result ≡ Err Memory)
+AnswersOrRefuses P M query result = Answers P M query (reported_of result) ⊎ (result ≡ Err Memory)

@@ -27,7 +27,7 @@ fn within_batch(position: usize, refusal: Refusal) -> Refusal
 }
 
 // The reply, without what is kept of the command.
-fn told<K: Drop>(done: Result<(Reply, K), Refusal>) -> Result<Reply, Refusal>
+fn reported<K: Drop>(done: Result<(Reply, K), Refusal>) -> Result<Reply, Refusal>
     ensures { result ≡ reply_of done }
 {
     match done {
@@ -46,16 +46,16 @@ impl Table {
         ensures kept { OnErr result (shown self.new ≡ shown self.old) }
     {
         match plan {
-            Plan::Step(pid, choice) => told(self.step(alloc, program, *pid, *choice)),
-            Plan::Next(pid) => told(self.next(alloc, program, *pid)),
-            Plan::Undo(pid) => told(self.undo(alloc, program, *pid)),
+            Plan::Step(pid, choice) => reported(self.step(alloc, program, *pid, *choice)),
+            Plan::Next(pid) => reported(self.next(alloc, program, *pid)),
+            Plan::Undo(pid) => reported(self.undo(alloc, program, *pid)),
             Plan::Redo(pid) => self.redo(alloc, program, *pid),
-            Plan::Rollback(pid, n) => told(self.rollback(alloc, program, *pid, *n)),
-            Plan::Goto(name) => told(self.go_to(alloc, program, *name)),
+            Plan::Rollback(pid, n) => reported(self.rollback(alloc, program, *pid, *n)),
+            Plan::Goto(name) => reported(self.go_to(alloc, program, *name)),
             Plan::Break(name, conjuncts) => {
                 self.set_break(alloc, program, *name, conjuncts, None)
             }
-            Plan::Clear(name) => told(self.clear(program, *name)),
+            Plan::Clear(name) => reported(self.clear(program, *name)),
             Plan::Arm(name) => self.arm(program, *name),
             Plan::Pass(name) => self.pass(program, *name),
             Plan::Batch(_) => unreachable!(),

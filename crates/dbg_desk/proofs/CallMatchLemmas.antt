@@ -52,8 +52,8 @@ module _ {A B : Type 0} (f : A → List B) (all : List A) (own : List B) where
       }
 
   -- all is picked: what is picked of the first so many is a prefix of it
-  front : (i : ℕ) → flat_map f all ≡ flat_map f (take i all) ++ flat_map f (drop i all)
-  front i = ap (λ (l : List A). flat_map f l) (sym (take-append-drop i all)) ∙ flat_map-append f (take i all) (drop i all)
+  prefix : (i : ℕ) → flat_map f all ≡ flat_map f (take i all) ++ flat_map f (drop i all)
+  prefix i = ap (λ (l : List A). flat_map f l) (sym (take-append-drop i all)) ∙ flat_map-append f (take i all) (drop i all)
 
   -- the next one is not what is picked of it
   pub unmatched : (i found : ℕ) (x : A) (y : B) → i < length all → x ≡ get_or all i x → f x ≡ y ∷ []
@@ -72,7 +72,7 @@ module _ {A B : Type 0} (f : A → List B) (all : List A) (own : List B) where
 
       split : own ≡ pre ++ y ∷ rest
       split =
-          whole ∙ front (i + 1)
+          whole ∙ prefix (i + 1)
           ∙ ap (λ (l : List B). l ++ rest) (next i x y within is one ∙ ap (λ (l : List B). l ++ y ∷ []) (sym m.same))
           ∙ append_assoc pre (y ∷ []) rest
 

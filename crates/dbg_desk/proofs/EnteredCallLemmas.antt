@@ -14,12 +14,12 @@ use Rattle.dbg_base.specs.declared.said.Said.TheVariants.{Refused}
 use Rattle.dbg_base.specs.Trees.{Program}
 use Rattle.dbg_base.specs.Calls.{Order, Query, Call, Give, Back, Ask, call_of}
 use Rattle.dbg_base.specs.ModelStates.{ModelState, IsHaltPlace}
-use Rattle.dbg_base.specs.Journals.{Entry, Given, Journal, StandsAt, IsDue, AnswersBack, IsLegal, counting, effective, last_given}
+use Rattle.dbg_base.specs.Journals.{Entry, Given, Journal, LeadsTo, IsDue, AnswersBack, IsLegal, counting, effective, last_given}
 use Rattle.dbg_laws.proofs.LegalJournalLemmas.{effective_more, legal_more}
 use Rattle.dbg_calls.specs.Small.{small_call_of, small_said_of}
 use Rattle.dbg_board.specs.declared.glance.Glance.{Glance}
 use Rattle.dbg_board.specs.Pairs.{Begins}
-use Rattle.dbg_command.specs.Tables.{FollowsOrRefuses, AnswersOrRefuses, said_of, told_of}
+use Rattle.dbg_command.specs.Tables.{FollowsOrRefuses, AnswersOrRefuses, said_of, reported_of}
 use Rattle.dbg_session.specs.Sessions.{SessionState}
 use Rattle.dbg_desk.specs.declared.entry.Entry as entry
 use Rattle.dbg_desk.specs.declared.entry.RecordedCall as own
@@ -33,10 +33,10 @@ refused_memory (Ok reply) is = cc
 refused_memory (Err refusal) is = let same : refusal ≡ Memory = cc in ap (λ (r : Refusal). Err r) same
 
 pub due_given : (P : Program) (given : List Given) (seat : ℕ) (order : Order) (M after : ModelState) (result : Result Reply Refusal)
-    → StandsAt P given M → FollowsOrRefuses P order M result after → (result ≡ Err Memory → ⊥)
+    → LeadsTo P given M → FollowsOrRefuses P order M result after → (result ≡ Err Memory → ⊥)
     → IsDue P given seat (Give order) (said_of result)
-due_given P given seat order M after result stands (inl follows) there = (M, after, stands, follows)
-due_given P given seat order M after result stands (inr refuses) there = absurd (there (refused_memory result refuses.0))
+due_given P given seat order M after result leads_to (inl follows) there = (M, after, leads_to, follows)
+due_given P given seat order M after result leads_to (inr refuses) there = absurd (there (refused_memory result refuses.0))
 
 pub due_back : (P : Program) (given : List Given) (seat : ℕ) (result : Result Reply Refusal)
     → AnswersBack P given seat (last_given given) (said_of result) ⊎ (result ≡ Err Memory) → (result ≡ Err Memory → ⊥)
@@ -45,25 +45,25 @@ due_back P given seat result (inl due) there = due
 due_back P given seat result (inr memory) there = absurd (there memory)
 
 pub due_asked : (P : Program) (given : List Given) (seat : ℕ) (query : Query) (M : ModelState) (result : Result Answer Refusal)
-    → StandsAt P given M → AnswersOrRefuses P M query result → (result ≡ Err Memory → ⊥)
-    → IsDue P given seat (Ask query) (told_of result)
-due_asked P given seat query M result stands (inl answers) there = (M, stands, answers)
-due_asked P given seat query M result stands (inr memory) there = absurd (there memory)
+    → LeadsTo P given M → AnswersOrRefuses P M query result → (result ≡ Err Memory → ⊥)
+    → IsDue P given seat (Ask query) (reported_of result)
+due_asked P given seat query M result leads_to (inl answers) there = (M, leads_to, answers)
+due_asked P given seat query M result leads_to (inr memory) there = absurd (there memory)
 
 -- a call that was made
 
 -- The value under the lock once the call was entered, and what the seat and the board show of it.
 pub record IsEntered (P : Program) (seats : ℕ) (call : Call) (said : Said) (old : Standing) (was : SeatState) (after : SessionState)
-    (J : Journal) (told : List Glance) (now : SeatState) : Type 0 where
-  pub locked : IsLocked P seats after J told
-  pub notes : Notes P old was call said (record { journal = J; pairs = told }) now
+    (J : Journal) (reported : List Glance) (now : SeatState) : Type 0 where
+  pub locked : IsLocked P seats after J reported
+  pub notes : Notes P old was call said (record { journal = J; pairs = reported }) now
 
 -- a session that was not called has the same state
-pub stands_still : (P : Program) (seats : ℕ) (session : SessionState) (J : Journal) (pairs : List Glance)
-    → IsLocked P seats session J pairs → StandsAt session.program session.effective session.state
-stands_still P seats session J pairs locked =
-    subst (λ (Q : Program). StandsAt Q session.effective session.state) (sym locked.program)
-    (subst (λ (given : List Given). StandsAt P given session.state) (sym locked.effective) locked.stands)
+pub leads_to_still : (P : Program) (seats : ℕ) (session : SessionState) (J : Journal) (pairs : List Glance)
+    → IsLocked P seats session J pairs → LeadsTo session.program session.effective session.state
+leads_to_still P seats session J pairs locked =
+    subst (λ (Q : Program). LeadsTo Q session.effective session.state) (sym locked.program)
+    (subst (λ (given : List Given). LeadsTo P given session.state) (sym locked.effective) locked.leads_to)
 
 module _ (P : Program) (seats : ℕ) (session : SessionState) (items : List entry.Entry) (pairs : List Glance)
     (locked : IsLocked P seats session (map entry_of items) pairs) (seat : ℕ) (call : Call) (said : Said) (few : length items < CALLS)
@@ -86,7 +86,7 @@ module _ (P : Program) (seats : ℕ) (session : SessionState) (items : List entr
 
     module _ (after : SessionState) (same : after.program ≡ session.program)
         (counts : after.effective ≡ counting session.effective seat call said)
-        (stands : StandsAt after.program after.effective after.state) (halt : ℕ)
+        (leads_to : LeadsTo after.program after.effective after.state) (halt : ℕ)
         (halts : IsHaltPlace after.program after.state halt) (calls : ℕ) (long : calls ≡ length others) where
       abbrev pair : Glance
       pair = record { calls = calls; halt = halt }
@@ -99,26 +99,26 @@ module _ (P : Program) (seats : ℕ) (session : SessionState) (items : List entr
           counts ∙ ap (λ (given : List Given). counting given seat call said) locked.effective
           ∙ sym (effective_more J one) ∙ sym (ap effective longer)
 
-      stands_now : StandsAt P (effective (map entry_of others)) after.state
-      stands_now =
-          subst (λ (Q : Program). StandsAt Q (effective (map entry_of others)) after.state) program
-          (subst (λ (given : List Given). StandsAt after.program given after.state) now stands)
+      leads_to_now : LeadsTo P (effective (map entry_of others)) after.state
+      leads_to_now =
+          subst (λ (Q : Program). LeadsTo Q (effective (map entry_of others)) after.state) program
+          (subst (λ (given : List Given). LeadsTo after.program given after.state) now leads_to)
 
       shows : Shows P (map entry_of others) pair
       shows = record {
         calls = long ∙ sym (length-map others entry_of);
         state = after.state;
-        stands = stands_now;
+        leads_to = leads_to_now;
         halt = subst (λ (Q : Program). IsHaltPlace Q after.state halt) program halts;
       }
 
-      module _ (told : List Glance) (published : told ≡ pairs ++ pair ∷ []) where
-        locked_more : IsAmong seats seat → IsLocked P seats after (map entry_of others) told
+      module _ (reported : List Glance) (published : reported ≡ pairs ++ pair ∷ []) where
+        locked_more : IsAmong seats seat → IsLocked P seats after (map entry_of others) reported
         locked_more among = record {
           program = program;
           legal = subst (IsLegal P) (sym longer) (legal_more P J one locked.legal (let l = size in omega (arith, few, l)) due);
           effective = now;
-          stands = stands_now;
+          leads_to = leads_to_now;
           among = subst (AllByRecursion (λ (e : Entry). IsAmong seats e.seat)) (sym longer)
               (all_more (λ (e : Entry). IsAmong seats e.seat) J one locked.among among);
           shown = subst (ArePairs P [] (map entry_of others)) (sym published)
@@ -130,8 +130,8 @@ module _ (P : Program) (seats : ℕ) (session : SessionState) (items : List entr
         pub entered : IsAmong seats seat → (old : Standing) (was : SeatState) (mine : own.RecordedCall) (owns more : List own.RecordedCall)
             (seen sees : List Glance) → record { journal = J; pairs = pairs } ≡ old
             → record { number = seat; own = map own_of owns; seen = seen } ≡ was → small_call_of mine.call ≡ call
-            → small_said_of mine.said ≡ said → more ≡ owns ++ mine ∷ [] → sees ≡ told → Begins seen sees
-            → IsEntered P seats call said old was after (map entry_of others) told (record { number = seat; own = map own_of more; seen = sees })
+            → small_said_of mine.said ≡ said → more ≡ owns ++ mine ∷ [] → sees ≡ reported → Begins seen sees
+            → IsEntered P seats call said old was after (map entry_of others) reported (record { number = seat; own = map own_of more; seen = sees })
         entered among old was mine owns more seen sees of was_seat own_call own_said kept_too same_seen begins =
             let size : length (map entry_of others) ≡ suc (length old.journal) =
             let more = ap (λ (K : Journal). length K) longer in

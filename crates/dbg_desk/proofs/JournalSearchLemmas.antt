@@ -98,16 +98,16 @@ pub among_few : (J : Journal) (n : ℕ) (seats : List SeatState) (named : ℕ) �
 among_few J n seats named has = record {
   place = has.place;
   seat = has.seat;
-  here = front n seats has.place has.seat has.here;
+  here = prefix n seats has.place has.seat has.here;
   number = has.number;
   other = has.other;
 }
   where
-    front : (n : ℕ) (xs : List SeatState) (k : ℕ) (x : SeatState) → slice_get (take n xs) k ≡ Some x → slice_get xs k ≡ Some x
-    front (suc n) [] k x at = at
-    front zero ys k x at = absurd (omega (arith, slice_get_within {A = SeatState} [] k x at))
-    front (suc n) (y ∷ ys) zero x at = at
-    front (suc n) (y ∷ ys) (suc k) x at = front n ys k x at
+    prefix : (n : ℕ) (xs : List SeatState) (k : ℕ) (x : SeatState) → slice_get (take n xs) k ≡ Some x → slice_get xs k ≡ Some x
+    prefix (suc n) [] k x at = at
+    prefix zero ys k x at = absurd (omega (arith, slice_get_within {A = SeatState} [] k x at))
+    prefix (suc n) (y ∷ ys) zero x at = at
+    prefix (suc n) (y ∷ ys) (suc k) x at = prefix n ys k x at
 
 pub among_others : (J : Journal) (n : ℕ) (seats : List SeatState) (named : ℕ) → HasOther J (drop n seats) named → HasOther J seats named
 among_others J n seats named has = record {

@@ -8,43 +8,43 @@ use Rattle.dbg_base.specs.declared.refusal.Refusal.TheVariants as refusals
 use Rattle.dbg_base.specs.Trees.{Program}
 use Rattle.dbg_base.specs.Calls.{Call}
 use Rattle.dbg_base.specs.Journals.{Journal, Makes, effective}
-use Rattle.dbg_laws.specs.Told.{IsTold}
-use Rattle.dbg_laws.proofs.DueAnswerLemmas.{due_told}
+use Rattle.dbg_laws.specs.Reported.{IsReported}
+use Rattle.dbg_laws.proofs.DueAnswerLemmas.{due_reported}
 use Rattle.dbg_desk.specs.Desks.{Standing, SeatState, IsNoted, Notes, IsRecorded, Records, is_left_out}
 
 -- the answer that is due is entered
 
-refusal_told : (refusal : Refusal) → IsTold (Refused refusal) → is_left_out (Refused refusal) ≡ false
-refusal_told refusals.UnknownProcess told = refl
-refusal_told refusals.UnknownChoice told = refl
-refusal_told refusals.GuardFalse told = refl
-refusal_told refusals.Fault told = refl
-refusal_told refusals.ChannelEmpty told = refl
-refusal_told refusals.NothingToUndo told = refl
-refusal_told (refusals.Consequence q) told = refl
-refusal_told refusals.NothingToRedo told = refl
-refusal_told (refusals.Halted name) told = refl
-refusal_told refusals.BadPlace told = refl
-refusal_told refusals.BreakTaken told = refl
-refusal_told refusals.UnknownBreak told = refl
-refusal_told refusals.NoCut told = refl
-refusal_told refusals.NotArmed told = refl
-refusal_told refusals.AlreadyArmed told = refl
-refusal_told refusals.NothingBack told = refl
-refusal_told (refusals.OtherSeat seat) told = refl
-refusal_told refusals.ProcessFull told = refl
-refusal_told refusals.BreaksFull told = refl
-refusal_told refusals.JournalFull told = absurd told
-refusal_told refusals.Memory told = absurd told
-refusal_told refusals.BadLine told = refl
-refusal_told refusals.BadPredicate told = refl
-refusal_told refusals.NoneEnabled told = refl
-refusal_told (refusals.InBatch at number) told = refl
+refusal_reported : (refusal : Refusal) → IsReported (Refused refusal) → is_left_out (Refused refusal) ≡ false
+refusal_reported refusals.UnknownProcess reported = refl
+refusal_reported refusals.UnknownChoice reported = refl
+refusal_reported refusals.GuardFalse reported = refl
+refusal_reported refusals.Fault reported = refl
+refusal_reported refusals.ChannelEmpty reported = refl
+refusal_reported refusals.NothingToUndo reported = refl
+refusal_reported (refusals.Consequence q) reported = refl
+refusal_reported refusals.NothingToRedo reported = refl
+refusal_reported (refusals.Halted name) reported = refl
+refusal_reported refusals.BadPlace reported = refl
+refusal_reported refusals.BreakTaken reported = refl
+refusal_reported refusals.UnknownBreak reported = refl
+refusal_reported refusals.NoCut reported = refl
+refusal_reported refusals.NotArmed reported = refl
+refusal_reported refusals.AlreadyArmed reported = refl
+refusal_reported refusals.NothingBack reported = refl
+refusal_reported (refusals.OtherSeat seat) reported = refl
+refusal_reported refusals.ProcessFull reported = refl
+refusal_reported refusals.BreaksFull reported = refl
+refusal_reported refusals.JournalFull reported = absurd reported
+refusal_reported refusals.Memory reported = absurd reported
+refusal_reported refusals.BadLine reported = refl
+refusal_reported refusals.BadPredicate reported = refl
+refusal_reported refusals.NoneEnabled reported = refl
+refusal_reported (refusals.InBatch at number) reported = refl
 
-told_entered : (said : Said) → IsTold said → is_left_out said ≡ false
-told_entered (Accepted reply) told = refl
-told_entered (Answered answer) told = refl
-told_entered (Refused refusal) told = refusal_told refusal told
+reported_entered : (said : Said) → IsReported said → is_left_out said ≡ false
+reported_entered (Accepted reply) reported = refl
+reported_entered (Answered answer) reported = refl
+reported_entered (Refused refusal) reported = refusal_reported refusal reported
 
 module _ (P : Program) (old new : Standing) (seat after : SeatState) (call : Call) (said : Said) where
   left_out : is_left_out said ≡ true → after ≡ seat → Records seat call said after
@@ -65,11 +65,11 @@ module _ (P : Program) (old new : Standing) (seat after : SeatState) (call : Cal
   pub recorded : Makes P old.journal seat.number call said new.journal → Notes P old seat call said new after
       → Records seat call said after
   recorded (inl (few, inl enters)) (inl (longer, n)) =
-      entered (told_entered said (due_told P (effective old.journal) seat.number call said enters.due)) (noted n)
+      entered (reported_entered said (due_reported P (effective old.journal) seat.number call said enters.due)) (noted n)
   recorded (inl (few, inl enters)) (inr (stays, seat_stays)) =
       let size = ap (λ (J : Journal). length J) enters.entered in
       let one = length_push old.journal (record { seat = seat.number; call = call; said = said }) in
       let same = ap (λ (s : Standing). length s.journal) stays in
       absurd (omega (arith, size, one, same))
-  recorded (inl (few, inr misses)) notes = kept misses.left (ap is_left_out misses.told) notes
-  recorded (inr overflows) notes = kept overflows.left (ap is_left_out overflows.told) notes
+  recorded (inl (few, inr misses)) notes = kept misses.left (ap is_left_out misses.reported) notes
+  recorded (inr overflows) notes = kept overflows.left (ap is_left_out overflows.reported) notes

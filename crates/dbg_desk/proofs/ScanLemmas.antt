@@ -5,8 +5,8 @@ use Rattle.dbg_base.specs.declared.refusal.Refusal.{Refusal}
 use Rattle.dbg_base.specs.Trees.{Program}
 use Rattle.dbg_base.specs.Calls.{Order}
 use Rattle.dbg_base.specs.ModelStates.{ModelState}
-use Rattle.dbg_base.specs.Journals.{Given, Journal, StandsAt, effective}
-use Rattle.dbg_laws.proofs.EffectiveOrderLemmas.{stands_once}
+use Rattle.dbg_base.specs.Journals.{Given, Journal, LeadsTo, effective}
+use Rattle.dbg_laws.proofs.EffectiveOrderLemmas.{leads_to_once}
 use Rattle.least_cut.specs.Watches.{TruthLine}
 use Rattle.dbg_command.specs.Boxes.{IsScanFor, ScansFor}
 use Rattle.dbg_board.specs.declared.glance.Glance.{Glance}
@@ -14,23 +14,23 @@ use Rattle.dbg_command.proofs.Scans.{scan_for}
 use Rattle.dbg_session.specs.Sessions.{SessionState}
 use Rattle.dbg_desk.specs.Desks.{Standing, IsLocked}
 
-anywhere : (P : Program) (given : List Given) (order : Order) (M : ModelState) (found : Option (List TruthLine)) → StandsAt P given M
+anywhere : (P : Program) (given : List Given) (order : Order) (M : ModelState) (found : Option (List TruthLine)) → LeadsTo P given M
     → IfSome found (IsScanFor order P M)
-    → IfSome found (λ scan. (N : ModelState) → StandsAt P given N → IsScanFor order P N scan)
-anywhere P given order M None stands is = tt
-anywhere P given order M (Some scan) stands is =
-    λ N other. subst (λ (S : ModelState). IsScanFor order P S scan) (sym (stands_once P given M N stands other)) is
+    → IfSome found (λ scan. (N : ModelState) → LeadsTo P given N → IsScanFor order P N scan)
+anywhere P given order M None leads_to is = tt
+anywhere P given order M (Some scan) leads_to is =
+    λ N other. subst (λ (S : ModelState). IsScanFor order P S scan) (sym (leads_to_once P given M N leads_to other)) is
 
 pub scans_anywhere : (P : Program) (seats : ℕ) (session : SessionState) (shown : Standing) (pairs : List Glance) (J : Journal)
     (order by_plan : Order) (found : Result (Option (List TruthLine)) Refusal) → IsLocked P seats session J pairs
     → record { journal = J; pairs = pairs } ≡ shown → by_plan ≡ order
     → IfOk found (λ found. ScansFor by_plan session.program session.state found)
-    → IfOk found (λ found. IfSome found (λ scan. (N : ModelState) → StandsAt P (effective shown.journal) N → IsScanFor order P N scan))
+    → IfOk found (λ found. IfSome found (λ scan. (N : ModelState) → LeadsTo P (effective shown.journal) N → IsScanFor order P N scan))
 scans_anywhere P seats session shown pairs J order by_plan (Err refusal) locked is plan scans = tt
 scans_anywhere P seats session shown pairs J order by_plan (Ok found) locked is plan scans =
     let by_order = subst (λ (o : Order). ScansFor o session.program session.state found) plan scans in
     let here : ScansFor order P session.state found =
     subst (λ (Q : Program). ScansFor order Q session.state found) locked.program by_order in
-    let stands : StandsAt P (effective shown.journal) session.state =
-    subst (λ (s : Standing). StandsAt P (effective s.journal) session.state) is locked.stands in
-    anywhere P (effective shown.journal) order session.state found stands (scan_for order P session.state found here)
+    let leads_to : LeadsTo P (effective shown.journal) session.state =
+    subst (λ (s : Standing). LeadsTo P (effective s.journal) session.state) is locked.leads_to in
+    anywhere P (effective shown.journal) order session.state found leads_to (scan_for order P session.state found here)

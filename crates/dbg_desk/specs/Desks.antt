@@ -9,7 +9,7 @@ use Rattle.dbg_base.specs.Trees.{Program}
 use Rattle.dbg_base.specs.Calls.{Call, call_of}
 use Rattle.dbg_base.specs.ModelStates.{ModelState, IsHaltPlace}
 use Rattle.dbg_base.specs.Journals as model
-use Rattle.dbg_base.specs.Journals.{Journal, StandsAt, IsLegal, effective}
+use Rattle.dbg_base.specs.Journals.{Journal, LeadsTo, IsLegal, effective}
 use Rattle.dbg_calls.specs.Small.{small_call_of, small_said_of}
 use Rattle.dbg_board.specs.declared.glance.Glance.{Glance}
 use Rattle.dbg_board.specs.Boards.{BoardId, Listing}
@@ -53,7 +53,7 @@ IsAmong seats number = (0 < number) × (number ≤ seats)
 pub record Shows (P : Program) (J : Journal) (pair : Glance) : Type 0 where
   pub calls : pair.calls ≡ length J
   pub state : ModelState
-  pub stands : StandsAt P (effective J) state
+  pub leads_to : LeadsTo P (effective J) state
   pub halt : IsHaltPlace P state pair.halt
 
 -- After the journal J these calls were made, and for each of them one of these pairs was published.
@@ -69,7 +69,7 @@ pub record IsLocked (P : Program) (seats : ℕ) (session : SessionState) (J : Jo
   pub program : session.program ≡ P
   pub legal : IsLegal P J
   pub effective : session.effective ≡ effective J
-  pub stands : StandsAt P (model.effective J) session.state
+  pub leads_to : LeadsTo P (model.effective J) session.state
   pub among : AllByRecursion (λ entry. IsAmong seats entry.seat) J
   pub shown : ArePairs P [] J pairs
 

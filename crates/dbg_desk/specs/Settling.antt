@@ -35,10 +35,10 @@ pub record IsRunJournal (P : Program) (seats : ℕ) (J : Journal) : Type 0 where
   pub among : AllByRecursion (λ entry. IsAmong seats entry.seat) J
 
 -- There is such a journal, with so many calls, and each of these seats has recorded exactly its calls in it, in order.
-pub record Settles (P : Program) (many : ℕ) (seats : List SeatState) (told : ℕ) : Type 0 where
+pub record Settles (P : Program) (many : ℕ) (seats : List SeatState) (reported : ℕ) : Type 0 where
   pub journal : Journal
   pub of_run : IsRunJournal P many journal
-  pub calls : told ≡ length journal
+  pub calls : reported ≡ length journal
   pub kept : AllByRecursion (IsKeptIn journal) seats
 
 -- There is such a journal, and the seat of this number has recorded other calls than its calls in it.

@@ -2,7 +2,7 @@
 
 ghost use Rattle.std.specs.Prelude.{◌≡◌, ◌≢◌, ◌↔◌, IfOk, IfErr, OnOk, Err, IsTrue};
 ghost use Rattle.dbg_base.specs.declared.refusal.Refusal.TheVariants.{Memory};
-ghost use Rattle.dbg_command.specs.Tables.{told_of};
+ghost use Rattle.dbg_command.specs.Tables.{reported_of};
 
 use dbg_base::{Answer, Refusal, Said};
 
@@ -15,7 +15,7 @@ pub(crate) fn ran_out<T>(outcome: &Result<T, Refusal>) -> bool
 
 /// A copy of the answer to a query. Error: `Memory`, if an allocation fails, or if the query was refused with it.
 pub(crate) fn said_to_question(outcome: &Result<Answer, Refusal>) -> Result<Said, Refusal>
-    ensures said { IfOk result (λ made. made ≡ told_of outcome.now) }
+    ensures said { IfOk result (λ made. made ≡ reported_of outcome.now) }
     ensures there { OnOk result (outcome.now ≢ Err Memory) }
     ensures refuses { IfErr result (λ refusal. refusal ≡ Memory) }
 {

@@ -6,7 +6,7 @@ ghost use Rattle.dbg_base.specs.declared.limits.TheConstants.{SEATS};
 ghost use Rattle.dbg_base.specs.Calls as model;
 ghost use Rattle.dbg_base.specs.Calls.{query_of};
 ghost use Rattle.proc_lang.specs.Programs.{program_of};
-ghost use Rattle.dbg_command.specs.Tables.{said_of, told_of};
+ghost use Rattle.dbg_command.specs.Tables.{said_of, reported_of};
 ghost use Rattle.dbg_board.specs.Boards.{listing};
 ghost use Rattle.dbg_board.specs.Pairs.{Begins, last_of};
 ghost use Rattle.dbg_desk.specs.Desks.{Records, new_seats};
@@ -94,7 +94,7 @@ impl<L: Run, C: Command> Desk<L, C> {
         seat: &mut Seat<L>,
         query: Query,
     ) -> Result<Answer, Refusal>
-        ensures records { Records seat.old (model.Ask (query_of query)) (told_of result) seat.new }
+        ensures records { Records seat.old (model.Ask (query_of query)) (reported_of result) seat.new }
     {
         self.shared.lock(rt).enter_ask(alloc, seat, query)
     }

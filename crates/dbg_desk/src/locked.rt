@@ -6,10 +6,10 @@ ghost use Rattle.dbg_base.specs.declared.limits.TheConstants.{SEATS};
 ghost use Rattle.dbg_base.specs.Calls as model;
 ghost use Rattle.dbg_base.specs.Calls.{query_of};
 ghost use Rattle.dbg_base.specs.ModelStates.{ModelState};
-ghost use Rattle.dbg_base.specs.Journals.{Makes, StandsAt, IsLegal, effective};
+ghost use Rattle.dbg_base.specs.Journals.{Makes, LeadsTo, IsLegal, effective};
 ghost use Rattle.dbg_base.specs.Fits.{FitsCall};
 ghost use Rattle.proc_lang.specs.Programs.{program_of};
-ghost use Rattle.dbg_command.specs.Tables.{said_of, told_of, state_of};
+ghost use Rattle.dbg_command.specs.Tables.{said_of, reported_of, state_of};
 ghost use Rattle.dbg_command.specs.Boxes.{IsScanFor};
 ghost use Rattle.dbg_board.specs.Boards.{listing};
 ghost use Rattle.std.specs.List.{AllByRecursion};
@@ -136,7 +136,7 @@ impl<L: Run, C: Command> Locked<L, C> {
     /// The session, in the state to which the entered calls lead. It does not allocate.
     pub fn view(&self) -> SessionView<'_>
         ensures program { program_of result.program.now ≡ L.program }
-        ensures stands { StandsAt L.program (effective self.now.journal)
+        ensures leads_to { LeadsTo L.program (effective self.now.journal)
             (state_of (record { world = result.world.now; book = result.book.now })) }
     {
         self.session.table().view(self.session.program())
@@ -170,7 +170,7 @@ impl<L: Run, C: Command> Locked<L, C> {
         scan: Option<Scan>,
     ) -> Result<Reply, Refusal>
         requires fresh { C.IsFresh command }
-        requires scan { IfSome scan (λ scan. (M : ModelState) → StandsAt L.program (effective self.old.journal) M
+        requires scan { IfSome scan (λ scan. (M : ModelState) → LeadsTo L.program (effective self.old.journal) M
             → IsScanFor (C.order command) L.program M scan) }
         ensures makes { Makes L.program self.old.journal seat.old.number (model.Give (C.order command)) (said_of result)
             self.new.journal }
@@ -210,7 +210,7 @@ impl<L: Run, C: Command> Locked<L, C> {
         command: &C,
         gate: &G,
     ) -> Result<Option<Scan>, Refusal>
-        ensures scan { IfOk result (λ found. IfSome found (λ scan. (M : ModelState) → StandsAt L.program (effective self.now.journal) M
+        ensures scan { IfOk result (λ found. IfSome found (λ scan. (M : ModelState) → LeadsTo L.program (effective self.now.journal) M
             → IsScanFor (C.order command.now) L.program M scan)) }
         ensures refuses { IfErr result (λ refusal. refusal ≡ Memory) }
     {
@@ -290,10 +290,10 @@ impl<L: Run, C: Command> Locked<L, C> {
         seat: &mut Seat<L>,
         query: Query,
     ) -> Result<Answer, Refusal>
-        ensures makes { Makes L.program self.old.journal seat.old.number (model.Ask (query_of query)) (told_of result)
+        ensures makes { Makes L.program self.old.journal seat.old.number (model.Ask (query_of query)) (reported_of result)
             self.new.journal }
-        ensures notes { Notes L.program self.old seat.old (model.Ask (query_of query)) (told_of result) self.new seat.new }
-        ensures fits { FitsCall L.program (model.Ask (query_of query)) (told_of result) }
+        ensures notes { Notes L.program self.old seat.old (model.Ask (query_of query)) (reported_of result) self.new seat.new }
+        ensures fits { FitsCall L.program (model.Ask (query_of query)) (reported_of result) }
     {
         let Locked { session, log, .. } = self;
         let Seat {

@@ -32,7 +32,7 @@ use Rattle.dbg_base.specs.Acts.{Refuses, Accepts, Plays, UnlessHalted, TakesBack
 use Rattle.dbg_base.specs.Acts.{GoesTo, HasNone, Lists, Sets, conjuncts_refusal, first_refusal, break_refusal, Acts, Batches, Follows}
 use Rattle.dbg_base.specs.Views.{about, AboutFound, TellsClock, TellsUndo, TellsWhy, TellsCut, TellsFrontier, mark_of, Answers}
 use Rattle.dbg_base.specs.CommandLines.{give}
-use Rattle.dbg_base.specs.Journals.{Given, AnswersBack, StandsAt}
+use Rattle.dbg_base.specs.Journals.{Given, AnswersBack, LeadsTo}
 use Rattle.dbg_base.specs.Reversal.{without_back}
 use Rattle.dbg_base.specs.declared.limits.TheConstants.{EVENTS, BREAKPOINTS}
 use Rattle.dbg_base.specs.declared.expr.Sort.TheVariants as sort
@@ -118,10 +118,10 @@ module _ (P : Program) (M : ModelState) (well_formed : is_well_formed P ≡ true
     Fit = FitsCall P (give plan) said
 
     refused : (refusal : Refusal) → FitsRefusal P refusal → Refuses refusal M said M' → Fit
-    refused refusal fits told = subst (FitsCall P (give plan)) (sym told.0) fits
+    refused refusal fits reported = subst (FitsCall P (give plan)) (sym reported.0) fits
 
     accepted : (done : Done) → FitsDone P done → Accepts P done said M' → Fit
-    accepted done fits told = subst (FitsCall P (give plan)) (sym told.told) fits
+    accepted done fits reported = subst (FitsCall P (give plan)) (sym reported.reported) fits
 
     either : {A B : Type 0} (t : Bool) → (t ≡ true → A → Fit) → (t ≡ false → B → Fit) → MatchBool t A B → Fit
     either true first second = first refl
@@ -137,17 +137,17 @@ module _ (P : Program) (M : ModelState) (well_formed : is_well_formed P ≡ true
     with_break (Some b) Does does = does b
 
     lists : (breakpoints : List Breakpoint) → Lists P breakpoints M said M' → Fit
-    lists breakpoints told = accepted Plain tt told.0
+    lists breakpoints reported = accepted Plain tt reported.0
 
     -- a choice, or a refusal that fits
     plays : (p : ℕ) (choice : Result ℕ Refusal) (after : ℕ → SystemState) → p < length P → Chooses P choice
         → Plays P p choice after M said M' → Fit
-    plays p (Ok k) after here chooses told = accepted (Played (record { 0 = p }) (record { 0 = k })) here told.0
-    plays p (Err refusal) after here chooses told = refused refusal chooses told
+    plays p (Ok k) after here chooses reported = accepted (Played (record { 0 = p }) (record { 0 = k })) here reported.0
+    plays p (Err refusal) after here chooses reported = refused refusal chooses reported
 
     unless_halted : (Does : Type 0) → (Does → Fit) → UnlessHalted P Does M said M' → Fit
     unless_halted Does does (inl goes) = does goes.1
-    unless_halted Does does (inr (name, is, told)) = refused (refusals.Halted name) tt told
+    unless_halted Does does (inr (name, is, reported)) = refused (refusals.Halted name) tt reported
 
     goes_back : (cut : List ℕ) → length cut ≡ length (history_of M.system) → Accepts P (Places cut) said M' → Fit
     goes_back cut size = accepted (Places cut) (for_each cut size)
@@ -178,17 +178,17 @@ module _ (P : Program) (M : ModelState) (well_formed : is_well_formed P ≡ true
       with_process (Undo p) said M' p _
       (λ here. ⊎_elim
       (λ (takes : TakesBack P p M said M').
-      accepted (Undo p) said M' (Undone (record { 0 = p }) (record { 0 = takes.choice })) here takes.told)
-      (λ (keeps : KeepsEvent P p M said M'). refused (Undo p) said M' keeps.refusal (why_fits p keeps.refusal keeps.why) keeps.told))
+      accepted (Undo p) said M' (Undone (record { 0 = p }) (record { 0 = takes.choice })) here takes.reported)
+      (λ (keeps : KeepsEvent P p M said M'). refused (Undo p) said M' keeps.refusal (why_fits p keeps.refusal keeps.why) keeps.reported))
   acts_fits (Rollback p n) said M' =
       with_process (Rollback p n) said M' p _
       (λ here. either (Rollback p n) said M' (nat_lt (place_at M.system p) n)
       (λ far. refused (Rollback p n) said M' refusals.BadPlace tt)
-      (λ near back. goes_back (Rollback p n) said M' back.cut back.is.consistent.sizes back.told))
+      (λ near back. goes_back (Rollback p n) said M' back.cut back.is.consistent.sizes back.reported))
   acts_fits (Goto name) said M' =
       with_break (Goto name) said M' (named name M.breakpoints) _
       (λ b. ⊎_elim
-      (λ (goes : GoesTo P b M said M'). goes_back (Goto name) said M' goes.cut goes.is.satisfies.consistent.sizes goes.told)
+      (λ (goes : GoesTo P b M said M'). goes_back (Goto name) said M' goes.cut goes.is.satisfies.consistent.sizes goes.reported)
       (no_cut (Goto name) said M' b))
   acts_fits (Break name conjuncts) said M' =
       sets (Break name conjuncts) said M' (break_refusal P M name conjuncts) name conjuncts (break_earns P M name conjuncts)
@@ -208,8 +208,8 @@ module _ (P : Program) (M : ModelState) (well_formed : is_well_formed P ≡ true
 
   -- queries about an existing process, and about an existing breakpoint
 
-  told : (query : Query) (answer : Answer) (said : Said) → said ≡ Answered answer → FitsAnswer P query answer → FitsCall P (Ask query) said
-  told query answer said e fits = subst (FitsCall P (Ask query)) (sym e) fits
+  reported : (query : Query) (answer : Answer) (said : Said) → said ≡ Answered answer → FitsAnswer P query answer → FitsCall P (Ask query) said
+  reported query answer said e fits = subst (FitsCall P (Ask query)) (sym e) fits
 
   unknown : (query : Query) (refusal : Refusal) (said : Said) → said ≡ Refused refusal → FitsRefusal P refusal
       → FitsCall P (Ask query) said
@@ -221,7 +221,7 @@ module _ (P : Program) (M : ModelState) (well_formed : is_well_formed P ≡ true
     where
       by : (t : Bool) → nat_lt p (length P) ≡ t → said ≡ cond t (Answered answer) (Refused refusals.UnknownProcess)
           → FitsCall P (Ask query) said
-      by true here e = told query answer said e (fits (ltb-true p (length P) here))
+      by true here e = reported query answer said e (fits (ltb-true p (length P) here))
       by false here e = unknown query refusals.UnknownProcess said e tt
 
   of_process : (query : Query) (p : ℕ) (Tells : Type 0) (said : Said) → (p < length P → Tells → FitsCall P (Ask query) said)
@@ -253,40 +253,40 @@ module _ (P : Program) (M : ModelState) (well_formed : is_well_formed P ≡ true
           → said ≡ cond (s && t) (Answered (Messages (channel_of (configuration_of P M.system) i j))) (Refused refusals.UnknownProcess)
           → FitsCall P (Ask (Chan i j)) said
       by true true first second e =
-          told (Chan i j) (Messages (channel_of (configuration_of P M.system) i j)) said e
+          reported (Chan i j) (Messages (channel_of (configuration_of P M.system) i j)) said e
           (ltb-true i (length P) first, ltb-true j (length P) second)
       by true false first second e = unknown (Chan i j) refusals.UnknownProcess said e tt
       by false t first second e = unknown (Chan i j) refusals.UnknownProcess said e tt
   answers_fit (Clock p) said e =
       of_process (Clock p) p (TellsClock P M.system p said) said
-      (λ here tells. told (Clock p) (Counts tells.cut) said tells.told (here, for_each tells.cut tells.is.consistent.sizes)) e
+      (λ here tells. reported (Clock p) (Counts tells.cut) said tells.reported (here, for_each tells.cut tells.is.consistent.sizes)) e
   answers_fit (Place p) said e =
       about_fits (Place p) p (PlaceOf (place_at M.system p) (length (line_of M.system p))) said e (λ here. here)
   answers_fit (Can p) said e =
       of_process (Can p) p (TellsUndo P M.system p said) said
       (λ here. ⊎_elim
-      (λ (may : MayUndo P (history_of M.system) p × (said ≡ Answered (CanUndo (Ok tt)))). told (Can p) (CanUndo (Ok tt)) said may.1 here)
+      (λ (may : MayUndo P (history_of M.system) p × (said ≡ Answered (CanUndo (Ok tt)))). reported (Can p) (CanUndo (Ok tt)) said may.1 here)
       (λ (tells : TellsWhy P M.system p said).
-      told (Can p) (CanUndo (Err tells.refusal)) said tells.told (here, why_fits p tells.refusal tells.why))) e
+      reported (Can p) (CanUndo (Err tells.refusal)) said tells.reported (here, why_fits p tells.refusal tells.why))) e
   answers_fit (CutOf name) said e =
       of_break (CutOf name) (named name M.breakpoints) (λ b. TellsCut P M b said) said
       (λ b. ⊎_elim
       (λ (least : (cut : List ℕ) × IsLeast P (history_of M.system) b.conjuncts cut × (said ≡ Answered (CutIs (Some cut)))).
-      told (CutOf name) (CutIs (Some least.0)) said least.2 (for_each least.0 least.1.satisfies.consistent.sizes))
+      reported (CutOf name) (CutIs (Some least.0)) said least.2 (for_each least.0 least.1.satisfies.consistent.sizes))
       (λ (none : NoCut P (history_of M.system) b.conjuncts × (said ≡ Answered (CutIs None))).
-      told (CutOf name) (CutIs None) said none.1 tt)) e
+      reported (CutOf name) (CutIs None) said none.1 tt)) e
   answers_fit (Why name) said e =
       of_break (Why name) (named name M.breakpoints) (λ b. TellsFrontier P M b said) said
-      (λ b tells. told (Why name) (Frontier (heads_of (history_of M.system) tells.tuple)) said tells.told
+      (λ b tells. reported (Why name) (Frontier (heads_of (history_of M.system) tells.tuple)) said tells.reported
       (for_each _ (length-heads_of (history_of M.system) tells.tuple tells.is.settled.sizes))) e
-  answers_fit Breaks said e = told Breaks (Marks (map mark_of M.breakpoints)) said e tt
+  answers_fit Breaks said e = reported Breaks (Marks (map mark_of M.breakpoints)) said e tt
 
   -- the rest of the commands of a batch that was given at M, from the state that those before them left; the first has this position
   batch_fits : (all : List Plan) (between : ModelState) (at : ℕ) (plans : List Plan) (said : Said) (M' : ModelState)
       → Batches P M at plans between said M' → FitsCall P (Give (Batch all)) said
-  batch_fits all between at [] said M' told = subst (FitsCall P (Give (Batch all))) (sym told.0.told) tt
+  batch_fits all between at [] said M' reported = subst (FitsCall P (Give (Batch all))) (sym reported.0.reported) tt
   batch_fits all between at (plan ∷ plans) said M' (inl (reply, next, acts, others)) = batch_fits all next (at + 1) plans said M' others
-  batch_fits all between at (plan ∷ plans) said M' (inr (refusal, acts, told)) = subst (FitsCall P (Give (Batch all))) (sym told.0) tt
+  batch_fits all between at (plan ∷ plans) said M' (inr (refusal, acts, reported)) = subst (FitsCall P (Give (Batch all))) (sym reported.0) tt
 
   pub follows_fits : (order : Order) (said : Said) (M' : ModelState) → Follows P order M said M' → FitsCall P (Give order) said
   follows_fits (One plan) said M' acts = acts_fits plan said M' acts
@@ -300,12 +300,12 @@ memory_fits P Back = tt
 memory_fits P (Ask query) = tt
 
 back_by : (P : Program) (given : List Given) (last : Given) (said : Said) (t : Bool)
-    → MatchBool t ((M : ModelState) × StandsAt P (without_back given) M × Accepts P Plain said M)
+    → MatchBool t ((M : ModelState) × LeadsTo P (without_back given) M × Accepts P Plain said M)
     (said ≡ Refused (refusals.OtherSeat last.seat)) → FitsCall P Back said
-back_by P given last said true (M, stands, told) = subst (FitsCall P Back) (sym told.told) tt
-back_by P given last said false told = subst (FitsCall P Back) (sym told) tt
+back_by P given last said true (M, leads_to, reported) = subst (FitsCall P Back) (sym reported.reported) tt
+back_by P given last said false reported = subst (FitsCall P Back) (sym reported) tt
 
 pub back_fits : (P : Program) (given : List Given) (seat : ℕ) (last : Option Given) (said : Said) → AnswersBack P given seat last said
     → FitsCall P Back said
-back_fits P given seat None said told = subst (FitsCall P Back) (sym told) tt
-back_fits P given seat (Some last) said told = back_by P given last said (last.seat == seat) told
+back_fits P given seat None said reported = subst (FitsCall P Back) (sym reported) tt
+back_fits P given seat (Some last) said reported = back_by P given last said (last.seat == seat) reported

@@ -14,7 +14,7 @@ use Rattle.dbg_base.specs.Counts.{is_process, sends_to, receives_from}
 use Rattle.dbg_laws.proofs.Lists.{Grid, row, cell, change}
 use Rattle.dbg_laws.proofs.Moves.{Move, Keeps, Puts, Takes, channels_after, move_target, move_source, Fires, fires}
 use Rattle.dbg_laws.proofs.OrderSwapLemmas.{IsOrderOf, none_left, first_step, is_there}
-use Rattle.dbg_laws.proofs.PrefixLemmas.{front_within}
+use Rattle.dbg_laws.proofs.PrefixLemmas.{prefix_within}
 use Rattle.dbg_laws.proofs.ChannelSizeLemmas.{size_put, size_other, fire_not_put, fire_most, fire_takes, IsSquare, square_fire}
 
 -- the messages that the remaining choices of process i send to process j, and those that the remaining choices of j receive from i
@@ -86,13 +86,13 @@ gets_none P p k j i apart =
 -- the count of a line whose first choice is taken
 pub line_count : (H : History) (q k i : ℕ) (rest : List ℕ) (f : ℕ → ℕ → Bool) → get_or H q [] ≡ k ∷ rest
     → count_by (f i) (get_or H i []) ≡ cond (q == i) (cond (f q k) 1 0) 0 + count_by (f i) (get_or (set H q rest) i [])
-line_count H q k i rest f front =
+line_count H q k i rest f prefix =
     ⊎_elim
     (λ (same : q ≡ i).
-    let now : get_or (set H q rest) q [] ≡ rest = get_or-set_same H q rest [] (front_within H q k rest front) in
+    let now : get_or (set H q rest) q [] ≡ rest = get_or-set_same H q rest [] (prefix_within H q k rest prefix) in
     let is : (q == i) ≡ true = eq-eqb q i same in
     let here : count_by (f q) (get_or H q []) ≡ cond (f q k) 1 0 + count_by (f q) (get_or (set H q rest) q []) =
-    ap (λ (l : List ℕ). count_by (f q) l) front
+    ap (λ (l : List ℕ). count_by (f q) l) prefix
     ∙ sum_by-cons (λ (x : ℕ). cond (f q x) 1 0) k rest
     ∙ ap (λ (l : List ℕ). cond (f q k) 1 0 + count_by (f q) l) (sym now) in
     subst (λ (x : ℕ). count_by (f x) (get_or H x []) ≡ cond (f q k) 1 0 + count_by (f x) (get_or (set H q rest) x [])) same here
@@ -108,11 +108,11 @@ line_count H q k i rest f front =
 
 pub sends_step : (P : Program) (H : History) (q k i j : ℕ) (rest : List ℕ) → get_or H q [] ≡ k ∷ rest
     → sends_left P H i j ≡ sends_by P q k i j + sends_left P (set H q rest) i j
-sends_step P H q k i j rest front = line_count H q k i rest (λ x. sends_to P x j) front
+sends_step P H q k i j rest prefix = line_count H q k i rest (λ x. sends_to P x j) prefix
 
 pub gets_step : (P : Program) (H : History) (q k j i : ℕ) (rest : List ℕ) → get_or H q [] ≡ k ∷ rest
     → gets_left P H j i ≡ gets_by P q k j i + gets_left P (set H q rest) j i
-gets_step P H q k j i rest front = line_count H q k j rest (λ x. receives_from P x i) front
+gets_step P H q k j i rest prefix = line_count H q k j rest (λ x. receives_from P x i) prefix
 
 -- no command both sends and receives
 not_both : (move : Move) (i j : ℕ) → move_target move ≡ Some j → move_source move ≡ Some i → ⊥

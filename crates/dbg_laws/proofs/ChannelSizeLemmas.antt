@@ -34,10 +34,10 @@ put_cases g i j x =
 
 pub size_taken : (g : Grid) (i j : ℕ) (m : ℤ) (rest : List ℤ) → cell g i j ≡ m ∷ rest
     → suc (length (cell (change g i j (drop 1)) i j)) ≡ length (cell g i j)
-size_taken g i j m rest front =
+size_taken g i j m rest prefix =
     let now : cell (change g i j (drop 1)) i j ≡ drop 1 (cell g i j) =
-    cell-put_same g i j (drop 1 (cell g i j)) (row_within g i j m rest front) (cell_within g i j m rest front) in
-    ap (λ (l : List ℤ). suc (length l)) (now ∙ ap (drop 1) front) ∙ sym (ap (λ (l : List ℤ). length l) front)
+    cell-put_same g i j (drop 1 (cell g i j)) (row_within g i j m rest prefix) (cell_within g i j m rest prefix) in
+    ap (λ (l : List ℤ). suc (length l)) (now ∙ ap (drop 1) prefix) ∙ sym (ap (λ (l : List ℤ). length l) prefix)
 
 size_more : (l : List ℤ) (v : ℤ) → length (l ++ v ∷ []) ≡ suc (length l)
 size_more l v = length-append l (v ∷ []) ∙ omega arith

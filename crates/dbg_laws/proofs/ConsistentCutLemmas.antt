@@ -11,9 +11,9 @@ use Rattle.dbg_base.specs.Histories.{History, IsPossible, play}
 use Rattle.dbg_base.specs.Orders.{Event, order_from, target_in}
 use Rattle.dbg_base.specs.Counts.{sends_to, receives_from}
 use Rattle.dbg_base.specs.Cuts.{IsConsistent, history_at}
-use Rattle.dbg_laws.proofs.OrderSwapLemmas.{IsEmpty, IsOrderOf, none_left, first_step, legal_behind, is_there}
+use Rattle.dbg_laws.proofs.OrderSwapLemmas.{IsEmpty, IsOrderOf, none_left, first_step, legal_after, is_there}
 use Rattle.dbg_laws.proofs.PlayLemmas.{possible, listed}
-use Rattle.dbg_laws.proofs.PrefixLemmas.{front_within, IsSplit, split_behind}
+use Rattle.dbg_laws.proofs.PrefixLemmas.{prefix_within, IsSplit, split_after}
 use Rattle.dbg_laws.proofs.LastChoiceLemmas.{IsWaiting, are_others, to_end}
 use Rattle.dbg_laws.proofs.ChannelSizeLemmas.{IsSquare, square_fire, square_start}
 use Rattle.dbg_laws.proofs.ChannelBalanceLemmas.{sends_left, gets_left, sends_by, gets_by, sends_step, gets_step, step_balance, balanced, no_counts}
@@ -34,9 +34,9 @@ all_empty : (F : History) → ((q : ℕ) → get_or F q [] ≡ []) → IsEmpty F
 all_empty [] none = tt
 all_empty (choices ∷ F) none = (none 0, all_empty F (λ q. none (suc q)))
 
-no_front : (l m : List ℕ) → l ++ m ≡ [] → l ≡ []
-no_front [] m none = refl
-no_front (x ∷ l) m none = cc
+no_prefix : (l m : List ℕ) → l ++ m ≡ [] → l ≡ []
+no_prefix [] m none = refl
+no_prefix (x ∷ l) m none = cc
 
 -- the first event is in the cut
 cut_inside : (P : Program) (c m : Configuration) (H F R : History) (e : Event) (rest left : List ℕ) → IsSquare (length P) c.channels
@@ -44,27 +44,27 @@ cut_inside : (P : Program) (c m : Configuration) (H F R : History) (e : Event) (
     → rest ≡ left ++ get_or R e.process [] → IsSplit H F R → Fits P c F
     → (IsSplit (set H e.process rest) (set F e.process left) R → Fits P m (set F e.process left) → Ordered P m (set F e.process left))
     → Ordered P c F
-cut_inside P c m H F R e rest left square fires front line whole split fits later =
+cut_inside P c m H F R e rest left square fires prefix line whole split fits later =
     let parts : IsSplit (set H e.process rest) (set F e.process left) R =
     subst (λ (l : List ℕ). IsSplit (set H e.process l) (set F e.process left) R) (sym whole)
-    (split_behind H F R e.process e.choice left line (front_within H e.process e.choice rest front) split) in
+    (split_after H F R e.process e.choice left line (prefix_within H e.process e.choice rest prefix) split) in
     let rest_fits = λ (i j : ℕ) (apart : i ≢ j) (i_there : i < length P) (j_there : j < length P).
-    fits_behind P c m F e.process e.choice left i j (fits i j apart i_there j_there)
+    fits_after P c m F e.process e.choice left i j (fits i j apart i_there j_there)
     (step_balance P c m e.process e.choice i j square i_there j_there fires) line in
     let o = later parts rest_fits in
     record {
       events = e ∷ o.events;
       end = o.end;
-      legal = legal_behind P c m o.end e o.events fires o.legal;
+      legal = legal_after P c m o.end e o.events fires o.legal;
       takes = (left, line, o.takes);
     }
   where
-    fits_behind : (P : Program) (c m : Configuration) (F : History) (q k : ℕ) (left : List ℕ) (i j : ℕ)
+    fits_after : (P : Program) (c m : Configuration) (F : History) (q k : ℕ) (left : List ℕ) (i j : ℕ)
         → gets_left P F j i ≤ length (channel_of c i j) + sends_left P F i j
         → length (channel_of c i j) + sends_by P q k i j ≡ gets_by P q k j i + length (channel_of m i j)
         → get_or F q [] ≡ k ∷ left
         → gets_left P (set F q left) j i ≤ length (channel_of m i j) + sends_left P (set F q left) i j
-    fits_behind P c m F q k left i j fits step line =
+    fits_after P c m F q k left i j fits step line =
         let sends = sends_step P F q k i j left line in
         let gets = gets_step P F q k j i left line in
         omega (arith, fits, step, sends, gets)
@@ -75,11 +75,11 @@ cut_outside : (P : Program) (c m : Configuration) (H F R : History) (e : Event) 
     → IsSplit H F R → Fits P c F
     → (IsSplit (set H e.process rest) F (set R e.process rest) → Fits P m F → Ordered P m F)
     → Ordered P c F
-cut_outside P c m H F R e rest square fires front none split fits later =
+cut_outside P c m H F R e rest square fires prefix none split fits later =
     let p = e.process in
     let line : get_or R p [] ≡ e.choice ∷ rest =
-    ap (λ (l : List ℕ). l ++ get_or R p []) (sym none) ∙ sym (split.lines p) ∙ front in
-    let parts : IsSplit (set H p rest) F (set R p rest) = split_rest H F R p e.choice rest front line none split in
+    ap (λ (l : List ℕ). l ++ get_or R p []) (sym none) ∙ sym (split.lines p) ∙ prefix in
+    let parts : IsSplit (set H p rest) F (set R p rest) = split_rest H F R p e.choice rest prefix line none split in
     let rest_fits = λ (i j : ℕ) (apart : i ≢ j) (i_there : i < length P) (j_there : j < length P).
     fits_still P c m F p e.choice i j none (fits i j apart i_there j_there)
     (step_balance P c m p e.choice i j square i_there j_there fires) in
@@ -95,12 +95,12 @@ cut_outside P c m H F R e rest square fires front none split fits later =
   where
     split_rest : (H F R : History) (p k : ℕ) (rest : List ℕ) → get_or H p [] ≡ k ∷ rest → get_or R p [] ≡ k ∷ rest → get_or F p [] ≡ []
         → IsSplit H F R → IsSplit (set H p rest) F (set R p rest)
-    split_rest H F R p k rest front line none split = record {
+    split_rest H F R p k rest prefix line none split = record {
       size = length-set H p rest ∙ split.size ∙ sym (length-set R p rest);
       lines = λ q. ⊎_elim
           (λ (same : p ≡ q). subst (λ (x : ℕ). get_or (set H p rest) x [] ≡ get_or F x [] ++ get_or (set R p rest) x []) same
-          (get_or-set_same H p rest [] (front_within H p k rest front)
-          ∙ sym (get_or-set_same R p rest [] (front_within R p k rest line))
+          (get_or-set_same H p rest [] (prefix_within H p k rest prefix)
+          ∙ sym (get_or-set_same R p rest [] (prefix_within R p k rest line))
           ∙ ap (λ (l : List ℕ). l ++ get_or (set R p rest) p []) (sym none)))
           (λ (apart : p ≢ q).
           let back : q ≢ p = λ x. apart (sym x) in
@@ -139,14 +139,14 @@ cut_by : (P : Program) (c m : Configuration) (H F R : History) (e : Event) (rest
     → Fits P c F
     → ((G S : History) → IsSplit (set H e.process rest) G S → Fits P m G → Ordered P m G)
     → Ordered P c F
-cut_by P c m H F R e rest [] line square fires front split fits later =
-    cut_outside P c m H F R e rest square fires front line split fits (λ x y. later F (set R e.process rest) x y)
-cut_by P c m H F R e rest (k ∷ left) line square fires front split fits later =
+cut_by P c m H F R e rest [] line square fires prefix split fits later =
+    cut_outside P c m H F R e rest square fires prefix line split fits (λ x y. later F (set R e.process rest) x y)
+cut_by P c m H F R e rest (k ∷ left) line square fires prefix split fits later =
     let whole : e.choice ∷ rest ≡ k ∷ (left ++ get_or R e.process []) =
-    sym front ∙ split.lines e.process ∙ ap (λ (l : List ℕ). l ++ get_or R e.process []) line in
+    sym prefix ∙ split.lines e.process ∙ ap (λ (l : List ℕ). l ++ get_or R e.process []) line in
     let choice : k ≡ e.choice = cc in
-    let behind : rest ≡ left ++ get_or R e.process [] = cc in
-    cut_inside P c m H F R e rest left square fires front (line ∙ ap (λ (x : ℕ). x ∷ left) choice) behind split fits
+    let beyond : rest ≡ left ++ get_or R e.process [] = cc in
+    cut_inside P c m H F R e rest left square fires prefix (line ∙ ap (λ (x : ℕ). x ∷ left) choice) beyond split fits
     (λ x y. later (set F e.process left) R x y)
 
 cut_order : (P : Program) (c d : Configuration) (H F R : History) (E : List Event) → IsSquare (length P) c.channels
@@ -155,7 +155,7 @@ cut_order P c d H F R [] square legal empty split fits = record {
   events = [];
   end = c;
   legal = refl;
-  takes = all_empty F (λ q. no_front (get_or F q []) (get_or R q []) (sym (split.lines q) ∙ none_left H q empty));
+  takes = all_empty F (λ q. no_prefix (get_or F q []) (get_or R q []) (sym (split.lines q) ∙ none_left H q empty));
 }
 cut_order P c d H F R (e ∷ E) square legal takes split fits =
     let step = first_step (fire P c e.process e.choice) (λ x. order_from P x E) d legal in

@@ -29,19 +29,19 @@ use Rattle.dbg_base.specs.Acts.{Refuses, Accepts, Plays, UnlessHalted, TakesBack
 use Rattle.dbg_base.specs.Acts.{GoesTo, HasNone, Lists, Sets, conjuncts_refusal, first_refusal, break_refusal, Acts, Batches, Follows}
 use Rattle.dbg_base.specs.Views.{AboutFound, TellsClock, TellsUndo, TellsWhy, TellsCut, TellsFrontier, Answers}
 use Rattle.dbg_base.specs.Reversal.{without_back}
-use Rattle.dbg_base.specs.Journals.{Given, AnswersBack, StandsAt, IsDue, last_given}
-use Rattle.dbg_laws.specs.Told.{IsTold}
+use Rattle.dbg_base.specs.Journals.{Given, AnswersBack, LeadsTo, IsDue, last_given}
+use Rattle.dbg_laws.specs.Reported.{IsReported}
 use Rattle.dbg_laws.proofs.AnswerFitLemmas.{one_of}
 
 -- Why a process makes no choice, and why no breakpoint is set.
 
 abbrev Fires : {A : Type 0} → Result A Refusal → Type 0
 Fires (Ok made) = Unit {0}
-Fires (Err refusal) = IsTold (Refused refusal)
+Fires (Err refusal) = IsReported (Refused refusal)
 
 abbrev Sound : Option Refusal → Type 0
 Sound None = Unit {0}
-Sound (Some refusal) = IsTold (Refused refusal)
+Sound (Some refusal) = IsReported (Refused refusal)
 
 completes : (c : Configuration) (p : ℕ) (action : Action) (effect : Option Effect) → Fires (complete c p action effect)
 completes c p action None = tt
@@ -109,7 +109,7 @@ break_sound P M name [] = tt
 break_sound P M name (c ∷ conjuncts) =
     first_sound (conjuncts_refusal P [] (c ∷ conjuncts)) _ (conjuncts_sound P [] (c ∷ conjuncts)) (name_sound name M.breakpoints)
 
-cannot_undo : (P : Program) (M : SystemState) (p : ℕ) (refusal : Refusal) → CannotUndo P M p refusal → IsTold (Refused refusal)
+cannot_undo : (P : Program) (M : SystemState) (p : ℕ) (refusal : Refusal) → CannotUndo P M p refusal → IsReported (Refused refusal)
 cannot_undo P M p refusals.Memory why = why
 cannot_undo P M p refusals.JournalFull why = why
 cannot_undo P M p refusal why = tt
@@ -120,115 +120,115 @@ either : {A B C : Type 0} (t : Bool) → (A → C) → (B → C) → MatchBool t
 either true first second = first
 either false first second = second
 
-says : (said other : Said) → said ≡ other → IsTold other → IsTold said
-says said other e told = subst IsTold (sym e) told
+says : (said other : Said) → said ≡ other → IsReported other → IsReported said
+says said other e reported = subst IsReported (sym e) reported
 
 module _ (P : Program) (M : ModelState) (said : Said) (M' : ModelState) where
-  refused : (refusal : Refusal) → IsTold (Refused refusal) → Refuses refusal M said M' → IsTold said
-  refused refusal told e = says said (Refused refusal) e.0 told
+  refused : (refusal : Refusal) → IsReported (Refused refusal) → Refuses refusal M said M' → IsReported said
+  refused refusal reported e = says said (Refused refusal) e.0 reported
 
-  accepted : (done : Done) → Accepts P done said M' → IsTold said
-  accepted done a = says said _ a.told tt
+  accepted : (done : Done) → Accepts P done said M' → IsReported said
+  accepted done a = says said _ a.reported tt
 
-  with_process : (p : ℕ) (Does : Type 0) → (Does → IsTold said) → WithProcess P p Does M said M' → IsTold said
+  with_process : (p : ℕ) (Does : Type 0) → (Does → IsReported said) → WithProcess P p Does M said M' → IsReported said
   with_process p Does does = either (nat_lt p (length P)) does (refused refusals.UnknownProcess tt)
 
-  with_break : (found : Option Breakpoint) (Does : Breakpoint → Type 0) → ((b : Breakpoint) → Does b → IsTold said)
-      → WithFound found Does M said M' → IsTold said
+  with_break : (found : Option Breakpoint) (Does : Breakpoint → Type 0) → ((b : Breakpoint) → Does b → IsReported said)
+      → WithFound found Does M said M' → IsReported said
   with_break None Does does = refused refusals.UnknownBreak tt
   with_break (Some b) Does does = does b
 
-  lists : (breakpoints : List Breakpoint) → Lists P breakpoints M said M' → IsTold said
-  lists breakpoints told = accepted Plain told.0
+  lists : (breakpoints : List Breakpoint) → Lists P breakpoints M said M' → IsReported said
+  lists breakpoints reported = accepted Plain reported.0
 
-  plays : (p : ℕ) (choice : Result ℕ Refusal) (after : ℕ → SystemState) → Fires choice → Plays P p choice after M said M' → IsTold said
-  plays p (Ok k) after fires told = accepted (Played (record { 0 = p }) (record { 0 = k })) told.0
-  plays p (Err refusal) after fires told = refused refusal fires told
+  plays : (p : ℕ) (choice : Result ℕ Refusal) (after : ℕ → SystemState) → Fires choice → Plays P p choice after M said M' → IsReported said
+  plays p (Ok k) after fires reported = accepted (Played (record { 0 = p }) (record { 0 = k })) reported.0
+  plays p (Err refusal) after fires reported = refused refusal fires reported
 
-  unless_halted : (Does : Type 0) → (Does → IsTold said) → UnlessHalted P Does M said M' → IsTold said
+  unless_halted : (Does : Type 0) → (Does → IsReported said) → UnlessHalted P Does M said M' → IsReported said
   unless_halted Does does (inl goes) = does goes.1
-  unless_halted Does does (inr (name, is, told)) = refused (refusals.Halted name) tt told
+  unless_halted Does does (inr (name, is, reported)) = refused (refusals.Halted name) tt reported
 
-  no_cut : (b : Breakpoint) → HasNone P M b × Refuses refusals.NoCut M said M' → IsTold said
+  no_cut : (b : Breakpoint) → HasNone P M b × Refuses refusals.NoCut M said M' → IsReported said
   no_cut b none = refused refusals.NoCut tt none.1
 
   sets : (refusal : Option Refusal) (name : List ℕ) (conjuncts : List Conjunct) → Sound refusal → Sets refusal P name conjuncts M said M'
-      → IsTold said
+      → IsReported said
   sets (Some refusal) name conjuncts sound = refused refusal sound
   sets None name conjuncts sound = lists _
 
-  acts_told : (plan : Plan) → Acts P plan M said M' → IsTold said
-  acts_told (Step p k) =
+  acts_reported : (plan : Plan) → Acts P plan M said M' → IsReported said
+  acts_reported (Step p k) =
       with_process p _ (unless_halted _ (plays p (step_choice P M.system p k) _ (step_fires P M.system p k)))
-  acts_told (Next p) = with_process p _ (unless_halted _ (plays p (next_choice P M.system p) _ (next_fires P M.system p)))
-  acts_told (Redo p) =
+  acts_reported (Next p) = with_process p _ (unless_halted _ (plays p (next_choice P M.system p) _ (next_fires P M.system p)))
+  acts_reported (Redo p) =
       with_process p _ (unless_halted _ (plays p (redo_choice P M.system p) _
       (again_fires P M.system p (slice_get (line_of M.system p) (place_at M.system p)))))
-  acts_told (Undo p) =
+  acts_reported (Undo p) =
       with_process p _ (⊎_elim
-      (λ (takes : TakesBack P p M said M'). accepted (Undone (record { 0 = p }) (record { 0 = takes.choice })) takes.told)
-      (λ (keeps : KeepsEvent P p M said M'). refused keeps.refusal (cannot_undo P M.system p keeps.refusal keeps.why) keeps.told))
-  acts_told (Rollback p n) =
+      (λ (takes : TakesBack P p M said M'). accepted (Undone (record { 0 = p }) (record { 0 = takes.choice })) takes.reported)
+      (λ (keeps : KeepsEvent P p M said M'). refused keeps.refusal (cannot_undo P M.system p keeps.refusal keeps.why) keeps.reported))
+  acts_reported (Rollback p n) =
       with_process p _ (either (nat_lt (place_at M.system p) n) (refused refusals.BadPlace tt)
-      (λ (back : RollsBack P p n M said M'). accepted (Places back.cut) back.told))
-  acts_told (Goto name) =
+      (λ (back : RollsBack P p n M said M'). accepted (Places back.cut) back.reported))
+  acts_reported (Goto name) =
       with_break (named name M.breakpoints) _
-      (λ b. ⊎_elim (λ (goes : GoesTo P b M said M'). accepted (Places goes.cut) goes.told) (no_cut b))
-  acts_told (Break name conjuncts) = sets (break_refusal P M name conjuncts) name conjuncts (break_sound P M name conjuncts)
-  acts_told (Clear name) = with_break (named name M.breakpoints) _ (λ b. lists _)
-  acts_told (Arm name) =
+      (λ b. ⊎_elim (λ (goes : GoesTo P b M said M'). accepted (Places goes.cut) goes.reported) (no_cut b))
+  acts_reported (Break name conjuncts) = sets (break_refusal P M name conjuncts) name conjuncts (break_sound P M name conjuncts)
+  acts_reported (Clear name) = with_break (named name M.breakpoints) _ (λ b. lists _)
+  acts_reported (Arm name) =
       with_break (named name M.breakpoints) _ (λ b. either b.armed (refused refusals.AlreadyArmed tt) (lists _))
-  acts_told (Pass name) =
+  acts_reported (Pass name) =
       with_break (named name M.breakpoints) _ (λ b. either b.armed
       (⊎_elim (λ (passes : HasCut P (history_of M.system) b × Lists P (with_mark name false M.breakpoints) M said M').
       lists _ passes.1) (no_cut b))
       (refused refusals.NotArmed tt))
 
-  batch_told : (between : ModelState) (at : ℕ) (plans : List Plan) → Batches P M at plans between said M' → IsTold said
-  batch_told between at [] told = accepted Plain told.0
-  batch_told between at (plan ∷ plans) (inl (reply, next, acts, others)) = batch_told next (at + 1) plans others
-  batch_told between at (plan ∷ plans) (inr (refusal, acts, told)) = refused _ tt told
+  batch_reported : (between : ModelState) (at : ℕ) (plans : List Plan) → Batches P M at plans between said M' → IsReported said
+  batch_reported between at [] reported = accepted Plain reported.0
+  batch_reported between at (plan ∷ plans) (inl (reply, next, acts, others)) = batch_reported next (at + 1) plans others
+  batch_reported between at (plan ∷ plans) (inr (refusal, acts, reported)) = refused _ tt reported
 
-  follows_told : (order : Order) → Follows P order M said M' → IsTold said
-  follows_told (One plan) = acts_told plan
-  follows_told (Batch plans) = batch_told M 1 plans
+  follows_reported : (order : Order) → Follows P order M said M' → IsReported said
+  follows_reported (One plan) = acts_reported plan
+  follows_reported (Batch plans) = batch_reported M 1 plans
 
 module _ (P : Program) (M : ModelState) (said : Said) where
-  of_break : (found : Option Breakpoint) (Tells : Breakpoint → Type 0) → ((b : Breakpoint) → Tells b → IsTold said)
-      → AboutFound found Tells said → IsTold said
+  of_break : (found : Option Breakpoint) (Tells : Breakpoint → Type 0) → ((b : Breakpoint) → Tells b → IsReported said)
+      → AboutFound found Tells said → IsReported said
   of_break None Tells tells e = says said _ e tt
-  of_break (Some b) Tells tells told = tells b told
+  of_break (Some b) Tells tells reported = tells b reported
 
-  of_process : (p : ℕ) (Tells : Type 0) → (Tells → IsTold said)
-      → MatchBool (nat_lt p (length P)) Tells (said ≡ Refused refusals.UnknownProcess) → IsTold said
+  of_process : (p : ℕ) (Tells : Type 0) → (Tells → IsReported said)
+      → MatchBool (nat_lt p (length P)) Tells (said ≡ Refused refusals.UnknownProcess) → IsReported said
   of_process p Tells tells = either (nat_lt p (length P)) tells (λ e. says said _ e tt)
 
-  about_told : (t : Bool) (answer : Answer) → said ≡ cond t (Answered answer) (Refused refusals.UnknownProcess) → IsTold said
-  about_told t answer e = says said _ e (one_of IsTold t _ _ tt tt)
+  about_reported : (t : Bool) (answer : Answer) → said ≡ cond t (Answered answer) (Refused refusals.UnknownProcess) → IsReported said
+  about_reported t answer e = says said _ e (one_of IsReported t _ _ tt tt)
 
-  answers_told : (query : Query) → Answers P M query said → IsTold said
-  answers_told (Vars p) e = about_told _ _ e
-  answers_told (Chan i j) e = about_told _ _ e
-  answers_told (Clock p) e = of_process p (TellsClock P M.system p said) (λ tells. says said _ tells.told tt) e
-  answers_told (Place p) e = about_told _ _ e
-  answers_told (Can p) e =
+  answers_reported : (query : Query) → Answers P M query said → IsReported said
+  answers_reported (Vars p) e = about_reported _ _ e
+  answers_reported (Chan i j) e = about_reported _ _ e
+  answers_reported (Clock p) e = of_process p (TellsClock P M.system p said) (λ tells. says said _ tells.reported tt) e
+  answers_reported (Place p) e = about_reported _ _ e
+  answers_reported (Can p) e =
       of_process p (TellsUndo P M.system p said) (⊎_elim (λ may. says said _ may.1 tt)
-      (λ (tells : TellsWhy P M.system p said). says said _ tells.told tt)) e
-  answers_told (CutOf name) e =
+      (λ (tells : TellsWhy P M.system p said). says said _ tells.reported tt)) e
+  answers_reported (CutOf name) e =
       of_break (named name M.breakpoints) (λ b. TellsCut P M b said)
       (λ b. ⊎_elim (λ least. says said _ least.2 tt) (λ none. says said _ none.1 tt)) e
-  answers_told (Why name) e =
-      of_break (named name M.breakpoints) (λ b. TellsFrontier P M b said) (λ b tells. says said _ tells.told tt) e
-  answers_told Breaks e = says said _ e tt
+  answers_reported (Why name) e =
+      of_break (named name M.breakpoints) (λ b. TellsFrontier P M b said) (λ b tells. says said _ tells.reported tt) e
+  answers_reported Breaks e = says said _ e tt
 
-back_told : (P : Program) (given : List Given) (seat : ℕ) (last : Option Given) (said : Said) → AnswersBack P given seat last said
-    → IsTold said
-back_told P given seat None said e = says said _ e tt
-back_told P given seat (Some last) said back =
-    either (last.seat == seat) (λ (takes : (M : ModelState) × StandsAt P (without_back given) M × Accepts P Plain said M).
-    says said _ takes.2.told tt) (λ e. says said _ e tt) back
+back_reported : (P : Program) (given : List Given) (seat : ℕ) (last : Option Given) (said : Said) → AnswersBack P given seat last said
+    → IsReported said
+back_reported P given seat None said e = says said _ e tt
+back_reported P given seat (Some last) said back =
+    either (last.seat == seat) (λ (takes : (M : ModelState) × LeadsTo P (without_back given) M × Accepts P Plain said M).
+    says said _ takes.2.reported tt) (λ e. says said _ e tt) back
 
-pub due_told : (P : Program) (given : List Given) (seat : ℕ) (call : Call) (said : Said) → IsDue P given seat call said → IsTold said
-due_told P given seat (Give order) said (M, after, stands, follows) = follows_told P M said after order follows
-due_told P given seat Back said back = back_told P given seat (last_given given) said back
-due_told P given seat (Ask query) said (M, stands, answers) = answers_told P M said query answers
+pub due_reported : (P : Program) (given : List Given) (seat : ℕ) (call : Call) (said : Said) → IsDue P given seat call said → IsReported said
+due_reported P given seat (Give order) said (M, after, leads_to, follows) = follows_reported P M said after order follows
+due_reported P given seat Back said back = back_reported P given seat (last_given given) said back
+due_reported P given seat (Ask query) said (M, leads_to, answers) = answers_reported P M said query answers

@@ -17,7 +17,7 @@ use Rattle.dbg_base.specs.SystemStates.{IsStateOf, opening_state, line_of, cut_l
 use Rattle.dbg_base.specs.ModelStates.{ModelState, opening}
 use Rattle.dbg_base.specs.Calls.{Plan, Order, One, Batch, Call, Give, Back, Ask}
 use Rattle.dbg_base.specs.Acts.{Accepts, Batches, Follows}
-use Rattle.dbg_base.specs.Journals.{Journal, Given, counting, effective_from, effective, Leads, StandsAt, last_given, AnswersBack}
+use Rattle.dbg_base.specs.Journals.{Journal, Given, counting, effective_from, effective, Leads, LeadsTo, last_given, AnswersBack}
 use Rattle.dbg_base.specs.Journals.{IsDue, AreDue, IsLegal}
 use Rattle.dbg_base.proofs.EliminationLemmas.{none_at}
 use Rattle.dbg_laws.specs.Outcomes.{HasOneState}
@@ -91,54 +91,54 @@ leads_more P (first ∷ given) M N next reply after leads follows =
     (leads.0, leads.1, leads.2, leads_more P given leads.1 N next reply after leads.3 follows)
 
 module _ (P : Program) where
-  pub stands_reached : (given : List Given) (M : ModelState) → StandsAt P given M → IsReached P M.system
-  stands_reached given M stands = leads_keep P given (opening P) M (opening_reached P) stands
+  pub leads_to_reached : (given : List Given) (M : ModelState) → LeadsTo P given M → IsReached P M.system
+  leads_to_reached given M leads_to = leads_keep P given (opening P) M (opening_reached P) leads_to
 
-  pub stands_once : (given : List Given) (M other : ModelState) → StandsAt P given M → StandsAt P given other → other ≡ M
-  stands_once given M other = leads_once P given (opening P) M other (opening_reached P)
+  pub leads_to_once : (given : List Given) (M other : ModelState) → LeadsTo P given M → LeadsTo P given other → other ≡ M
+  leads_to_once given M other = leads_once P given (opening P) M other (opening_reached P)
 
   -- Calls with the answers that are due.
 
   -- the orders lead to some state
-  abbrev pub Stands : List Given → Type 0
-  Stands given = (M : ModelState) × StandsAt P given M
+  abbrev pub LeadsSomewhere : List Given → Type 0
+  LeadsSomewhere given = (M : ModelState) × LeadsTo P given M
 
   -- so do the orders before the last one, if it is taken back
-  back_stands : (given : List Given) (seat : ℕ) (last : Option Given) (reply : Reply) → AnswersBack P given seat last (Accepted reply)
-      → Stands (without_back given)
-  back_stands given seat None reply answers = cc
-  back_stands given seat (Some last) reply answers = by (last.seat == seat) answers
+  back_leads_to : (given : List Given) (seat : ℕ) (last : Option Given) (reply : Reply) → AnswersBack P given seat last (Accepted reply)
+      → LeadsSomewhere (without_back given)
+  back_leads_to given seat None reply answers = cc
+  back_leads_to given seat (Some last) reply answers = by (last.seat == seat) answers
     where
       by : (same : Bool)
-          → MatchBool same ((M : ModelState) × StandsAt P (without_back given) M × Accepts P Plain (Accepted reply) M)
-          (Accepted reply ≡ Refused (OtherSeat last.seat)) → Stands (without_back given)
+          → MatchBool same ((M : ModelState) × LeadsTo P (without_back given) M × Accepts P Plain (Accepted reply) M)
+          (Accepted reply ≡ Refused (OtherSeat last.seat)) → LeadsSomewhere (without_back given)
       by true goes = (goes.0, goes.1)
       by false refused = cc
 
-  counting_stands : (given : List Given) (seat : ℕ) (call : Call) (said : Said) → Stands given → IsDue P given seat call said
-      → Stands (counting given seat call said)
-  counting_stands given seat (Give order) (Accepted reply) stands due =
+  counting_leads_to : (given : List Given) (seat : ℕ) (call : Call) (said : Said) → LeadsSomewhere given → IsDue P given seat call said
+      → LeadsSomewhere (counting given seat call said)
+  counting_leads_to given seat (Give order) (Accepted reply) leads_to due =
       (due.1, leads_more P given (opening P) due.0 (record { seat = seat; order = order }) reply due.1 due.2 due.3)
-  counting_stands given seat (Give order) (Answered answer) stands due = stands
-  counting_stands given seat (Give order) (Refused refusal) stands due = stands
-  counting_stands given seat Back (Accepted reply) stands due = back_stands given seat (last_given given) reply due
-  counting_stands given seat Back (Answered answer) stands due = stands
-  counting_stands given seat Back (Refused refusal) stands due = stands
-  counting_stands given seat (Ask query) said stands due = stands
+  counting_leads_to given seat (Give order) (Answered answer) leads_to due = leads_to
+  counting_leads_to given seat (Give order) (Refused refusal) leads_to due = leads_to
+  counting_leads_to given seat Back (Accepted reply) leads_to due = back_leads_to given seat (last_given given) reply due
+  counting_leads_to given seat Back (Answered answer) leads_to due = leads_to
+  counting_leads_to given seat Back (Refused refusal) leads_to due = leads_to
+  counting_leads_to given seat (Ask query) said leads_to due = leads_to
 
-  pub due_stands : (given : List Given) (J : Journal) → Stands given → AreDue P given J → Stands (effective_from given J)
-  due_stands given [] stands due = stands
-  due_stands given (entry ∷ J) stands due =
-      due_stands (counting given entry.seat entry.call entry.said) J
-      (counting_stands given entry.seat entry.call entry.said stands due.0) due.1
+  pub due_leads_to : (given : List Given) (J : Journal) → LeadsSomewhere given → AreDue P given J → LeadsSomewhere (effective_from given J)
+  due_leads_to given [] leads_to due = leads_to
+  due_leads_to given (entry ∷ J) leads_to due =
+      due_leads_to (counting given entry.seat entry.call entry.said) J
+      (counting_leads_to given entry.seat entry.call entry.said leads_to due.0) due.1
 
-  pub legal_stands : (J : Journal) → IsLegal P J → Stands (effective J)
-  legal_stands J legal = due_stands [] J (opening P, refl) legal.due
+  pub legal_leads_to : (J : Journal) → IsLegal P J → LeadsSomewhere (effective J)
+  legal_leads_to J legal = due_leads_to [] J (opening P, refl) legal.due
 
-  pub legal_stands_once : (J : Journal) → IsLegal P J → HasOneState (StandsAt P (effective J))
-  legal_stands_once J legal =
-      let stands = legal_stands J legal in
-      record { state = stands.0; is = stands.1; only = λ other again. stands_once (effective J) stands.0 other stands.1 again }
+  pub legal_leads_to_once : (J : Journal) → IsLegal P J → HasOneState (LeadsTo P (effective J))
+  legal_leads_to_once J legal =
+      let leads_to = legal_leads_to J legal in
+      record { state = leads_to.0; is = leads_to.1; only = λ other again. leads_to_once (effective J) leads_to.0 other leads_to.1 again }
 
 -- The orders that count alone.
 
@@ -167,16 +167,16 @@ record GivesAnew (P : Program) (before given : List Given) : Type 0 where
   calls : map call_in journal ≡ map given_call given
   counts : effective_from before journal ≡ before ++ given
 
-gives_anew : (P : Program) (before given : List Given) (M N : ModelState) → StandsAt P before M → Leads P given M N
+gives_anew : (P : Program) (before given : List Given) (M N : ModelState) → LeadsTo P before M → Leads P given M N
     → GivesAnew P before given
-gives_anew P before [] M N stands leads =
+gives_anew P before [] M N leads_to leads =
     record { journal = []; due = tt; calls = refl; counts = sym (append-nil before) }
-gives_anew P before (first ∷ given) M N stands leads =
+gives_anew P before (first ∷ given) M N leads_to leads =
     let rest = gives_anew P (before ++ first ∷ []) given leads.1 N
-    (leads_more P before (opening P) M first leads.0 leads.1 stands leads.2) leads.3 in
+    (leads_more P before (opening P) M first leads.0 leads.1 leads_to leads.2) leads.3 in
     record {
       journal = record { seat = first.seat; call = Give first.order; said = Accepted leads.0 } ∷ rest.journal;
-      due = ((M, leads.1, stands, leads.2), rest.due);
+      due = ((M, leads.1, leads_to, leads.2), rest.due);
       calls = ap (λ (calls : List (ℕ × Call)). given_call first ∷ calls) rest.calls;
       counts = rest.counts ∙ append_assoc before (first ∷ []) given;
     }
@@ -185,8 +185,8 @@ gives_anew P before (first ∷ given) M N stands leads =
 pub remaining_alone : (P : Program) (J : Journal) → IsLegal P J
     → (alone : Journal) × IsLegal P alone × (map call_in alone ≡ map given_call (effective J)) × (effective alone ≡ effective J)
 remaining_alone P J legal =
-    let stands = legal_stands P J legal in
-    let anew = gives_anew P [] (effective J) (opening P) stands.0 refl stands.1 in
+    let leads_to = legal_leads_to P J legal in
+    let anew = gives_anew P [] (effective J) (opening P) leads_to.0 refl leads_to.1 in
     let size : length anew.journal ≡ length (effective J) =
     sym (length-map anew.journal call_in) ∙ ap (λ (calls : List (ℕ × Call)). length calls) anew.calls
     ∙ length-map (effective J) given_call in

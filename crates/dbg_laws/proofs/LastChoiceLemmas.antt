@@ -14,8 +14,8 @@ use Rattle.dbg_laws.proofs.Lists.{Grid, cell, put, change, cell-put_other, push,
 use Rattle.dbg_laws.proofs.Lists.{push_set_other}
 use Rattle.dbg_laws.proofs.ChannelSizeLemmas.{put_cases, fire_not_put, fire_most, fire_takes}
 use Rattle.dbg_laws.proofs.Moves.{Move, Keeps, Puts, Takes, channels_after, IsReady, move_target, move_source, after_move, fires}
-use Rattle.dbg_laws.proofs.Moves.{put_behind, other_state, diamond}
-use Rattle.dbg_laws.proofs.OrderSwapLemmas.{IsOrderOf, first_step, legal_behind, is_there, IsEmpty, none_left}
+use Rattle.dbg_laws.proofs.Moves.{put_after, other_state, diamond}
+use Rattle.dbg_laws.proofs.OrderSwapLemmas.{IsOrderOf, first_step, legal_after, is_there, IsEmpty, none_left}
 use Rattle.dbg_laws.proofs.PlayLemmas.{found, lists}
 
 -- An event moves after the events of other processes that follow it, unless one of them received its message.
@@ -49,40 +49,40 @@ shorter P c d p t (e ∷ E) legal others =
     omega (arith, first, rest)
 
 -- while p does not fire, the head of a channel to p stays
-move_front : (move : Move) (s p q : ℕ) (m : ℤ) (rest : List ℤ) (g : Grid) → q ≢ p → cell g s p ≡ m ∷ rest
+move_prefix : (move : Move) (s p q : ℕ) (m : ℤ) (rest : List ℤ) (g : Grid) → q ≢ p → cell g s p ≡ m ∷ rest
     → (later : List ℤ) × (cell (channels_after move q g) s p ≡ m ∷ later)
-move_front Keeps s p q m rest g apart front = (rest, front)
-move_front (Puts target value) s p q m rest g apart front = put_behind g q target s p value m rest front
-move_front (Takes source message) s p q m rest g apart front =
-    (rest, cell-put_other g source q s p (drop 1 (cell g source q)) (λ x. apart) ∙ front)
+move_prefix Keeps s p q m rest g apart prefix = (rest, prefix)
+move_prefix (Puts target value) s p q m rest g apart prefix = put_after g q target s p value m rest prefix
+move_prefix (Takes source message) s p q m rest g apart prefix =
+    (rest, cell-put_other g source q s p (drop 1 (cell g source q)) (λ x. apart) ∙ prefix)
 
-pub front_stays : (P : Program) (c d : Configuration) (s p : ℕ) (m : ℤ) (rest : List ℤ) (E : List Event) → order_from P c E ≡ Ok d
+pub prefix_stays : (P : Program) (c d : Configuration) (s p : ℕ) (m : ℤ) (rest : List ℤ) (E : List Event) → order_from P c E ≡ Ok d
     → AreOthers p E → channel_of c s p ≡ m ∷ rest → (later : List ℤ) × (channel_of d s p ≡ m ∷ later)
-front_stays P c d s p m rest [] legal others front =
-    let same : c ≡ d = cc in (rest, ap (λ (x : Configuration). channel_of x s p) (sym same) ∙ front)
-front_stays P c d s p m rest (e ∷ E) legal others front =
+prefix_stays P c d s p m rest [] legal others prefix =
+    let same : c ≡ d = cc in (rest, ap (λ (x : Configuration). channel_of x s p) (sym same) ∙ prefix)
+prefix_stays P c d s p m rest (e ∷ E) legal others prefix =
     let step = first_step (fire P c e.process e.choice) (λ x. order_from P x E) d legal in
     let f = fires (command_of P e.process e.choice) c e.process step.0 step.1 in
-    let next = move_front f.move s p e.process m rest c.channels others.0 front in
-    front_stays P step.0 d s p m next.0 E step.2 others.1 (ap (λ (x : Configuration). channel_of x s p) f.leads ∙ next.1)
+    let next = move_prefix f.move s p e.process m rest c.channels others.0 prefix in
+    prefix_stays P step.0 d s p m next.0 E step.2 others.1 (ap (λ (x : Configuration). channel_of x s p) f.leads ∙ next.1)
 
 -- what p sends last is still on its way at c: a condition on channels from p to other existing processes
 abbrev pub IsWaiting : Program → Configuration → ℕ → ℕ → Type 0
 IsWaiting P c p k = (t : ℕ) → target_in (command_of P p k) ≡ Some t → t ≢ p → t < length P → 0 < length (channel_of c p t)
 
 -- a move of q after one of p could already fire before it, if p's message was not the only one
-front_before : (l : List ℤ) (v m : ℤ) (rest : List ℤ) → 0 < length l → l ++ v ∷ [] ≡ m ∷ rest → (earlier : List ℤ) × (l ≡ m ∷ earlier)
-front_before [] v m rest some front = absurd (omega arith)
-front_before (x ∷ l) v m rest some front = (l, cc)
+prefix_before : (l : List ℤ) (v m : ℤ) (rest : List ℤ) → 0 < length l → l ++ v ∷ [] ≡ m ∷ rest → (earlier : List ℤ) × (l ≡ m ∷ earlier)
+prefix_before [] v m rest some prefix = absurd (omega arith)
+prefix_before (x ∷ l) v m rest some prefix = (l, cc)
 
 put_before : (g : Grid) (s q : ℕ) (v m : ℤ) (rest : List ℤ) → 0 < length (cell g s q)
     → cell (change g s q (λ messages. messages ++ v ∷ [])) s q ≡ m ∷ rest → (earlier : List ℤ) × (cell g s q ≡ m ∷ earlier)
-put_before g s q v m rest some front =
+put_before g s q v m rest some prefix =
     ⊎_elim
     (λ (now : cell (change g s q (λ messages. messages ++ v ∷ [])) s q ≡ cell g s q ++ v ∷ []).
-    front_before (cell g s q) v m rest some (sym now ∙ front))
+    prefix_before (cell g s q) v m rest some (sym now ∙ prefix))
     (λ (same : (y : List ℤ) → put g s q y ≡ g).
-    (rest, ap (λ (x : Grid). cell x s q) (sym (same (cell g s q ++ v ∷ []))) ∙ front))
+    (rest, ap (λ (x : Grid). cell x s q) (sym (same (cell g s q ++ v ∷ []))) ∙ prefix))
     (put_cases g s q (cell g s q ++ v ∷ []))
 
 ready_before : (a b : Move) (p q : ℕ) (g : Grid) → p ≢ q
@@ -134,13 +134,13 @@ pull P c d g p k q l apart one other some =
     record { between = after_move b.move q b.state c; first = there; second = dia.other ∙ ap (λ (x : Configuration). Ok x) same }
 
 -- an event moves after those that follow it
-pub record Behind (P : Program) (c g : Configuration) (p k : ℕ) (E : List Event) : Type 0 where
+pub record Beyond (P : Program) (c g : Configuration) (p k : ℕ) (E : List Event) : Type 0 where
   pub between : Configuration
   pub first : order_from P c E ≡ Ok between
   pub last : fire P between p k ≡ Ok g
 
 pub to_end : (P : Program) (c d g : Configuration) (p k : ℕ) (E : List Event) → fire P c p k ≡ Ok d → order_from P d E ≡ Ok g
-    → AreOthers p E → IsWaiting P g p k → Behind P c g p k E
+    → AreOthers p E → IsWaiting P g p k → Beyond P c g p k E
 to_end P c d g p k [] one legal others waiting =
     let same : d ≡ g = cc in
     record { between = c; first = refl; last = one ∙ ap (λ (x : Configuration). Ok x) same }
@@ -155,7 +155,7 @@ to_end P c d g p k (e ∷ E) one legal others waiting =
     let rest = to_end P pulled.between step.0 g p k E pulled.second step.2 others.1 waiting in
     record {
       between = rest.between;
-      first = legal_behind P c pulled.between rest.between e E pulled.first rest.first;
+      first = legal_after P c pulled.between rest.between e E pulled.first rest.first;
       last = rest.last;
     }
   where
@@ -174,15 +174,15 @@ to_end P c d g p k (e ∷ E) one legal others waiting =
 -- The remaining choices are B, and k of process p after them. The play makes k between these two lists, and the events after it are of
 -- other processes.
 pub record Around (n : ℕ) (P : Program) (from : Progress) (B : History) (p k : ℕ) (d : Configuration) : Type 0 where
-  pub front : List Event
+  pub prefix : List Event
   pub before : Configuration
   pub after : Configuration
-  pub behind : List Event
-  pub leads : order_from P from.configuration front ≡ Ok before
+  pub beyond : List Event
+  pub leads : order_from P from.configuration prefix ≡ Ok before
   pub fires : fire P before p k ≡ Ok after
-  pub goes_on : order_from P after behind ≡ Ok d
-  pub others : AreOthers p behind
-  pub takes : IsOrderOf B (front ++ behind)
+  pub goes_on : order_from P after beyond ≡ Ok d
+  pub others : AreOthers p beyond
+  pub takes : IsOrderOf B (prefix ++ beyond)
   pub made : last_from n P from p ≡ before
 
 last_here : (n : ℕ) (P : Program) (from to : Progress) (p : ℕ) → next_move P from ≡ Some to → get_or to.unplayed p [] ≡ []
@@ -223,10 +223,10 @@ around_here n P from B p k m is within none fires next empty =
     ap (λ (x : History). set x p []) is ∙ set_push B p k [] ∙ ap (λ (x : List ℕ). set B p x) (sym none) ∙ set-get_or B p [] in
     let takes : IsOrderOf B l.events = subst (λ (x : History). IsOrderOf x l.events) left l.order in
     record {
-      front = [];
+      prefix = [];
       before = from.configuration;
       after = m;
-      behind = l.events;
+      beyond = l.events;
       leads = refl;
       fires = fires;
       goes_on = l.legal;
@@ -240,16 +240,16 @@ around_later : (n : ℕ) (P : Program) (from : Progress) (B : History) (p k q l 
     → p < length B → get_or B q [] ≡ l ∷ left → fire P from.configuration q l ≡ Ok m → next_move P from ≡ Some (moved from q rest m)
     → set from.unplayed q rest ≡ push (set B q left) p k → Around n P (moved from q rest m) (set B q left) p k d
     → Around (suc n) P from B p k d
-around_later n P from B p k q l rest left m d within front fires next is a = record {
-  front = record { process = q; choice = l } ∷ a.front;
+around_later n P from B p k q l rest left m d within prefix fires next is a = record {
+  prefix = record { process = q; choice = l } ∷ a.prefix;
   before = a.before;
   after = a.after;
-  behind = a.behind;
-  leads = legal_behind P from.configuration m a.before (record { process = q; choice = l }) a.front fires a.leads;
+  beyond = a.beyond;
+  leads = legal_after P from.configuration m a.before (record { process = q; choice = l }) a.prefix fires a.leads;
   fires = a.fires;
   goes_on = a.goes_on;
   others = a.others;
-  takes = (left, front, a.takes);
+  takes = (left, prefix, a.takes);
   made = last_later n P from (moved from q rest m) p k (get_or (set B q left) p []) next
       (ap (λ (x : History). get_or x p []) is ∙ push_same (set B q left) p k (rw (length-set B q left) within)) ∙ a.made;
 }
@@ -262,9 +262,9 @@ around_other : (n : ℕ) (P : Program) (from : Progress) (B : History) (p k q l 
     → from.unplayed ≡ push B p k → p < length B → q ≢ p → get_or from.unplayed q [] ≡ l ∷ rest → fire P from.configuration q l ≡ Ok m
     → next_move P from ≡ Some (moved from q rest m) → IsEmpty (play_moves n P (moved from q rest m)).unplayed → Later n P
     → Around (suc n) P from B p k (play_moves n P (moved from q rest m)).configuration
-around_other n P from B p k q l rest m is within apart front fires next empty later =
+around_other n P from B p k q l rest m is within apart prefix fires next empty later =
     let there : get_or B q [] ≡ l ∷ rest =
-    sym (push_other B p q k apart) ∙ ap (λ (x : History). get_or x q []) (sym is) ∙ front in
+    sym (push_other B p q k apart) ∙ ap (λ (x : History). get_or x q []) (sym is) ∙ prefix in
     let now : set from.unplayed q rest ≡ push (set B q rest) p k =
     ap (λ (x : History). set x q rest) is ∙ sym (push_set_other B p q k rest apart) in
     around_later n P from B p k q l rest rest m (play_moves n P (moved from q rest m)).configuration within there fires next now
@@ -275,7 +275,7 @@ around_same : (n : ℕ) (P : Program) (from : Progress) (B : History) (p k l : �
     → fire P from.configuration p l ≡ Ok m → next_move P from ≡ Some (moved from p rest m)
     → IsEmpty (play_moves n P (moved from p rest m)).unplayed → Later n P
     → Around (suc n) P from B p k (play_moves n P (moved from p rest m)).configuration
-around_same n P from B p k l rest [] m is within line front fires next empty later =
+around_same n P from B p k l rest [] m is within line prefix fires next empty later =
     let now : get_or from.unplayed p [] ≡ k ∷ [] =
     ap (λ (x : History). get_or x p []) is ∙ push_same B p k within ∙ ap (λ (x : List ℕ). x ++ k ∷ []) line in
     let choice : l ≡ k = cc in
@@ -284,7 +284,7 @@ around_same n P from B p k l rest [] m is within line front fires next empty lat
     → Around (suc n) P from B p k (play_moves n P (moved from p r m)).configuration) none
     (λ x y. around_here n P from B p k m is within line (subst (λ (z : ℕ). fire P from.configuration p z ≡ Ok m) choice fires) x y)
     next empty
-around_same n P from B p k l rest (x ∷ b) m is within line front fires next empty later =
+around_same n P from B p k l rest (x ∷ b) m is within line prefix fires next empty later =
     let whole : get_or from.unplayed p [] ≡ x ∷ (b ++ k ∷ []) =
     ap (λ (y : History). get_or y p []) is ∙ push_same B p k within ∙ ap (λ (y : List ℕ). y ++ k ∷ []) line in
     let choice : x ≡ l = cc in
@@ -302,26 +302,26 @@ around_by n P from B p k None next is within empty later = absurd (not_done from
 around_by n P from B p k (Some to) next is within empty later =
     let f = found P from 0 from.unplayed to next in
     let place : f.offset ≡ f.process = omega (arith, f.place) in
-    let front : get_or from.unplayed f.process [] ≡ f.choice ∷ f.rest =
-    subst (λ (x : ℕ). get_or from.unplayed x [] ≡ f.choice ∷ f.rest) place f.front in
+    let prefix : get_or from.unplayed f.process [] ≡ f.choice ∷ f.rest =
+    subst (λ (x : ℕ). get_or from.unplayed x [] ≡ f.choice ∷ f.rest) place f.prefix in
     let made : next_move P from ≡ Some (moved from f.process f.rest f.reached) = next ∙ ap (λ (x : Progress). Some x) f.leads in
     subst (λ (x : Progress). Around (suc n) P from B p k (play_moves n P x).configuration) (sym f.leads)
-    (around_found n P from B p k f.process f.choice f.rest f.reached is within front f.fires made
+    (around_found n P from B p k f.process f.choice f.rest f.reached is within prefix f.fires made
     (subst (λ (x : Progress). IsEmpty (play_moves n P x).unplayed) f.leads empty) later)
   where
     around_found : (n : ℕ) (P : Program) (from : Progress) (B : History) (p k q l : ℕ) (rest : List ℕ) (m : Configuration)
         → from.unplayed ≡ push B p k → p < length B → get_or from.unplayed q [] ≡ l ∷ rest → fire P from.configuration q l ≡ Ok m
         → next_move P from ≡ Some (moved from q rest m) → IsEmpty (play_moves n P (moved from q rest m)).unplayed → Later n P
         → Around (suc n) P from B p k (play_moves n P (moved from q rest m)).configuration
-    around_found n P from B p k q l rest m is within front fires next empty later =
+    around_found n P from B p k q l rest m is within prefix fires next empty later =
         ⊎_elim
         (λ (same : p ≡ q).
         subst (λ (x : ℕ). get_or from.unplayed x [] ≡ l ∷ rest → fire P from.configuration x l ≡ Ok m
         → next_move P from ≡ Some (moved from x rest m) → IsEmpty (play_moves n P (moved from x rest m)).unplayed
         → Around (suc n) P from B p k (play_moves n P (moved from x rest m)).configuration) same
-        (λ x y z w. around_same n P from B p k l rest (get_or B p []) m is within refl x y z w later) front fires next empty)
+        (λ x y z w. around_same n P from B p k l rest (get_or B p []) m is within refl x y z w later) prefix fires next empty)
         (λ (apart : p ≢ q).
-        around_other n P from B p k q l rest m is within (λ x. apart (sym x)) front fires next empty later)
+        around_other n P from B p k q l rest m is within (λ x. apart (sym x)) prefix fires next empty later)
         (cases_eq p q)
 
 pub around : (n : ℕ) (P : Program) (from : Progress) (B : History) (p k : ℕ) → from.unplayed ≡ push B p k → p < length B

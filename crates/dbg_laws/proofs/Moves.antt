@@ -130,9 +130,9 @@ sent_effect b p target value effect z state message e =
 taken_effect : (b : Configuration) (p source variable : ℕ) (m : ℤ) (rest : List ℤ) (effect : Effect) (state : LocalState)
     → cell b.channels source p ≡ m ∷ rest → counted (Receives source variable) (with_set (state_in b p) effect.sets) ≡ state
     → after_effect (with_channel b source p rest) p (Receives source variable) effect ≡ after_move (Takes source m) p state b
-taken_effect b p source variable m rest effect state front e =
+taken_effect b p source variable m rest effect state prefix e =
     ap (λ (s : LocalState). with_state (with_channel b source p rest) p s) e
-    ∙ ap (λ (messages : List ℤ). with_state (with_channel b source p (drop 1 messages)) p state) (sym front)
+    ∙ ap (λ (messages : List ℤ). with_state (with_channel b source p (drop 1 messages)) p state) (sym prefix)
 
 -- the effect depends only on the local state
 effect_again : (command : Command) (b c : Configuration) (p : ℕ) (message : Option ℤ) (effect : Effect) → state_in b p ≡ state_in c p
@@ -143,21 +143,21 @@ counted_again : (action : Action) (b c : Configuration) (p : ℕ) (effect : Effe
     → counted action (with_set (state_in b p) effect.sets) ≡ counted action (with_set (state_in c p) effect.sets)
 counted_again action b c p effect same = ap (λ (s : LocalState). counted action (with_set s effect.sets)) same
 
-receives_front : (command : Command) (b : Configuration) (p source variable : ℕ) (m : ℤ) (rest : List ℤ) (effect : Effect)
+receives_prefix : (command : Command) (b : Configuration) (p source variable : ℕ) (m : ℤ) (rest : List ℤ) (effect : Effect)
     → command.action ≡ Receives source variable → cell b.channels source p ≡ m ∷ rest
     → effect_of command (state_in b p) (Some m) ≡ Some effect
     → proceed command (Receives source variable) b p
     ≡ Ok (after_effect (with_channel b source p rest) p (Receives source variable) effect)
-receives_front command b p source variable m rest effect same front e =
-    ap (receive command b p source) front
+receives_prefix command b p source variable m rest effect same prefix e =
+    ap (receive command b p source) prefix
     ∙ ap (complete (with_channel b source p rest) p command.action) e
     ∙ ap (λ (action : Action). complete (with_channel b source p rest) p action (Some effect)) same
 
 received : (command : Command) (source variable : ℕ) (c : Configuration) (p : ℕ) (d : Configuration) (messages : List ℤ)
     → command.action ≡ Receives source variable → cell c.channels source p ≡ messages → receive command c p source messages ≡ Ok d
     → Proceeds command (Receives source variable) c p d
-received command source variable c p d [] same front e = cc
-received command source variable c p d (m ∷ rest) same front e =
+received command source variable c p d [] same prefix e = cc
+received command source variable c p d (m ∷ rest) same prefix e =
     let done = completed (with_channel c source p rest) p command.action (effect_of command (state_in c p) (Some m)) d e in
     let effect = done.0 in
     let state = counted (Receives source variable) (with_set (state_in c p) effect.sets) in
@@ -168,12 +168,12 @@ received command source variable c p d (m ∷ rest) same front e =
       receives = refl;
       sent = refl;
       got = refl;
-      ready = (rest, front);
+      ready = (rest, prefix);
       leads = done.2
           ∙ ap (λ (action : Action). after_effect (with_channel c source p rest) p action effect) same
-          ∙ taken_effect c p source variable m rest effect state front refl;
+          ∙ taken_effect c p source variable m rest effect state prefix refl;
       again = λ b there ready.
-          receives_front command b p source variable m ready.0 effect same ready.1 (effect_again command b c p (Some m) effect there done.1)
+          receives_prefix command b p source variable m ready.0 effect same ready.1 (effect_again command b c p (Some m) effect there done.1)
           ∙ ap (λ (x : Configuration). Ok x) (taken_effect b p source variable m ready.0 effect state ready.1
           (counted_again (Receives source variable) b c p effect there));
     }
@@ -242,9 +242,9 @@ fires (Some command) c p d e =
 -- Two processes that can both fire can fire in either order, with the same result.
 
 -- an appended message leaves the head of a channel as it is
-pub put_behind : (g : Grid) (p t s q : ℕ) (v m : ℤ) (rest : List ℤ) → cell g s q ≡ m ∷ rest
+pub put_after : (g : Grid) (p t s q : ℕ) (v m : ℤ) (rest : List ℤ) → cell g s q ≡ m ∷ rest
     → (later : List ℤ) × (cell (change g p t (λ messages. messages ++ v ∷ [])) s q ≡ m ∷ later)
-put_behind g p t s q v m rest e =
+put_after g p t s q v m rest e =
     let other = λ (apart : p ≡ s → t ≢ q).
     (cell-put_other g p t s q (cell g p t ++ v ∷ []) apart ∙ e) in
     ⊎_elim
@@ -264,7 +264,7 @@ stays_ready a Keeps p q g apart ready = tt
 stays_ready a (Puts target value) p q g apart ready = tt
 stays_ready Keeps (Takes source message) p q g apart ready = ready
 stays_ready (Puts target value) (Takes source message) p q g apart ready =
-    put_behind g p target source q value message ready.0 ready.1
+    put_after g p target source q value message ready.0 ready.1
 stays_ready (Takes other taken) (Takes source message) p q g apart ready =
     (ready.0, cell-put_other g other p source q (drop 1 (cell g other p)) (λ x. apart) ∙ ready.1)
 
@@ -274,12 +274,12 @@ put_take : (g : Grid) (s q : ℕ) (v m : ℤ) (rest : List ℤ) → cell g s q �
     ≡ change (change g s q (drop 1)) s q (λ messages. messages ++ v ∷ [])
 put_take g s q v m rest e =
     change_twice g s q m rest (λ messages. messages ++ v ∷ []) (drop 1) e
-    ∙ ap (λ (messages : List ℤ). put g s q messages) (front_and_back (cell g s q) m rest v e)
+    ∙ ap (λ (messages : List ℤ). put g s q messages) (prefix_and_back (cell g s q) m rest v e)
     ∙ sym (change_twice g s q m rest (drop 1) (λ messages. messages ++ v ∷ []) e)
   where
-    front_and_back : (messages : List ℤ) (m : ℤ) (rest : List ℤ) (v : ℤ) → messages ≡ m ∷ rest
+    prefix_and_back : (messages : List ℤ) (m : ℤ) (rest : List ℤ) (v : ℤ) → messages ≡ m ∷ rest
         → drop 1 (messages ++ v ∷ []) ≡ drop 1 messages ++ v ∷ []
-    front_and_back messages m rest v e = rw e refl
+    prefix_and_back messages m rest v e = rw e refl
 
 puts_takes : (g : Grid) (p t s q : ℕ) (v m : ℤ) → IsReady (Takes s m) q g
     → change (change g p t (λ messages. messages ++ v ∷ [])) s q (drop 1)

@@ -20,11 +20,11 @@ use Rattle.dbg_base.specs.ModelStates.{ModelState}
 use Rattle.dbg_base.specs.Calls.{Query, Vars, Chan, Clock, Place, Can, CutOf, Why, Breaks, Call, Give, Back, Ask}
 use Rattle.dbg_base.specs.Acts.{Accepts, Follows}
 use Rattle.dbg_base.specs.Views.{TellsClock, TellsUndo, TellsCut, TellsFrontier, AboutFound, Answers}
-use Rattle.dbg_base.specs.Journals.{Given, StandsAt, last_given, AnswersBack, IsDue}
+use Rattle.dbg_base.specs.Journals.{Given, LeadsTo, last_given, AnswersBack, IsDue}
 use Rattle.dbg_laws.proofs.ReachedStateLemmas.{IsReached}
 use Rattle.dbg_laws.proofs.CutLatticeLemmas.{same_cut, one_least}
 use Rattle.dbg_laws.proofs.OneOutcome.{changes_one, one_cannot, may_or_stays, one_outcome}
-use Rattle.dbg_laws.proofs.EffectiveOrderLemmas.{stands_reached, stands_once}
+use Rattle.dbg_laws.proofs.EffectiveOrderLemmas.{leads_to_reached, leads_to_once}
 
 -- A clock and a frontier are determined.
 
@@ -64,10 +64,10 @@ module _ (said other : Said) where
 module _ (P : Program) (M : ModelState) (reached : IsReached P M.system) (said other : Said) where
   clock_once : (p : ℕ) → TellsClock P M.system p said → TellsClock P M.system p other → said ≡ other
   clock_once p is too =
-      is.told
+      is.reported
       ∙ ap (λ (cut : List ℕ). Answered (Counts cut))
       (one_clock P (history_of M.system) p (place_at M.system p) is.cut too.cut is.is too.is)
-      ∙ sym too.told
+      ∙ sym too.reported
 
   undo_once : (p : ℕ) → p < length P → TellsUndo P M.system p said → TellsUndo P M.system p other → said ≡ other
   undo_once p here (inl may) (inl too) = may.1 ∙ sym too.1
@@ -76,9 +76,9 @@ module _ (P : Program) (M : ModelState) (reached : IsReached P M.system) (said o
   undo_once p here (inr stays) (inl may) =
       absurd (may_or_stays P M reached.state reached.possible p here stays.refusal may.0 stays.why)
   undo_once p here (inr stays) (inr too) =
-      stays.told
+      stays.reported
       ∙ ap (λ (refusal : Refusal). Answered (CanUndo (Err refusal))) (one_cannot P M.system p too.refusal stays.refusal too.why stays.why)
-      ∙ sym too.told
+      ∙ sym too.reported
 
   cut_once : (b : Breakpoint) → TellsCut P M b said → TellsCut P M b other → said ≡ other
   cut_once b (inl is) (inl too) =
@@ -91,10 +91,10 @@ module _ (P : Program) (M : ModelState) (reached : IsReached P M.system) (said o
 
   frontier_once : (b : Breakpoint) → TellsFrontier P M b said → TellsFrontier P M b other → said ≡ other
   frontier_once b is too =
-      is.told
+      is.reported
       ∙ ap (λ (tuple : List ℕ). Answered (Frontier (heads_of (history_of M.system) tuple)))
       (one_frontier P (history_of M.system) b.conjuncts is.tuple too.tuple is.is too.is)
-      ∙ sym too.told
+      ∙ sym too.reported
 
   pub answers_once : (query : Query) → Answers P M query said → Answers P M query other → said ≡ other
   answers_once (Vars p) is too = is ∙ sym too
@@ -110,12 +110,12 @@ module _ (P : Program) (M : ModelState) (reached : IsReached P M.system) (said o
 
 module _ (P : Program) (given : List Given) (seat : ℕ) (said other : Said) where
   abbrev TakesBack : Said → Type 0
-  TakesBack s = (M : ModelState) × StandsAt P (without_back given) M × Accepts P Plain s M
+  TakesBack s = (M : ModelState) × LeadsTo P (without_back given) M × Accepts P Plain s M
 
   taken_once : TakesBack said → TakesBack other → said ≡ other
   taken_once is too =
       let one = changes_one P Plain is.0 in
-      let same : too.0 ≡ is.0 = stands_once P (without_back given) is.0 too.0 is.1 too.1 in
+      let same : too.0 ≡ is.0 = leads_to_once P (without_back given) is.0 too.0 is.1 too.1 in
       (one.only said is.0 (is.2, refl)).0
       ∙ sym (one.only other is.0 (subst (λ (M : ModelState). Accepts P Plain other M) same too.2, refl)).0
 
@@ -129,12 +129,12 @@ module _ (P : Program) (given : List Given) (seat : ℕ) (said other : Said) whe
 pub due_once : (P : Program) (given : List Given) (seat : ℕ) (call : Call) (said other : Said) → IsDue P given seat call said
     → IsDue P given seat call other → said ≡ other
 due_once P given seat (Give order) said other is too =
-    let reached = stands_reached P given is.0 is.2 in
+    let reached = leads_to_reached P given is.0 is.2 in
     let one = one_outcome P order is.0 reached.state reached.possible in
-    let same : too.0 ≡ is.0 = stands_once P given is.0 too.0 is.2 too.2 in
+    let same : too.0 ≡ is.0 = leads_to_once P given is.0 too.0 is.2 too.2 in
     (one.only said is.1 is.3).0 ∙ sym (one.only other too.1 (subst (λ (M : ModelState). Follows P order M other too.1) same too.3)).0
 due_once P given seat Back said other is too = back_once P given seat said other (last_given given) is too
 due_once P given seat (Ask query) said other is too =
-    let same : too.0 ≡ is.0 = stands_once P given is.0 too.0 is.1 too.1 in
-    answers_once P is.0 (stands_reached P given is.0 is.1) said other query is.2
+    let same : too.0 ≡ is.0 = leads_to_once P given is.0 too.0 is.1 too.1 in
+    answers_once P is.0 (leads_to_reached P given is.0 is.1) said other query is.2
     (subst (λ (M : ModelState). Answers P M query other) same too.2)

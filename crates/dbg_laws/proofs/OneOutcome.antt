@@ -90,9 +90,9 @@ changes_one P done N =
     record {
       said = Accepted (record { done = done; halted = halt.halted });
       left = N;
-      is = (record { halted = halt.halted; is = halt.is; told = refl }, refl);
+      is = (record { halted = halt.halted; is = halt.is; reported = refl }, refl);
       only = λ other after is. (
-        is.0.told
+        is.0.reported
             ∙ ap (λ (h : Option (List ℕ)). Accepted (record { done = done; halted = h }))
             (halt.only is.0.halted (subst (λ (K : ModelState). IsHalted P K is.0.halted) is.1 is.0.is)),
         is.1,
@@ -171,11 +171,11 @@ rolls_one P p n M =
     record {
       said = change.said;
       left = change.left;
-      is = record { cut = back.0; is = back.1; told = change.is.0; left = change.is.1 };
+      is = record { cut = back.0; is = back.1; reported = change.is.0; left = change.is.1 };
       only = λ other after is.
           change.only other after
           (subst (λ (cut : List ℕ). Accepts P (Places cut) other after × (after ≡ with_system M (after_rollback M.system cut)))
-          (one_rollback P H p n is.cut back.0 is.is back.1) (is.told, is.left));
+          (one_rollback P H p n is.cut back.0 is.is back.1) (is.reported, is.left));
     }
 
 goes_one : (P : Program) (b : Breakpoint) (M : ModelState)
@@ -189,13 +189,13 @@ goes_one P b M = by (least_or_none P (history_of M.system) b.conjuncts)
         record {
           said = change.said;
           left = change.left;
-          is = inl (record { cut = found.0; is = found.1; told = change.is.0; left = change.is.1 });
+          is = inl (record { cut = found.0; is = found.1; reported = change.is.0; left = change.is.1 });
           only = λ other after acts.
               ⊎_elim
               (λ (goes : GoesTo P b M other after).
               change.only other after
               (subst (λ (cut : List ℕ). Accepts P (Places cut) other after × (after ≡ with_system M (after_rollback M.system cut)))
-              (one_least P (history_of M.system) b.conjuncts goes.cut found.0 goes.is found.1) (goes.told, goes.left)))
+              (one_least P (history_of M.system) b.conjuncts goes.cut found.0 goes.is found.1) (goes.reported, goes.left)))
               (λ (none : HasNone P M b × Refuses refusals.NoCut M other after). absurd (none.0 found.0 found.1.satisfies)) acts;
         }
     by (inr none) = record {
@@ -313,12 +313,12 @@ module _ (P : Program) (M : ModelState) (of : IsStateOf P M.system) (possible : 
       keeps refusal why never = record {
         said = Refused refusal;
         left = M;
-        is = inr (record { refusal = refusal; why = why; told = (refl, refl) });
+        is = inr (record { refusal = refusal; why = why; reported = (refl, refl) });
         only = λ other after acts.
             ⊎_elim (λ (back : TakesBack P p M other after). absurd (never back.may))
             (λ (stays : KeepsEvent P p M other after). (
-              stays.told.0 ∙ ap (λ (r : Refusal). Refused r) (one_cannot P M.system p refusal stays.refusal why stays.why),
-              stays.told.1,
+              stays.reported.0 ∙ ap (λ (r : Refusal). Refused r) (one_cannot P M.system p refusal stays.refusal why stays.why),
+              stays.reported.1,
             ))
             acts;
       }
@@ -330,13 +330,13 @@ module _ (P : Program) (M : ModelState) (of : IsStateOf P M.system) (possible : 
           record {
             said = change.said;
             left = change.left;
-            is = inl (record { may = may; choice = k; was = was; told = change.is.0; left = change.is.1 });
+            is = inl (record { may = may; choice = k; was = was; reported = change.is.0; left = change.is.1 });
             only = λ other after acts.
                 ⊎_elim
                 (λ (back : TakesBack P p M other after).
                 change.only other after (
                   subst (λ (m : ℕ). Accepts P (Undone (record { 0 = p }) (record { 0 = m })) other after)
-                      (one_target (last_choice M.system p) back.choice k back.was was) back.told,
+                      (one_target (last_choice M.system p) back.choice k back.was was) back.reported,
                   back.left,
                 ))
                 (λ (stays : KeepsEvent P p M other after). absurd (may_or_stays stays.refusal may stays.why)) acts;
@@ -413,10 +413,10 @@ module _ (P : Program) (start : ModelState) (at : ℕ) (plan : Plan) (plans : Li
   -- it is accepted
   first_accepted : (reply : Reply) → first.said ≡ Accepted reply → HasOne (Batches P start (at + 1) plans first.left)
       → HasOne (Batches P start at (plan ∷ plans) M)
-  first_accepted reply told others = record {
+  first_accepted reply reported others = record {
     said = others.said;
     left = others.left;
-    is = inl (reply, first.left, subst (λ (said : Said). Acts P plan M said first.left) told first.is, others.is);
+    is = inl (reply, first.left, subst (λ (said : Said). Acts P plan M said first.left) reported first.is, others.is);
     only = λ other after does.
         ⊎_elim
         (λ (goes : (again : Reply) × (between : ModelState) × Acts P plan M (Accepted again) between
@@ -426,28 +426,28 @@ module _ (P : Program) (start : ModelState) (at : ℕ) (plan : Plan) (plans : Li
         (first.only (Accepted goes.0) goes.1 goes.2).1 goes.3))
         (λ (ends : (refusal : Refusal) × Acts P plan M (Refused refusal) M
         × Refuses (InBatch at (refusal_number refusal)) start other after).
-        let wrong : Refused ends.0 ≡ Accepted reply = (first.only (Refused ends.0) M ends.1).0 ∙ told in cc) does;
+        let wrong : Refused ends.0 ≡ Accepted reply = (first.only (Refused ends.0) M ends.1).0 ∙ reported in cc) does;
   }
 
   -- it is refused
   first_refused : (refusal : Refusal) → first.said ≡ Refused refusal → first.left ≡ M → HasOne (Batches P start at (plan ∷ plans) M)
-  first_refused refusal told stays = record {
+  first_refused refusal reported stays = record {
     said = Refused (InBatch at (refusal_number refusal));
     left = start;
     is = inr (
       refusal,
       subst (λ (N : ModelState). Acts P plan M (Refused refusal) N) stays
-          (subst (λ (said : Said). Acts P plan M said first.left) told first.is),
+          (subst (λ (said : Said). Acts P plan M said first.left) reported first.is),
       (refl, refl),
     );
     only = λ other after does.
         ⊎_elim
         (λ (goes : (again : Reply) × (between : ModelState) × Acts P plan M (Accepted again) between
         × Batches P start (at + 1) plans between other after).
-        let wrong : Accepted goes.0 ≡ Refused refusal = (first.only (Accepted goes.0) goes.1 goes.2).0 ∙ told in cc)
+        let wrong : Accepted goes.0 ≡ Refused refusal = (first.only (Accepted goes.0) goes.1 goes.2).0 ∙ reported in cc)
         (λ (ends : (again : Refusal) × Acts P plan M (Refused again) M
         × Refuses (InBatch at (refusal_number again)) start other after).
-        let same : Refused ends.0 ≡ Refused refusal = (first.only (Refused ends.0) M ends.1).0 ∙ told in
+        let same : Refused ends.0 ≡ Refused refusal = (first.only (Refused ends.0) M ends.1).0 ∙ reported in
         let is : ends.0 ≡ refusal = cc in
         (ends.2.0 ∙ ap (λ (r : Refusal). Refused (InBatch at (refusal_number r))) is, ends.2.1)) does;
   }

@@ -38,31 +38,31 @@ first_step (Ok m) next d legal = (m, refl, legal)
 first_step (Err refusal) next d legal = cc
 
 -- a legal list continues legally after its first event, and conversely
-pub legal_behind : (P : Program) (c m d : Configuration) (e : Event) (E : List Event) → fire P c e.process e.choice ≡ Ok m
+pub legal_after : (P : Program) (c m d : Configuration) (e : Event) (E : List Event) → fire P c e.process e.choice ≡ Ok m
     → order_from P m E ≡ Ok d → order_from P c (e ∷ E) ≡ Ok d
-legal_behind P c m d e E fires legal = ap (λ (r : Result Configuration Refusal). and_then r (λ x. order_from P x E)) fires ∙ legal
+legal_after P c m d e E fires legal = ap (λ (r : Result Configuration Refusal). and_then r (λ x. order_from P x E)) fires ∙ legal
 
 pub legal_rest : (P : Program) (c m d : Configuration) (e : Event) (E : List Event) → fire P c e.process e.choice ≡ Ok m
     → order_from P c (e ∷ E) ≡ Ok d → order_from P m E ≡ Ok d
 legal_rest P c m d e E fires legal =
     sym (ap (λ (r : Result Configuration Refusal). and_then r (λ x. order_from P x E)) fires) ∙ legal
 
-swap_behind : (e : Event) (E F : List Event) → IsSwap E F → IsSwap (e ∷ E) (e ∷ F)
-swap_behind e E F s = record {
-  front = e ∷ s.front;
+swap_after : (e : Event) (E F : List Event) → IsSwap E F → IsSwap (e ∷ E) (e ∷ F)
+swap_after e E F s = record {
+  prefix = e ∷ s.prefix;
   one = s.one;
   other = s.other;
-  behind = s.behind;
+  beyond = s.beyond;
   before = ap (λ (X : List Event). e ∷ X) s.before;
   after = ap (λ (X : List Event). e ∷ X) s.after;
   apart = s.apart;
 }
 
-pub goes_behind : (P : Program) (c m : Configuration) (e : Event) (E F : List Event) → fire P c e.process e.choice ≡ Ok m
+pub goes_after : (P : Program) (c m : Configuration) (e : Event) (E F : List Event) → fire P c e.process e.choice ≡ Ok m
     → GoesOver P m E F → GoesOver P c (e ∷ E) (e ∷ F)
-goes_behind P c m e E F fires (Stays l) = Stays (l.0, legal_behind P c m l.0 e E fires l.1)
-goes_behind P c m e E F fires (Swaps {F = G} l swap goes) =
-    Swaps (l.0, legal_behind P c m l.0 e E fires l.1) (swap_behind e E G swap) (goes_behind P c m e G F fires goes)
+goes_after P c m e E F fires (Stays l) = Stays (l.0, legal_after P c m l.0 e E fires l.1)
+goes_after P c m e E F fires (Swaps {F = G} l swap goes) =
+    Swaps (l.0, legal_after P c m l.0 e E fires l.1) (swap_after e E G swap) (goes_after P c m e G F fires goes)
 
 pub goes_both : (P : Program) (c : Configuration) (E F G : List Event) → GoesOver P c E F → GoesOver P c F G → GoesOver P c E G
 goes_both P c E F G (Stays l) later = later
@@ -80,7 +80,7 @@ pub record Bubbled (P : Program) (c m d : Configuration) (H : History) (f : Even
 taken_here : (P : Program) (c m d : Configuration) (H : History) (e : Event) (rest left : List ℕ) (E : List Event)
     → order_from P c (e ∷ E) ≡ Ok d → get_or H e.process [] ≡ e.choice ∷ left → IsOrderOf (set H e.process left) E
     → get_or H e.process [] ≡ e.choice ∷ rest → fire P c e.process e.choice ≡ Ok m → Bubbled P c m d H e rest (e ∷ E)
-taken_here P c m d H e rest left E legal here order front fires =
+taken_here P c m d H e rest left E legal here order prefix fires =
     let same : left ≡ rest = cc in
     record {
       others = E;
@@ -93,31 +93,31 @@ taken_here P c m d H e rest left E legal here order front fires =
 taken_same : (P : Program) (c m d : Configuration) (H : History) (e f : Event) (rest left : List ℕ) (E : List Event) → e.process ≡ f.process
     → order_from P c (e ∷ E) ≡ Ok d → get_or H e.process [] ≡ e.choice ∷ left → IsOrderOf (set H e.process left) E
     → get_or H f.process [] ≡ f.choice ∷ rest → fire P c f.process f.choice ≡ Ok m → Bubbled P c m d H f rest (e ∷ E)
-taken_same P c m d H e f rest left E process legal here order front fires =
+taken_same P c m d H e f rest left E process legal here order prefix fires =
     let choice : e.choice ≡ f.choice = cc in
     let same : e ≡ f = (λ i. record { process = process i; choice = choice i }) in
     subst (λ (x : Event). get_or H x.process [] ≡ x.choice ∷ rest → fire P c x.process x.choice ≡ Ok m → Bubbled P c m d H x rest (e ∷ E))
-    same (λ x y. taken_here P c m d H e rest left E legal here order x y) front fires
+    same (λ x y. taken_here P c m d H e rest left E legal here order x y) prefix fires
 
 pub bubble : (P : Program) (c m d : Configuration) (H : History) (f : Event) (rest : List ℕ) (E : List Event) → order_from P c E ≡ Ok d
     → IsOrderOf H E → get_or H f.process [] ≡ f.choice ∷ rest → fire P c f.process f.choice ≡ Ok m → Bubbled P c m d H f rest E
-bubble P c m d H f rest [] legal order front fires =
+bubble P c m d H f rest [] legal order prefix fires =
     absurd (let none : get_or H f.process [] ≡ [] = none_left H f.process order in cc)
-bubble P c m d H f rest (e ∷ E) legal order front fires =
+bubble P c m d H f rest (e ∷ E) legal order prefix fires =
     ⊎_elim
-    (λ (same : e.process ≡ f.process). taken_same P c m d H e f rest order.0 E same legal order.1 order.2 front fires)
+    (λ (same : e.process ≡ f.process). taken_same P c m d H e f rest order.0 E same legal order.1 order.2 prefix fires)
     (λ (apart : e.process ≢ f.process).
     let back : f.process ≢ e.process = λ x. apart (sym x) in
     let step = first_step (fire P c e.process e.choice) (λ x. order_from P x E) d legal in
     let dia = diamond P c e.process e.choice f.process f.choice step.0 m apart step.1 fires in
     let left = order.0 in
     let deeper = bubble P step.0 dia.meet d (set H e.process left) f rest E step.2 order.2
-    (get_or-set_other H e.process f.process left [] back ∙ front) dia.one in
+    (get_or-set_other H e.process f.process left [] back ∙ prefix) dia.one in
     let legal_here : order_from P m (e ∷ deeper.others) ≡ Ok d =
-    legal_behind P m dia.meet d e deeper.others dia.other deeper.legal in
+    legal_after P m dia.meet d e deeper.others dia.other deeper.legal in
     let before : order_from P c (e ∷ f ∷ deeper.others) ≡ Ok d =
-    legal_behind P c step.0 d e (f ∷ deeper.others) step.1
-    (legal_behind P step.0 dia.meet d f deeper.others dia.one deeper.legal) in
+    legal_after P c step.0 d e (f ∷ deeper.others) step.1
+    (legal_after P step.0 dia.meet d f deeper.others dia.one deeper.legal) in
     record {
       others = e ∷ deeper.others;
       order = (
@@ -127,18 +127,18 @@ bubble P c m d H f rest (e ∷ E) legal order front fires =
       );
       legal = legal_here;
       swaps = goes_both P c (e ∷ E) (e ∷ f ∷ deeper.others) (f ∷ e ∷ deeper.others)
-          (goes_behind P c step.0 e E (f ∷ deeper.others) step.1 deeper.swaps)
+          (goes_after P c step.0 e E (f ∷ deeper.others) step.1 deeper.swaps)
           (Swaps (d, before)
           (record {
-            front = [];
+            prefix = [];
             one = e;
             other = f;
-            behind = deeper.others;
+            beyond = deeper.others;
             before = refl;
             after = refl;
             apart = apart;
           })
-          (Stays (d, legal_behind P c m d f (e ∷ deeper.others) fires legal_here)));
+          (Stays (d, legal_after P c m d f (e ∷ deeper.others) fires legal_here)));
       shorter = ap (λ (n : ℕ). suc n) deeper.shorter;
     })
     (cases_eq e.process f.process)
@@ -154,7 +154,7 @@ joined P c d b H E (f ∷ F) legal other order later =
     let step = first_step (fire P c f.process f.choice) (λ x. order_from P x F) b other in
     let first = bubble P c step.0 d H f later.0 E legal order later.1 step.1 in
     goes_both P c E (f ∷ first.others) (f ∷ F) first.swaps
-    (goes_behind P c step.0 f first.others F step.1
+    (goes_after P c step.0 f first.others F step.1
     (joined P step.0 d b (set H f.process later.0) first.others F first.legal step.2 first.order later.2))
 
 -- The history of a legal list, with one more choice.

@@ -11,7 +11,7 @@ use Rattle.dbg_base.specs.Histories.{choice_count, progress_of, play, IsPossible
 use Rattle.dbg_base.specs.Orders.{Event, order_from, order, states_then, states_from, states_of, IsLegalFrom, IsSwap, GoesOver, Stays}
 use Rattle.dbg_base.specs.Orders.{Swaps, with_state_of}
 use Rattle.dbg_base.specs.LocalStates.{LocalState}
-use Rattle.dbg_laws.proofs.OrderSwapLemmas.{IsEmpty, IsOrderOf, first_step, legal_behind, bubble, joined}
+use Rattle.dbg_laws.proofs.OrderSwapLemmas.{IsEmpty, IsOrderOf, first_step, legal_after, bubble, joined}
 use Rattle.dbg_laws.proofs.Moves.{diamond, kept_state}
 use Rattle.dbg_laws.proofs.Lists.{push, pushes_swap}
 
@@ -25,20 +25,20 @@ pub record Found (P : Program) (from : Progress) (first : ℕ) (H : History) (to
   pub rest : List ℕ
   pub reached : Configuration
   pub place : process ≡ first + offset
-  pub front : get_or H offset [] ≡ choice ∷ rest
+  pub prefix : get_or H offset [] ≡ choice ∷ rest
   pub fires : fire P from.configuration process choice ≡ Ok reached
   pub leads : to ≡ moved from process rest reached
 
-found_behind : (P : Program) (from : Progress) (first : ℕ) (choices : List ℕ) (H : History) (to : Progress)
+found_after : (P : Program) (from : Progress) (first : ℕ) (choices : List ℕ) (H : History) (to : Progress)
     → Found P from (first + 1) H to → Found P from first (choices ∷ H) to
-found_behind P from first choices H to f = record {
+found_after P from first choices H to f = record {
   offset = suc f.offset;
   process = f.process;
   choice = f.choice;
   rest = f.rest;
   reached = f.reached;
   place = omega (arith, f.place);
-  front = f.front;
+  prefix = f.prefix;
   fires = f.fires;
   leads = f.leads;
 }
@@ -53,16 +53,16 @@ found_by P from first k rest H to (Ok c) fires e later = record {
   rest = rest;
   reached = c;
   place = omega arith;
-  front = refl;
+  prefix = refl;
   fires = fires;
   leads = cc;
 }
-found_by P from first k rest H to (Err refusal) fires e later = found_behind P from first (k ∷ rest) H to (later e)
+found_by P from first k rest H to (Err refusal) fires e later = found_after P from first (k ∷ rest) H to (later e)
 
 pub found : (P : Program) (from : Progress) (first : ℕ) (H : History) (to : Progress) → move_from P from first H ≡ Some to
     → Found P from first H to
 found P from first [] to e = cc
-found P from first ([] ∷ H) to e = found_behind P from first [] H to (found P from (first + 1) H to e)
+found P from first ([] ∷ H) to e = found_after P from first [] H to (found P from (first + 1) H to e)
 found P from first ((k ∷ rest) ∷ H) to e =
     found_by P from first k rest H to (fire P from.configuration first k) refl e (λ x. found P from (first + 1) H to x)
 
@@ -77,24 +77,24 @@ moves_by : (P : Program) (from : Progress) (first i k l : ℕ) (rest left : List
     → fire P from.configuration (first + i) k ≡ Ok m → first_move r from first left (move_from P from (first + 1) H) ≡ None
     → ((j : ℕ) → get_or H j [] ≡ k ∷ rest → fire P from.configuration (first + 1 + j) k ≡ Ok m → move_from P from (first + 1) H ≡ None → ⊥)
     → ⊥
-moves_by P from first i k l rest left H m (Ok c) here front fires none later = cc
-moves_by P from first zero k l rest left H m (Err refusal) here front fires none later =
+moves_by P from first i k l rest left H m (Ok c) here prefix fires none later = cc
+moves_by P from first zero k l rest left H m (Err refusal) here prefix fires none later =
     let place : first + 0 ≡ first = omega arith in
     let there : fire P from.configuration first k ≡ Ok m = subst (λ (p : ℕ). fire P from.configuration p k ≡ Ok m) place fires in
     let same : k ≡ l = cc in
     let both : fire P from.configuration first l ≡ Ok m = subst (λ (x : ℕ). fire P from.configuration first x ≡ Ok m) same there in
     cc
-moves_by P from first (suc i) k l rest left H m (Err refusal) here front fires none later =
-    later i front (fires_later P from.configuration m first i k fires) none
+moves_by P from first (suc i) k l rest left H m (Err refusal) here prefix fires none later =
+    later i prefix (fires_later P from.configuration m first i k fires) none
 
 pub moves : (P : Program) (from : Progress) (first : ℕ) (H : History) (i k : ℕ) (rest : List ℕ) (m : Configuration)
     → get_or H i [] ≡ k ∷ rest → fire P from.configuration (first + i) k ≡ Ok m → move_from P from first H ≡ None → ⊥
-moves P from first [] i k rest m front fires none = cc
-moves P from first ([] ∷ H) zero k rest m front fires none = cc
-moves P from first ([] ∷ H) (suc i) k rest m front fires none =
-    moves P from (first + 1) H i k rest m front (fires_later P from.configuration m first i k fires) none
-moves P from first ((l ∷ left) ∷ H) i k rest m front fires none =
-    moves_by P from first i k l rest left H m (fire P from.configuration first l) refl front fires none
+moves P from first [] i k rest m prefix fires none = cc
+moves P from first ([] ∷ H) zero k rest m prefix fires none = cc
+moves P from first ([] ∷ H) (suc i) k rest m prefix fires none =
+    moves P from (first + 1) H i k rest m prefix (fires_later P from.configuration m first i k fires) none
+moves P from first ((l ∷ left) ∷ H) i k rest m prefix fires none =
+    moves_by P from first i k l rest left H m (fire P from.configuration first l) refl prefix fires none
     (λ j x y z. moves P from (first + 1) H j k rest m x y z)
 
 -- one more move before the others
@@ -118,10 +118,10 @@ played_by n P from d e E None next size legal order later =
 played_by n P from d e E (Some to) next size legal order later =
     let f = found P from 0 from.unplayed to next in
     let place : f.offset ≡ f.process = omega (arith, f.place) in
-    let front : get_or from.unplayed f.process [] ≡ f.choice ∷ f.rest =
-    subst (λ (p : ℕ). get_or from.unplayed p [] ≡ f.choice ∷ f.rest) place f.front in
+    let prefix : get_or from.unplayed f.process [] ≡ f.choice ∷ f.rest =
+    subst (λ (p : ℕ). get_or from.unplayed p [] ≡ f.choice ∷ f.rest) place f.prefix in
     let first = bubble P from.configuration f.reached d from.unplayed (record { process = f.process; choice = f.choice }) f.rest (e ∷ E)
-    legal order front f.fires in
+    legal order prefix f.fires in
     let size_there : length first.others ≡ n = omega (arith, first.shorter) in
     let rest = later (moved from f.process f.rest f.reached) first.others size_there first.legal first.order in
     let move = one_move n P from (moved from f.process f.rest f.reached) (Some to) next (ap (λ (x : Progress). Some x) f.leads) in
@@ -147,12 +147,12 @@ empty_count (choices ∷ H) empty =
     omega arith
 
 count_without : (H : History) (p k : ℕ) (rest : List ℕ) → get_or H p [] ≡ k ∷ rest → choice_count H ≡ suc (choice_count (set H p rest))
-count_without [] p k rest front = cc
-count_without (choices ∷ H) zero k rest front =
-    let one : length choices ≡ suc (length rest) = ap (λ (x : List ℕ). length x) front in
+count_without [] p k rest prefix = cc
+count_without (choices ∷ H) zero k rest prefix =
+    let one : length choices ≡ suc (length rest) = ap (λ (x : List ℕ). length x) prefix in
     omega arith
-count_without (choices ∷ H) (suc p) k rest front =
-    let one : choice_count H ≡ suc (choice_count (set H p rest)) = count_without H p k rest front in
+count_without (choices ∷ H) (suc p) k rest prefix =
+    let one : choice_count H ≡ suc (choice_count (set H p rest)) = count_without H p k rest prefix in
     omega arith
 
 pub counted : (H : History) (E : List Event) → IsOrderOf H E → choice_count H ≡ length E
@@ -175,12 +175,12 @@ pub record Listing (P : Program) (from to : Progress) : Type 0 where
   pub legal : order_from P from.configuration events ≡ Ok to.configuration
   pub states : states_from P from.configuration from.states events ≡ to.states
 
-listing_behind : (P : Program) (from to : Progress) (p k : ℕ) (rest : List ℕ) (m : Configuration) → get_or from.unplayed p [] ≡ k ∷ rest
+listing_after : (P : Program) (from to : Progress) (p k : ℕ) (rest : List ℕ) (m : Configuration) → get_or from.unplayed p [] ≡ k ∷ rest
     → fire P from.configuration p k ≡ Ok m → Listing P (moved from p rest m) to → Listing P from to
-listing_behind P from to p k rest m front fires l = record {
+listing_after P from to p k rest m prefix fires l = record {
   events = record { process = p; choice = k } ∷ l.events;
-  order = (rest, front, l.order);
-  legal = legal_behind P from.configuration m to.configuration (record { process = p; choice = k }) l.events fires l.legal;
+  order = (rest, prefix, l.order);
+  legal = legal_after P from.configuration m to.configuration (record { process = p; choice = k }) l.events fires l.legal;
   states =
       ap (λ (r : Result Configuration Refusal). states_then r from.states p (λ d later. states_from P d later l.events)) fires ∙ l.states;
 }
@@ -193,8 +193,8 @@ listing_by n P from None next empty later = record { events = []; order = empty;
 listing_by n P from (Some to) next empty later =
     let f = found P from 0 from.unplayed to next in
     let place : f.offset ≡ f.process = omega (arith, f.place) in
-    listing_behind P from (play_moves n P to) f.process f.choice f.rest f.reached
-    (subst (λ (p : ℕ). get_or from.unplayed p [] ≡ f.choice ∷ f.rest) place f.front) f.fires
+    listing_after P from (play_moves n P to) f.process f.choice f.rest f.reached
+    (subst (λ (p : ℕ). get_or from.unplayed p [] ≡ f.choice ∷ f.rest) place f.prefix) f.fires
     (subst (λ (x : Progress). Listing P x (play_moves n P to)) f.leads (later to empty))
 
 pub lists : (n : ℕ) (P : Program) (from : Progress) → IsEmpty (play_moves n P from).unplayed → Listing P from (play_moves n P from)
@@ -241,26 +241,26 @@ module _ {A : Type 0} (P : Program) (mark : Configuration → Event → A)
       ∙ sym (step b h (push lists f.process (mark c f)) e E later)
       ∙ sym (step c b lists f (e ∷ E) other)
 
-  marks_swap_behind : (c d b : Configuration) (lists : List (List A)) (front : List Event) (e f : Event) (E : List Event)
-      → e.process ≢ f.process → order_from P c (front ++ e ∷ f ∷ E) ≡ Ok d → order_from P c (front ++ f ∷ e ∷ E) ≡ Ok b
-      → from c lists (front ++ e ∷ f ∷ E) ≡ from c lists (front ++ f ∷ e ∷ E)
-  marks_swap_behind c d b lists [] e f E apart legal other =
+  marks_swap_after : (c d b : Configuration) (lists : List (List A)) (prefix : List Event) (e f : Event) (E : List Event)
+      → e.process ≢ f.process → order_from P c (prefix ++ e ∷ f ∷ E) ≡ Ok d → order_from P c (prefix ++ f ∷ e ∷ E) ≡ Ok b
+      → from c lists (prefix ++ e ∷ f ∷ E) ≡ from c lists (prefix ++ f ∷ e ∷ E)
+  marks_swap_after c d b lists [] e f E apart legal other =
       let first = first_step (fire P c e.process e.choice) (λ x. order_from P x (f ∷ E)) d legal in
       let second = first_step (fire P first.0 f.process f.choice) (λ x. order_from P x E) d first.2 in
       let third = first_step (fire P c f.process f.choice) (λ x. order_from P x (e ∷ E)) b other in
       let fourth = first_step (fire P third.0 e.process e.choice) (λ x. order_from P x E) b third.2 in
       marks_swap c lists e f E first.0 third.0 second.0 fourth.0 apart first.1 second.1 third.1 fourth.1
-  marks_swap_behind c d b lists (x ∷ front) e f E apart legal other =
-      let first = first_step (fire P c x.process x.choice) (λ y. order_from P y (front ++ e ∷ f ∷ E)) d legal in
-      let second = first_step (fire P c x.process x.choice) (λ y. order_from P y (front ++ f ∷ e ∷ E)) b other in
+  marks_swap_after c d b lists (x ∷ prefix) e f E apart legal other =
+      let first = first_step (fire P c x.process x.choice) (λ y. order_from P y (prefix ++ e ∷ f ∷ E)) d legal in
+      let second = first_step (fire P c x.process x.choice) (λ y. order_from P y (prefix ++ f ∷ e ∷ E)) b other in
       let first_is = first.1 in
       let second_is = second.1 in
       let same : second.0 ≡ first.0 = cc in
-      let there : order_from P first.0 (front ++ f ∷ e ∷ E) ≡ Ok b =
-      subst (λ (y : Configuration). order_from P y (front ++ f ∷ e ∷ E) ≡ Ok b) same second.2 in
-      step c first.0 lists x (front ++ e ∷ f ∷ E) first.1
-      ∙ marks_swap_behind first.0 d b (push lists x.process (mark c x)) front e f E apart first.2 there
-      ∙ sym (step c first.0 lists x (front ++ f ∷ e ∷ E) first.1)
+      let there : order_from P first.0 (prefix ++ f ∷ e ∷ E) ≡ Ok b =
+      subst (λ (y : Configuration). order_from P y (prefix ++ f ∷ e ∷ E) ≡ Ok b) same second.2 in
+      step c first.0 lists x (prefix ++ e ∷ f ∷ E) first.1
+      ∙ marks_swap_after first.0 d b (push lists x.process (mark c x)) prefix e f E apart first.2 there
+      ∙ sym (step c first.0 lists x (prefix ++ f ∷ e ∷ E) first.1)
 
   goes_legal : (c : Configuration) (E F : List Event) → GoesOver P c E F → IsLegalFrom P c E
   goes_legal c E F (Stays l) = l
@@ -270,7 +270,7 @@ module _ {A : Type 0} (P : Program) (mark : Configuration → Event → A)
       → from c lists E ≡ from c lists F
   one_swap c lists E F swap legal other =
       ap (λ (X : List Event). from c lists X) swap.before
-      ∙ marks_swap_behind c legal.0 other.0 lists swap.front swap.one swap.other swap.behind swap.apart
+      ∙ marks_swap_after c legal.0 other.0 lists swap.prefix swap.one swap.other swap.beyond swap.apart
       (subst (λ (X : List Event). order_from P c X ≡ Ok legal.0) swap.before legal.1)
       (subst (λ (X : List Event). order_from P c X ≡ Ok other.0) swap.after other.1)
       ∙ ap (λ (X : List Event). from c lists X) (sym swap.after)
@@ -283,13 +283,13 @@ module _ {A : Type 0} (P : Program) (mark : Configuration → Event → A)
 -- The local states on the way are the same in each order.
 
 -- the configuration to which an event led, or c if it did not fire
-abbrev behind : Configuration → Result Configuration Refusal → Configuration
-behind c (Ok d) = d
-behind c (Err refusal) = c
+abbrev beyond : Configuration → Result Configuration Refusal → Configuration
+beyond c (Ok d) = d
+beyond c (Err refusal) = c
 
 -- the local state of its process after an event
 abbrev mark : Program → Configuration → Event → LocalState
-mark P c e = state_in (behind c (fire P c e.process e.choice)) e.process
+mark P c e = state_in (beyond c (fire P c e.process e.choice)) e.process
 
 -- one event
 pub states_step : (P : Program) (c d : Configuration) (states : List (List LocalState)) (e : Event) (E : List Event)
@@ -298,7 +298,7 @@ states_step P c d states e E fires =
     ap (λ (r : Result Configuration Refusal). states_then r states e.process (λ x later. states_from P x later E)) fires
 
 marked : (P : Program) (c d : Configuration) (e : Event) → fire P c e.process e.choice ≡ Ok d → mark P c e ≡ state_in d e.process
-marked P c d e fires = ap (λ (r : Result Configuration Refusal). state_in (behind c r) e.process) fires
+marked P c d e fires = ap (λ (r : Result Configuration Refusal). state_in (beyond c r) e.process) fires
 
 step : (P : Program) (c d : Configuration) (states : List (List LocalState)) (e : Event) (E : List Event)
     → fire P c e.process e.choice ≡ Ok d → states_from P c states (e ∷ E) ≡ states_from P d (push states e.process (mark P c e)) E

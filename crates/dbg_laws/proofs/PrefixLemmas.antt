@@ -11,7 +11,7 @@ use Rattle.dbg_base.specs.Configurations.{Configuration, start_of, state_in}
 use Rattle.dbg_base.specs.Firing.{fire}
 use Rattle.dbg_base.specs.Histories.{History, IsPossible, play, progress_of, local_state}
 use Rattle.dbg_base.specs.Orders.{Event, order_from, order, with_last, states_from, states_of, with_state_of}
-use Rattle.dbg_laws.proofs.OrderSwapLemmas.{IsEmpty, IsOrderOf, none_left, first_step, legal_behind, bubble}
+use Rattle.dbg_laws.proofs.OrderSwapLemmas.{IsEmpty, IsOrderOf, none_left, first_step, legal_after, bubble}
 use Rattle.dbg_laws.proofs.PlayLemmas.{possible, listed, states_step, same_states}
 use Rattle.dbg_laws.proofs.Lists.{push, push_same, push_other, set_push, push_set, push_set_other, length-push, none_in_replicate}
 use Rattle.dbg_laws.proofs.Moves.{kept_state}
@@ -26,28 +26,28 @@ order_both P c d b [] F first second =
     subst (λ (x : Configuration). order_from P x F ≡ Ok b) (sym same) second
 order_both P c d b (e ∷ E) F first second =
     let step = first_step (fire P c e.process e.choice) (λ x. order_from P x E) d first in
-    legal_behind P c step.0 b e (E ++ F) step.1 (order_both P step.0 d b E F step.2 second)
+    legal_after P c step.0 b e (E ++ F) step.1 (order_both P step.0 d b E F step.2 second)
 
 pub one_event : (P : Program) (c d : Configuration) (p k : ℕ) → fire P c p k ≡ Ok d
     → order_from P c (record { process = p; choice = k } ∷ []) ≡ Ok d
-one_event P c d p k fires = legal_behind P c d d (record { process = p; choice = k }) [] fires refl
+one_event P c d p k fires = legal_after P c d d (record { process = p; choice = k }) [] fires refl
 
 -- one more choice at the end of an order
 more_same : (H : History) (k : ℕ) (e : Event) (left : List ℕ) (E : List Event) → e.process < length H
     → get_or H e.process [] ≡ e.choice ∷ left → IsOrderOf (with_last (set H e.process left) e.process k) E
     → IsOrderOf (with_last H e.process k) (e ∷ E)
-more_same H k e left E within front rest = (
+more_same H k e left E within prefix rest = (
   left ++ k ∷ [],
-  push_same H e.process k within ∙ ap (λ (l : List ℕ). l ++ k ∷ []) front,
+  push_same H e.process k within ∙ ap (λ (l : List ℕ). l ++ k ∷ []) prefix,
   subst (λ (X : History). IsOrderOf X E)
       (push_set H e.process k left within ∙ sym (set_push H e.process k (left ++ k ∷ []))) rest,
 )
 
 more_other : (H : History) (p k : ℕ) (e : Event) (left : List ℕ) (E : List Event) → e.process ≢ p
     → get_or H e.process [] ≡ e.choice ∷ left → IsOrderOf (with_last (set H e.process left) p k) E → IsOrderOf (with_last H p k) (e ∷ E)
-more_other H p k e left E apart front rest = (
+more_other H p k e left E apart prefix rest = (
   left,
-  push_other H p e.process k apart ∙ front,
+  push_other H p e.process k apart ∙ prefix,
   subst (λ (X : History). IsOrderOf X E) (push_set_other H p e.process k left apart) rest,
 )
 
@@ -107,14 +107,14 @@ states_more P H p k d all within fires =
     ∙ ap (λ (s : List (List LocalState)). push s p (state_in d p)) l.states
 
 -- the n-th local state of process p exists, and is its local state at c
-pub record StandsAt (states : List (List LocalState)) (p n : ℕ) (c : Configuration) : Type 0 where
+pub record IsStateAt (states : List (List LocalState)) (p n : ℕ) (c : Configuration) : Type 0 where
   pub there : p < length states
   pub size : length (get_or states p []) ≡ suc n
   pub last : get_or (get_or states p []) n no_state ≡ state_in c p
 
-stands_same : (states : List (List LocalState)) (p n : ℕ) (c d : Configuration) → StandsAt states p n c
-    → StandsAt (with_state_of states p d) p (suc n) d
-stands_same states p n c d s =
+state_is_same : (states : List (List LocalState)) (p n : ℕ) (c d : Configuration) → IsStateAt states p n c
+    → IsStateAt (with_state_of states p d) p (suc n) d
+state_is_same states p n c d s =
     let line = get_or states p [] in
     let more : get_or (with_state_of states p d) p [] ≡ line ++ state_in d p ∷ [] = push_same states p (state_in d p) s.there in
     record {
@@ -124,9 +124,9 @@ stands_same states p n c d s =
           ∙ get_or_push line (state_in d p) no_state (suc n) s.size;
     }
 
-stands_other : (states : List (List LocalState)) (p q n : ℕ) (c d : Configuration) → p ≢ q → state_in d p ≡ state_in c p
-    → StandsAt states p n c → StandsAt (with_state_of states q d) p n d
-stands_other states p q n c d apart kept s =
+state_is_other : (states : List (List LocalState)) (p q n : ℕ) (c d : Configuration) → p ≢ q → state_in d p ≡ state_in c p
+    → IsStateAt states p n c → IsStateAt (with_state_of states q d) p n d
+state_is_other states p q n c d apart kept s =
     let line : get_or (with_state_of states q d) p [] ≡ get_or states p [] = push_other states q p (state_in d q) apart in
     record {
       there = rw (length-push states q (state_in d q)) s.there;
@@ -135,15 +135,15 @@ stands_other states p q n c d apart kept s =
     }
 
 -- a process with a remaining choice exists
-pub front_within : (H : History) (p k : ℕ) (rest : List ℕ) → get_or H p [] ≡ k ∷ rest → p < length H
-front_within H p k rest front = grind (arith, get_or_past {X = List ℕ})
+pub prefix_within : (H : History) (p k : ℕ) (rest : List ℕ) → get_or H p [] ≡ k ∷ rest → p < length H
+prefix_within H p k rest prefix = grind (arith, get_or_past {X = List ℕ})
 
 left_same : (H : History) (q p k n : ℕ) (rest : List ℕ) → q ≡ p → get_or H q [] ≡ k ∷ rest
     → suc n + length (get_or (set H q rest) p []) ≡ n + length (get_or H p [])
-left_same H q p k n rest same front =
-    let now : get_or (set H q rest) q [] ≡ rest = get_or-set_same H q rest [] (front_within H q k rest front) in
+left_same H q p k n rest same prefix =
+    let now : get_or (set H q rest) q [] ≡ rest = get_or-set_same H q rest [] (prefix_within H q k rest prefix) in
     let size : length (get_or (set H q rest) q []) ≡ length rest = ap (λ (l : List ℕ). length l) now in
-    let before : length (get_or H q []) ≡ suc (length rest) = ap (λ (l : List ℕ). length l) front in
+    let before : length (get_or H q []) ≡ suc (length rest) = ap (λ (l : List ℕ). length l) prefix in
     let sum : suc n + length (get_or (set H q rest) q []) ≡ n + length (get_or H q []) = omega arith in
     subst (λ (x : ℕ). suc n + length (get_or (set H q rest) x []) ≡ n + length (get_or H x [])) same sum
 
@@ -152,37 +152,37 @@ left_other : (H : History) (q p n : ℕ) (rest : List ℕ) → q ≢ p
 left_other H q p n rest apart =
     ap (λ (l : List ℕ). n + length l) (get_or-set_other H q p rest [] (λ (x : p ≡ q). apart (sym x)))
 
-stands : (P : Program) (c d : Configuration) (states : List (List LocalState)) (H : History) (E : List Event) (p n : ℕ)
-    → order_from P c E ≡ Ok d → IsOrderOf H E → StandsAt states p n c
-    → StandsAt (states_from P c states E) p (n + length (get_or H p [])) d
-stands P c d states H [] p n legal empty s =
+state_is_there : (P : Program) (c d : Configuration) (states : List (List LocalState)) (H : History) (E : List Event) (p n : ℕ)
+    → order_from P c E ≡ Ok d → IsOrderOf H E → IsStateAt states p n c
+    → IsStateAt (states_from P c states E) p (n + length (get_or H p [])) d
+state_is_there P c d states H [] p n legal empty s =
     let none : length (get_or H p []) ≡ 0 = ap (λ (l : List ℕ). length l) (none_left H p empty) in
     let same : n ≡ n + length (get_or H p []) = omega arith in
     let here : c ≡ d = cc in
-    subst (λ (x : Configuration). StandsAt states p (n + length (get_or H p [])) x) here (subst (λ (m : ℕ). StandsAt states p m c) same s)
-stands P c d states H (e ∷ E) p n legal takes s =
+    subst (λ (x : Configuration). IsStateAt states p (n + length (get_or H p [])) x) here (subst (λ (m : ℕ). IsStateAt states p m c) same s)
+state_is_there P c d states H (e ∷ E) p n legal takes s =
     let step = first_step (fire P c e.process e.choice) (λ x. order_from P x E) d legal in
     let after = set H e.process takes.0 in
-    let later = λ (m : ℕ) (t : StandsAt (with_state_of states e.process step.0) p m step.0).
-    stands P step.0 d (with_state_of states e.process step.0) after E p m step.2 takes.2 t in
-    subst (λ (x : List (List LocalState)). StandsAt x p (n + length (get_or H p [])) d)
+    let later = λ (m : ℕ) (t : IsStateAt (with_state_of states e.process step.0) p m step.0).
+    state_is_there P step.0 d (with_state_of states e.process step.0) after E p m step.2 takes.2 t in
+    subst (λ (x : List (List LocalState)). IsStateAt x p (n + length (get_or H p [])) d)
     (sym (states_step P c step.0 states e E step.1))
     (⊎_elim
     (λ (same : e.process ≡ p).
     let size : suc n + length (get_or after p []) ≡ n + length (get_or H p []) =
     left_same H e.process p e.choice n takes.0 same takes.1 in
-    subst (λ (m : ℕ). StandsAt (states_from P step.0 (with_state_of states e.process step.0) E) p m d) size
-    (later (suc n) (subst (λ (x : ℕ). StandsAt (with_state_of states x step.0) p (suc n) step.0) (sym same)
-    (stands_same states p n c step.0 s))))
+    subst (λ (m : ℕ). IsStateAt (states_from P step.0 (with_state_of states e.process step.0) E) p m d) size
+    (later (suc n) (subst (λ (x : ℕ). IsStateAt (with_state_of states x step.0) p (suc n) step.0) (sym same)
+    (state_is_same states p n c step.0 s))))
     (λ (apart : e.process ≢ p).
     let size : n + length (get_or after p []) ≡ n + length (get_or H p []) =
     left_other H e.process p n takes.0 apart in
-    subst (λ (m : ℕ). StandsAt (states_from P step.0 (with_state_of states e.process step.0) E) p m d) size
-    (later n (stands_other states p e.process n c step.0 (λ (x : p ≡ e.process). apart (sym x))
+    subst (λ (m : ℕ). IsStateAt (states_from P step.0 (with_state_of states e.process step.0) E) p m d) size
+    (later n (state_is_other states p e.process n c step.0 (λ (x : p ≡ e.process). apart (sym x))
     (kept_state P c step.0 e.process e.choice p apart step.1) s)))
     (cases_eq e.process p))
 
-starts : (P : Program) (p : ℕ) → p < length P → StandsAt (map (λ state. state ∷ []) (start_of P).states) p 0 (start_of P)
+starts : (P : Program) (p : ℕ) → p < length P → IsStateAt (map (λ state. state ∷ []) (start_of P).states) p 0 (start_of P)
 starts P p within =
     let start = (start_of P).states in
     let here : p < length start = rw (length-map P (start_among (length P))) within in
@@ -195,19 +195,19 @@ starts P p within =
     }
 
 -- in the play of a possible history each process makes all its choices, and its last local state is that of the play
-pub last_stands : (P : Program) (H : History) (p : ℕ) → IsPossible P H → p < length P
-    → StandsAt (progress_of P H).states p (length (get_or H p [])) (play P H)
-last_stands P H p all within =
+pub last_is_there : (P : Program) (H : History) (p : ℕ) → IsPossible P H → p < length P
+    → IsStateAt (progress_of P H).states p (length (get_or H p [])) (play P H)
+last_is_there P H p all within =
     let l = listed P H all in
     let opening = map (λ (state : LocalState). state ∷ []) (start_of P).states in
-    let s = stands P (start_of P) (play P H) opening H l.events p 0 l.legal l.takes (starts P p within) in
+    let s = state_is_there P (start_of P) (play P H) opening H l.events p 0 l.legal l.takes (starts P p within) in
     let size : 0 + length (get_or H p []) ≡ length (get_or H p []) = omega arith in
-    subst (λ (x : List (List LocalState)). StandsAt x p (length (get_or H p [])) (play P H)) l.states
-    (subst (λ (m : ℕ). StandsAt (states_of P l.events) p m (play P H)) size s)
+    subst (λ (x : List (List LocalState)). IsStateAt x p (length (get_or H p [])) (play P H)) l.states
+    (subst (λ (m : ℕ). IsStateAt (states_of P l.events) p m (play P H)) size s)
 
 pub last_state : (P : Program) (H : History) (p : ℕ) → IsPossible P H → p < length P
     → local_state P H p (length (get_or H p [])) ≡ state_in (play P H) p
-last_state P H p all within = (last_stands P H p all within).last
+last_state P H p all within = (last_is_there P H p all within).last
 
 -- earlier local states stay when one more choice is made
 pub local_kept : (P : Program) (H : History) (p k q n : ℕ) (d : Configuration) → IsPossible P H → p < length H
@@ -215,7 +215,7 @@ pub local_kept : (P : Program) (H : History) (p k q n : ℕ) (d : Configuration)
     → local_state P (with_last H p k) q n ≡ local_state P H q n
 local_kept P H p k q n d all within fires there few =
     let states = (progress_of P H).states in
-    let s = last_stands P H q all there in
+    let s = last_is_there P H q all there in
     ap (λ (x : List (List LocalState)). get_or (get_or x q []) n no_state) (states_more P H p k d all within fires)
     ∙ ⊎_elim
     (λ (same : q ≡ p).
@@ -253,38 +253,38 @@ extends P c d b H R E (f ∷ F) legal takes other leaves =
     extends P step.0 d b (set H f.process leaves.0) R first.others F first.legal first.order step.2 leaves.2
 
 -- each line of H is a line of the prefix followed by a line of the rest
-pub record IsSplit (H front rest : History) : Type 0 where
+pub record IsSplit (H prefix rest : History) : Type 0 where
   pub size : length H ≡ length rest
-  pub lines : (q : ℕ) → get_or H q [] ≡ get_or front q [] ++ get_or rest q []
+  pub lines : (q : ℕ) → get_or H q [] ≡ get_or prefix q [] ++ get_or rest q []
 
-pub split_behind : (H front rest : History) (p k : ℕ) (left : List ℕ) → get_or front p [] ≡ k ∷ left → p < length H → IsSplit H front rest
-    → IsSplit (set H p (left ++ get_or rest p [])) (set front p left) rest
-split_behind H front rest p k left e within s = record {
+pub split_after : (H prefix rest : History) (p k : ℕ) (left : List ℕ) → get_or prefix p [] ≡ k ∷ left → p < length H → IsSplit H prefix rest
+    → IsSplit (set H p (left ++ get_or rest p [])) (set prefix p left) rest
+split_after H prefix rest p k left e within s = record {
   size = length-set H p (left ++ get_or rest p []) ∙ s.size;
   lines = λ q. ⊎_elim
       (λ (same : p ≡ q). subst
-      (λ (x : ℕ). get_or (set H p (left ++ get_or rest p [])) x [] ≡ get_or (set front p left) x [] ++ get_or rest x []) same
+      (λ (x : ℕ). get_or (set H p (left ++ get_or rest p [])) x [] ≡ get_or (set prefix p left) x [] ++ get_or rest x []) same
       (get_or-set_same H p (left ++ get_or rest p []) [] within
-      ∙ ap (λ (l : List ℕ). l ++ get_or rest p []) (sym (get_or-set_same front p left [] (front_within front p k left e)))))
+      ∙ ap (λ (l : List ℕ). l ++ get_or rest p []) (sym (get_or-set_same prefix p left [] (prefix_within prefix p k left e)))))
       (λ (apart : p ≢ q).
       let back : q ≢ p = λ x. apart (sym x) in
       get_or-set_other H p q (left ++ get_or rest p []) [] back
       ∙ s.lines q
-      ∙ ap (λ (l : List ℕ). l ++ get_or rest q []) (sym (get_or-set_other front p q left [] back)))
+      ∙ ap (λ (l : List ℕ). l ++ get_or rest q []) (sym (get_or-set_other prefix p q left [] back)))
       (cases_eq p q);
 }
 
-pub leaves : (H front rest : History) (F : List Event) → IsOrderOf front F → IsSplit H front rest → Leaves H F rest
-leaves H front rest [] empty s =
-    ext_get_or [] H rest s.size (λ q within. s.lines q ∙ ap (λ (l : List ℕ). l ++ get_or rest q []) (none_left front q empty))
-leaves H front rest (f ∷ F) takes s =
+pub leaves : (H prefix rest : History) (F : List Event) → IsOrderOf prefix F → IsSplit H prefix rest → Leaves H F rest
+leaves H prefix rest [] empty s =
+    ext_get_or [] H rest s.size (λ q within. s.lines q ∙ ap (λ (l : List ℕ). l ++ get_or rest q []) (none_left prefix q empty))
+leaves H prefix rest (f ∷ F) takes s =
     let there : get_or H f.process [] ≡ f.choice ∷ (takes.0 ++ get_or rest f.process []) =
     s.lines f.process ∙ ap (λ (l : List ℕ). l ++ get_or rest f.process []) takes.1 in (
       takes.0 ++ get_or rest f.process [],
       there,
-      leaves (set H f.process (takes.0 ++ get_or rest f.process [])) (set front f.process takes.0) rest F takes.2
-          (split_behind H front rest f.process f.choice takes.0 takes.1
-          (front_within H f.process f.choice (takes.0 ++ get_or rest f.process []) there) s),
+      leaves (set H f.process (takes.0 ++ get_or rest f.process [])) (set prefix f.process takes.0) rest F takes.2
+          (split_after H prefix rest f.process f.choice takes.0 takes.1
+          (prefix_within H f.process f.choice (takes.0 ++ get_or rest f.process []) there) s),
     )
 
 -- one choice alone
@@ -321,8 +321,8 @@ nothing_left : (P : Program) (m d : Configuration) (H : History) (E : List Event
 nothing_left P m d H [] none legal takes = cc
 nothing_left P m d H (e ∷ E) none legal takes = absurd (let empty = none e.process in let some = takes.1 in cc)
 
-none_behind : (n p q k : ℕ) → p < n → get_or (set (alone n p k) p []) q [] ≡ []
-none_behind n p q k within =
+none_after : (n p q k : ℕ) → p < n → get_or (set (alone n p k) p []) q [] ≡ []
+none_after n p q k within =
     ⊎_elim
     (λ (same : p ≡ q). subst (λ (x : ℕ). get_or (set (alone n p k) p []) x [] ≡ []) same
     (get_or-set_same (alone n p k) p [] [] (rw (length-set (no_choices n) p (k ∷ []), length-replicate {A = List ℕ} n []) within)))
@@ -335,12 +335,12 @@ none_behind n p q k within =
 alone_here : (P : Program) (b m d : Configuration) (n p k q l : ℕ) (rest : List ℕ) (E : List Event) → p < n → q ≡ p
     → get_or (alone n p k) q [] ≡ l ∷ rest → fire P b q l ≡ Ok m → order_from P m E ≡ Ok d
     → IsOrderOf (set (alone n p k) q rest) E → fire P b p k ≡ Ok d
-alone_here P b m d n p k q l rest E within same front fires legal takes =
+alone_here P b m d n p k q l rest E within same prefix fires legal takes =
     let some = alone_same n p k within in
-    let here : get_or (alone n p k) p [] ≡ l ∷ rest = subst (λ (x : ℕ). get_or (alone n p k) x [] ≡ l ∷ rest) same front in
+    let here : get_or (alone n p k) p [] ≡ l ∷ rest = subst (λ (x : ℕ). get_or (alone n p k) x [] ≡ l ∷ rest) same prefix in
     let choice : l ≡ k = cc in
     let none : rest ≡ [] = cc in
-    let last : m ≡ d = nothing_left P m d (set (alone n p k) p []) E (λ x. none_behind n p x k within) legal
+    let last : m ≡ d = nothing_left P m d (set (alone n p k) p []) E (λ x. none_after n p x k within) legal
     (subst (λ (x : ℕ). IsOrderOf (set (alone n p k) x []) E) same
     (subst (λ (l : List ℕ). IsOrderOf (set (alone n p k) q l) E) none takes)) in
     subst (λ (x : ℕ). fire P b x k ≡ Ok d) same

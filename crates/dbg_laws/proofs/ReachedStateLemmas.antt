@@ -82,14 +82,14 @@ lowest b (command ∷ commands) c p k e = by (fire_command command c p) (lowest 
         let same : b ≡ k = cc in
         record { at = 0; is = omega (arith, same); command = command; there = refl; left = d; fires = fires }
     by (Err refusal) others fires e =
-        let behind = others e in
+        let beyond = others e in
         record {
-          at = suc behind.at;
-          is = omega (arith, behind.is);
-          command = behind.command;
-          there = behind.there;
-          left = behind.left;
-          fires = behind.fires;
+          at = suc beyond.at;
+          is = omega (arith, beyond.is);
+          command = beyond.command;
+          there = beyond.there;
+          left = beyond.left;
+          fires = beyond.fires;
         }
 
 next_fires : (P : Program) (M : SystemState) (p j : ℕ) → next_choice P M p ≡ Ok j
@@ -210,15 +210,15 @@ pub record Leaves (P : Program) (M : ModelState) (said : Said) (M' : ModelState)
 module _ (P : Program) (M : ModelState) (reached : IsReached P M.system) where
   module _ (said : Said) (M' : ModelState) where
     refused : (refusal : Refusal) → Refuses refusal M said M' → Leaves P M said M'
-    refused refusal told = record {
-      reached = subst (λ (N : ModelState). IsReached P N.system) (sym told.1) reached;
-      settled = inr (refusal, told.0, told.1);
+    refused refusal reported = record {
+      reached = subst (λ (N : ModelState). IsReached P N.system) (sym reported.1) reached;
+      settled = inr (refusal, reported.0, reported.1);
     }
 
     accepted : (done : Done) (N : ModelState) → IsReached P N.system → Accepts P done said M' → M' ≡ N → Leaves P M said M'
-    accepted done N is told left = record {
+    accepted done N is reported left = record {
       reached = subst (λ (K : ModelState). IsReached P K.system) (sym left) is;
-      settled = inl (_, told.told);
+      settled = inl (_, reported.reported);
     }
 
     either : {A B : Type 0} (t : Bool) → (t ≡ true → A → Leaves P M said M') → (t ≡ false → B → Leaves P M said M') → MatchBool t A B
@@ -237,16 +237,16 @@ module _ (P : Program) (M : ModelState) (reached : IsReached P M.system) where
     with_break (Some b) Does does = does b
 
     lists : (breakpoints : List Breakpoint) → Lists P breakpoints M said M' → Leaves P M said M'
-    lists breakpoints told = accepted Plain (record M { breakpoints = breakpoints }) reached told.0 told.1
+    lists breakpoints reported = accepted Plain (record M { breakpoints = breakpoints }) reached reported.0 reported.1
 
     plays : (p : ℕ) (choice : Result ℕ Refusal) (after : ℕ → SystemState) → ((k : ℕ) → choice ≡ Ok k → IsReached P (after k))
         → Plays P p choice after M said M' → Leaves P M said M'
-    plays p (Ok k) after is told = accepted (Played (record { 0 = p }) (record { 0 = k })) _ (is k refl) told.0 told.1
-    plays p (Err refusal) after is told = refused refusal told
+    plays p (Ok k) after is reported = accepted (Played (record { 0 = p }) (record { 0 = k })) _ (is k refl) reported.0 reported.1
+    plays p (Err refusal) after is reported = refused refusal reported
 
     unless_halted : (Does : Type 0) → (Does → Leaves P M said M') → UnlessHalted P Does M said M' → Leaves P M said M'
     unless_halted Does does (inl goes) = does goes.1
-    unless_halted Does does (inr (name, is, told)) = refused (refusals.Halted name) told
+    unless_halted Does does (inr (name, is, reported)) = refused (refusals.Halted name) reported
 
     no_cut : (b : Breakpoint) → HasNone P M b × Refuses refusals.NoCut M said M' → Leaves P M said M'
     no_cut b none = refused refusals.NoCut none.1
@@ -275,17 +275,17 @@ module _ (P : Program) (M : ModelState) (reached : IsReached P M.system) where
       (λ here. ⊎_elim
       (λ (takes : TakesBack P p M said M').
       accepted said M' (Undone (record { 0 = p }) (record { 0 = takes.choice })) _
-      (undo_reached P M.system reached p here takes.choice takes.was takes.may.rest) takes.told takes.left)
-      (λ (keeps : KeepsEvent P p M said M'). refused said M' keeps.refusal keeps.told))
+      (undo_reached P M.system reached p here takes.choice takes.was takes.may.rest) takes.reported takes.left)
+      (λ (keeps : KeepsEvent P p M said M'). refused said M' keeps.refusal keeps.reported))
   acts_keep (Rollback p n) said M' =
       with_process said M' p _
       (λ here. either said M' (nat_lt (place_at M.system p) n) (λ far. refused said M' refusals.BadPlace)
-      (λ near back. accepted said M' (Places back.cut) _ (cut_reached P M.system reached back.cut back.is.consistent) back.told back.left))
+      (λ near back. accepted said M' (Places back.cut) _ (cut_reached P M.system reached back.cut back.is.consistent) back.reported back.left))
   acts_keep (Goto name) said M' =
       with_break said M' (named name M.breakpoints) _
       (λ b. ⊎_elim
       (λ (goes : GoesTo P b M said M').
-      accepted said M' (Places goes.cut) _ (cut_reached P M.system reached goes.cut goes.is.satisfies.consistent) goes.told goes.left)
+      accepted said M' (Places goes.cut) _ (cut_reached P M.system reached goes.cut goes.is.satisfies.consistent) goes.reported goes.left)
       (no_cut said M' b))
   acts_keep (Break name conjuncts) said M' = sets said M' (break_refusal P M name conjuncts) name conjuncts
   acts_keep (Clear name) said M' = with_break said M' (named name M.breakpoints) _ (λ b. lists said M' _)

@@ -18,7 +18,7 @@ use Rattle.dbg_laws.proofs.PlayLemmas.{possible}
 use Rattle.dbg_laws.proofs.OrderSwapLemmas.{is_there}
 use Rattle.dbg_laws.proofs.PrefixLemmas.{order_both, last_fires, last_state, local_kept}
 use Rattle.dbg_laws.proofs.ChannelSizeLemmas.{size_put, square_play, put_cases}
-use Rattle.dbg_laws.proofs.LastChoiceLemmas.{IsWaiting, to_end, around_last, AreOthers, front_stays}
+use Rattle.dbg_laws.proofs.LastChoiceLemmas.{IsWaiting, to_end, around_last, AreOthers, prefix_stays}
 
 -- The last choice of a process can be undone exactly if its message is still on its way.
 
@@ -27,8 +27,8 @@ pub undone : (P : Program) (B : History) (p k : ℕ) → p < length B → IsPoss
     → IsWaiting P (play P (with_last B p k)) p k → IsPossible P B
 undone P B p k within all waiting =
     let a = around_last P B p k within all in
-    let e = to_end P a.before a.after (play P (with_last B p k)) p k a.behind a.fires a.goes_on a.others waiting in
-    (possible P B (a.front ++ a.behind) e.between (order_both P (start_of P) a.before e.between a.front a.behind a.leads e.first) a.takes).0
+    let e = to_end P a.before a.after (play P (with_last B p k)) p k a.beyond a.fires a.goes_on a.others waiting in
+    (possible P B (a.prefix ++ a.beyond) e.between (order_both P (start_of P) a.before e.between a.prefix a.beyond a.leads e.first) a.takes).0
 
 puts_one : (move : Move) (p t : ℕ) (g : Grid) → move_target move ≡ Some t → p < length g → t < length (row g p)
     → 0 < length (cell (channels_after move p g) p t)
@@ -151,11 +151,11 @@ put_back g i j v =
 -- the message is at the head again
 take_back : (g : Grid) (i j : ℕ) (m : ℤ) (rest : List ℤ) → cell g i j ≡ m ∷ rest
     → put (change g i j (drop 1)) i j (m ∷ cell (change g i j (drop 1)) i j) ≡ g
-take_back g i j m rest front =
+take_back g i j m rest prefix =
     put-put g i j (drop 1 (cell g i j)) (m ∷ cell (change g i j (drop 1)) i j)
     ∙ ap (λ (l : List ℤ). put g i j (m ∷ l))
-    (cell-put_same g i j (drop 1 (cell g i j)) (row_within g i j m rest front) (cell_within g i j m rest front) ∙ ap (drop 1) front)
-    ∙ ap (λ (l : List ℤ). put g i j l) (sym front)
+    (cell-put_same g i j (drop 1 (cell g i j)) (row_within g i j m rest prefix) (cell_within g i j m rest prefix) ∙ ap (drop 1) prefix)
+    ∙ ap (λ (l : List ℤ). put g i j l) (sym prefix)
     ∙ put_kept g i j
 
 state_back : (b : Configuration) (p : ℕ) (state : LocalState) → set (set b.states p state) p (state_in b p) ≡ b.states
@@ -165,56 +165,56 @@ restored : (P : Program) (H : History) (b : Configuration) (p : ℕ) (o : Option
     → target_in o ≡ move_target move → source_in o ≡ move_source move
     → ((s : ℕ) → source_in o ≡ Some s → (rest : List ℤ) × (channel_of b s p ≡ taken_in P H p s ∷ rest))
     → with_state (unmoved_if P H (after_move move p state b) p o) p (state_in b p) ≡ b
-restored P H b p o Keeps state to from front =
+restored P H b p o Keeps state to from prefix =
     ap (λ (c : Configuration). with_state c p (state_in b p)) (unmoved_keeps P H (after_move Keeps p state b) p o to from)
     ∙ (let states = state_back b p state in λ i. record { states = states i; channels = b.channels })
-restored P H b p o (Puts t v) state to from front =
+restored P H b p o (Puts t v) state to from prefix =
     ap (λ (c : Configuration). with_state c p (state_in b p)) (unmoved_puts P H (after_move (Puts t v) p state b) p t o to)
     ∙ (let states = state_back b p state in
     let channels = put_back b.channels p t v in
     λ i. record { states = states i; channels = channels i })
-restored P H b p o (Takes s m) state to from front =
-    let there = front s from in
+restored P H b p o (Takes s m) state to from prefix =
+    let there = prefix s from in
     ap (λ (c : Configuration). with_state c p (state_in b p)) (unmoved_takes P H (after_move (Takes s m) p state b) p s o from)
     ∙ (let states = state_back b p state in
     let channels = take_back b.channels s p (taken_in P H p s) there.0 there.1 in
     λ i. record { states = states i; channels = channels i })
 
-ready_front : (move : Move) (p s : ℕ) (g : Grid) → move_source move ≡ Some s → IsReady move p g
+ready_prefix : (move : Move) (p s : ℕ) (g : Grid) → move_source move ≡ Some s → IsReady move p g
     → (m : ℤ) × (rest : List ℤ) × (cell g s p ≡ m ∷ rest)
-ready_front Keeps p s g from ready = cc
-ready_front (Puts target value) p s g from ready = cc
-ready_front (Takes source message) p s g from ready =
+ready_prefix Keeps p s g from ready = cc
+ready_prefix (Puts target value) p s g from ready = cc
+ready_prefix (Takes source message) p s g from ready =
     let same : source ≡ s = cc in (message, ready.0, subst (λ (x : ℕ). cell g x p ≡ message ∷ ready.0) same ready.1)
 
 -- a message that was at the head when p made its last choice is at the head after the events of the other processes
-taken_behind : (P : Program) (H : History) (p s : ℕ) (before between : Configuration) (E : List Event)
+taken_after : (P : Program) (H : History) (p s : ℕ) (before between : Configuration) (E : List Event)
     → (m : ℤ) × (rest : List ℤ) × (channel_of before s p ≡ m ∷ rest) → before_last P H p ≡ before → order_from P before E ≡ Ok between
     → AreOthers p E → (rest : List ℤ) × (channel_of between s p ≡ taken_in P H p s ∷ rest)
-taken_behind P H p s before between E front made legal others =
-    let taken : taken_in P H p s ≡ front.0 = taken_at (before_last P H p) made in
-    let later = front_stays P before between s p front.0 front.1 E legal others front.2 in
+taken_after P H p s before between E prefix made legal others =
+    let taken : taken_in P H p s ≡ prefix.0 = taken_at (before_last P H p) made in
+    let later = prefix_stays P before between s p prefix.0 prefix.1 E legal others prefix.2 in
     (later.0, later.1 ∙ ap (λ (m : ℤ). m ∷ later.0) (sym taken))
   where
-    taken_at : (c : Configuration) → c ≡ before → slice_index_or (channel_of c s p) 0 (pos 0) ≡ front.0
+    taken_at : (c : Configuration) → c ≡ before → slice_index_or (channel_of c s p) 0 (pos 0) ≡ prefix.0
     taken_at c same =
         ap (λ (x : Configuration). slice_index_or (channel_of x s p) 0 (pos 0)) same
-        ∙ ap (λ (l : List ℤ). slice_index_or l 0 (pos 0)) front.2
+        ∙ ap (λ (l : List ℤ). slice_index_or l 0 (pos 0)) prefix.2
 
 -- what the last choice received in the play is at the head of its channel in the play of the history without it
-pub taken_front : (P : Program) (B : History) (p k s : ℕ) → p < length B → IsPossible P B → IsPossible P (with_last B p k)
+pub taken_prefix : (P : Program) (B : History) (p k s : ℕ) → p < length B → IsPossible P B → IsPossible P (with_last B p k)
     → source_in (command_of P p k) ≡ Some s → (rest : List ℤ) × (channel_of (play P B) s p ≡ taken_in P (with_last B p k) p s ∷ rest)
-taken_front P B p k s within shorter longer from =
+taken_prefix P B p k s within shorter longer from =
     let a = around_last P B p k within longer in
-    let e = to_end P a.before a.after (play P (with_last B p k)) p k a.behind a.fires a.goes_on a.others
+    let e = to_end P a.before a.after (play P (with_last B p k)) p k a.beyond a.fires a.goes_on a.others
     (waits P B p k within shorter longer) in
     let ends : play P B ≡ e.between =
-    (possible P B (a.front ++ a.behind) e.between
-    (order_both P (start_of P) a.before e.between a.front a.behind a.leads e.first) a.takes).1 in
+    (possible P B (a.prefix ++ a.beyond) e.between
+    (order_both P (start_of P) a.before e.between a.prefix a.beyond a.leads e.first) a.takes).1 in
     let f = fires (command_of P p k) a.before p a.after a.fires in
     subst (λ (x : Configuration). (rest : List ℤ) × (channel_of x s p ≡ taken_in P (with_last B p k) p s ∷ rest)) (sym ends)
-    (taken_behind P (with_last B p k) p s a.before e.between a.behind
-    (ready_front f.move p s a.before.channels (sym f.receives ∙ from) f.ready) a.made e.first a.others)
+    (taken_after P (with_last B p k) p s a.before e.between a.beyond
+    (ready_prefix f.move p s a.before.channels (sym f.receives ∙ from) f.ready) a.made e.first a.others)
 
 -- Undoing the last choice of a history from its play on leads to the play of the history without it.
 pub unfired : (P : Program) (B : History) (p k : ℕ) → p < length B → IsPossible P B → IsPossible P (with_last B p k)
@@ -234,7 +234,7 @@ unfired P B p k within shorter longer =
     ∙ ap (λ (s : LocalState). with_state (unmoved_if P H (play P H) p (command_of P p k)) p s) state
     ∙ ap (λ (c : Configuration). with_state (unmoved_if P H c p (command_of P p k)) p (state_in (play P B) p)) f.leads
     ∙ restored P H (play P B) p (command_of P p k) f.move f.state f.sends f.receives
-    (λ s from. taken_front P B p k s within shorter longer from)
+    (λ s from. taken_prefix P B p k s within shorter longer from)
 
 -- the same for a permitted undo
 pub unfired_once : (P : Program) (H : History) (p : ℕ) → IsPossible P H → MayUndo P H p

@@ -18,7 +18,7 @@ use Rattle.dbg_base.proofs.EliminationLemmas.{none_at}
 use Rattle.dbg_laws.proofs.OrderSwapLemmas.{IsOrderOf, none_left, first_step}
 use Rattle.dbg_laws.proofs.PlayLemmas.{listed}
 use Rattle.dbg_laws.proofs.Lists.{push_same, push_other, length-push}
-use Rattle.dbg_laws.proofs.PrefixLemmas.{front_within, one_more, IsSplit, leaves, extends}
+use Rattle.dbg_laws.proofs.PrefixLemmas.{prefix_within, one_more, IsSplit, leaves, extends}
 use Rattle.dbg_laws.proofs.UndoLemmas.{without_with, with_without, within_without}
 use Rattle.dbg_laws.proofs.ChannelBalanceLemmas.{sends_left, gets_left, balance_most}
 use Rattle.dbg_laws.proofs.ConsistentCutLemmas.{rest_at, line_at, length-history_at, split_at, cut_possible}
@@ -50,7 +50,7 @@ split_more H F R p k rest within line split = record {
       ∙ sym (append_assoc (get_or F p []) (k ∷ []) rest)
       ∙ ap (λ (l : List ℕ). l ++ rest) (sym (push_same F p k within))
       ∙ ap (λ (l : List ℕ). get_or (with_last F p k) p [] ++ l)
-      (sym (get_or-set_same R p rest [] (front_within R p k rest line)))))
+      (sym (get_or-set_same R p rest [] (prefix_within R p k rest line)))))
       (λ (apart : p ≢ q).
       let back : q ≢ p = λ x. apart (sym x) in
       split.lines q
@@ -87,7 +87,7 @@ chain P d H F R [] all size split legal empty = record {
 chain P d H F R (g ∷ G) all size split legal takes =
     let p = g.process in
     let step = first_step (fire P (play P F) p g.choice) (λ x. order_from P x G) d legal in
-    let within_rest = front_within R p g.choice takes.0 takes.1 in
+    let within_rest = prefix_within R p g.choice takes.0 takes.1 in
     let within : p < length F = omega (arith, within_rest, size, split.size) in
     let more = one_more P F p g.choice step.0 all within step.1 in
     led_more P H F p g.choice within all
@@ -99,21 +99,21 @@ chain P d H F R (g ∷ G) all size split legal takes =
 pub undos_to : (P : Program) (H : History) (cut : List ℕ) → IsPossible P H → IsConsistent P H cut → Led P H (history_at H cut)
 undos_to P H cut all consistent =
     let F : History = history_at H cut in
-    let front = cut_possible P H cut all consistent in
+    let prefix = cut_possible P H cut all consistent in
     let l = listed P H all in
-    let s = listed P F front in
+    let s = listed P F prefix in
     let split = split_at H cut in
     let rest = extends P (start_of P) (play P H) (play P F) H (rest_at H cut) l.events s.events l.legal l.takes s.legal
     (leaves H F (rest_at H cut) s.events s.takes split) in
-    chain P (play P H) H F (rest_at H cut) rest.events front (length-history_at H cut) split rest.legal rest.takes
+    chain P (play P H) H F (rest_at H cut) rest.events prefix (length-history_at H cut) split rest.legal rest.takes
 
 -- each line of F is a prefix of a line of H
-pub record IsFront (H F : History) : Type 0 where
+pub record IsPrefix (H F : History) : Type 0 where
   pub size : length F ≡ length H
   pub lines : (q : ℕ) → (more : List ℕ) × (get_or H q [] ≡ get_or F q [] ++ more)
 
-pub front_without : (H : History) (p : ℕ) → 0 < length (get_or H p []) → IsFront H (without_last H p)
-front_without H p some =
+pub prefix_without : (H : History) (p : ℕ) → 0 < length (get_or H p []) → IsPrefix H (without_last H p)
+prefix_without H p some =
     let B : History = without_last H p in
     let within = within_without H p some in
     let same = with_without H p some in
@@ -127,8 +127,8 @@ front_without H p some =
           (cases_eq p q);
     }
 
-pub front_both : (H F G : History) → IsFront H F → IsFront F G → IsFront H G
-front_both H F G a b = record {
+pub prefix_both : (H F G : History) → IsPrefix H F → IsPrefix F G → IsPrefix H G
+prefix_both H F G a b = record {
   size = b.size ∙ a.size;
   lines = λ q.
       let first = a.lines q in
@@ -138,11 +138,11 @@ front_both H F G a b = record {
       );
 }
 
-pub front_after : (P : Program) (H : History) (undos : List ℕ) → IsPermitted P H undos → IsFront H (after_undos H undos)
-front_after P H [] permitted = record { size = refl; lines = λ q. ([], sym (append-nil (get_or H q []))) }
-front_after P H (p ∷ undos) permitted =
-    front_both H (without_last H p) (after_undos (without_last H p) undos) (front_without H p permitted.0.some)
-    (front_after P (without_last H p) undos permitted.1)
+pub prefix_after : (P : Program) (H : History) (undos : List ℕ) → IsPermitted P H undos → IsPrefix H (after_undos H undos)
+prefix_after P H [] permitted = record { size = refl; lines = λ q. ([], sym (append-nil (get_or H q []))) }
+prefix_after P H (p ∷ undos) permitted =
+    prefix_both H (without_last H p) (after_undos (without_last H p) undos) (prefix_without H p permitted.0.some)
+    (prefix_after P (without_last H p) undos permitted.1)
 
 -- the cut where F ends
 abbrev pub cut_of : History → List ℕ
@@ -153,14 +153,14 @@ count_at [] q = refl
 count_at (line ∷ F) zero = refl
 count_at (line ∷ F) (suc q) = count_at F q
 
-taken_line : (H F : History) (q : ℕ) → IsFront H F → take (get_or (cut_of F) q 0) (get_or H q []) ≡ get_or F q []
+taken_line : (H F : History) (q : ℕ) → IsPrefix H F → take (get_or (cut_of F) q 0) (get_or H q []) ≡ get_or F q []
 taken_line H F q f =
     let line = f.lines q in
     ap (λ (l : List ℕ). take (get_or (cut_of F) q 0) l) line.1
     ∙ take_at (get_or F q []) line.0 (get_or (cut_of F) q 0) (sym (count_at F q))
 
-pub front_is_cut : (H F : History) → IsFront H F → F ≡ history_at H (cut_of F)
-front_is_cut H F f =
+pub prefix_is_cut : (H F : History) → IsPrefix H F → F ≡ history_at H (cut_of F)
+prefix_is_cut H F f =
     ext_get_or [] F (history_at H (cut_of F)) (f.size ∙ sym (length-history_at H (cut_of F)))
     (λ q within. sym (line_at H (cut_of F) q ∙ taken_line H F q f))
 
@@ -182,8 +182,8 @@ gets_few P F i j all =
     let none : length (channel_of (start_of P) i j) ≡ 0 = ap (λ (x : List ℤ). length x) (nothing_sent (length P) (length P) i j) in
     omega (arith, most, none)
 
-pub front_consistent : (P : Program) (H F : History) → IsPossible P F → IsFront H F → IsConsistent P H (cut_of F)
-front_consistent P H F all f = record {
+pub prefix_consistent : (P : Program) (H F : History) → IsPossible P F → IsPrefix H F → IsConsistent P H (cut_of F)
+prefix_consistent P H F all f = record {
   sizes = length-map F (λ (line : List ℕ). length line) ∙ f.size;
   within = λ q.
       let line = f.lines q in
@@ -204,7 +204,7 @@ front_consistent P H F all f = record {
 pub record Stop (P : Program) (H : History) (q n : ℕ) : Type 0 where
   pub history : History
   pub possible : IsPossible P history
-  pub front : IsFront H history
+  pub prefix : IsPrefix H history
   pub count : length (get_or history q []) ≡ n
 
 less_one : (H : History) (p q n : ℕ) → n < length (get_or H q []) → n ≤ length (get_or (without_last H p) q [])
@@ -227,7 +227,7 @@ less_one H p q n some =
 stops : (P : Program) (H : History) (q n : ℕ) (undos : List ℕ) → IsPossible P H → IsPermitted P H undos
     → n ≤ length (get_or H q []) → length (get_or (after_undos H undos) q []) ≤ n → Stop P H q n
 stops P H q n [] all permitted enough few =
-    record { history = H; possible = all; front = front_after P H [] tt; count = omega (arith, enough, few) }
+    record { history = H; possible = all; prefix = prefix_after P H [] tt; count = omega (arith, enough, few) }
 stops P H q n (p ∷ undos) all permitted enough few =
     ⊎_elim
     (λ (more : n < length (get_or H q [])).
@@ -235,11 +235,11 @@ stops P H q n (p ∷ undos) all permitted enough few =
     record {
       history = rest.history;
       possible = rest.possible;
-      front = front_both H (without_last H p) rest.history (front_without H p permitted.0.some) rest.front;
+      prefix = prefix_both H (without_last H p) rest.history (prefix_without H p permitted.0.some) rest.prefix;
       count = rest.count;
     })
     (λ (last : length (get_or H q []) ≤ n).
-    record { history = H; possible = all; front = front_after P H [] tt; count = omega (arith, enough, last) })
+    record { history = H; possible = all; prefix = prefix_after P H [] tt; count = omega (arith, enough, last) })
     (cases_lt n (length (get_or H q [])))
 
 -- the cut with no choices
@@ -265,6 +265,6 @@ own_part P H q n cut all is inside =
     ∙ ap (λ (m : ℕ). take m (get_or H q [])) (none_at (length H) q) in
     let stop = stops P H q n led.undos all led.permitted inside (let size = ap (λ (l : List ℕ). length l) left in omega (arith, size)) in
     let reaches = is.reaches in
-    let least = is.least (cut_of stop.history) (front_consistent P H stop.history stop.possible stop.front)
+    let least = is.least (cut_of stop.history) (prefix_consistent P H stop.history stop.possible stop.prefix)
     (omega (arith, count_at stop.history q, stop.count)) q in
     omega (arith, reaches, least, count_at stop.history q, stop.count)

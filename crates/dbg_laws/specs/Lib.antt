@@ -1,3 +1,3 @@
 pub mod Outcomes
 pub mod Remaining
-pub mod Told
+pub mod Reported

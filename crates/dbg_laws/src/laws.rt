@@ -12,7 +12,7 @@ ghost use Rattle.dbg_base.specs.SystemStates.{IsStateOf, history_of};
 ghost use Rattle.dbg_base.specs.ModelStates.{ModelState};
 ghost use Rattle.dbg_base.specs.Calls.{Order, Call};
 ghost use Rattle.dbg_base.specs.Acts.{Follows};
-ghost use Rattle.dbg_base.specs.Journals.{Journal, effective, StandsAt, IsDue, IsLegal};
+ghost use Rattle.dbg_base.specs.Journals.{Journal, effective, LeadsTo, IsDue, IsLegal};
 ghost use Rattle.dbg_laws.specs.Outcomes.{HasOne, HasOneState};
 ghost use Rattle.dbg_laws.specs.Remaining.{call_in, given_call};
 
@@ -53,7 +53,7 @@ pub fn one_outcome()
 /// each further call (a command, `back` or a query) has the same answer after both. The commands that count can be given alone, in their
 /// order and by the same seats: each is accepted, and the same commands count then.
 pub fn never_given()
-    ensures stands { (P : Program) (J : Journal) → IsLegal P J → HasOneState (StandsAt P (effective J)) }
+    ensures leads_to { (P : Program) (J : Journal) → IsLegal P J → HasOneState (LeadsTo P (effective J)) }
     ensures same { (P : Program) (J J' : Journal) → IsLegal P J → IsLegal P J' → effective J ≡ effective J'
         → (seat : ℕ) (call : Call) (said said' : Said) → IsDue P (effective J) seat call said → IsDue P (effective J') seat call said'
         → said ≡ said' }

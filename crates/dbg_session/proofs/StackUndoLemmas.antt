@@ -13,7 +13,7 @@ use Rattle.dbg_base.specs.Trees.{Program}
 use Rattle.dbg_base.specs.Calls.{Order}
 use Rattle.dbg_base.specs.ModelStates.{ModelState, opening}
 use Rattle.dbg_base.specs.Acts.{Accepts, Follows}
-use Rattle.dbg_base.specs.Journals.{Given, Leads, StandsAt, AnswersBack, last_given}
+use Rattle.dbg_base.specs.Journals.{Given, Leads, LeadsTo, AnswersBack, last_given}
 use Rattle.dbg_base.specs.Reversal.{without_back}
 use Rattle.dbg_command.specs.Tables.{TableState, IsTableOf, FollowsOrRefuses, Replies, shown, state_of}
 use Rattle.dbg_command.specs.Boxes.{LeadsBack}
@@ -33,10 +33,10 @@ followed P order M M' reply (inr refuses) = cc
 
 module _ {C : Type 0} (order : C → Order) (MayGoBack : C → Program → ModelState → Type 0) (before : C → ModelState → ModelState)
     (P : Program) where
-  start_behind : (front : List (Stacked C)) (last : Stacked C) (M : ModelState)
-      → start_of before (front ++ last ∷ []) M ≡ start_of before front (before last.command M)
-  start_behind [] last M = refl
-  start_behind (one ∷ front) last M = ap (before one.command) (start_behind front last M)
+  start_after : (prefix : List (Stacked C)) (last : Stacked C) (M : ModelState)
+      → start_of before (prefix ++ last ∷ []) M ≡ start_of before prefix (before last.command M)
+  start_after [] last M = refl
+  start_after (one ∷ prefix) last M = ap (before one.command) (start_after prefix last M)
 
   abbrev Link : Stacked C → ModelState → Type 0
   Link one M = GoesBack P (MayGoBack one.command) (before one.command) (order one.command) M
@@ -44,21 +44,21 @@ module _ {C : Type 0} (order : C → Order) (MayGoBack : C → Program → Model
   abbrev Chain : List (Stacked C) → ModelState → Type 0
   Chain stack M = Unwinds order MayGoBack before P stack M
 
-  chain_longer : (front : List (Stacked C)) (last : Stacked C) (M : ModelState) → Chain front (before last.command M) → Link last M
-      → Chain (front ++ last ∷ []) M
+  chain_longer : (prefix : List (Stacked C)) (last : Stacked C) (M : ModelState) → Chain prefix (before last.command M) → Link last M
+      → Chain (prefix ++ last ∷ []) M
   chain_longer [] last M chain link = (link, tt)
-  chain_longer (one ∷ front) last M chain link =
-      (subst (Link one) (sym (start_behind front last M)) chain.0, chain_longer front last M chain.1 link)
+  chain_longer (one ∷ prefix) last M chain link =
+      (subst (Link one) (sym (start_after prefix last M)) chain.0, chain_longer prefix last M chain.1 link)
 
-  chain_shorter : (front : List (Stacked C)) (last : Stacked C) (M : ModelState) → Chain (front ++ last ∷ []) M
-      → Chain front (before last.command M)
+  chain_shorter : (prefix : List (Stacked C)) (last : Stacked C) (M : ModelState) → Chain (prefix ++ last ∷ []) M
+      → Chain prefix (before last.command M)
   chain_shorter [] last M chain = tt
-  chain_shorter (one ∷ front) last M chain =
-      (subst (Link one) (start_behind front last M) chain.0, chain_shorter front last M chain.1)
+  chain_shorter (one ∷ prefix) last M chain =
+      (subst (Link one) (start_after prefix last M) chain.0, chain_shorter prefix last M chain.1)
 
-  chain_end : (front : List (Stacked C)) (last : Stacked C) (M : ModelState) → Chain (front ++ last ∷ []) M → Link last M
+  chain_end : (prefix : List (Stacked C)) (last : Stacked C) (M : ModelState) → Chain (prefix ++ last ∷ []) M → Link last M
   chain_end [] last M chain = chain.0
-  chain_end (one ∷ front) last M chain = chain_end front last M chain.1
+  chain_end (one ∷ prefix) last M chain = chain_end prefix last M chain.1
 
   chain_leads : (stack : List (Stacked C)) (M : ModelState) → Chain stack M → Leads P (map (given_of order) stack) (start_of before stack M) M
   chain_leads [] M chain = refl
@@ -75,8 +75,8 @@ module _ {C : Type 0} {order : C → Order} {MayGoBack : C → Program → Model
   Is t' others = IsSession order MayGoBack before P t' others
 
   -- its state is the one to which the orders of its stack lead
-  pub session_stands : StandsAt P given (state_of t)
-  session_stands =
+  pub session_leads_to : LeadsTo P given (state_of t)
+  session_leads_to =
       subst (λ (M : ModelState). Leads P given M (state_of t)) session.start
       (chain_leads order MayGoBack before P stack (state_of t) session.unwinds)
 
@@ -108,19 +108,19 @@ module _ {C : Type 0} {order : C → Order} {MayGoBack : C → Program → Model
           table = of;
           unwinds = chain_longer order MayGoBack before P stack last (state_of t')
               (subst (Chain order MayGoBack before P stack) (sym back.leads) session.unwinds) link;
-          start = start_behind order MayGoBack before P stack last (state_of t') ∙ ap (start_of before stack) back.leads ∙ session.start;
+          start = start_after order MayGoBack before P stack last (state_of t') ∙ ap (start_of before stack) back.leads ∙ session.start;
         }
 
   -- the last command
   module _ {n : ℕ} {last : Stacked C} (ends : EndsWith stack n last) where
-    abbrev front : List (Stacked C)
-    front = take (n - 1) stack
+    abbrev prefix : List (Stacked C)
+    prefix = take (n - 1) stack
 
-    whole : Is t (front ++ last ∷ [])
+    whole : Is t (prefix ++ last ∷ [])
     whole = subst (Is t) (sym (last_split stack n last ends)) session
 
     pub last_may_go_back : MayGoBack last.command P (state_of t)
-    last_may_go_back = (chain_end order MayGoBack before P front last (state_of t) whole.unwinds).may
+    last_may_go_back = (chain_end order MayGoBack before P prefix last (state_of t) whole.unwinds).may
 
     -- it was not undone, and the session stays
     pub last_stays : (command : C) → command ≡ last.command → set stack (n - 1) (record { seat = last.seat; command = command }) ≡ stack
@@ -129,24 +129,24 @@ module _ {C : Type 0} {order : C → Order} {MayGoBack : C → Program → Model
 
     -- it was undone
     module _ {t' : TableState} (of : IsTableOf P t') (back : state_of t' ≡ before last.command (state_of t)) where
-      shorter : Is t' front
+      shorter : Is t' prefix
       shorter = record {
         table = of;
-        unwinds = subst (Chain order MayGoBack before P front) (sym back)
-            (chain_shorter order MayGoBack before P front last (state_of t) whole.unwinds);
-        start = ap (start_of before front) back ∙ sym (start_behind order MayGoBack before P front last (state_of t)) ∙ whole.start;
+        unwinds = subst (Chain order MayGoBack before P prefix) (sym back)
+            (chain_shorter order MayGoBack before P prefix last (state_of t) whole.unwinds);
+        start = ap (start_of before prefix) back ∙ sym (start_after order MayGoBack before P prefix last (state_of t)) ∙ whole.start;
       }
 
       pub session_shorter : (rest : List (Stacked C)) (written : Stacked C) → rest ≡ take (n - 1) (set stack (n - 1) written) → Is t' rest
       session_shorter rest written left = subst (Is t') (sym (left ∙ take-set stack (n - 1) written)) shorter
 
-      shorter_stands : StandsAt P (without_back given) (state_of t')
-      shorter_stands =
-          subst (λ (orders : List Given). StandsAt P orders (state_of t'))
+      shorter_leads_to : LeadsTo P (without_back given) (state_of t')
+      shorter_leads_to =
+          subst (λ (orders : List Given). LeadsTo P orders (state_of t'))
           (sym (take-map (given_of order) (n - 1) stack)
           ∙ ap (λ (k : ℕ). take (k - 1) given) (ends.long ∙ sym (length-map stack (given_of order))))
-          (subst (λ (M : ModelState). Leads P (map (given_of order) front) M (state_of t')) shorter.start
-          (chain_leads order MayGoBack before P front (state_of t') shorter.unwinds))
+          (subst (λ (M : ModelState). Leads P (map (given_of order) prefix) M (state_of t')) shorter.start
+          (chain_leads order MayGoBack before P prefix (state_of t') shorter.unwinds))
 
       given_last : last_given given ≡ Some (given_of order last)
       given_last =
@@ -161,9 +161,9 @@ module _ {C : Type 0} {order : C → Order} {MayGoBack : C → Program → Model
           → AnswersBack P given seat (last_given given) (Accepted reply)
       answers_back seat reply same replies =
           subst (λ (o : Option Given). AnswersBack P given seat o (Accepted reply)) (sym given_last)
-          (subst (λ (b : Bool). MatchBool b ((M : ModelState) × StandsAt P (without_back given) M × Accepts P Plain (Accepted reply) M)
+          (subst (λ (b : Bool). MatchBool b ((M : ModelState) × LeadsTo P (without_back given) M × Accepts P Plain (Accepted reply) M)
           (Accepted reply ≡ Refused (OtherSeat last.seat)))
-          (sym (eq-eqb last.seat seat same)) (state_of t', shorter_stands, accepted P (state_of t') Plain reply replies))
+          (sym (eq-eqb last.seat seat same)) (state_of t', shorter_leads_to, accepted P (state_of t') Plain reply replies))
 
 -- what contracts see of a session whose call failed
 pub seen_same : {C T E : Type 0} {P : Program} {stack rest : List (Stacked C)} {old : SessionState} (order : C → Order) (t t' : TableState)

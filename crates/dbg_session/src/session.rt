@@ -5,10 +5,10 @@ ghost use Rattle.dbg_base.specs.declared.refusal.Refusal.TheVariants.{Memory};
 ghost use Rattle.dbg_base.specs.Calls.{Give, Back, Ask, order_of, query_of};
 ghost use Rattle.dbg_base.specs.declared.limits.TheConstants.{BREAKPOINTS};
 ghost use Rattle.dbg_base.specs.ModelStates.{opening, IsHaltPlace};
-ghost use Rattle.dbg_base.specs.Journals.{StandsAt, AnswersBack, counting, last_given};
+ghost use Rattle.dbg_base.specs.Journals.{LeadsTo, AnswersBack, counting, last_given};
 ghost use Rattle.dbg_base.specs.Fits.{FitsCall};
 ghost use Rattle.proc_lang.specs.Programs.{program_of};
-ghost use Rattle.dbg_command.specs.Tables.{asks_memory, state_of, IsTableOf, AnswersOrRefuses, FollowsOrRefuses, said_of, told_of};
+ghost use Rattle.dbg_command.specs.Tables.{asks_memory, state_of, IsTableOf, AnswersOrRefuses, FollowsOrRefuses, said_of, reported_of};
 ghost use Rattle.dbg_command.specs.Boxes.{IsScanFor, ScansFor};
 
 use dbg_base::{Answer, Done, Gate, Plan, Query, Refusal, Reply};
@@ -104,7 +104,7 @@ impl<C: Command> Session<C> {
         ensures program { self.new.program ≡ self.old.program }
         ensures follows { FollowsOrRefuses self.old.program (C.order command) self.old.state result self.new.state }
         ensures effective { self.new.effective ≡ counting self.old.effective seat (Give (C.order command)) (said_of result) }
-        ensures stands { StandsAt self.new.program self.new.effective self.new.state }
+        ensures leads_to { LeadsTo self.new.program self.new.effective self.new.state }
         ensures fits { FitsCall self.old.program (Give (C.order command)) (said_of result) }
         ensures kept { OnErr result (self.new ≡ self.old) }
     {
@@ -123,7 +123,7 @@ impl<C: Command> Session<C> {
         ensures due { AnswersBack self.old.program self.old.effective seat (last_given self.old.effective) (said_of result)
             ⊎ (result ≡ Err Memory) }
         ensures effective { self.new.effective ≡ counting self.old.effective seat Back (said_of result) }
-        ensures stands { StandsAt self.new.program self.new.effective self.new.state }
+        ensures leads_to { LeadsTo self.new.program self.new.effective self.new.state }
         ensures fits { FitsCall self.old.program Back (said_of result) }
         ensures kept { OnErr result (self.new ≡ self.old) }
     {
@@ -159,7 +159,7 @@ impl<C: Command> Session<C> {
     pub fn ask(&self, alloc: Global, query: &Query) -> Result<Answer, Refusal>
         ensures answers { AnswersOrRefuses self.now.program self.now.state (query_of query.now) result }
         ensures memory { IfErr result (λ refusal. refusal ≡ Memory → asks_memory (query_of query.now) ≡ true) }
-        ensures fits { FitsCall self.now.program (Ask (query_of query.now)) (told_of result) }
+        ensures fits { FitsCall self.now.program (Ask (query_of query.now)) (reported_of result) }
     {
         self.table.ask(alloc, &self.program, query)
     }

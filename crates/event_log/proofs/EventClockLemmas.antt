@@ -14,7 +14,7 @@ use Rattle.causal_world.proofs.RollbackLemmas.{choices_counted}
 use Rattle.event_log.specs.declared.timed.TimedEvent.{TimedEvent}
 use Rattle.event_log.specs.EventOrders.{IsEventOrder}
 use Rattle.event_log.specs.TimedEvents.{AreTimedEvents}
-use Rattle.event_log.proofs.EventNumberLemmas.{AreTold, told_none, told_more, told_all, there_in, some_left}
+use Rattle.event_log.proofs.EventNumberLemmas.{AreReported, reported_none, reported_more, reported_all, there_in, some_left}
 
 -- the processes are in an order of the events of the world
 abbrev pub AreOrdered : Scene → List ℕ → Type 0
@@ -26,14 +26,14 @@ HasClock P w event = IsClock P (history_of w.state) event.pid.0 event.number eve
 -- So many events are listed, each with its number and its clock, and so many of each process.
 pub record AreTimed (w : Scene) (order counts : List ℕ) (n : ℕ) (events : List TimedEvent) : Type 0 where
   pub size : length counts ≡ length w.state.places
-  pub told : AreTold order counts n events
+  pub reported : AreReported order counts n events
   pub clocks : (P : Program) → IsWorldOf P w → All (HasClock P w) events
 
 pub timed_none : (w : Scene) (order counts : List ℕ) (n : ℕ) (events : List TimedEvent) → n ≡ length w.state.places
     → counts ≡ replicate n 0 → events ≡ [] → AreTimed w order counts 0 events
 timed_none w order counts n events size zeros none = record {
   size = ap (λ (l : List ℕ). length l) zeros ∙ length-replicate n 0 ∙ size;
-  told = subst (λ (l : List ℕ). AreTold order l 0 events) (sym zeros) (subst (AreTold order (replicate n 0) 0) (sym none) (told_none order n));
+  reported = subst (λ (l : List ℕ). AreReported order l 0 events) (sym zeros) (subst (AreReported order (replicate n 0) 0) (sym none) (reported_none order n));
   clocks = λ P of. subst (All (HasClock P w)) (sym none) (All-nil (HasClock P w));
 }
 
@@ -53,7 +53,7 @@ next_event w order counts n events some ordered timed within =
     let there = there_in P H order n (ordered P of) within in
     let here : p < length w.state.places = omega (arith, there, of.state.places) in
     let counted : p < length counts = omega (arith, here, timed.size) in
-    let left = some_left P H order counts n p events (ordered P of) timed.told within refl counted there in
+    let left = some_left P H order counts n p events (ordered P of) timed.reported within refl counted there in
     let all = choices_counted P w p of in
     record { here = here; left = omega (arith, left, all); few = omega (arith, of.state.within p, of.state.few p) }
 
@@ -83,9 +83,9 @@ pub timed_more : (w : Scene) (order counts : List ℕ) (n : ℕ) (events : List 
 timed_more w order counts n events event clock others more timed within is number next tells some set_to pushed =
     let here : event.pid.0 < length counts = omega (arith, next.here, timed.size) in record {
       size = ap (λ (l : List ℕ). length l) set_to ∙ length-set counts event.pid.0 event.number ∙ timed.size;
-      told = subst (λ (l : List ℕ). AreTold order l (n + 1) more) (sym set_to)
-          (subst (AreTold order (set counts event.pid.0 event.number) (n + 1)) (sym pushed)
-          (told_more order counts n event events timed.told within is here number));
+      reported = subst (λ (l : List ℕ). AreReported order l (n + 1) more) (sym set_to)
+          (subst (AreReported order (set counts event.pid.0 event.number) (n + 1)) (sym pushed)
+          (reported_more order counts n event events timed.reported within is here number));
       clocks = λ P of. subst (All (HasClock P w)) (sym pushed)
           (All-push (HasClock P w) events event (timed.clocks P of)
           (its_clock w event.pid.0 event.number clock event.clock tells some P of));
@@ -97,7 +97,7 @@ pub timed_all : (w : Scene) (order counts : List ℕ) (n : ℕ) (events all : Li
     → AreTimedEvents P (history_of w.state) all
 timed_all w order counts n events all timed end ordered same P of =
     subst (AreTimedEvents P (history_of w.state)) (sym same) (record {
-      order = subst (IsEventOrder P (history_of w.state)) (told_all order counts n events timed.told end) (ordered P of);
-      numbers = timed.told.numbers;
+      order = subst (IsEventOrder P (history_of w.state)) (reported_all order counts n events timed.reported end) (ordered P of);
+      numbers = timed.reported.numbers;
       clocks = timed.clocks P of;
     })

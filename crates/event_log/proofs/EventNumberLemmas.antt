@@ -90,44 +90,44 @@ there_in P H order i is within =
 -- The events that are listed so far are numbered.
 
 -- a list with one more item, split at an item: it is the last one, or in the list
-split_last : {A : Type 0} (xs before behind : List A) (x y : A) → xs ++ x ∷ [] ≡ before ++ y ∷ behind
+split_last : {A : Type 0} (xs before beyond : List A) (x y : A) → xs ++ x ∷ [] ≡ before ++ y ∷ beyond
     → ((xs ≡ before) × (x ≡ y)) ⊎ ((rest : List A) × (xs ≡ before ++ y ∷ rest))
-split_last [] [] behind x y is = inl (refl, cc)
-split_last [] (b ∷ []) behind x y is = cc
-split_last [] (b ∷ d ∷ before) behind x y is = cc
-split_last (z ∷ xs) [] behind x y is = let same : z ≡ y = cc in inr (xs, ap (λ w. w ∷ xs) same)
-split_last {A = A} (z ∷ xs) (b ∷ before) behind x y is =
+split_last [] [] beyond x y is = inl (refl, cc)
+split_last [] (b ∷ []) beyond x y is = cc
+split_last [] (b ∷ d ∷ before) beyond x y is = cc
+split_last (z ∷ xs) [] beyond x y is = let same : z ≡ y = cc in inr (xs, ap (λ w. w ∷ xs) same)
+split_last {A = A} (z ∷ xs) (b ∷ before) beyond x y is =
     let first : z ≡ b = cc in
-    let others : xs ++ x ∷ [] ≡ before ++ y ∷ behind = cc in
+    let others : xs ++ x ∷ [] ≡ before ++ y ∷ beyond = cc in
     ⊎_elim
     (λ (last : (xs ≡ before) × (x ≡ y)). inl (cc, last.1))
     (λ (among : (rest : List A) × (xs ≡ before ++ y ∷ rest)). let same = among.1 in inr (among.0, cc))
-    (split_last xs before behind x y others)
+    (split_last xs before beyond x y others)
 
 -- So many events of the order are listed, each with its number, and so many of each process.
-pub record AreTold (order counts : List ℕ) (n : ℕ) (events : List TimedEvent) : Type 0 where
+pub record AreReported (order counts : List ℕ) (n : ℕ) (events : List TimedEvent) : Type 0 where
   pub processes : map (λ event. event.pid.0) events ≡ take n order
   pub counted : (p : ℕ) → p < length counts → get_or counts p 0 ≡ events_of p events
   pub numbers : AreNumbered events
 
-nothing_in : {A : Type 0} (before behind : List A) (x : A) → [] ≡ before ++ x ∷ behind → ⊥
-nothing_in [] behind x is = cc
-nothing_in (b ∷ before) behind x is = cc
+nothing_in : {A : Type 0} (before beyond : List A) (x : A) → [] ≡ before ++ x ∷ beyond → ⊥
+nothing_in [] beyond x is = cc
+nothing_in (b ∷ before) beyond x is = cc
 
-pub told_none : (order : List ℕ) (n : ℕ) → AreTold order (replicate n 0) 0 []
-told_none order n = record {
+pub reported_none : (order : List ℕ) (n : ℕ) → AreReported order (replicate n 0) 0 []
+reported_none order n = record {
   processes = refl;
   counted = λ p here. get_or-replicate n p 0 0 (omega (arith, here, length-replicate {A = ℕ} n 0));
-  numbers = λ before behind event is. absurd (nothing_in before behind event is);
+  numbers = λ before beyond event is. absurd (nothing_in before beyond event is);
 }
 
 -- a process with events that are not listed yet
 pub some_left : (P : Program) (H : History) (order counts : List ℕ) (n p : ℕ) (events : List TimedEvent) → IsEventOrder P H order
-    → AreTold order counts n events → n < length order → get_or order n 0 ≡ p → p < length counts → p < length P
+    → AreReported order counts n events → n < length order → get_or order n 0 ≡ p → p < length counts → p < length P
     → get_or counts p 0 < length (get_or H p [])
-some_left P H order counts n p events is told within next here there =
+some_left P H order counts n p events is reported within next here there =
     let all = times_in P H order p is there in
-    let so_far = told.counted p here ∙ events_times p events ∙ ap (times p) told.processes in
+    let so_far = reported.counted p here ∙ events_times p events ∙ ap (times p) reported.processes in
     let one = once p (get_or order n 0) next in
     let more = sum_by_more (λ x. one_if x p) order n 0 within in
     let few = sum_by-take-le (λ x. one_if x p) order (n + 1) in
@@ -138,13 +138,13 @@ some_left P H order counts n p events is told within next here there =
 -- the numbers
 numbers_more : (events : List TimedEvent) (event : TimedEvent) → AreNumbered events → event.number ≡ events_of event.pid.0 events + 1
     → AreNumbered (events ++ event ∷ [])
-numbers_more events event numbers number before behind other is =
+numbers_more events event numbers number before beyond other is =
     ⊎_elim
     (λ (last : (events ≡ before) × (event ≡ other)).
     ap (λ (e : TimedEvent). e.number) (sym last.1) ∙ number ∙ ap (λ (e : TimedEvent). events_of e.pid.0 events + 1) last.1
     ∙ ap (λ (l : List TimedEvent). events_of other.pid.0 l + 1) last.0)
     (λ (among : (rest : List TimedEvent) × (events ≡ before ++ other ∷ rest)). numbers before among.0 other among.1)
-    (split_last events before behind event other is)
+    (split_last events before beyond event other is)
 
 -- and the counts
 counts_more : (counts : List ℕ) (event : TimedEvent) (events : List TimedEvent) (p : ℕ)
@@ -165,20 +165,20 @@ counts_more counts event events p counted here number there =
     omega (arith, more, before, other, never p event.pid.0 apart))
     (cases_eq event.pid.0 p)
 
-pub told_more : (order counts : List ℕ) (n : ℕ) (event : TimedEvent) (events : List TimedEvent) → AreTold order counts n events
+pub reported_more : (order counts : List ℕ) (n : ℕ) (event : TimedEvent) (events : List TimedEvent) → AreReported order counts n events
     → n < length order → get_or order n 0 ≡ event.pid.0 → event.pid.0 < length counts → event.number ≡ get_or counts event.pid.0 0 + 1
-    → AreTold order (set counts event.pid.0 event.number) (n + 1) (events ++ event ∷ [])
-told_more order counts n event events told within next here number = record {
+    → AreReported order (set counts event.pid.0 event.number) (n + 1) (events ++ event ∷ [])
+reported_more order counts n event events reported within next here number = record {
   processes = map-append (λ (e : TimedEvent). e.pid.0) events (event ∷ [])
-      ∙ ap (λ (l : List ℕ). l ++ event.pid.0 ∷ []) told.processes
+      ∙ ap (λ (l : List ℕ). l ++ event.pid.0 ∷ []) reported.processes
       ∙ ap (λ (p : ℕ). take n order ++ p ∷ []) (sym next) ∙ sym (take_more order n 0 within);
   counted = λ p there.
-      counts_more counts event events p told.counted here number
+      counts_more counts event events p reported.counted here number
       (omega (arith, there, length-set counts event.pid.0 event.number));
-  numbers = numbers_more events event told.numbers (number ∙ ap (λ (m : ℕ). m + 1) (told.counted event.pid.0 here));
+  numbers = numbers_more events event reported.numbers (number ∙ ap (λ (m : ℕ). m + 1) (reported.counted event.pid.0 here));
 }
 
 -- all events are listed
-pub told_all : (order counts : List ℕ) (n : ℕ) (events : List TimedEvent) → AreTold order counts n events → length order ≤ n
+pub reported_all : (order counts : List ℕ) (n : ℕ) (events : List TimedEvent) → AreReported order counts n events → length order ≤ n
     → order ≡ map (λ (e : TimedEvent). e.pid.0) events
-told_all order counts n events told all = sym (told.processes ∙ take_all n order all)
+reported_all order counts n events reported all = sym (reported.processes ∙ take_all n order all)

@@ -23,7 +23,7 @@ use Rattle.cut_core.specs.ConsistentCuts.{IsConsistentCut}
 use Rattle.causal_world.specs.Scenes.{Scene, IsWorldOf}
 use Rattle.causal_world.specs.Worlds.{IsSomeWorld}
 use Rattle.causal_world.proofs.WorldCallLemmas.{kinds_there, events_counted}
-use Rattle.causal_world.proofs.RollbackLemmas.{none_behind, choices_counted}
+use Rattle.causal_world.proofs.RollbackLemmas.{none_after, choices_counted}
 use Rattle.causal_world.proofs.WorldOfLemmas.{choices_more, history_without}
 use Rattle.causal_world.proofs.LastKindLemmas.{sum_strict}
 use Rattle.dbg_laws.proofs.Lists.{none_in_replicate}
@@ -64,7 +64,7 @@ start_cut kinds = record {
 pub none_has_events : (w : Scene) → IsSomeWorld w → ((q : ℕ) → q < length w.kinds → IsStuck w q) → (p : ℕ) → place_at w.state p ≡ 0
 none_has_events w some stuck p =
     let zeros = replicate (length w.kinds) 0 in
-    let none = none_behind w zeros some (start_cut w.kinds) (λ q within. from_stuck q (stuck q within)) p in
+    let none = none_after w zeros some (start_cut w.kinds) (λ q within. from_stuck q (stuck q within)) p in
     omega (arith, none, zero_at (length w.kinds) p, events_counted some.0 w p some.1)
   where
     from_stuck : (q : ℕ) → IsStuck w q
@@ -132,11 +132,11 @@ undone_none w P of = (of, λ E legal is. ([], refl, append_none E legal, append_
     append_choices E is = rw (append-nil E) is
 
 -- after an order of all events but its last one, the process makes that event
-one_behind : (P : Program) (F : History) (p : ℕ) (E : List Event) → IsPossible P F → MayUndo P F p → IsLegalOrder P E
+one_after : (P : Program) (F : History) (p : ℕ) (E : List Event) → IsPossible P F → MayUndo P F p → IsLegalOrder P E
     → choices_of (length P) E ≡ without_last F p
     → let e : Event = record { process = p; choice = choice_at_end F p } in
     IsLegalOrder P (E ++ e ∷ []) × (choices_of (length P) (E ++ e ∷ []) ≡ F)
-one_behind P F p E all may legal is =
+one_after P F p E all may legal is =
     let B = without_last F p in
     let k = choice_at_end F p in
     let whole : with_last B p k ≡ F = with_without F p may.some in
@@ -164,7 +164,7 @@ undone_more before w new undone p so_far may left here moved P of =
     let less : history_of new.state ≡ without_last H p = ap history_of moved ∙ history_without P w.state p now.0.state within in
     let continues : Continues P (history_of new.state) (history_of before.state) (undone ++ p ∷ []) = λ E legal is.
     let e : Event = record { process = p; choice = choice_at_end H p } in
-    let one = one_behind P H p E now.0.possible may legal (is ∙ less) in
+    let one = one_after P H p E now.0.possible may legal (is ∙ less) in
     let rest = now.1 (E ++ e ∷ []) one.0 one.1 in
     let same : (E ++ e ∷ []) ++ rest.0 ≡ E ++ (e ∷ rest.0) = append_assoc E (e ∷ []) rest.0 in (
       e ∷ rest.0,

@@ -14,7 +14,7 @@ events_of p events = count_by (λ event. event.pid.0 == p) events
 -- The number of each event is the number of events of its process up to it, with itself.
 abbrev pub AreNumbered : List TimedEvent → Type 0
 AreNumbered events =
-    (before behind : List TimedEvent) (event : TimedEvent) → events ≡ before ++ event ∷ behind
+    (before beyond : List TimedEvent) (event : TimedEvent) → events ≡ before ++ event ∷ beyond
     → event.number ≡ events_of event.pid.0 before + 1
 
 -- These are the events of the history, in an order in which the processes can have made them, with their numbers and clocks.

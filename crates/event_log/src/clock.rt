@@ -13,7 +13,7 @@ use std::alloc::Global;
 
 /// The clock of a process after its n-th event: how many events of each process are in its causal past, the event included. None if
 /// there is no such event. Error: `Memory`, if an allocation fails.
-pub fn clock_behind(alloc: Global, world: &World, pid: Pid, n: u32) -> Result<Option<Cut>, Refusal>
+pub fn clock_after(alloc: Global, world: &World, pid: Pid, n: u32) -> Result<Option<Cut>, Refusal>
     ensures clock { IfOk result (λ clock. MatchOption clock (pid.0 < length world.now.state.places → place_at world.now.state pid.0 < n)
         (λ cut. (P : tree.Program) → IsWorldOf P world.now → IsClock P (history_of world.now.state) pid.0 n cut)) }
     ensures refuses { IfErr result (λ refusal. refusal ≡ Memory) }

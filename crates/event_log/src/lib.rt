@@ -6,6 +6,6 @@ mod clock;
 mod order;
 mod timed;
 
-pub use clock::clock_behind;
+pub use clock::clock_after;
 pub use order::event_order;
 pub use timed::{TimedEvent, timed_events};

@@ -7,7 +7,7 @@ ghost use Rattle.dbg_base.specs.SystemStates.{history_of};
 ghost use Rattle.causal_world.specs.Scenes.{IsWorldOf};
 ghost use Rattle.event_log.specs.TimedEvents.{AreTimedEvents};
 
-use crate::clock::clock_behind;
+use crate::clock::clock_after;
 use crate::order::event_order;
 use causal_world::World;
 use dbg_base::{Cut, Pid, Refusal, Sequence};
@@ -37,13 +37,13 @@ pub fn timed_events(alloc: Global, world: &World) -> Result<Sequence<TimedEvent>
     ensures refuses { IfErr result (λ refusal. refusal ≡ Memory) }
 {
     let order = event_order(alloc, world, &[])?;
-    let mut told = no_counts(alloc, world.tally().processes())?;
+    let mut reported = no_counts(alloc, world.tally().processes())?;
     let mut events = Vec::new(alloc);
     for pid in order.items() {
         let pid = *pid;
-        let number = told.count(pid) + 1;
-        told.set(pid, number);
-        if let Some(clock) = clock_behind(alloc, world, pid, number)? {
+        let number = reported.count(pid) + 1;
+        reported.set(pid, number);
+        if let Some(clock) = clock_after(alloc, world, pid, number)? {
             events.push(TimedEvent { pid, number, clock })?;
         }
     }

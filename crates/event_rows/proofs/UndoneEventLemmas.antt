@@ -13,8 +13,8 @@ use Rattle.event_rows.specs.EventValues.{EventValue}
 use Rattle.event_rows.specs.Events.{after_event, before_event, Fits}
 
 -- lists that agree except at v still do so after one more write
-agree_behind : (xs ys : List ℤ) (v u : ℕ) (b c : ℤ) → set xs v b ≡ set ys v b → set (set xs u c) v b ≡ set (set ys u c) v b
-agree_behind xs ys v u b c same = elim (cases_eq u v) [
+agree_after : (xs ys : List ℤ) (v u : ℕ) (b c : ℤ) → set xs v b ≡ set ys v b → set (set xs u c) v b ≡ set (set ys u c) v b
+agree_after xs ys v u b c same = elim (cases_eq u v) [
   | inl e ↦
       let over : (zs : List ℤ) → set (set zs u c) v b ≡ set zs v b =
       λ (zs : List ℤ). ap (λ (n : ℕ). set (set zs n c) v b) e ∙ set-set zs v c b in
@@ -27,7 +27,7 @@ overwritten : (settings : List Setting) (values : List ℤ) (v : ℕ) (a b : ℤ
     → set (put_back (set values v a) settings) v b ≡ set (put_back values settings) v b
 overwritten [] values v a b = set-set values v a b
 overwritten (s ∷ settings) values v a b =
-    agree_behind (put_back (set values v a) settings) (put_back values settings) v s.variable b s.old (overwritten settings values v a b)
+    agree_after (put_back (set values v a) settings) (put_back values settings) v s.variable b s.old (overwritten settings values v a b)
 
 -- the new values are lost when the old ones are restored
 new_lost : (settings : List Setting) (values : List ℤ)

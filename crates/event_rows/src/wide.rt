@@ -15,7 +15,7 @@ type Made = Option<Result<Sequence<bool>, AllocError>>;
 
 impl Rows {
     // Makes the list at this position, if the gate lets its worker start. A position that is no worker's number is left to the caller.
-    fn truths_behind<G: Gate>(
+    fn truths_after<G: Gate>(
         &self,
         alloc: Global,
         named: &[(Pid, &Expr)],
@@ -90,7 +90,7 @@ impl Rows {
         let make = |place: usize| -> Made
             requires { place < length named.now }
             ensures { IsMadeAt (lists_in self.entry.now named.entry.now) place result }
-        { self.truths_behind(alloc, named, place, gate) };
+        { self.truths_after(alloc, named, place, gate) };
         let made = thread::map_indices(rt, alloc, named.len(), &make)?;
         self.gathered(alloc, named, made)
     }

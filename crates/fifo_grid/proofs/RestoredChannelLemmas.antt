@@ -29,8 +29,8 @@ module _ (before between after : List (List (List ℤ))) (i j : ℕ) (message : 
       from ∙ ap (λ (channels : List (List (List ℤ))). with_messages channels i j (back (messages_at channels i j))) to
       ∙ restored change back before i j same
 
-  front_of : (messages : List ℤ) → take (length (messages ++ message ∷ []) - 1) (messages ++ message ∷ []) ≡ messages
-  front_of messages =
+  prefix_of : (messages : List ℤ) → take (length (messages ++ message ∷ []) - 1) (messages ++ message ∷ []) ≡ messages
+  prefix_of messages =
       let n : length (messages ++ message ∷ []) - 1 ≡ length messages = omega (arith, length-append messages (message ∷ [])) in
       ap (λ (k : ℕ). take k (messages ++ message ∷ [])) n ∙ take-append_seam messages (message ∷ [])
 
@@ -39,15 +39,15 @@ module _ (before between after : List (List (List ℤ))) (i j : ℕ) (message : 
       → after ≡ with_messages between i j (take (length (messages_at between i j) - 1) (messages_at between i j)) → after ≡ before
   unpushed_back to from =
       both (λ messages. messages ++ message ∷ []) (λ messages. take (length messages - 1) messages)
-      (front_of (messages_at before i j)) to from
+      (prefix_of (messages_at before i j)) to from
 
   first_again : (messages : List ℤ) → slice_get messages 0 ≡ Some message → message ∷ drop 1 messages ≡ messages
   first_again [] h = cc
   first_again (m ∷ messages) h = let same : m ≡ message = cc in ap (λ (z : ℤ). z ∷ messages) (sym same)
 
   -- `unpop_front` after `pop_front` gave this message
-  pub unpopped_front : slice_get (messages_at before i j) 0 ≡ Some message
+  pub unpopped_prefix : slice_get (messages_at before i j) 0 ≡ Some message
       → between ≡ with_messages before i j (drop 1 (messages_at before i j))
       → after ≡ with_messages between i j (message ∷ messages_at between i j) → after ≡ before
-  unpopped_front first to from =
+  unpopped_prefix first to from =
       both (λ messages. drop 1 messages) (λ messages. message ∷ messages) (first_again (messages_at before i j) first) to from

@@ -21,7 +21,7 @@ use Rattle.causal_world.specs.Scenes.{Scene, IsWorldOf}
 use Rattle.least_cut.specs.Watches.{TruthLine, WatchRoom, conjunct_in, truth_line, scan_of}
 use Rattle.least_cut.specs.Searches.{IsTrailFrom, none_of, IsSettledAt}
 use Rattle.least_cut.specs.Detectors.{DetectorState, conjuncts_of, lines_of, AreWatchesOf, IsDetectorOf, is_past_in}
-use Rattle.least_cut.specs.Detectors.{TellsFrontier, told_head}
+use Rattle.least_cut.specs.Detectors.{TellsFrontier, reported_head}
 use Rattle.least_cut.proofs.WorldHistoryLemmas.{IsHere, choices_placed, same_start, has_clocks, truths_placed, neither}
 use Rattle.least_cut.proofs.WorldHistoryLemmas.{trail_sound, settled_all}
 
@@ -188,86 +188,86 @@ module _ (P : Program) (w : Scene) (of : IsWorldOf P w) (d : DetectorState) (is 
   lines = lines_same w d.watches is.search.watches
 
   -- its eliminations are sound
-  pub told_sound : IsSound P (H P w of) all d.trail
-  told_sound =
+  pub reported_sound : IsSound P (H P w of) all d.trail
+  reported_sound =
       subst (λ (tuple : List ℕ). IsSoundFrom P (H P w of) all tuple d.trail) (same_start P w of)
       (trail_sound P w of all here (none_of w) d.trail
       (subst (λ (l : List TruthLine). IsTrailFrom w l (none_of w) d.trail) lines is.search.sound))
 
   -- they lead to its candidates
-  pub told_reach : reach (H P w of) d.trail ≡ d.candidates
-  told_reach = ap (λ (tuple : List ℕ). reach_from tuple d.trail) (sym (same_start P w of)) ∙ is.search.reached
+  pub reported_reach : reach (H P w of) d.trail ≡ d.candidates
+  reported_reach = ap (λ (tuple : List ℕ). reach_from tuple d.trail) (sym (same_start P w of)) ∙ is.search.reached
 
   sized : length (reach (H P w of) d.trail) ≡ length (H P w of)
   sized = reach_size (zeros (H P w of)) d.trail ∙ length-replicate (length (H P w of)) 0
 
   settled : IsSettled P (H P w of) all (reach (H P w of) d.trail)
   settled =
-      settled_all P w of all here (reach (H P w of) d.trail) sized (within_reach P (H P w of) all d.trail told_sound)
+      settled_all P w of all here (reach (H P w of) d.trail) sized (within_reach P (H P w of) all d.trail reported_sound)
       (λ q there.
-      subst (λ (tuple : List ℕ). IsSettledAt w (scan_of w all) tuple q) (sym told_reach)
+      subst (λ (tuple : List ℕ). IsSettledAt w (scan_of w all) tuple q) (sym reported_reach)
       (subst (λ (l : List TruthLine). IsSettledAt w l d.candidates q) lines (is.settled q there)))
 
   -- which is the frontier
-  pub told_frontier : IsFrontier P (H P w of) all (reach (H P w of) d.trail)
-  told_frontier = is_frontier P (H P w of) all d.trail told_sound settled (has_clocks P w of)
+  pub reported_frontier : IsFrontier P (H P w of) all (reach (H P w of) d.trail)
+  reported_frontier = is_frontier P (H P w of) all d.trail reported_sound settled (has_clocks P w of)
 
   -- a candidate that the detector reports as past is past
-  told_more : (p : ℕ) → past_at p ≡ true → choices_at (H P w of) p < get_or d.candidates p 0
-  told_more p past =
+  reported_more : (p : ℕ) → past_at p ≡ true → choices_at (H P w of) p < get_or d.candidates p 0
+  reported_more p past =
       past_fewer P w of p (get_or d.candidates p 0) all here
       (ap (λ (l : List TruthLine). is_past_in l p (get_or d.candidates p 0)) (sym lines) ∙ past)
 
   -- and no other is
-  told_within : (p : ℕ) → past_at p ≡ false → get_or d.candidates p 0 ≤ choices_at (H P w of) p
-  told_within p none =
+  reported_within : (p : ℕ) → past_at p ≡ false → get_or d.candidates p 0 ≤ choices_at (H P w of) p
+  reported_within p none =
       ⊎_elim
       (λ (more : choices_at (H P w of) p < get_or d.candidates p 0).
-      subst (λ (tuple : List ℕ). get_or tuple p 0 ≤ choices_at (H P w of) p) told_reach
+      subst (λ (tuple : List ℕ). get_or tuple p 0 ≤ choices_at (H P w of) p) reported_reach
       (unnamed_within P (H P w of) all p
       (unnamed P w of p (get_or d.candidates p 0) all here more
       (ap (λ (l : List TruthLine). is_past_in l p (get_or d.candidates p 0)) (sym lines) ∙ none))
-      (zeros (H P w of)) d.trail told_sound
+      (zeros (H P w of)) d.trail reported_sound
       (let none_there = none_at (length (H P w of)) p in omega (arith, none_there))))
       (λ (few : get_or d.candidates p 0 ≤ choices_at (H P w of) p). few)
       (cases_lt (choices_at (H P w of) p) (get_or d.candidates p 0))
 
   -- if a candidate is past, no cut satisfies the conjuncts
-  pub told_none : (p : ℕ) → past_at p ≡ true → NoCut P (H P w of) all
-  told_none p past =
-      no_cut P (H P w of) all d.trail told_sound p
-      (subst (λ (tuple : List ℕ). choices_at (H P w of) p < get_or tuple p 0) (sym told_reach) (told_more p past))
+  pub reported_none : (p : ℕ) → past_at p ≡ true → NoCut P (H P w of) all
+  reported_none p past =
+      no_cut P (H P w of) all d.trail reported_sound p
+      (subst (λ (tuple : List ℕ). choices_at (H P w of) p < get_or tuple p 0) (sym reported_reach) (reported_more p past))
 
   -- otherwise the candidates are the least cut that does
-  pub told_least : ((p : ℕ) → past_at p ≡ false) → IsLeast P (H P w of) all d.candidates
-  told_least none =
-      subst (λ (tuple : List ℕ). IsLeast P (H P w of) all tuple) told_reach
-      (is_least P (H P w of) all d.trail told_sound settled (has_clocks P w of)
-      (λ p. subst (λ (tuple : List ℕ). get_or tuple p 0 ≤ choices_at (H P w of) p) (sym told_reach) (told_within p (none p))))
+  pub reported_least : ((p : ℕ) → past_at p ≡ false) → IsLeast P (H P w of) all d.candidates
+  reported_least none =
+      subst (λ (tuple : List ℕ). IsLeast P (H P w of) all tuple) reported_reach
+      (is_least P (H P w of) all d.trail reported_sound settled (has_clocks P w of)
+      (λ p. subst (λ (tuple : List ℕ). get_or tuple p 0 ≤ choices_at (H P w of) p) (sym reported_reach) (reported_within p (none p))))
 
   same_head : (p : ℕ) → head_at (choices_at (H P w of) p) (get_or d.candidates p 0)
-      ≡ told_head (lines_of d) p (get_or d.candidates p 0)
+      ≡ reported_head (lines_of d) p (get_or d.candidates p 0)
   same_head p = by_past (past_at p) refl
     where
       by_past : (past : Bool) → past_at p ≡ past → head_at (choices_at (H P w of) p) (get_or d.candidates p 0)
           ≡ (if past then Past else At (get_or d.candidates p 0))
       by_past true is_past =
           ap (λ (b : Bool). if b then At (get_or d.candidates p 0) else Past)
-          (lt-leb (get_or d.candidates p 0) (choices_at (H P w of) p) (told_more p is_past))
+          (lt-leb (get_or d.candidates p 0) (choices_at (H P w of) p) (reported_more p is_past))
       by_past false none =
           ap (λ (b : Bool). if b then At (get_or d.candidates p 0) else Past)
-          (le-leb (get_or d.candidates p 0) (choices_at (H P w of) p) (told_within p none))
+          (le-leb (get_or d.candidates p 0) (choices_at (H P w of) p) (reported_within p none))
 
   -- the frontier, component by component
-  pub told_heads : (heads : List Head) → length heads ≡ length d.candidates
-      → ((p : ℕ) → p < length d.candidates → get_or heads p Past ≡ told_head (lines_of d) p (get_or d.candidates p 0))
+  pub reported_heads : (heads : List Head) → length heads ≡ length d.candidates
+      → ((p : ℕ) → p < length d.candidates → get_or heads p Past ≡ reported_head (lines_of d) p (get_or d.candidates p 0))
       → TellsFrontier P (H P w of) all heads
-  told_heads heads size each =
-      let sizes : length d.candidates ≡ length (H P w of) = ap (λ (tuple : List ℕ). length tuple) (sym told_reach) ∙ sized in
+  reported_heads heads size each =
+      let sizes : length d.candidates ≡ length (H P w of) = ap (λ (tuple : List ℕ). length tuple) (sym reported_reach) ∙ sized in
       record {
         tuple = d.candidates;
-        is = subst (λ (tuple : List ℕ). IsFrontier P (H P w of) all tuple) told_reach told_frontier;
-        told = ext_get_or Past heads (heads_of (H P w of) d.candidates)
+        is = subst (λ (tuple : List ℕ). IsFrontier P (H P w of) all tuple) reported_reach reported_frontier;
+        reported = ext_get_or Past heads (heads_of (H P w of) d.candidates)
             (size ∙ sizes ∙ sym (heads_counted (H P w of) d.candidates sizes))
             (λ p lt. let there : p < length d.candidates = omega (arith, size) in
             each p there ∙ sym (same_head p)

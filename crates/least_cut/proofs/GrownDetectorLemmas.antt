@@ -135,12 +135,12 @@ module _ (P : Program) (v w : Scene) (p : ℕ) (d new : DetectorState) (was : Wa
       let same : (get_or d.candidates q 0 ≤ place_at v.state q) ⊎ (place_at v.state q ≡ place_at w.state q) =
       ⊎_elim
       (λ (other : q ≢ p). inr (same_place P v w p was.of was.now one q other))
-      (λ (behind : get_or new.candidates p 0 ≢ place_at w.state p).
+      (λ (beyond : get_or new.candidates p 0 ≢ place_at w.state p).
       ⊎_elim
       (λ (mine : q ≡ p).
       inl (subst (λ (x : ℕ). get_or d.candidates x 0 ≤ place_at v.state x) (sym mine)
       (let e = ap (λ (l : List ℕ). get_or l p 0) watched.candidates in
-      let differs : get_or d.candidates p 0 ≢ place_at w.state p = λ x. behind (e ∙ x) in
+      let differs : get_or d.candidates p 0 ≢ place_at w.state p = λ x. beyond (e ∙ x) in
       omega (arith, own, few, differs, some))))
       (λ (other : q ≢ p). inr (same_place P v w p was.of was.now one q other))
       (cases_eq q p))

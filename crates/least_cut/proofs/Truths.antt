@@ -39,19 +39,19 @@ length_truths tree start (event ∷ events) =
     omega arith
 
 -- the truths of the first n events
-front : (tree : Tree) (start : LocalState) (events : List EventValue) (n : ℕ)
+prefix : (tree : Tree) (start : LocalState) (events : List EventValue) (n : ℕ)
     → take (suc n) (truths_along tree start events) ≡ truths_along tree start (take n events)
-front tree start [] zero = refl
-front tree start [] (suc n) = refl
-front tree start (event ∷ events) zero = refl
-front tree start (event ∷ events) (suc n) =
-    ap (λ (l : List Bool). holds tree start ∷ l) (front tree (after_event event start) events n)
+prefix tree start [] zero = refl
+prefix tree start [] (suc n) = refl
+prefix tree start (event ∷ events) zero = refl
+prefix tree start (event ∷ events) (suc n) =
+    ap (λ (l : List Bool). holds tree start ∷ l) (prefix tree (after_event event start) events n)
 
-pub truths_front : (tree : Tree) (start : LocalState) (events : List EventValue) (n : ℕ)
+pub truths_prefix : (tree : Tree) (start : LocalState) (events : List EventValue) (n : ℕ)
     → take (n + 1) (truths_along tree start events) ≡ truths_along tree start (take n events)
-truths_front tree start events n =
+truths_prefix tree start events n =
     let same : n + 1 ≡ suc n = omega arith in
-    ap (λ (k : ℕ). take k (truths_along tree start events)) same ∙ front tree start events n
+    ap (λ (k : ℕ). take k (truths_along tree start events)) same ∙ prefix tree start events n
 
 -- the truth after the n-th event
 pub truth_there : (tree : Tree) (start : LocalState) (events : List EventValue) (n : ℕ) (d : Bool) → n ≤ length events
@@ -129,9 +129,9 @@ module _ (v w : Scene) (watch : WatchState) (is : IsWatchOf v watch) where
       (λ (e : IsEarlier w v). sym (ap (λ (l : List LocalState). get_or l conjunct.process no_state) e.starts)) along
 
   -- the first n events of both are the same, if both have n events
-  same_front : AreAlong v w → (n : ℕ) → n ≤ length (own v conjunct) → n ≤ length (own w conjunct)
+  same_prefix : AreAlong v w → (n : ℕ) → n ≤ length (own v conjunct) → n ≤ length (own w conjunct)
       → take n (own v conjunct) ≡ take n (own w conjunct)
-  same_front along n le within =
+  same_prefix along n le within =
       ⊎_elim (λ (e : IsEarlier v w). sym (e.events conjunct.process n le)) (λ (e : IsEarlier w v). e.events conjunct.process n within) along
 
   -- if no known event was undone
@@ -141,7 +141,7 @@ module _ (v w : Scene) (watch : WatchState) (is : IsWatchOf v watch) where
       let m : ℕ = length (own v conjunct) in
       let size : length watch.line.truths ≡ m + 1 = truths_counted in
       let within : m ≤ length (own w conjunct) = omega arith in
-      let same = same_front along m (omega arith) within in
+      let same = same_prefix along m (omega arith) within in
       let count : m ≡ length watch.line.truths - 1 = omega arith in
       subst (λ (n : ℕ). IsWatchTo w conjunct watch n) count (record {
         of = refl;
@@ -160,11 +160,11 @@ module _ (v w : Scene) (watch : WatchState) (is : IsWatchOf v watch) where
   cut_to along states env new count more is_env shape =
       let k : ℕ = length (own w conjunct) in
       let size : length watch.line.truths ≡ length (own v conjunct) + 1 = truths_counted in
-      let same = same_front along k (omega arith) (omega arith) in
+      let same = same_prefix along k (omega arith) (omega arith) in
       let truths : take states watch.line.truths ≡ truths_along conjunct.expression (start w conjunct) (take k (own w conjunct)) =
       ap (λ (n : ℕ). take n watch.line.truths) count
       ∙ ap (λ (l : TruthLine). take (k + 1) l.truths) is.line
-      ∙ truths_front conjunct.expression (start v conjunct) (own v conjunct) k
+      ∙ truths_prefix conjunct.expression (start v conjunct) (own v conjunct) k
       ∙ ap (λ (s : LocalState). truths_along conjunct.expression s (take k (own v conjunct))) (same_start along)
       ∙ ap (truths_along conjunct.expression (start w conjunct)) same in
       let whole : take k (own w conjunct) ≡ own w conjunct = take_all k (own w conjunct) (omega arith) in

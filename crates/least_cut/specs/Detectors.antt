@@ -86,8 +86,8 @@ abbrev pub is_past_in : List TruthLine → ℕ → ℕ → Bool
 is_past_in lines p n = list_any (λ line. (line.process == p) && nat_le (length line.truths) n) lines
 
 -- a component as the frontier has it, by the truths that are known
-abbrev pub told_head : List TruthLine → ℕ → ℕ → Head
-told_head lines p n = if is_past_in lines p n then Past else At n
+abbrev pub reported_head : List TruthLine → ℕ → ℕ → Head
+reported_head lines p n = if is_past_in lines p n then Past else At n
 
 -- The watches are those of the world, and all else stayed.
 pub record Watches (w : Scene) (old new : DetectorState) : Type 0 where
@@ -116,7 +116,7 @@ pub record IsLimit (v w : Scene) (p n : ℕ) : Type 0 where
 pub record TellsFrontier (P : Program) (H : History) (conjuncts : List Conjunct) (heads : List Head) : Type 0 where
   pub tuple : List ℕ
   pub is : IsFrontier P H conjuncts tuple
-  pub told : heads ≡ heads_of H tuple
+  pub reported : heads ≡ heads_of H tuple
 
 -- The detectors differ at most in their room, and the second has no less.
 pub record IsSameButRoom (old new : DetectorState) : Type 0 where

@@ -20,7 +20,7 @@ ghost use Rattle.least_cut.specs.Searches as model;
 ghost use Rattle.least_cut.specs.Searches.{is_false_in};
 ghost use Rattle.least_cut.specs.Detectors.{conjunct_with, conjuncts_of, lines_of, is_past_in, one_more, AreWatchesOf, HasTruthRoom, HasRoomUpTo};
 ghost use Rattle.least_cut.specs.Detectors.{IsSearchOf, IsDetectorOf, IsGrown, IsShrunk, IsMoved, IsSameButRoom, DropsTo, IsLimit};
-ghost use Rattle.least_cut.specs.Detectors.{Watches, TellsFrontier, AreRoomier, AreWatched, told_head};
+ghost use Rattle.least_cut.specs.Detectors.{Watches, TellsFrontier, AreRoomier, AreWatched, reported_head};
 
 mod search;
 
@@ -341,7 +341,7 @@ impl Detector {
 
     // The component of a process as the frontier has it: this count, or past.
     fn head(&self, p: usize, n: u32) -> Head
-        ensures { result ≡ told_head (lines_of self.now) p n }
+        ensures { result ≡ reported_head (lines_of self.now) p n }
     {
         for watch in &self.watches {
             let pid = watch.pid();

@@ -20,10 +20,10 @@ use Rattle.proc_lang.proofs.RepetitionLemmas.{many_reader, many_complete}
 
 -- a relation that derives only nonempty tokens has a reader that takes a token
 pub takes_by : {A : Type 0} (Derives : List Placed → A → Type 0) (read : List Placed → Read A) → IsReader Derives read
-    → ((front : List Placed) (x : A) → Derives front x → (p : Placed) × (more : List Placed) × (front ≡ p ∷ more)) → Takes read
+    → ((prefix : List Placed) (x : A) → Derives prefix x → (p : Placed) × (more : List Placed) × (prefix ≡ p ∷ more)) → Takes read
 takes_by Derives read reader first tokens found e =
     let s = reader.succeeds tokens found.1 found.0 e in
-    let begins_so = first s.front found.0 s.derived in
+    let begins_so = first s.prefix found.0 s.derived in
     omega (
       arith,
       ap length (s.whole ∙ ap (λ (l : List Placed). l ++ found.1) begins_so.2),
@@ -66,9 +66,9 @@ start_of_minus minus_at at value rest =
     (bind_to _ _ (value, rest) _ (number_completes (number_at at value ∷ []) rest value (at, refl) tt) refl)
 
 start_completes : Completes DerivesStart Anything read_start
-start_completes front rest x (inl d) any =
+start_completes prefix rest x (inl d) any =
     ap (λ (l : List Placed). read_start (l ++ rest)) d.2 ∙ start_of_number d.0 d.1 rest ∙ ap (λ (s : ℤ). Ok (s, rest)) (sym d.3)
-start_completes front rest x (inr d) any =
+start_completes prefix rest x (inr d) any =
     ap (λ (l : List Placed). read_start (l ++ rest)) d.3 ∙ start_of_minus d.0 d.1 d.2 rest ∙ ap (λ (s : ℤ). Ok (s, rest)) (sym d.4)
 
 -- a variable
@@ -103,9 +103,9 @@ variable_reader =
 
 pub variable_completes : Completes DerivesVariable Anything read_variable
 unfolding read_variable
-variable_completes front rest x d any =
+variable_completes prefix rest x d any =
     let last : List Placed = d.1 ++ sign_at d.4 Semicolon ∷ rest in
-    let same : front ++ rest ≡ word_at d.2 (codes "var") ∷ (d.0 ++ (sign_at d.3 Equals ∷ last)) =
+    let same : prefix ++ rest ≡ word_at d.2 (codes "var") ∷ (d.0 ++ (sign_at d.3 Equals ∷ last)) =
     ap (λ (l : List Placed). l ++ rest) d.7 ∙ simp append_assoc in
     ap read_variable same
     ∙ bind_to _ _ _ _ (word_here (codes "var") d.2 (d.0 ++ (sign_at d.3 Equals ∷ last)))
@@ -115,7 +115,7 @@ variable_completes front rest x d any =
     (bind_to _ _ _ _ (sign_here Semicolon d.4 rest) refl))))
 
 pub variable_takes : Takes read_variable
-variable_takes = takes_by DerivesVariable read_variable variable_reader (λ front x d. (_, _, d.7))
+variable_takes = takes_by DerivesVariable read_variable variable_reader (λ prefix x d. (_, _, d.7))
 
 -- an assignment
 assignment_whole : (tokens a r b s : List Placed) (p : Placed) → tokens ≡ a ++ r → r ≡ b ++ s → b ≡ p ∷ [] → tokens ≡ a ++ p ∷ s
@@ -142,8 +142,8 @@ assignment_reader =
 
 assignment_completes : Completes DerivesAssignment Anything read_assignment
 unfolding read_assignment
-assignment_completes front rest x d any =
-    let same : front ++ rest ≡ d.0 ++ (sign_at d.2 Becomes ∷ (d.1 ++ rest)) = ap (λ (l : List Placed). l ++ rest) d.5 ∙ simp append_assoc in
+assignment_completes prefix rest x d any =
+    let same : prefix ++ rest ≡ d.0 ++ (sign_at d.2 Becomes ∷ (d.1 ++ rest)) = ap (λ (l : List Placed). l ++ rest) d.5 ∙ simp append_assoc in
     ap read_assignment same
     ∙ bind_to _ _ _ _ (name_completes d.0 (sign_at d.2 Becomes ∷ (d.1 ++ rest)) x.variable d.3 tt)
     (bind_to _ _ _ _ (sign_here Becomes d.2 (d.1 ++ rest)) (bind_to _ _ _ _ (expression_completes d.1 rest x.value d.4 tt) refl))
@@ -158,12 +158,12 @@ further_reader =
 
 further_completes : Completes DerivesFurther Anything read_further
 unfolding read_further
-further_completes front rest x d any =
+further_completes prefix rest x d any =
     ap (λ (l : List Placed). read_further (l ++ rest)) d.3
     ∙ bind_to _ _ _ _ (sign_here Comma d.1 (d.0 ++ rest)) (assignment_completes d.0 rest x d.2 tt)
 
 pub further_takes : Takes read_further
-further_takes = takes_by DerivesFurther read_further further_reader (λ front x d. (_, _, d.3))
+further_takes = takes_by DerivesFurther read_further further_reader (λ prefix x d. (_, _, d.3))
 
 all_further_reader : IsReader (DeriveInTurn DerivesFurther) read_all_further
 all_further_reader = many_reader DerivesFurther (is_sign_token Comma) read_further further_reader further_takes
@@ -171,7 +171,7 @@ all_further_reader = many_reader DerivesFurther (is_sign_token Comma) read_furth
 all_further_completes : Completes (DeriveInTurn DerivesFurther) (λ rest. begins_sign Comma rest ≡ false) read_all_further
 all_further_completes =
     many_complete DerivesFurther (is_sign_token Comma) read_further further_reader further_takes further_completes
-    (λ front rest x d. ap (λ (l : List Placed). begins_sign Comma (l ++ rest)) d.3)
+    (λ prefix rest x d. ap (λ (l : List Placed). begins_sign Comma (l ++ rest)) d.3)
 
 -- a body, as one value
 abbrev WholeBody : List Placed → Body → Type 0
@@ -241,28 +241,28 @@ body_reader =
     either_reader WholeBody (is_word_token (codes "send")) read_send _ send_reader
     (either_reader WholeBody (is_word_token (codes "recv")) read_receive read_local receive_reader local_reader)
 
-send_completes : (front rest : List Placed) (target : Named) (value : Phrase) (xs : List WrittenAssignment)
-    → DerivesBody front (Sends target value) xs → begins_sign Comma rest ≡ false →
-    read_body (front ++ rest) ≡ Ok ((Sends target value, xs), rest)
+send_completes : (prefix rest : List Placed) (target : Named) (value : Phrase) (xs : List WrittenAssignment)
+    → DerivesBody prefix (Sends target value) xs → begins_sign Comma rest ≡ false →
+    read_body (prefix ++ rest) ≡ Ok ((Sends target value, xs), rest)
 unfolding read_send
-send_completes front rest target value xs d stop =
+send_completes prefix rest target value xs d stop =
     let last : List Placed = d.2 ++ rest in
     let tail : List Placed = d.0 ++ (d.1 ++ last) in
-    let same : front ++ rest ≡ word_at d.3 (codes "send") ∷ tail = ap (λ (l : List Placed). l ++ rest) d.7 ∙ simp append_assoc in
+    let same : prefix ++ rest ≡ word_at d.3 (codes "send") ∷ tail = ap (λ (l : List Placed). l ++ rest) d.7 ∙ simp append_assoc in
     ap read_body same
     ∙ bind_to _ _ _ _ (word_here (codes "send") d.3 tail)
     (bind_to _ _ _ _ (name_completes d.0 (d.1 ++ last) target d.4 tt)
     (bind_to _ _ _ _ (expression_completes d.1 last value d.5 tt)
     (bind_to _ _ _ _ (all_further_completes d.2 rest xs d.6 stop) refl)))
 
-receive_completes : (front rest : List Placed) (source variable : Named) (xs : List WrittenAssignment)
-    → DerivesBody front (Receives source variable) xs → begins_sign Comma rest ≡ false
-    → read_body (front ++ rest) ≡ Ok ((Receives source variable, xs), rest)
+receive_completes : (prefix rest : List Placed) (source variable : Named) (xs : List WrittenAssignment)
+    → DerivesBody prefix (Receives source variable) xs → begins_sign Comma rest ≡ false
+    → read_body (prefix ++ rest) ≡ Ok ((Receives source variable, xs), rest)
 unfolding read_receive
-receive_completes front rest source variable xs d stop =
+receive_completes prefix rest source variable xs d stop =
     let last : List Placed = d.2 ++ rest in
     let tail : List Placed = d.0 ++ (d.1 ++ last) in
-    let same : front ++ rest ≡ word_at d.3 (codes "recv") ∷ tail = ap (λ (l : List Placed). l ++ rest) d.7 ∙ simp append_assoc in
+    let same : prefix ++ rest ≡ word_at d.3 (codes "recv") ∷ tail = ap (λ (l : List Placed). l ++ rest) d.7 ∙ simp append_assoc in
     ap read_body same
     ∙ bind_to _ _ _ _ (word_here (codes "recv") d.3 tail)
     (bind_to _ _ _ _ (name_completes d.0 (d.1 ++ last) source d.4 tt)
@@ -270,10 +270,10 @@ receive_completes front rest source variable xs d stop =
     (bind_to _ _ _ _ (all_further_completes d.2 rest xs d.6 stop) refl)))
 
 -- an assignment does not begin with a reserved word
-assignment_begins : (word : List ℕ) (front more : List Placed) (x : WrittenAssignment)
-    → ((name : List ℕ) → IsName name → bytes_eq name word ≡ false) → DerivesAssignment front x → begins_word word (front ++ more) ≡ false
-assignment_begins word front more x differs d =
-    let same : front ++ more ≡ word_at x.variable.at x.variable.name ∷ (sign_at d.2 Becomes ∷ (d.1 ++ more)) =
+assignment_begins : (word : List ℕ) (prefix more : List Placed) (x : WrittenAssignment)
+    → ((name : List ℕ) → IsName name → bytes_eq name word ≡ false) → DerivesAssignment prefix x → begins_word word (prefix ++ more) ≡ false
+assignment_begins word prefix more x differs d =
+    let same : prefix ++ more ≡ word_at x.variable.at x.variable.name ∷ (sign_at d.2 Becomes ∷ (d.1 ++ more)) =
     ap (λ (l : List Placed). l ++ more) (d.5 ∙ ap (λ (l : List Placed). l ++ sign_at d.2 Becomes ∷ d.1) d.3.0) in
     ap (begins_word word) same ∙ differs x.variable.name d.3.1
 
@@ -281,12 +281,12 @@ assignment_begins word front more x differs d =
 abbrev read_rest : List Placed → Read Body
 read_rest tokens = cond (begins_word (codes "recv") tokens) (read_receive tokens) (read_local tokens)
 
-local_completes : (front rest : List Placed) (x : WrittenAssignment) (xs : List WrittenAssignment) → DerivesBody front Local (x ∷ xs)
-    → begins_sign Comma rest ≡ false → read_body (front ++ rest) ≡ Ok ((Local, x ∷ xs), rest)
+local_completes : (prefix rest : List Placed) (x : WrittenAssignment) (xs : List WrittenAssignment) → DerivesBody prefix Local (x ∷ xs)
+    → begins_sign Comma rest ≡ false → read_body (prefix ++ rest) ≡ Ok ((Local, x ∷ xs), rest)
 unfolding read_local
-local_completes front rest x xs d stop =
+local_completes prefix rest x xs d stop =
     let tail : List Placed = d.0 ++ (d.1 ++ rest) in
-    let same : front ++ rest ≡ tail = ap (λ (l : List Placed). l ++ rest) d.4 ∙ append_assoc d.0 d.1 rest in
+    let same : prefix ++ rest ≡ tail = ap (λ (l : List Placed). l ++ rest) d.4 ∙ append_assoc d.0 d.1 rest in
     ap read_body same
     ∙ either_second WholeBody (is_word_token (codes "send")) read_send read_rest tail _
     (assignment_begins (codes "send") d.0 (d.1 ++ rest) x (λ name. name_is_not (codes "send") name refl) d.2)
@@ -295,12 +295,12 @@ local_completes front rest x xs d stop =
     (bind_to _ _ _ _ (assignment_completes d.0 (d.1 ++ rest) x d.2 tt)
     (bind_to _ _ _ _ (all_further_completes d.1 rest xs d.3 stop) refl)))
 
-body_completes : (action : WrittenAction) (xs : List WrittenAssignment) (front rest : List Placed) → DerivesBody front action xs
-    → begins_sign Comma rest ≡ false → read_body (front ++ rest) ≡ Ok ((action, xs), rest)
-body_completes Local [] front rest d stop = absurd d
-body_completes Local (x ∷ xs) front rest d stop = local_completes front rest x xs d stop
-body_completes (Sends target value) xs front rest d stop = send_completes front rest target value xs d stop
-body_completes (Receives source variable) xs front rest d stop = receive_completes front rest source variable xs d stop
+body_completes : (action : WrittenAction) (xs : List WrittenAssignment) (prefix rest : List Placed) → DerivesBody prefix action xs
+    → begins_sign Comma rest ≡ false → read_body (prefix ++ rest) ≡ Ok ((action, xs), rest)
+body_completes Local [] prefix rest d stop = absurd d
+body_completes Local (x ∷ xs) prefix rest d stop = local_completes prefix rest x xs d stop
+body_completes (Sends target value) xs prefix rest d stop = send_completes prefix rest target value xs d stop
+body_completes (Receives source variable) xs prefix rest d stop = receive_completes prefix rest source variable xs d stop
 
 -- a command
 pub command_reader : IsReader DerivesCommand read_command
@@ -331,11 +331,11 @@ command_reader =
 
 pub command_completes : Completes DerivesCommand Anything read_command
 unfolding read_command
-command_completes front rest x d any =
+command_completes prefix rest x d any =
     let end : List Placed = sign_at d.3 Semicolon ∷ rest in
     let last : List Placed = d.1 ++ end in
     let tail : List Placed = d.0 ++ (sign_at d.2 Colon ∷ last) in
-    let same : front ++ rest ≡ word_at x.at (codes "when") ∷ tail = ap (λ (l : List Placed). l ++ rest) d.6 ∙ simp append_assoc in
+    let same : prefix ++ rest ≡ word_at x.at (codes "when") ∷ tail = ap (λ (l : List Placed). l ++ rest) d.6 ∙ simp append_assoc in
     ap read_command same
     ∙ bind_to _ _ _ _ (word_here (codes "when") x.at tail)
     (bind_to _ _ _ _ (expression_completes d.0 (sign_at d.2 Colon ∷ last) x.guard d.4 tt)
@@ -344,4 +344,4 @@ command_completes front rest x d any =
     (bind_to _ _ _ _ (sign_here Semicolon d.3 rest) refl))))
 
 pub command_takes : Takes read_command
-command_takes = takes_by DerivesCommand read_command command_reader (λ front x d. (_, _, d.6))
+command_takes = takes_by DerivesCommand read_command command_reader (λ prefix x d. (_, _, d.6))

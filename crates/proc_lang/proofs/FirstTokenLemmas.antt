@@ -13,8 +13,8 @@ use Rattle.dbg_base.specs.declared.sign.Sign.{Sign}
 use Rattle.dbg_base.specs.declared.sign.Sign.TheVariants.{OpenBrace, CloseBrace, OpenParenthesis, CloseParenthesis, Semicolon, Colon}
 use Rattle.dbg_base.specs.declared.sign.Sign.TheVariants.{Becomes, Comma, Equals, NotEquals, LessThan, AtMost, GreaterThan, AtLeast, Plus}
 use Rattle.dbg_base.specs.declared.sign.Sign.TheVariants.{Minus, Star, Slash, Percent}
-use Rattle.proc_lang.specs.Scanning.{StandsInFront}
-use Rattle.proc_lang.proofs.PassingPrefixLemmas.{and_first, and_second, both_true, or_first, front_passes, front_is_longest}
+use Rattle.proc_lang.specs.Scanning.{IsBefore}
+use Rattle.proc_lang.proofs.PassingPrefixLemmas.{and_first, and_second, both_true, or_first, prefix_passes, prefix_is_longest}
 
 -- a byte with which a sign begins
 abbrev pub IsMark : ℕ → Type 0
@@ -57,10 +57,10 @@ pub clash : {A : Type 0} (b : Bool) → b ≡ true → b ≡ false → A
 clash b is is_not = absurd (false≢true (sym is_not ∙ is))
 
 -- a token is at the beginning, if no longer prefix of these bytes is the text of one
-pub stands : (token : Token) (n : ℕ) (bytes : List ℕ) → n ≤ length bytes → Spells token (take n bytes)
+pub is_first : (token : Token) (n : ℕ) (bytes : List ℕ) → n ≤ length bytes → Spells token (take n bytes)
     → ((longer more : List ℕ) (other : Token) → Spells other longer → longer ++ more ≡ bytes → length longer ≤ n)
-    → StandsInFront token n bytes
-stands token n bytes within spelled no_longer = record {
+    → IsBefore token n bytes
+is_first token n bytes within spelled no_longer = record {
   within = within;
   spelled = spelled;
   longest = λ longer more other writes same.
@@ -84,7 +84,7 @@ module _ (b : ℕ) (bytes : List ℕ) (letter : is_letter b ≡ true) where
   word_spelled : is_word (take (prefix_len is_word_byte (b ∷ bytes)) (b ∷ bytes)) ≡ true
   word_spelled = subst (λ k. is_word (take k (b ∷ bytes)) ≡ true) (sym word_size)
       (both_true (is_letter b) (list_all is_word_byte (take (prefix_len is_word_byte bytes) bytes)) letter
-      (front_passes is_word_byte bytes))
+      (prefix_passes is_word_byte bytes))
 
   word_longest : (longer more : List ℕ) (other : Token) → Spells other longer → longer ++ more ≡ b ∷ bytes
       → length longer ≤ prefix_len is_word_byte (b ∷ bytes)
@@ -95,16 +95,16 @@ module _ (b : ℕ) (bytes : List ℕ) (letter : is_letter b ≡ true) where
       both_true (is_word_byte c) (list_all is_word_byte tail)
       (letter_is_word_byte c (and_first (is_letter c) (list_all is_word_byte tail) h))
       (and_second (is_letter c) (list_all is_word_byte tail) h) in
-      subst (λ whole. length (c ∷ tail) ≤ prefix_len is_word_byte whole) same (front_is_longest is_word_byte (c ∷ tail) more all)
+      subst (λ whole. length (c ∷ tail) ≤ prefix_len is_word_byte whole) same (prefix_is_longest is_word_byte (c ∷ tail) more all)
   word_longest (c ∷ tail) more (Number value) writes same =
       let digit = and_first (is_digit c) (list_all is_digit tail) writes.0 in
       absurd (letter_is_no_digit b letter (subst (λ x. is_digit x ≡ true) (same_first b c bytes tail more same) digit))
   word_longest (c ∷ tail) more (Symbol sign) writes same =
       clash (is_letter b) letter (sign_first sign b bytes more (ap (λ z. z ++ more) (sym writes) ∙ same)).0
 
-  pub word_stands : StandsInFront (Word (take (prefix_len is_word_byte (b ∷ bytes)) (b ∷ bytes))) (prefix_len is_word_byte (b ∷ bytes))
+  pub word_is_first : IsBefore (Word (take (prefix_len is_word_byte (b ∷ bytes)) (b ∷ bytes))) (prefix_len is_word_byte (b ∷ bytes))
       (b ∷ bytes)
-  word_stands = stands _ _ _ (prefix_len-le-length is_word_byte (b ∷ bytes)) (refl, word_spelled) word_longest
+  word_is_first = is_first _ _ _ (prefix_len-le-length is_word_byte (b ∷ bytes)) (refl, word_spelled) word_longest
 
 -- after a digit the longest token is a number
 module _ (b : ℕ) (bytes : List ℕ) (digit : is_digit b ≡ true) where
@@ -113,7 +113,7 @@ module _ (b : ℕ) (bytes : List ℕ) (digit : is_digit b ≡ true) where
 
   number_spelled : is_numeral (take (prefix_len is_digit (b ∷ bytes)) (b ∷ bytes)) ≡ true
   number_spelled = subst (λ k. is_numeral (take k (b ∷ bytes)) ≡ true) (sym number_size)
-      (both_true (is_digit b) (list_all is_digit (take (prefix_len is_digit bytes) bytes)) digit (front_passes is_digit bytes))
+      (both_true (is_digit b) (list_all is_digit (take (prefix_len is_digit bytes) bytes)) digit (prefix_passes is_digit bytes))
 
   number_longest : (longer more : List ℕ) (other : Token) → Spells other longer → longer ++ more ≡ b ∷ bytes
       → length longer ≤ prefix_len is_digit (b ∷ bytes)
@@ -123,33 +123,33 @@ module _ (b : ℕ) (bytes : List ℕ) (digit : is_digit b ≡ true) where
       let letter = and_first (is_letter c) (list_all is_word_byte tail) h in
       absurd (letter_is_no_digit b (subst (λ x. is_letter x ≡ true) (same_first b c bytes tail more same) letter) digit)
   number_longest (c ∷ tail) more (Number value) writes same =
-      subst (λ whole. length (c ∷ tail) ≤ prefix_len is_digit whole) same (front_is_longest is_digit (c ∷ tail) more writes.0)
+      subst (λ whole. length (c ∷ tail) ≤ prefix_len is_digit whole) same (prefix_is_longest is_digit (c ∷ tail) more writes.0)
   number_longest (c ∷ tail) more (Symbol sign) writes same =
       clash (is_digit b) digit (sign_first sign b bytes more (ap (λ z. z ++ more) (sym writes) ∙ same)).1
 
-  pub number_stands : StandsInFront (Number (digits_value 10 (take (prefix_len is_digit (b ∷ bytes)) (b ∷ bytes))))
+  pub number_is_first : IsBefore (Number (digits_value 10 (take (prefix_len is_digit (b ∷ bytes)) (b ∷ bytes))))
       (prefix_len is_digit (b ∷ bytes)) (b ∷ bytes)
-  number_stands = stands _ _ _ (prefix_len-le-length is_digit (b ∷ bytes)) (number_spelled, refl) number_longest
+  number_is_first = is_first _ _ _ (prefix_len-le-length is_digit (b ∷ bytes)) (number_spelled, refl) number_longest
 
 -- bytes whose first one is known
 first_known : (bytes : List ℕ) (b : ℕ) → Some b ≡ slice_get bytes 0 → bytes ≡ b ∷ drop 1 bytes
 first_known [] b known = cc
 first_known (c ∷ bytes) b known = let e : b ≡ c = cc in ap (λ x. x ∷ bytes) (sym e)
 
-pub word_in_front : (bytes : List ℕ) (b n : ℕ) → Some b ≡ slice_get bytes 0 → is_letter b ≡ true → n ≡ prefix_len is_word_byte bytes
-    → StandsInFront (Word (take n bytes)) n bytes
-word_in_front bytes b n known letter size =
+pub word_before : (bytes : List ℕ) (b n : ℕ) → Some b ≡ slice_get bytes 0 → is_letter b ≡ true → n ≡ prefix_len is_word_byte bytes
+    → IsBefore (Word (take n bytes)) n bytes
+word_before bytes b n known letter size =
     let e = first_known bytes b known in
-    let at_size : StandsInFront (Word (take (prefix_len is_word_byte bytes) bytes)) (prefix_len is_word_byte bytes) bytes =
-    subst (λ (whole : List ℕ). StandsInFront (Word (take (prefix_len is_word_byte whole) whole)) (prefix_len is_word_byte whole) whole)
-    (sym e) (word_stands b (drop 1 bytes) letter) in
-    subst (λ (k : ℕ). StandsInFront (Word (take k bytes)) k bytes) (sym size) at_size
+    let at_size : IsBefore (Word (take (prefix_len is_word_byte bytes) bytes)) (prefix_len is_word_byte bytes) bytes =
+    subst (λ (whole : List ℕ). IsBefore (Word (take (prefix_len is_word_byte whole) whole)) (prefix_len is_word_byte whole) whole)
+    (sym e) (word_is_first b (drop 1 bytes) letter) in
+    subst (λ (k : ℕ). IsBefore (Word (take k bytes)) k bytes) (sym size) at_size
 
-pub number_in_front : (bytes : List ℕ) (b n : ℕ) → Some b ≡ slice_get bytes 0 → is_digit b ≡ true → n ≡ prefix_len is_digit bytes
-    → StandsInFront (Number (digits_value 10 (take n bytes))) n bytes
-number_in_front bytes b n known digit size =
+pub number_before : (bytes : List ℕ) (b n : ℕ) → Some b ≡ slice_get bytes 0 → is_digit b ≡ true → n ≡ prefix_len is_digit bytes
+    → IsBefore (Number (digits_value 10 (take n bytes))) n bytes
+number_before bytes b n known digit size =
     let e = first_known bytes b known in
-    let at_size : StandsInFront (Number (digits_value 10 (take (prefix_len is_digit bytes) bytes))) (prefix_len is_digit bytes) bytes =
-    subst (λ (whole : List ℕ). StandsInFront (Number (digits_value 10 (take (prefix_len is_digit whole) whole)))
-    (prefix_len is_digit whole) whole) (sym e) (number_stands b (drop 1 bytes) digit) in
-    subst (λ (k : ℕ). StandsInFront (Number (digits_value 10 (take k bytes))) k bytes) (sym size) at_size
+    let at_size : IsBefore (Number (digits_value 10 (take (prefix_len is_digit bytes) bytes))) (prefix_len is_digit bytes) bytes =
+    subst (λ (whole : List ℕ). IsBefore (Number (digits_value 10 (take (prefix_len is_digit whole) whole)))
+    (prefix_len is_digit whole) whole) (sym e) (number_is_first b (drop 1 bytes) digit) in
+    subst (λ (k : ℕ). IsBefore (Number (digits_value 10 (take k bytes))) k bytes) (sym size) at_size

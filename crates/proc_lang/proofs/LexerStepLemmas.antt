@@ -7,11 +7,11 @@ use Rattle.std.proofs.lemmas.List.Sums.{prefix_len-le-length}
 use Rattle.dbg_base.specs.declared.sign.Sign.TheVariants as sign
 use Rattle.dbg_base.specs.declared.limits.TheConstants.{OPEN_PARENTHESES}
 use Rattle.dbg_base.specs.Tokens as model
-use Rattle.dbg_base.specs.Tokens.{is_space, sign_bytes, open_behind, IsWithinLimits, BeginsWithNoSpace, FaultsInFront}
+use Rattle.dbg_base.specs.Tokens.{is_space, sign_bytes, still_open, IsWithinLimits, BeginsWithNoSpace, FaultsBefore}
 use Rattle.dbg_base.specs.declared.fault.FaultKind.{FaultKind}
 use Rattle.dbg_base.specs.declared.fault.FaultKind.TheVariants as fault
-use Rattle.proc_lang.specs.Scanning.{StandsInFront, IsFrontFault, TakesToken, MeetsFault}
-use Rattle.proc_lang.proofs.PassingPrefixLemmas.{front_passes}
+use Rattle.proc_lang.specs.Scanning.{IsBefore, IsPrefixFault, TakesToken, MeetsFault}
+use Rattle.proc_lang.proofs.PassingPrefixLemmas.{prefix_passes}
 
 empty_list : (xs : List ℕ) → length xs ≡ 0 → xs ≡ []
 empty_list [] e = refl
@@ -32,7 +32,7 @@ no_space (b ∷ bytes) some = stop_step b bytes (is_space b) refl (no_space byte
 
 module _ (left rest : List ℕ) (n : ℕ) (size : n ≡ prefix_len is_space left) (cut : rest ≡ drop n left) where
   gap_is_spaces : list_all is_space (take n left) ≡ true
-  gap_is_spaces = subst (λ k. list_all is_space (take k left) ≡ true) (sym size) (front_passes is_space left)
+  gap_is_spaces = subst (λ k. list_all is_space (take k left) ≡ true) (sym size) (prefix_passes is_space left)
 
   gap_length : length (take n left) ≡ n
   gap_length = length-take-le n left (omega (arith, prefix_len-le-length is_space left))
@@ -52,12 +52,12 @@ module _ (left rest : List ℕ) (n : ℕ) (size : n ≡ prefix_len is_space left
       subst BeginsWithNoSpace (sym same) (no_space left (omega (arith, ap length same)))
 
   -- a token follows
-  pub takes_token : (at mid depth end behind m : ℕ) (token : model.Token) (others : List ℕ) → mid ≡ at + n → StandsInFront token m rest
+  pub takes_token : (at mid depth end beyond m : ℕ) (token : model.Token) (others : List ℕ) → mid ≡ at + n → IsBefore token m rest
       → IsWithinLimits token
-      → behind ≡ open_behind depth token → behind ≤ OPEN_PARENTHESES → others ≡ drop m rest → end ≡ mid + m
-      → TakesToken left at depth (record { at = mid; token = token }) others end behind
-  takes_token at mid depth end behind m token others place front within counted shallow cut_others passed =
-      let piece_length : length (take m rest) ≡ m = length-take-le m rest front.within in
+      → beyond ≡ still_open depth token → beyond ≤ OPEN_PARENTHESES → others ≡ drop m rest → end ≡ mid + m
+      → TakesToken left at depth (record { at = mid; token = token }) others end beyond
+  takes_token at mid depth end beyond m token others place prefix within counted shallow cut_others passed =
+      let piece_length : length (take m rest) ≡ m = length-take-le m rest prefix.within in
       record {
         gap = take n left;
         piece = take m rest;
@@ -66,8 +66,8 @@ module _ (left rest : List ℕ) (n : ℕ) (size : n ≡ prefix_len is_space left
             left_is ∙ ap (λ r. take n left ++ r) (sym (take-append-drop m rest) ∙ ap (λ r. take m rest ++ r) (sym cut_others))
             ∙ sym (append_assoc (take n left) (take m rest) others);
         place = omega (arith, gap_length, place);
-        spelled = front.spelled;
-        longest = subst (λ (r : List ℕ). model.IsLongest (take m rest) r) (sym cut_others) front.longest;
+        spelled = prefix.spelled;
+        longest = subst (λ (r : List ℕ). model.IsLongest (take m rest) r) (sym cut_others) prefix.longest;
         within = within;
         passed = omega (arith, piece_length, passed);
         counted = counted;
@@ -75,18 +75,18 @@ module _ (left rest : List ℕ) (n : ℕ) (size : n ≡ prefix_len is_space left
       }
 
   -- a fault follows
-  faults_in_front : (kind : FaultKind) (depth : ℕ) → 0 < length rest → IsFrontFault kind rest → FaultsInFront kind depth rest
-  faults_in_front fault.Byte depth some found = (begins_with_no_space some, found)
-  faults_in_front fault.Token depth some found = found
-  faults_in_front fault.Grammar depth some found = absurd found
-  faults_in_front fault.NameTaken depth some found = absurd found
-  faults_in_front fault.NameUnknown depth some found = absurd found
-  faults_in_front fault.TypeWrong depth some found = absurd found
-  faults_in_front fault.Limit depth some found = absurd found
-  faults_in_front fault.SelfSend depth some found = absurd found
-  faults_in_front fault.SetTwice depth some found = absurd found
+  faults_before : (kind : FaultKind) (depth : ℕ) → 0 < length rest → IsPrefixFault kind rest → FaultsBefore kind depth rest
+  faults_before fault.Byte depth some found = (begins_with_no_space some, found)
+  faults_before fault.Token depth some found = found
+  faults_before fault.Grammar depth some found = absurd found
+  faults_before fault.NameTaken depth some found = absurd found
+  faults_before fault.NameUnknown depth some found = absurd found
+  faults_before fault.TypeWrong depth some found = absurd found
+  faults_before fault.Limit depth some found = absurd found
+  faults_before fault.SelfSend depth some found = absurd found
+  faults_before fault.SetTwice depth some found = absurd found
 
-  pub meets_fault : (at mid depth : ℕ) (kind : FaultKind) → mid ≡ at + n → 0 < length rest → IsFrontFault kind rest
+  pub meets_fault : (at mid depth : ℕ) (kind : FaultKind) → mid ≡ at + n → 0 < length rest → IsPrefixFault kind rest
       → MeetsFault left at depth (record { kind = kind; at = mid })
   meets_fault at mid depth kind place some found = record {
     gap = take n left;
@@ -94,15 +94,15 @@ module _ (left rest : List ℕ) (n : ℕ) (size : n ≡ prefix_len is_space left
     spaces = gap_is_spaces;
     whole = left_is;
     place = omega (arith, gap_length, place);
-    faults = faults_in_front kind depth some found;
+    faults = faults_before kind depth some found;
   }
 
   -- one parenthesis too many opens
-  pub meets_limit : (at mid depth m : ℕ) (token : model.Token) → mid ≡ at + n → StandsInFront token m rest
+  pub meets_limit : (at mid depth m : ℕ) (token : model.Token) → mid ≡ at + n → IsBefore token m rest
       → token ≡ model.Symbol sign.OpenParenthesis
       → depth ≡ OPEN_PARENTHESES → MeetsFault left at depth (record { kind = fault.Limit; at = mid })
-  meets_limit at mid depth m token place front opens deep =
-      let spelled = subst (λ (t : model.Token). model.Spells t (take m rest)) opens front.spelled in
+  meets_limit at mid depth m token place prefix opens deep =
+      let spelled = subst (λ (t : model.Token). model.Spells t (take m rest)) opens prefix.spelled in
       record {
         gap = take n left;
         rest = rest;

@@ -20,8 +20,8 @@ after_grows n [] = omega arith
 after_grows n (x ∷ xs) = omega (arith, after_grows (n * 10 + digit_value x) xs)
 
 -- the number of a prefix of the digits is at most that of all
-pub front_is_less : (k : ℕ) (digits : List ℕ) → digits_value 10 (take k digits) ≤ digits_value 10 digits
-front_is_less k digits =
+pub prefix_is_less : (k : ℕ) (digits : List ℕ) → digits_value 10 (take k digits) ≤ digits_value 10 digits
+prefix_is_less k digits =
     let whole : digits_value 10 digits ≡ digits_value_after 10 (digits_value 10 (take k digits)) (drop k digits) =
     ap (digits_value 10) (sym (take-append-drop k digits)) ∙ after_append 0 (take k digits) (drop k digits) in
     omega (arith, whole, after_grows (digits_value 10 (take k digits)) (drop k digits))

@@ -27,18 +27,18 @@ module _ (p : ℕ → Bool) where
   abbrev passes_by : ℕ → List ℕ → Bool → Type 0
   passes_by b bytes t = list_all p (take (cond t (1 + prefix_len p bytes) 0) (b ∷ bytes)) ≡ true
 
-  front_step : (b : ℕ) (bytes : List ℕ) (t : Bool) → p b ≡ t → list_all p (take (prefix_len p bytes) bytes) ≡ true → passes_by b bytes t
-  front_step b bytes true e h = rw one-add (both_true (p b) (list_all p (take (prefix_len p bytes) bytes)) e h)
-  front_step b bytes false e h = refl
+  prefix_step : (b : ℕ) (bytes : List ℕ) (t : Bool) → p b ≡ t → list_all p (take (prefix_len p bytes) bytes) ≡ true → passes_by b bytes t
+  prefix_step b bytes true e h = rw one-add (both_true (p b) (list_all p (take (prefix_len p bytes) bytes)) e h)
+  prefix_step b bytes false e h = refl
 
   -- the longest passing prefix passes
-  pub front_passes : (bytes : List ℕ) → list_all p (take (prefix_len p bytes) bytes) ≡ true
-  front_passes [] = refl
-  front_passes (b ∷ bytes) = front_step b bytes (p b) refl (front_passes bytes)
+  pub prefix_passes : (bytes : List ℕ) → list_all p (take (prefix_len p bytes) bytes) ≡ true
+  prefix_passes [] = refl
+  prefix_passes (b ∷ bytes) = prefix_step b bytes (p b) refl (prefix_passes bytes)
 
   -- no longer prefix passes
-  pub front_is_longest : (piece more : List ℕ) → list_all p piece ≡ true → length piece ≤ prefix_len p (piece ++ more)
-  front_is_longest [] more h = zero-le
-  front_is_longest (b ∷ piece) more h =
-      let rest = front_is_longest piece more (and_second (p b) (list_all p piece) h) in
+  pub prefix_is_longest : (piece more : List ℕ) → list_all p piece ≡ true → length piece ≤ prefix_len p (piece ++ more)
+  prefix_is_longest [] more h = zero-le
+  prefix_is_longest (b ∷ piece) more h =
+      let rest = prefix_is_longest piece more (and_second (p b) (list_all p piece) h) in
       rw (and_first (p b) (list_all p piece) h) (omega (arith, rest))

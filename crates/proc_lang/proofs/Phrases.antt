@@ -62,10 +62,10 @@ count_reader =
     last_reader (λ close. Count word.0 word.1 other) (SignAt CloseParenthesis) (read_sign CloseParenthesis)
     (sign_reader CloseParenthesis)))))
 
-count_completes : (at : ℕ) (direction : Direction) (other : Named) (front rest : List Placed)
-    → DerivesExpression front (Count at direction other) → read_count (front ++ rest) ≡ Ok (Count at direction other, rest)
+count_completes : (at : ℕ) (direction : Direction) (other : Named) (prefix rest : List Placed)
+    → DerivesExpression prefix (Count at direction other) → read_count (prefix ++ rest) ≡ Ok (Count at direction other, rest)
 unfolding read_count
-count_completes at direction other front rest d =
+count_completes at direction other prefix rest d =
     ap (λ (l : List Placed). read_count (l ++ rest)) d.3
     ∙ bind_to _ _ _ _ (direction_completes (word_at at (direction_word direction) ∷ []) _ (at, direction) refl tt)
     (bind_to _ _ _ _ (sign_here OpenParenthesis d.0 _)
@@ -236,27 +236,27 @@ abbrev read_signed : ℕ → List Placed → Read Phrase
 read_signed at tokens = cond (begins_sign Minus tokens) (read_negate read_expression at tokens) (read_binary read_expression at tokens)
 
 -- an expression begins neither with `not` nor with a minus
-first_of_expression : (e : Phrase) (front more : List Placed) → DerivesExpression front e
-    → (begins_word (codes "not") (front ++ more) ≡ false) × (begins_sign Minus (front ++ more) ≡ false)
-first_of_expression (Number at value) front more d =
+first_of_expression : (e : Phrase) (prefix more : List Placed) → DerivesExpression prefix e
+    → (begins_word (codes "not") (prefix ++ more) ≡ false) × (begins_sign Minus (prefix ++ more) ≡ false)
+first_of_expression (Number at value) prefix more d =
     (ap (λ (l : List Placed). begins_word (codes "not") (l ++ more)) d, ap (λ (l : List Placed). begins_sign Minus (l ++ more)) d)
-first_of_expression (Name at name) front more d = (
+first_of_expression (Name at name) prefix more d = (
   ap (λ (l : List Placed). begins_word (codes "not") (l ++ more)) d.0 ∙ name_is_not (codes "not") name refl d.1,
   ap (λ (l : List Placed). begins_sign Minus (l ++ more)) d.0,
 )
-first_of_expression (Truth at true) front more d =
+first_of_expression (Truth at true) prefix more d =
     (ap (λ (l : List Placed). begins_word (codes "not") (l ++ more)) d, ap (λ (l : List Placed). begins_sign Minus (l ++ more)) d)
-first_of_expression (Truth at false) front more d =
+first_of_expression (Truth at false) prefix more d =
     (ap (λ (l : List Placed). begins_word (codes "not") (l ++ more)) d, ap (λ (l : List Placed). begins_sign Minus (l ++ more)) d)
-first_of_expression (Count at Sent other) front more d =
+first_of_expression (Count at Sent other) prefix more d =
     (ap (λ (l : List Placed). begins_word (codes "not") (l ++ more)) d.3, ap (λ (l : List Placed). begins_sign Minus (l ++ more)) d.3)
-first_of_expression (Count at Got other) front more d =
+first_of_expression (Count at Got other) prefix more d =
     (ap (λ (l : List Placed). begins_word (codes "not") (l ++ more)) d.3, ap (λ (l : List Placed). begins_sign Minus (l ++ more)) d.3)
-first_of_expression (Not at operand) front more d =
+first_of_expression (Not at operand) prefix more d =
     (ap (λ (l : List Placed). begins_word (codes "not") (l ++ more)) d.4, ap (λ (l : List Placed). begins_sign Minus (l ++ more)) d.4)
-first_of_expression (Negate at operand) front more d =
+first_of_expression (Negate at operand) prefix more d =
     (ap (λ (l : List Placed). begins_word (codes "not") (l ++ more)) d.4, ap (λ (l : List Placed). begins_sign Minus (l ++ more)) d.4)
-first_of_expression (Binary at operator left right) front more d =
+first_of_expression (Binary at operator left right) prefix more d =
     (ap (λ (l : List Placed). begins_word (codes "not") (l ++ more)) d.6, ap (λ (l : List Placed). begins_sign Minus (l ++ more)) d.6)
 
 -- an expression in parentheses, read by its parts
@@ -315,40 +315,40 @@ name_counts_not name is =
     ∙ ap (λ (b : Bool). is_some (cond b (Some Got) None)) (name_is_not (codes "got") name refl is)
 
 -- an expression that is derived is read
-complete_phrase : (e : Phrase) (front rest : List Placed) → DerivesExpression front e → read_expression (front ++ rest) ≡ Ok (e, rest)
-complete_phrase (Number at value) front rest d =
+complete_phrase : (e : Phrase) (prefix rest : List Placed) → DerivesExpression prefix e → read_expression (prefix ++ rest) ≡ Ok (e, rest)
+complete_phrase (Number at value) prefix rest d =
     ap (λ (l : List Placed). read_expression (l ++ rest)) d ∙ alone (number_at at value) _ rest refl refl refl
-complete_phrase (Name at name) front rest d =
+complete_phrase (Name at name) prefix rest d =
     ap (λ (l : List Placed). read_expression (l ++ rest)) d.0
     ∙ alone (word_at at name) _ rest refl (name_counts_not name d.1) (name_phrase at name d.1)
-complete_phrase (Truth at true) front rest d =
+complete_phrase (Truth at true) prefix rest d =
     ap (λ (l : List Placed). read_expression (l ++ rest)) d ∙ alone (word_at at (codes "true")) _ rest refl refl refl
-complete_phrase (Truth at false) front rest d =
+complete_phrase (Truth at false) prefix rest d =
     ap (λ (l : List Placed). read_expression (l ++ rest)) d ∙ alone (word_at at (codes "false")) _ rest refl refl refl
-complete_phrase (Count at direction other) front rest d =
-    let no_sign : begins_sign OpenParenthesis (front ++ rest) ≡ false =
+complete_phrase (Count at direction other) prefix rest d =
+    let no_sign : begins_sign OpenParenthesis (prefix ++ rest) ≡ false =
     ap (λ (l : List Placed). begins_sign OpenParenthesis (l ++ rest)) d.3 in
-    let count : begins_count (front ++ rest) ≡ true =
+    let count : begins_count (prefix ++ rest) ≡ true =
     ap (λ (l : List Placed). begins_count (l ++ rest)) d.3 ∙ ap is_some (direction_found direction) in
-    expression_parts (front ++ rest)
-    ∙ either_second DerivesExpression (is_sign_token OpenParenthesis) (read_parentheses read_expression) read_bare (front ++ rest) _ no_sign
-    (either_first DerivesExpression (λ token. is_some (direction_in token)) read_count read_operand (front ++ rest) _ count
-    (count_completes at direction other front rest d))
-complete_phrase (Not at operand) front rest d =
+    expression_parts (prefix ++ rest)
+    ∙ either_second DerivesExpression (is_sign_token OpenParenthesis) (read_parentheses read_expression) read_bare (prefix ++ rest) _ no_sign
+    (either_first DerivesExpression (λ token. is_some (direction_in token)) read_count read_operand (prefix ++ rest) _ count
+    (count_completes at direction other prefix rest d))
+complete_phrase (Not at operand) prefix rest d =
     let tail : List Placed = (d.0 ++ sign_at d.2 CloseParenthesis ∷ []) ++ rest in
     let reads : read_expression tail ≡ Ok (operand, sign_at d.2 CloseParenthesis ∷ rest) =
     ap read_expression (append_assoc d.0 (sign_at d.2 CloseParenthesis ∷ []) rest)
     ∙ complete_phrase operand d.0 (sign_at d.2 CloseParenthesis ∷ rest) d.3 in
     ap (λ (l : List Placed). read_expression (l ++ rest)) d.4 ∙ opens at (word_at d.1 (codes "not") ∷ tail)
     ∙ complete_not read_expression at (word_at d.1 (codes "not") ∷ tail) d.1 d.2 operand tail rest refl reads
-complete_phrase (Negate at operand) front rest d =
+complete_phrase (Negate at operand) prefix rest d =
     let tail : List Placed = (d.0 ++ sign_at d.2 CloseParenthesis ∷ []) ++ rest in
     let reads : read_expression tail ≡ Ok (operand, sign_at d.2 CloseParenthesis ∷ rest) =
     ap read_expression (append_assoc d.0 (sign_at d.2 CloseParenthesis ∷ []) rest)
     ∙ complete_phrase operand d.0 (sign_at d.2 CloseParenthesis ∷ rest) d.3 in
     ap (λ (l : List Placed). read_expression (l ++ rest)) d.4 ∙ opens at (sign_at d.1 Minus ∷ tail)
     ∙ complete_negate read_expression at (sign_at d.1 Minus ∷ tail) d.1 d.2 operand tail rest refl reads
-complete_phrase (Binary at operator left right) front rest d =
+complete_phrase (Binary at operator left right) prefix rest d =
     let sign : Placed = record { at = d.2; token = operator_token operator } in
     let last : List Placed = d.1 ++ sign_at d.3 CloseParenthesis ∷ rest in
     let tail : List Placed = d.0 ++ (sign ∷ last) in
@@ -364,4 +364,4 @@ complete_phrase (Binary at operator left right) front rest d =
     (complete_binary read_expression at tail d.2 d.3 operator left right last rest first second))
 
 pub expression_completes : Completes DerivesExpression Anything read_expression
-expression_completes front rest e d any = complete_phrase e front rest d
+expression_completes prefix rest e d any = complete_phrase e prefix rest d

@@ -13,9 +13,9 @@ SameFirst [] (q ∷ qs) = ⊥
 SameFirst (p ∷ ps) [] = ⊥
 SameFirst (p ∷ ps) (q ∷ qs) = p ≡ q
 
-same_behind : (front rest other : List Placed) → SameFirst rest other → SameFirst (front ++ rest) (front ++ other)
-same_behind [] rest other same = same
-same_behind (p ∷ front) rest other same = refl
+same_after : (prefix rest other : List Placed) → SameFirst rest other → SameFirst (prefix ++ rest) (prefix ++ other)
+same_after [] rest other same = same
+same_after (p ∷ prefix) rest other same = refl
 
 begins_same : (test : Token → Bool) (rest other : List Placed) → SameFirst rest other → begins test rest ≡ begins test other
 begins_same test [] [] same = refl
@@ -26,20 +26,20 @@ begins_same test (p ∷ ps) (q ∷ qs) same = ap (λ (x : Placed). test x.token)
 -- x was read; it is read again if the same token follows
 pub record Success {A : Type 0} (Derives : List Placed → A → Type 0) (read : List Placed → Read A) (tokens rest : List Placed) (x : A)
     : Type 0 where
-  pub front : List Placed
-  pub derived : Derives front x
-  pub whole : tokens ≡ front ++ rest
-  pub again : (other : List Placed) → SameFirst rest other → read (front ++ other) ≡ Ok (x, other)
+  pub prefix : List Placed
+  pub derived : Derives prefix x
+  pub whole : tokens ≡ prefix ++ rest
+  pub again : (other : List Placed) → SameFirst rest other → read (prefix ++ other) ≡ Ok (x, other)
 
 -- reading failed: the tokens before those that are left can be continued; reading fails again if the same token follows
 pub record Failure {A : Type 0} (Derives : List Placed → A → Type 0) (read : List Placed → Read A) (tokens : List Placed) (n : ℕ)
     : Type 0 where
-  pub front : List Placed
+  pub prefix : List Placed
   pub left : List Placed
-  pub viable : Begins Derives front
-  pub whole : tokens ≡ front ++ left
+  pub viable : Begins Derives prefix
+  pub whole : tokens ≡ prefix ++ left
   pub size : n ≡ length left
-  pub again : (other : List Placed) → SameFirst left other → read (front ++ other) ≡ Err (length other)
+  pub again : (other : List Placed) → SameFirst left other → read (prefix ++ other) ≡ Err (length other)
 
 pub record IsReader {A : Type 0} (Derives : List Placed → A → Type 0) (read : List Placed → Read A) : Type 0 where
   pub some : Begins Derives []
@@ -49,7 +49,7 @@ pub record IsReader {A : Type 0} (Derives : List Placed → A → Type 0) (read 
 -- what is derived is read, if the tokens after it are admissible
 abbrev pub Completes : {A : Type 0} → (List Placed → A → Type 0) → (List Placed → Type 0) → (List Placed → Read A) → Type 0
 Completes {A} Derives Follows read =
-    (front rest : List Placed) (x : A) → Derives front x → Follows rest → read (front ++ rest) ≡ Ok (x, rest)
+    (prefix rest : List Placed) (x : A) → Derives prefix x → Follows rest → read (prefix ++ rest) ≡ Ok (x, rest)
 
 abbrev pub Anything : List Placed → Type 0
 Anything rest = Unit {0}
@@ -64,10 +64,10 @@ pub derives_more : {A : Type 0} (Derives Other : List Placed → A → Type 0) (
 derives_more Derives Other read to reader = record {
   some = (reader.some.0, reader.some.1, to _ _ reader.some.2);
   succeeds = λ tokens rest x e. let s = reader.succeeds tokens rest x e in
-      record { front = s.front; derived = to _ _ s.derived; whole = s.whole; again = s.again };
+      record { prefix = s.prefix; derived = to _ _ s.derived; whole = s.whole; again = s.again };
   fails = λ tokens n e. let f = reader.fails tokens n e in
       record {
-        front = f.front;
+        prefix = f.prefix;
         left = f.left;
         viable = (f.viable.0, f.viable.1, to _ _ f.viable.2);
         whole = f.whole;
@@ -81,7 +81,7 @@ pub leaves : {A : Type 0} (Derives : List Placed → A → Type 0) (read : List 
     → (tokens : List Placed) (found : A × List Placed) → read tokens ≡ Ok found → length found.1 ≤ length tokens
 leaves Derives read reader tokens found e =
     let s = reader.succeeds tokens found.1 found.0 e in
-    omega (arith, ap length s.whole, length-append s.front found.1)
+    omega (arith, ap length s.whole, length-append s.prefix found.1)
 
 -- the result of a step, and of the step after it
 pub bind_ok : {A B : Type 0} (r : Result A ℕ) (f : A → Result B ℕ) (y : B) → (r >>= f) ≡ Ok y → (x : A) × (r ≡ Ok x) × (f x ≡ Ok y)
@@ -126,7 +126,7 @@ module _ {A : Type 0} (pick : Placed → Option A) where
   one_fails : Begins (One pick) [] → (tokens : List Placed) (n : ℕ) → read_one pick tokens ≡ Err n
       → Failure (One pick) (read_one pick) tokens n
   one_fails some [] n e = record {
-    front = [];
+    prefix = [];
     left = [];
     viable = some;
     whole = refl;
@@ -139,7 +139,7 @@ module _ {A : Type 0} (pick : Placed → Option A) where
   one_fails some (p ∷ tokens) n e =
       let none = picked_err (pick p) tokens n e in
       record {
-        front = [];
+        prefix = [];
         left = p ∷ tokens;
         viable = some;
         whole = refl;
@@ -156,7 +156,7 @@ module _ {A : Type 0} (pick : Placed → Option A) where
   one_succeeds (p ∷ tokens) rest x e =
       let found = picked_ok (pick p) tokens rest x e in
       record {
-        front = p ∷ [];
+        prefix = p ∷ [];
         derived = (p, refl, found.0);
         whole = ap (λ (l : List Placed). p ∷ l) found.1;
         again = λ other same. ap (λ (o : Option A). picked o other) found.0;
@@ -170,7 +170,7 @@ module _ {A : Type 0} (pick : Placed → Option A) where
   }
 
   pub one_completes : Completes (One pick) Anything (read_one pick)
-  one_completes front rest x d any =
+  one_completes prefix rest x d any =
       ap (λ (l : List Placed). read_one pick (l ++ rest)) d.1 ∙ ap (λ (o : Option A). picked o rest) d.2
 
   pub one_takes : Takes (read_one pick)
@@ -196,14 +196,14 @@ module _ {A B : Type 0} (First : List Placed → A → Type 0) (Second : A → L
         let s = one.succeeds tokens a.0.1 a.0.0 a.1 in
         let t = (two a.0.0).succeeds a.0.1 rest y a.2 in
         record {
-          front = s.front ++ t.front;
-          derived = (a.0.0, s.front, t.front, s.derived, t.derived, refl);
-          whole = s.whole ∙ ap (λ (l : List Placed). s.front ++ l) t.whole ∙ sym (append_assoc s.front t.front rest);
+          prefix = s.prefix ++ t.prefix;
+          derived = (a.0.0, s.prefix, t.prefix, s.derived, t.derived, refl);
+          whole = s.whole ∙ ap (λ (l : List Placed). s.prefix ++ l) t.whole ∙ sym (append_assoc s.prefix t.prefix rest);
           again = λ other same.
-              let first : read (s.front ++ (t.front ++ other)) ≡ Ok (a.0.0, t.front ++ other) =
-              s.again (t.front ++ other) (subst (λ (l : List Placed). SameFirst l (t.front ++ other)) (sym t.whole)
-              (same_behind t.front rest other same)) in
-              ap read_both (append_assoc s.front t.front other) ∙ bind_to _ _ _ _ first (t.again other same);
+              let first : read (s.prefix ++ (t.prefix ++ other)) ≡ Ok (a.0.0, t.prefix ++ other) =
+              s.again (t.prefix ++ other) (subst (λ (l : List Placed). SameFirst l (t.prefix ++ other)) (sym t.whole)
+              (same_after t.prefix rest other same)) in
+              ap read_both (append_assoc s.prefix t.prefix other) ∙ bind_to _ _ _ _ first (t.again other same);
         }
 
     second_fails : (tokens : List Placed) (n : ℕ) (a : A × List Placed) → read tokens ≡ Ok a → next a.0 a.1 ≡ Err n
@@ -212,27 +212,27 @@ module _ {A B : Type 0} (First : List Placed → A → Type 0) (Second : A → L
         let s = one.succeeds tokens a.1 a.0 e in
         let f = (two a.0).fails a.1 n h in
         record {
-          front = s.front ++ f.front;
+          prefix = s.prefix ++ f.prefix;
           left = f.left;
           viable = (
             f.viable.0,
             f.viable.1,
             (
               a.0,
-              s.front,
-              f.front ++ f.viable.0,
+              s.prefix,
+              f.prefix ++ f.viable.0,
               s.derived,
               f.viable.2,
-              append_assoc s.front f.front f.viable.0,
+              append_assoc s.prefix f.prefix f.viable.0,
             ),
           );
-          whole = s.whole ∙ ap (λ (l : List Placed). s.front ++ l) f.whole ∙ sym (append_assoc s.front f.front f.left);
+          whole = s.whole ∙ ap (λ (l : List Placed). s.prefix ++ l) f.whole ∙ sym (append_assoc s.prefix f.prefix f.left);
           size = f.size;
           again = λ other same.
-              let first : read (s.front ++ (f.front ++ other)) ≡ Ok (a.0, f.front ++ other) =
-              s.again (f.front ++ other) (subst (λ (l : List Placed). SameFirst l (f.front ++ other)) (sym f.whole)
-              (same_behind f.front f.left other same)) in
-              ap read_both (append_assoc s.front f.front other) ∙ bind_to _ _ _ _ first (f.again other same);
+              let first : read (s.prefix ++ (f.prefix ++ other)) ≡ Ok (a.0, f.prefix ++ other) =
+              s.again (f.prefix ++ other) (subst (λ (l : List Placed). SameFirst l (f.prefix ++ other)) (sym f.whole)
+              (same_after f.prefix f.left other same)) in
+              ap read_both (append_assoc s.prefix f.prefix other) ∙ bind_to _ _ _ _ first (f.again other same);
         }
 
     first_fails : (tokens : List Placed) (n : ℕ) → read tokens ≡ Err n → Failure (Then First Second) read_both tokens n
@@ -240,12 +240,12 @@ module _ {A B : Type 0} (First : List Placed → A → Type 0) (Second : A → L
         let f = one.fails tokens n e in
         let second = (two f.viable.1).some in
         record {
-          front = f.front;
+          prefix = f.prefix;
           left = f.left;
           viable = (
             f.viable.0 ++ second.0,
             second.1,
-            (f.viable.1, f.front ++ f.viable.0, second.0, f.viable.2, second.2, sym (append_assoc f.front f.viable.0 second.0)),
+            (f.viable.1, f.prefix ++ f.viable.0, second.0, f.viable.2, second.2, sym (append_assoc f.prefix f.viable.0 second.0)),
           );
           whole = f.whole;
           size = f.size;
@@ -282,9 +282,9 @@ module _ {A B : Type 0} (f : A → B) (First : List Placed → A → Type 0) (re
         let same = ok_is (f a.0.0) y a.0.1 rest a.2 in
         let s = one.succeeds tokens a.0.1 a.0.0 a.1 in
         record {
-          front = s.front;
+          prefix = s.prefix;
           derived = (a.0.0, s.derived, same.0);
-          whole = s.whole ∙ ap (λ (l : List Placed). s.front ++ l) same.1;
+          whole = s.whole ∙ ap (λ (l : List Placed). s.prefix ++ l) same.1;
           again = λ other is.
               bind_to _ _ _ _ (s.again other (subst (λ (l : List Placed). SameFirst l other) (sym same.1) is))
               (ap (λ (z : B). Ok (z, other)) same.0);
@@ -292,7 +292,7 @@ module _ {A B : Type 0} (f : A → B) (First : List Placed → A → Type 0) (re
     fails = λ tokens n e. elim (bind_err (read tokens) (λ x. Ok (f x.0, x.1)) n e) as (λ _. Failure (Last f First) read_last tokens n) [
       | inl h ↦ let g = one.fails tokens n h in
           record {
-            front = g.front;
+            prefix = g.prefix;
             left = g.left;
             viable = (g.viable.0, f g.viable.1, (g.viable.1, g.viable.2, refl));
             whole = g.whole;
@@ -308,13 +308,13 @@ module _ {A : Type 0} (Derives : List Placed → A → Type 0) (test : Token →
   abbrev read_either : List Placed → Read A
   read_either tokens = cond (begins test tokens) (read tokens) (other_read tokens)
 
-  module _ (b : Bool) (front rest other : List Placed) (same : SameFirst rest other) (z : Read A) where
-    stays : begins test (front ++ rest) ≡ b → begins test (front ++ other) ≡ b
-    stays is = sym (begins_same test (front ++ rest) (front ++ other) (same_behind front rest other same)) ∙ is
+  module _ (b : Bool) (prefix rest other : List Placed) (same : SameFirst rest other) (z : Read A) where
+    stays : begins test (prefix ++ rest) ≡ b → begins test (prefix ++ other) ≡ b
+    stays is = sym (begins_same test (prefix ++ rest) (prefix ++ other) (same_after prefix rest other same)) ∙ is
 
-    either_again : begins test (front ++ rest) ≡ b → cond b (read (front ++ other)) (other_read (front ++ other)) ≡ z
-        → read_either (front ++ other) ≡ z
-    either_again is e = ap (λ (t : Bool). cond t (read (front ++ other)) (other_read (front ++ other))) (stays is) ∙ e
+    either_again : begins test (prefix ++ rest) ≡ b → cond b (read (prefix ++ other)) (other_read (prefix ++ other)) ≡ z
+        → read_either (prefix ++ other) ≡ z
+    either_again is e = ap (λ (t : Bool). cond t (read (prefix ++ other)) (other_read (prefix ++ other))) (stays is) ∙ e
 
   module _ (one : IsReader Derives read) (two : IsReader Derives other_read) where
     either_succeeds : (b : Bool) (tokens rest : List Placed) (x : A) → begins test tokens ≡ b
@@ -322,18 +322,18 @@ module _ {A : Type 0} (Derives : List Placed → A → Type 0) (test : Token →
     either_succeeds true tokens rest x is e =
         let s = one.succeeds tokens rest x e in
         record {
-          front = s.front;
+          prefix = s.prefix;
           derived = s.derived;
           whole = s.whole;
-          again = λ other same. either_again true s.front rest other same _ (ap (begins test) (sym s.whole) ∙ is) (s.again other same);
+          again = λ other same. either_again true s.prefix rest other same _ (ap (begins test) (sym s.whole) ∙ is) (s.again other same);
         }
     either_succeeds false tokens rest x is e =
         let s = two.succeeds tokens rest x e in
         record {
-          front = s.front;
+          prefix = s.prefix;
           derived = s.derived;
           whole = s.whole;
-          again = λ other same. either_again false s.front rest other same _ (ap (begins test) (sym s.whole) ∙ is) (s.again other same);
+          again = λ other same. either_again false s.prefix rest other same _ (ap (begins test) (sym s.whole) ∙ is) (s.again other same);
         }
 
     either_fails : (b : Bool) (tokens : List Placed) (n : ℕ) → begins test tokens ≡ b
@@ -341,22 +341,22 @@ module _ {A : Type 0} (Derives : List Placed → A → Type 0) (test : Token →
     either_fails true tokens n is e =
         let f = one.fails tokens n e in
         record {
-          front = f.front;
+          prefix = f.prefix;
           left = f.left;
           viable = f.viable;
           whole = f.whole;
           size = f.size;
-          again = λ other same. either_again true f.front f.left other same _ (ap (begins test) (sym f.whole) ∙ is) (f.again other same);
+          again = λ other same. either_again true f.prefix f.left other same _ (ap (begins test) (sym f.whole) ∙ is) (f.again other same);
         }
     either_fails false tokens n is e =
         let f = two.fails tokens n e in
         record {
-          front = f.front;
+          prefix = f.prefix;
           left = f.left;
           viable = f.viable;
           whole = f.whole;
           size = f.size;
-          again = λ other same. either_again false f.front f.left other same _ (ap (begins test) (sym f.whole) ∙ is) (f.again other same);
+          again = λ other same. either_again false f.prefix f.left other same _ (ap (begins test) (sym f.whole) ∙ is) (f.again other same);
         }
 
     pub either_reader : IsReader Derives read_either

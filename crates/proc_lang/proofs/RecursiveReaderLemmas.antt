@@ -16,7 +16,7 @@ module _ {A : Type 0} (Derives : List Placed → A → Type 0) (step : (List Pla
     some = some;
     succeeds = λ tokens rest x e. absurd (let bad : ◌≡◌ {A = Read A} (Err (length tokens)) (Ok (x, rest)) = e in cc);
     fails = λ tokens n e. record {
-      front = [];
+      prefix = [];
       left = tokens;
       viable = some;
       whole = refl;
@@ -50,16 +50,16 @@ module _ {A : Type 0} (Derives : List Placed → A → Type 0) (step : (List Pla
       let m : ℕ = suc (length tokens) in
       let s = (unrolled_reader m).succeeds tokens rest x (turn_gives m tokens (Ok (x, rest)) (omega arith) e) in
       record {
-        front = s.front;
+        prefix = s.prefix;
         derived = s.derived;
         whole = s.whole;
         again = λ other same.
-            let n : ℕ = suc (length tokens + length (s.front ++ other)) in
+            let n : ℕ = suc (length tokens + length (s.prefix ++ other)) in
             let t = (unrolled_reader n).succeeds tokens rest x (turn_gives n tokens (Ok (x, rest)) (omega arith) e) in
-            let front : s.front ≡ t.front = append_cancel_right s.front t.front rest (sym s.whole ∙ t.whole) in
-            let moved : unrolled step n (s.front ++ other) ≡ unrolled step n (t.front ++ other) =
-            ap (λ (l : List Placed). unrolled step n (l ++ other)) front in
-            fixed_is n (s.front ++ other) (omega arith) ∙ moved ∙ t.again other same;
+            let prefix : s.prefix ≡ t.prefix = append_cancel_right s.prefix t.prefix rest (sym s.whole ∙ t.whole) in
+            let moved : unrolled step n (s.prefix ++ other) ≡ unrolled step n (t.prefix ++ other) =
+            ap (λ (l : List Placed). unrolled step n (l ++ other)) prefix in
+            fixed_is n (s.prefix ++ other) (omega arith) ∙ moved ∙ t.again other same;
       }
 
   fixed_fails : (tokens : List Placed) (m : ℕ) → fixed step tokens ≡ Err m → Failure Derives (fixed step) tokens m
@@ -67,29 +67,29 @@ module _ {A : Type 0} (Derives : List Placed → A → Type 0) (step : (List Pla
       let k : ℕ = suc (length tokens) in
       let s = (unrolled_reader k).fails tokens m (turn_gives k tokens (Err m) (omega arith) e) in
       record {
-        front = s.front;
+        prefix = s.prefix;
         left = s.left;
         viable = s.viable;
         whole = s.whole;
         size = s.size;
         again = λ other same.
-            let n : ℕ = suc (length tokens + length (s.front ++ other)) in
+            let n : ℕ = suc (length tokens + length (s.prefix ++ other)) in
             let t = (unrolled_reader n).fails tokens m (turn_gives n tokens (Err m) (omega arith) e) in
-            let sizes = fronts_same s.front t.front s.left t.left (sym s.whole ∙ t.whole) (sym s.size ∙ t.size) in
-            let moved : unrolled step n (s.front ++ other) ≡ unrolled step n (t.front ++ other) =
+            let sizes = prefixes_same s.prefix t.prefix s.left t.left (sym s.whole ∙ t.whole) (sym s.size ∙ t.size) in
+            let moved : unrolled step n (s.prefix ++ other) ≡ unrolled step n (t.prefix ++ other) =
             ap (λ (l : List Placed). unrolled step n (l ++ other)) sizes.0 in
-            fixed_is n (s.front ++ other) (omega arith) ∙ moved
+            fixed_is n (s.prefix ++ other) (omega arith) ∙ moved
             ∙ t.again other (subst (λ (l : List Placed). SameFirst l other) sizes.1 same);
       }
     where
-      fronts_same : (a b l m : List Placed) → a ++ l ≡ b ++ m → length l ≡ length m → (a ≡ b) × (l ≡ m)
-      fronts_same [] [] l m e same = (refl, e)
-      fronts_same [] (p ∷ b) l m e same = absurd (omega (arith, ap length e, length-append b m))
-      fronts_same (p ∷ a) [] l m e same = absurd (omega (arith, ap length e, length-append a l))
-      fronts_same (p ∷ a) (q ∷ b) l m e same =
+      prefixes_same : (a b l m : List Placed) → a ++ l ≡ b ++ m → length l ≡ length m → (a ≡ b) × (l ≡ m)
+      prefixes_same [] [] l m e same = (refl, e)
+      prefixes_same [] (p ∷ b) l m e same = absurd (omega (arith, ap length e, length-append b m))
+      prefixes_same (p ∷ a) [] l m e same = absurd (omega (arith, ap length e, length-append a l))
+      prefixes_same (p ∷ a) (q ∷ b) l m e same =
           let first : p ≡ q = cc in
           let rest : a ++ l ≡ b ++ m = cc in
-          let more = fronts_same a b l m rest same in
+          let more = prefixes_same a b l m rest same in
           (ap (λ (x : Placed). x ∷ a) first ∙ ap (λ (t : List Placed). q ∷ t) more.0, more.1)
 
   pub fixed_reader : IsReader Derives (fixed step)

@@ -29,12 +29,12 @@ module _ {A : Type 0} (Derives : List Placed → A → Type 0) (one : List Place
       (λ x. last_reader (λ others. x ∷ others) (DeriveInTurn Derives) rest others))
 
   pub several_complete : Completes Derives Anything one
-      → (first others behind : List Placed) (x : A) (xs : List A) → Derives first x → rest (others ++ behind) ≡ Ok (xs, behind)
-      → read_several one rest ((first ++ others) ++ behind) ≡ Ok (x ∷ xs, behind)
+      → (first others beyond : List Placed) (x : A) (xs : List A) → Derives first x → rest (others ++ beyond) ≡ Ok (xs, beyond)
+      → read_several one rest ((first ++ others) ++ beyond) ≡ Ok (x ∷ xs, beyond)
   unfolding read_several
-  several_complete complete first others behind x xs d e =
-      ap (read_several one rest) (append_assoc first others behind)
-      ∙ bind_to _ _ _ _ (complete first (others ++ behind) x d tt) (bind_to _ _ _ _ e refl)
+  several_complete complete first others beyond x xs d e =
+      ap (read_several one rest) (append_assoc first others beyond)
+      ∙ bind_to _ _ _ _ (complete first (others ++ beyond) x d tt) (bind_to _ _ _ _ e refl)
 
 module _ {A : Type 0} (Derives : List Placed → A → Type 0) (test : Token → Bool) (one : List Placed → Read A)
     (reader : IsReader Derives one)
@@ -45,7 +45,7 @@ module _ {A : Type 0} (Derives : List Placed → A → Type 0) (test : Token →
     succeeds = λ tokens rest xs e.
         let same = ok_is [] xs tokens rest e in
         record {
-          front = [];
+          prefix = [];
           derived = subst (λ (l : List A). DeriveInTurn Derives [] l) same.0 refl;
           whole = same.1;
           again = λ other is. ap (λ (l : List A). Ok (l, other)) same.0;
@@ -90,10 +90,10 @@ module _ {A : Type 0} (Derives : List Placed → A → Type 0) (test : Token →
 
   -- elements that each begin with a token that passes the test
   pub many_complete : Completes Derives Anything one
-      → ((front rest : List Placed) (x : A) → Derives front x → begins test (front ++ rest) ≡ true)
+      → ((prefix rest : List Placed) (x : A) → Derives prefix x → begins test (prefix ++ rest) ≡ true)
       → Completes (DeriveInTurn Derives) (λ rest. begins test rest ≡ false) (read_many test one)
-  many_complete complete first front rest [] d stop = ap (λ (l : List Placed). read_many test one (l ++ rest)) d ∙ many_stop rest stop
-  many_complete complete first front rest (x ∷ xs) d stop =
+  many_complete complete first prefix rest [] d stop = ap (λ (l : List Placed). read_many test one (l ++ rest)) d ∙ many_stop rest stop
+  many_complete complete first prefix rest (x ∷ xs) d stop =
       let begins_so : begins test ((d.0 ++ d.1) ++ rest) ≡ true =
       ap (begins test) (append_assoc d.0 d.1 rest) ∙ first d.0 (d.1 ++ rest) x d.2 in
       ap (λ (l : List Placed). read_many test one (l ++ rest)) d.4 ∙ many_go ((d.0 ++ d.1) ++ rest) begins_so
@@ -101,17 +101,17 @@ module _ {A : Type 0} (Derives : List Placed → A → Type 0) (test : Token →
       (many_complete complete first d.1 rest xs d.3 stop)
 
   -- these elements before those that were read
-  abbrev pub with_front : List A → Read (List A) → Read (List A)
-  with_front front read = read >>= λ found. Ok (front ++ found.0, found.1)
+  abbrev pub with_prefix : List A → Read (List A) → Read (List A)
+  with_prefix prefix read = read >>= λ found. Ok (prefix ++ found.0, found.1)
 
-  front_first : (front : List A) (x : A) (read : Read (List A))
-      → with_front front (read >>= λ others. Ok (x ∷ others.0, others.1)) ≡ with_front (front ++ x ∷ []) read
-  front_first front x (Err n) = refl
-  front_first front x (Ok found) = ap (λ (l : List A). Ok (l, found.1)) (sym (append_assoc front (x ∷ []) found.0))
+  prefix_first : (prefix : List A) (x : A) (read : Read (List A))
+      → with_prefix prefix (read >>= λ others. Ok (x ∷ others.0, others.1)) ≡ with_prefix (prefix ++ x ∷ []) read
+  prefix_first prefix x (Err n) = refl
+  prefix_first prefix x (Ok found) = ap (λ (l : List A). Ok (l, found.1)) (sym (append_assoc prefix (x ∷ []) found.0))
 
   -- a loop that reads elements: the code's list so far, and the tokens that are left
   abbrev pub IsReading : {X : Type 0} → (X → A) → List X → List Placed → List Placed → Type 0
-  IsReading view xs left tokens = with_front (map view xs) (read_many test one left) ≡ read_many test one tokens
+  IsReading view xs left tokens = with_prefix (map view xs) (read_many test one left) ≡ read_many test one tokens
 
   pub reading_more : {X : Type 0} (view : X → A) (xs ys : List X) (x : X) (left rest tokens : List Placed) → IsReading view xs left tokens
       → begins test left ≡ true → one left ≡ Ok (view x, rest) → ys ≡ xs ++ x ∷ [] → IsReading view ys rest tokens
@@ -120,25 +120,25 @@ module _ {A : Type 0} (Derives : List Placed → A → Type 0) (test : Token →
       let mapped : map view ys ≡ map view xs ++ view x ∷ [] = ap (map view) pushed ∙ map-append view xs (x ∷ []) in
       let turn : read_many test one left ≡ (read_many test one rest >>= λ others. Ok (view x ∷ others.0, others.1)) =
       many_go left go ∙ ap (λ q. q >>= λ first. (read_many test one first.1 >>= λ others. Ok (first.0 ∷ others.0, others.1))) found in
-      ap (λ front. with_front front (read_many test one rest)) mapped ∙ sym (front_first (map view xs) (view x) (read_many test one rest))
-      ∙ sym (ap (with_front (map view xs)) turn) ∙ so_far
+      ap (λ prefix. with_prefix prefix (read_many test one rest)) mapped ∙ sym (prefix_first (map view xs) (view x) (read_many test one rest))
+      ∙ sym (ap (with_prefix (map view xs)) turn) ∙ so_far
 
   pub reading_fails : {X : Type 0} (view : X → A) (xs : List X) (left tokens : List Placed) (n : ℕ) → IsReading view xs left tokens
       → begins test left ≡ true → one left ≡ Err n → read_many test one tokens ≡ Err n
   unfolding read_several
   reading_fails view xs left tokens n so_far go failed =
-      sym so_far ∙ ap (with_front (map view xs))
+      sym so_far ∙ ap (with_prefix (map view xs))
       (many_go left go ∙ ap (λ q. q >>= λ first. (read_many test one first.1 >>= λ others. Ok (first.0 ∷ others.0, others.1))) failed)
 
   pub reading_ends : {X : Type 0} (view : X → A) (xs : List X) (left tokens : List Placed) → IsReading view xs left tokens
       → begins test left ≡ false → read_many test one tokens ≡ Ok (map view xs, left)
   reading_ends view xs left tokens so_far stop =
-      sym so_far ∙ ap (with_front (map view xs)) (many_stop left stop) ∙ ap (λ (l : List A). Ok (l, left)) (append-nil (map view xs))
+      sym so_far ∙ ap (with_prefix (map view xs)) (many_stop left stop) ∙ ap (λ (l : List A). Ok (l, left)) (append-nil (map view xs))
 
   -- if one element cannot be read, the whole cannot be
   pub reading_stops : {X : Type 0} (view : X → A) (Z : Type 0) (other : Z → List A) (xs : List X) (stop : Stop)
-      (left tokens rest behind : List Placed)
+      (left tokens rest beyond : List Placed)
       → IsReading view xs left tokens → begins test left ≡ true → Gives view (Err stop) rest (one left)
-      → Gives other (Err stop) behind (read_many test one tokens)
-  reading_stops view Z other xs Memory left tokens rest behind so_far go given = tt
-  reading_stops view Z other xs (Unexpected n) left tokens rest behind so_far go given = reading_fails view xs left tokens n so_far go given
+      → Gives other (Err stop) beyond (read_many test one tokens)
+  reading_stops view Z other xs Memory left tokens rest beyond so_far go given = tt
+  reading_stops view Z other xs (Unexpected n) left tokens rest beyond so_far go given = reading_fails view xs left tokens n so_far go given

@@ -67,31 +67,31 @@ one_first faults f g x y =
     same_order f g (contained (IsNotAfter f) faults g x.1 y.0) (contained (IsNotAfter g) faults f y.1 x.0)
 
 -- a longer prefix of the same tokens has the token after the shorter one
-longer_front : (a b l m : List Placed) (p : Placed) → a ++ p ∷ l ≡ b ++ m → length a < length b
+longer_prefix : (a b l m : List Placed) (p : Placed) → a ++ p ∷ l ≡ b ++ m → length a < length b
     → (c : List Placed) × (b ≡ (a ++ p ∷ []) ++ c)
-longer_front [] [] l m p e lt = absurd (omega (arith, lt))
-longer_front [] (q ∷ b) l m p e lt = let first : p ≡ q = cc in (b, ap (λ (x : Placed). x ∷ b) (sym first))
-longer_front (x ∷ a) [] l m p e lt = absurd (omega (arith, lt))
-longer_front (x ∷ a) (q ∷ b) l m p e lt =
+longer_prefix [] [] l m p e lt = absurd (omega (arith, lt))
+longer_prefix [] (q ∷ b) l m p e lt = let first : p ≡ q = cc in (b, ap (λ (x : Placed). x ∷ b) (sym first))
+longer_prefix (x ∷ a) [] l m p e lt = absurd (omega (arith, lt))
+longer_prefix (x ∷ a) (q ∷ b) l m p e lt =
     let first : x ≡ q = cc in
     let rest : a ++ p ∷ l ≡ b ++ m = cc in
-    let more = longer_front a b l m p rest (omega (arith, lt)) in
+    let more = longer_prefix a b l m p rest (omega (arith, lt)) in
     (more.0, ap (λ (y : Placed). y ∷ b) (sym first) ∙ ap (λ (t : List Placed). x ∷ t) more.1)
 
-same_front : (a b l m : List Placed) (p q : Placed) → a ++ p ∷ l ≡ b ++ q ∷ m → length a ≡ length b → p ≡ q
-same_front [] [] l m p q e same = cc
-same_front [] (y ∷ b) l m p q e same = absurd (omega (arith, same))
-same_front (x ∷ a) [] l m p q e same = absurd (omega (arith, same))
-same_front (x ∷ a) (y ∷ b) l m p q e same =
+same_prefix : (a b l m : List Placed) (p q : Placed) → a ++ p ∷ l ≡ b ++ q ∷ m → length a ≡ length b → p ≡ q
+same_prefix [] [] l m p q e same = cc
+same_prefix [] (y ∷ b) l m p q e same = absurd (omega (arith, same))
+same_prefix (x ∷ a) [] l m p q e same = absurd (omega (arith, same))
+same_prefix (x ∷ a) (y ∷ b) l m p q e same =
     let rest : a ++ p ∷ l ≡ b ++ q ∷ m = cc in
-    same_front a b l m p q rest (omega (arith, same))
+    same_prefix a b l m p q rest (omega (arith, same))
 
 module _ {W M : Type 0} (Derives : List Placed → W → Type 0) (faults : W → List ProgFault) (says : W → M)
     (once : (tokens : List Placed) (x y : W) → Derives tokens x → Derives tokens y → x ≡ y) where
   -- a prefix of what can be continued can be continued
-  shorter_begins : (front more : List Placed) → Begins Derives (front ++ more) → Begins Derives front
-  shorter_begins front more b =
-      (more ++ b.0, b.1, subst (λ (l : List Placed). Derives l b.1) (append_assoc front more b.0) b.2)
+  shorter_begins : (prefix more : List Placed) → Begins Derives (prefix ++ more) → Begins Derives prefix
+  shorter_begins prefix more b =
+      (more ++ b.0, b.1, subst (λ (l : List Placed). Derives l b.1) (append_assoc prefix more b.0) b.2)
 
   -- tokens that derive something have no grammar fault
   no_grammar_fault : (end : ℕ) (tokens : List Placed) (w : W) (f : ProgFault) → Derives tokens w → IsGrammarFault Derives end tokens f → ⊥
@@ -100,20 +100,20 @@ module _ {W M : Type 0} (Derives : List Placed → W → Type 0) (faults : W →
   no_grammar_fault end tokens w f d (kind, inr g) = g.1 w d
 
   -- two positions at which the tokens cannot be continued
-  later_front : {A : Type 0} (a b l m : List Placed) (p : Placed) (tokens : List Placed) → tokens ≡ a ++ p ∷ l → tokens ≡ b ++ m
+  later_prefix : {A : Type 0} (a b l m : List Placed) (p : Placed) (tokens : List Placed) → tokens ≡ a ++ p ∷ l → tokens ≡ b ++ m
       → ¬ Begins Derives (a ++ p ∷ []) → Begins Derives b → length a < length b → A
-  later_front a b l m p tokens whole also stuck viable lt =
-      let longer = longer_front a b l m p (sym whole ∙ also) lt in
+  later_prefix a b l m p tokens whole also stuck viable lt =
+      let longer = longer_prefix a b l m p (sym whole ∙ also) lt in
       absurd (stuck (shorter_begins (a ++ p ∷ []) longer.0 (subst (λ (t : List Placed). Begins Derives t) longer.1 viable)))
 
-  front_once : (a b l m : List Placed) (p q : Placed) (tokens : List Placed) → tokens ≡ a ++ p ∷ l → tokens ≡ b ++ q ∷ m
+  prefix_once : (a b l m : List Placed) (p q : Placed) (tokens : List Placed) → tokens ≡ a ++ p ∷ l → tokens ≡ b ++ q ∷ m
       → Begins Derives a → Begins Derives b → ¬ Begins Derives (a ++ p ∷ []) → ¬ Begins Derives (b ++ q ∷ []) → p ≡ q
-  front_once a b l m p q tokens whole also x y stuck blocked =
+  prefix_once a b l m p q tokens whole also x y stuck blocked =
       elim (cases_order (length a) (length b)) as (λ _. p ≡ q) [
-        | inl same ↦ same_front a b l m p q (sym whole ∙ also) same
+        | inl same ↦ same_prefix a b l m p q (sym whole ∙ also) same
         | inr h ↦ elim h as (λ _. p ≡ q) [
-          | inl lt ↦ later_front a b l (q ∷ m) p tokens whole also stuck y lt
-          | inr gt ↦ later_front b a m (p ∷ l) q tokens also whole blocked x gt
+          | inl lt ↦ later_prefix a b l (q ∷ m) p tokens whole also stuck y lt
+          | inr gt ↦ later_prefix b a m (p ∷ l) q tokens also whole blocked x gt
         ]
       ]
 
@@ -121,7 +121,7 @@ module _ {W M : Type 0} (Derives : List Placed → W → Type 0) (faults : W →
       → IsGrammarFault Derives end tokens g → f ≡ g
   one_grammar_fault end tokens f g (kind, inl x) (other, inl y) =
       fault_same f g (kind ∙ sym other)
-      (x.6 ∙ ap (λ (p : Placed). p.at) (front_once x.0 y.0 x.1 y.1 x.2 y.2 tokens x.3 y.3 x.4 y.4 x.5 y.5) ∙ sym y.6)
+      (x.6 ∙ ap (λ (p : Placed). p.at) (prefix_once x.0 y.0 x.1 y.1 x.2 y.2 tokens x.3 y.3 x.4 y.4 x.5 y.5) ∙ sym y.6)
   one_grammar_fault end tokens f g (kind, inl x) (other, inr y) =
       absurd (x.5 (shorter_begins (x.0 ++ x.2 ∷ []) x.1
       (subst (λ (t : List Placed). Begins Derives t) (x.3 ∙ sym (append_assoc x.0 (x.2 ∷ []) x.1)) y.0)))

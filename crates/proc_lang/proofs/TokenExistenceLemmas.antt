@@ -13,13 +13,13 @@ use Rattle.dbg_base.specs.declared.fault.ProgFault.{ProgFault}
 use Rattle.dbg_base.specs.declared.fault.FaultKind.TheVariants as fault
 use Rattle.dbg_base.specs.Tokens.{Token, Word, Number, Symbol, Placed, sign_bytes, is_space, is_letter, is_digit, is_word_byte, is_word}
 use Rattle.dbg_base.specs.Tokens.{Spells}
-use Rattle.dbg_base.specs.Tokens.{IsWithinLimits, BeginsWithNoToken, HasTokens, IsTokenFault, open_behind}
-use Rattle.proc_lang.specs.Scanning.{BeginsWithNoSign, StandsInFront, TakesToken, MeetsFault}
+use Rattle.dbg_base.specs.Tokens.{IsWithinLimits, BeginsWithNoToken, HasTokens, IsTokenFault, still_open}
+use Rattle.proc_lang.specs.Scanning.{BeginsWithNoSign, IsBefore, TakesToken, MeetsFault}
 use Rattle.proc_lang.proofs.PassingPrefixLemmas.{and_first}
-use Rattle.proc_lang.proofs.FirstTokenLemmas.{word_stands, number_stands, stands, clash, same_first, word_first}
+use Rattle.proc_lang.proofs.FirstTokenLemmas.{word_is_first, number_is_first, is_first, clash, same_first, word_first}
 use Rattle.dbg_base.proofs.FirstFaults.{token_takes}
 use Rattle.proc_lang.proofs.TokenLaws.{sign_from, sign_known, sign_written}
-use Rattle.proc_lang.proofs.TokenLists.{IsBehind, behind_more, has_tokens, has_fault}
+use Rattle.proc_lang.proofs.TokenLists.{IsAfter, after_more, has_tokens, has_fault}
 use Rattle.proc_lang.proofs.LexerStepLemmas.{only_spaces, takes_token, meets_fault, meets_limit}
 
 -- a sign has one byte or two
@@ -52,51 +52,51 @@ taken (b ∷ piece) more (suc n) same = ap (λ (l : List ℕ). b ∷ l) (taken p
 
 -- if the first byte is neither a letter nor a digit, only a sign can begin there
 module _ (b : ℕ) (bytes : List ℕ) (no_letter : is_letter b ≡ false) (no_digit : is_digit b ≡ false) where
-  abbrev front : List ℕ
-  front = b ∷ bytes
+  abbrev prefix : List ℕ
+  prefix = b ∷ bytes
 
-  no_word : {A : Type 0} (word piece more : List ℕ) → Spells (Word word) piece → piece ++ more ≡ front → A
+  no_word : {A : Type 0} (word piece more : List ℕ) → Spells (Word word) piece → piece ++ more ≡ prefix → A
   no_word word [] more writes e = absurd (let h : is_word [] ≡ true = subst (λ w. is_word w ≡ true) (sym writes.0) writes.1 in false≢true h)
   no_word word (c ∷ piece) more writes e =
       let h = word_first c piece word writes.0 writes.1 in
       clash (is_letter b) (subst (λ (x : ℕ). is_letter x ≡ true) (same_first b c bytes piece more e)
       (and_first (is_letter c) (list_all is_word_byte piece) h)) no_letter
 
-  no_number : {A : Type 0} (value : ℕ) (piece more : List ℕ) → Spells (Number value) piece → piece ++ more ≡ front → A
+  no_number : {A : Type 0} (value : ℕ) (piece more : List ℕ) → Spells (Number value) piece → piece ++ more ≡ prefix → A
   no_number value [] more writes e = absurd (false≢true writes.0)
   no_number value (c ∷ piece) more writes e =
       clash (is_digit b) (subst (λ (x : ℕ). is_digit x ≡ true) (same_first b c bytes piece more e)
       (and_first (is_digit c) (list_all is_digit piece) writes.0)) no_digit
 
-  no_sign_no_token : BeginsWithNoSign front → BeginsWithNoToken front
+  no_sign_no_token : BeginsWithNoSign prefix → BeginsWithNoToken prefix
   no_sign_no_token none piece more (Word word) writes e = no_word word piece more writes (sym e)
   no_sign_no_token none piece more (Number value) writes e = no_number value piece more writes (sym e)
   no_sign_no_token none piece more (Symbol sign) writes e = none sign more (ap (λ (l : List ℕ). l ++ more) (sym writes) ∙ sym e)
 
-  sign_stands : (sign : Sign) (n : ℕ) → n ≤ length front → take n front ≡ sign_bytes sign
-      → ((other : Sign) (more : List ℕ) → sign_bytes other ++ more ≡ front → length (sign_bytes other) ≤ n)
-      → StandsInFront (Symbol sign) n front
-  sign_stands sign n within spelled longest = stands (Symbol sign) n front within spelled no_longer
+  sign_is_first : (sign : Sign) (n : ℕ) → n ≤ length prefix → take n prefix ≡ sign_bytes sign
+      → ((other : Sign) (more : List ℕ) → sign_bytes other ++ more ≡ prefix → length (sign_bytes other) ≤ n)
+      → IsBefore (Symbol sign) n prefix
+  sign_is_first sign n within spelled longest = is_first (Symbol sign) n prefix within spelled no_longer
     where
-      no_longer : (longer more : List ℕ) (other : Token) → Spells other longer → longer ++ more ≡ front → length longer ≤ n
+      no_longer : (longer more : List ℕ) (other : Token) → Spells other longer → longer ++ more ≡ prefix → length longer ≤ n
       no_longer longer more (Word word) writes e = no_word word longer more writes e
       no_longer longer more (Number value) writes e = no_number value longer more writes e
       no_longer longer more (Symbol other) writes e =
           omega (arith, ap length writes, longest other more (ap (λ (l : List ℕ). l ++ more) (sym writes) ∙ e))
 
   -- a sign of two bytes at the beginning is the first two bytes
-  two_at_front : (sign : Sign) (more : List ℕ) → sign_bytes sign ++ more ≡ front → length (sign_bytes sign) ≡ 2
-      → sign_from (take 2 front) ≡ Some sign
-  two_at_front sign more e two =
+  two_at_start : (sign : Sign) (more : List ℕ) → sign_bytes sign ++ more ≡ prefix → length (sign_bytes sign) ≡ 2
+      → sign_from (take 2 prefix) ≡ Some sign
+  two_at_start sign more e two =
       ap sign_from (ap (take 2) (sym e) ∙ taken (sign_bytes sign) more 2 two) ∙ sign_known sign
 
-  one_at_front : (sign : Sign) (more : List ℕ) → sign_bytes sign ++ more ≡ front → length (sign_bytes sign) ≡ 1
-      → sign_from (take 1 front) ≡ Some sign
-  one_at_front sign more e one =
+  one_at_start : (sign : Sign) (more : List ℕ) → sign_bytes sign ++ more ≡ prefix → length (sign_bytes sign) ≡ 1
+      → sign_from (take 1 prefix) ≡ Some sign
+  one_at_start sign more e one =
       ap sign_from (ap (take 1) (sym e) ∙ taken (sign_bytes sign) more 1 one) ∙ sign_known sign
 
   abbrev Decided : Type 0
-  Decided = ((token : Token) × (n : ℕ) × StandsInFront token n front) ⊎ BeginsWithNoToken front
+  Decided = ((token : Token) × (n : ℕ) × IsBefore token n prefix) ⊎ BeginsWithNoToken prefix
 
   at_most_two : (sign : Sign) → length (sign_bytes sign) ≤ 2
   at_most_two sign = elim (sign_size sign) as (λ _. length (sign_bytes sign) ≤ 2) [
@@ -104,40 +104,40 @@ module _ (b : ℕ) (bytes : List ℕ) (no_letter : is_letter b ≡ false) (no_di
     | inr two ↦ omega (arith, two)
   ]
 
-  no_two : (o : Option Sign) → sign_from (take 2 front) ≡ o → o ≡ None → (other : Sign) (more : List ℕ) → sign_bytes other ++ more ≡ front
+  no_two : (o : Option Sign) → sign_from (take 2 prefix) ≡ o → o ≡ None → (other : Sign) (more : List ℕ) → sign_bytes other ++ more ≡ prefix
       → length (sign_bytes other) ≡ 1
   no_two o is none other more e = elim (sign_size other) as (λ _. length (sign_bytes other) ≡ 1) [
     | inl one ↦ one
-    | inr two ↦ absurd (let bad : Some other ≡ None = sym (two_at_front other more e two) ∙ is ∙ none in cc)
+    | inr two ↦ absurd (let bad : Some other ≡ None = sym (two_at_start other more e two) ∙ is ∙ none in cc)
   ]
 
-  by_one : sign_from (take 2 front) ≡ None → (o : Option Sign) → sign_from (take 1 front) ≡ o → Decided
+  by_one : sign_from (take 2 prefix) ≡ None → (o : Option Sign) → sign_from (take 1 prefix) ≡ o → Decided
   by_one no_longer (Some sign) is = inl (
     Symbol sign,
     1,
-    sign_stands sign 1 (omega arith) (sign_written (take 1 front) sign is)
+    sign_is_first sign 1 (omega arith) (sign_written (take 1 prefix) sign is)
         (λ other more e. omega (arith, no_two None no_longer refl other more e)),
   )
   by_one no_longer None is =
       inr (no_sign_no_token (λ sign more e.
-      let bad : Some sign ≡ None = sym (one_at_front sign more e (no_two None no_longer refl sign more e)) ∙ is in cc))
+      let bad : Some sign ≡ None = sym (one_at_start sign more e (no_two None no_longer refl sign more e)) ∙ is in cc))
 
-  by_two : (o : Option Sign) → sign_from (take 2 front) ≡ o → Decided
-  by_two None is = by_one is (sign_from (take 1 front)) refl
+  by_two : (o : Option Sign) → sign_from (take 2 prefix) ≡ o → Decided
+  by_two None is = by_one is (sign_from (take 1 prefix)) refl
   by_two (Some sign) is =
-      let whole : front ≡ sign_bytes sign ++ drop 2 front =
-      sym (take-append-drop 2 front) ∙ ap (λ (l : List ℕ). l ++ drop 2 front) (sign_written (take 2 front) sign is) in
+      let whole : prefix ≡ sign_bytes sign ++ drop 2 prefix =
+      sym (take-append-drop 2 prefix) ∙ ap (λ (l : List ℕ). l ++ drop 2 prefix) (sign_written (take 2 prefix) sign is) in
       let sizes = ap length whole in
       inl (
         Symbol sign,
         length (sign_bytes sign),
-        sign_stands sign (length (sign_bytes sign)) (omega (arith, sizes, length-append (sign_bytes sign) (drop 2 front)))
-            (ap (take (length (sign_bytes sign))) whole ∙ taken (sign_bytes sign) (drop 2 front) (length (sign_bytes sign)) refl)
+        sign_is_first sign (length (sign_bytes sign)) (omega (arith, sizes, length-append (sign_bytes sign) (drop 2 prefix)))
+            (ap (take (length (sign_bytes sign))) whole ∙ taken (sign_bytes sign) (drop 2 prefix) (length (sign_bytes sign)) refl)
             (λ other more e. omega (
               arith,
               sizes,
-              length-append (sign_bytes sign) (drop 2 front),
-              length-drop 2 front,
+              length-append (sign_bytes sign) (drop 2 prefix),
+              length-drop 2 prefix,
               at_most_two other,
               ap length e,
               length-append (sign_bytes other) more,
@@ -145,17 +145,17 @@ module _ (b : ℕ) (bytes : List ℕ) (no_letter : is_letter b ≡ false) (no_di
       )
 
   sign_decided : Decided
-  sign_decided = by_two (sign_from (take 2 front)) refl
+  sign_decided = by_two (sign_from (take 2 prefix)) refl
 
 -- the longest token at the beginning, or there is none
-decided : (b : ℕ) (bytes : List ℕ) → ((token : Token) × (n : ℕ) × StandsInFront token n (b ∷ bytes)) ⊎ BeginsWithNoToken (b ∷ bytes)
+decided : (b : ℕ) (bytes : List ℕ) → ((token : Token) × (n : ℕ) × IsBefore token n (b ∷ bytes)) ⊎ BeginsWithNoToken (b ∷ bytes)
 decided b bytes =
     elim (is_letter b) as (λ t. is_letter b ≡ t →
-    ((token : Token) × (n : ℕ) × StandsInFront token n (b ∷ bytes)) ⊎ BeginsWithNoToken (b ∷ bytes)) [
-      | true ↦ λ letter. inl (_, _, word_stands b bytes letter)
+    ((token : Token) × (n : ℕ) × IsBefore token n (b ∷ bytes)) ⊎ BeginsWithNoToken (b ∷ bytes)) [
+      | true ↦ λ letter. inl (_, _, word_is_first b bytes letter)
       | false ↦ λ no_letter. elim (is_digit b)
-          as (λ t. is_digit b ≡ t → ((token : Token) × (n : ℕ) × StandsInFront token n (b ∷ bytes)) ⊎ BeginsWithNoToken (b ∷ bytes)) [
-            | true ↦ λ digit. inl (_, _, number_stands b bytes digit)
+          as (λ t. is_digit b ≡ t → ((token : Token) × (n : ℕ) × IsBefore token n (b ∷ bytes)) ⊎ BeginsWithNoToken (b ∷ bytes)) [
+            | true ↦ λ digit. inl (_, _, number_is_first b bytes digit)
             | false ↦ λ no_digit. sign_decided b bytes no_letter no_digit
           ] refl
     ] refl
@@ -172,20 +172,20 @@ limited (Number value) = elim (cases_lt value (2 ^ 63)) as (λ _. (value < 2 ^ 6
 limited (Symbol sign) = inl tt
 
 -- a token other than an opening parenthesis leaves at most as many open as before
-opens_or_not : (depth : ℕ) (token : Token) → (token ≡ Symbol OpenParenthesis) ⊎ (open_behind depth token ≤ depth)
+opens_or_not : (depth : ℕ) (token : Token) → (token ≡ Symbol OpenParenthesis) ⊎ (still_open depth token ≤ depth)
 opens_or_not depth (Word bytes) = inr (omega arith)
 opens_or_not depth (Number value) = inr (omega arith)
 opens_or_not depth (Symbol OpenParenthesis) = inl refl
 opens_or_not depth (Symbol sign) = inr (omega arith)
 
 deep_or_not : (depth : ℕ) (token : Token) → depth ≤ OPEN_PARENTHESES
-    → ((token ≡ Symbol OpenParenthesis) × (depth ≡ OPEN_PARENTHESES)) ⊎ (open_behind depth token ≤ OPEN_PARENTHESES)
+    → ((token ≡ Symbol OpenParenthesis) × (depth ≡ OPEN_PARENTHESES)) ⊎ (still_open depth token ≤ OPEN_PARENTHESES)
 deep_or_not depth token shallow =
     elim (opens_or_not depth token) as (λ _. ((token ≡ Symbol OpenParenthesis) × (depth ≡ OPEN_PARENTHESES))
-    ⊎ (open_behind depth token ≤ OPEN_PARENTHESES)) [
+    ⊎ (still_open depth token ≤ OPEN_PARENTHESES)) [
       | inl opens ↦ elim (cases_lt depth OPEN_PARENTHESES) as (λ _. ((token ≡ Symbol OpenParenthesis) × (depth ≡ OPEN_PARENTHESES))
-          ⊎ (open_behind depth token ≤ OPEN_PARENTHESES)) [
-            | inl lt ↦ inr (omega (arith, lt, ap (open_behind depth) opens))
+          ⊎ (still_open depth token ≤ OPEN_PARENTHESES)) [
+            | inl lt ↦ inr (omega (arith, lt, ap (still_open depth) opens))
             | inr ge ↦ inl (opens, omega (arith, ge, shallow))
           ]
       | inr le ↦ inr (omega (arith, le, shallow))
@@ -196,8 +196,8 @@ record Step (left : List ℕ) (at depth : ℕ) : Type 0 where
   p : Placed
   rest : List ℕ
   end : ℕ
-  behind : ℕ
-  takes : TakesToken left at depth p rest end behind
+  beyond : ℕ
+  takes : TakesToken left at depth p rest end beyond
   fewer : length rest < length left
 
 abbrev Stepped : List ℕ → ℕ → ℕ → Type 0
@@ -207,22 +207,22 @@ module _ (left : List ℕ) (at depth : ℕ) (shallow : depth ≤ OPEN_PARENTHESE
   abbrev gap : ℕ
   gap = prefix_len is_space left
 
-  standing_step : (rest : List ℕ) (token : Token) (n : ℕ) → rest ≡ drop gap left → StandsInFront token n rest → Stepped left at depth
-  standing_step rest token n cut stands_so =
+  standing_step : (rest : List ℕ) (token : Token) (n : ℕ) → rest ≡ drop gap left → IsBefore token n rest → Stepped left at depth
+  standing_step rest token n cut first_so =
       elim (limited token) as (λ _. Stepped left at depth) [
         | inl within ↦ elim (deep_or_not depth token shallow) as (λ _. Stepped left at depth) [
           | inl deep ↦ inr (inr (
             record { kind = fault.Limit; at = at + gap },
-            meets_limit left rest gap refl cut at (at + gap) depth n token refl stands_so deep.0 deep.1,
+            meets_limit left rest gap refl cut at (at + gap) depth n token refl first_so deep.0 deep.1,
           ))
           | inr fits ↦ let takes =
-              takes_token left rest gap refl cut at (at + gap) depth (at + gap + n) (open_behind depth token) n token (drop n rest) refl
-              stands_so within refl fits refl refl in
+              takes_token left rest gap refl cut at (at + gap) depth (at + gap + n) (still_open depth token) n token (drop n rest) refl
+              first_so within refl fits refl refl in
               inr (inl (record {
                 p = record { at = at + gap; token = token };
                 rest = drop n rest;
                 end = at + gap + n;
-                behind = open_behind depth token;
+                beyond = still_open depth token;
                 takes = takes;
                 fewer = omega (
                   arith,
@@ -237,8 +237,8 @@ module _ (left : List ℕ) (at depth : ℕ) (shallow : depth ≤ OPEN_PARENTHESE
         | inr large ↦ inr (inr (
           record { kind = fault.Token; at = at + gap },
           meets_fault left rest gap refl cut at (at + gap) depth fault.Token refl
-              (omega (arith, token_takes token (take n rest) stands_so.spelled, length-take-le n rest stands_so.within, stands_so.within))
-              (take n rest, drop n rest, token, stands_so.spelled, stands_so.longest, sym (take-append-drop n rest), large),
+              (omega (arith, token_takes token (take n rest) first_so.spelled, length-take-le n rest first_so.within, first_so.within))
+              (take n rest, drop n rest, token, first_so.spelled, first_so.longest, sym (take-append-drop n rest), large),
         ))
       ]
 
@@ -260,14 +260,14 @@ Lexed text = ((tokens : List Placed) × HasTokens text tokens) ⊎ ((f : ProgFau
 
 -- step after step
 lexed_by : (n : ℕ) (text : List ℕ) (tokens : List Placed) (at depth : ℕ) (left : List ℕ) → length text ≤ INPUT_BYTES → length left < n
-    → IsBehind text tokens at depth left → depth ≤ OPEN_PARENTHESES → Lexed text
+    → IsAfter text tokens at depth left → depth ≤ OPEN_PARENTHESES → Lexed text
 lexed_by zero text tokens at depth left few less is shallow = absurd (omega (arith, less))
 lexed_by (suc n) text tokens at depth left few less is shallow =
     elim (step left at depth shallow) as (λ _. Lexed text) [
       | inl spaces ↦ inl (tokens, has_tokens text tokens at depth left few is spaces)
       | inr more ↦ elim more as (λ _. Lexed text) [
-        | inl s ↦ lexed_by n text (tokens ++ s.p ∷ []) s.end s.behind s.rest few (omega (arith, less, s.fewer))
-            (behind_more text tokens at depth left s.p s.rest s.end s.behind is s.takes) s.takes.shallow
+        | inl s ↦ lexed_by n text (tokens ++ s.p ∷ []) s.end s.beyond s.rest few (omega (arith, less, s.fewer))
+            (after_more text tokens at depth left s.p s.rest s.end s.beyond is s.takes) s.takes.shallow
         | inr met ↦ inr (met.0, has_fault text tokens at depth left met.0 is met.1)
       ]
     ]

@@ -10,7 +10,7 @@ use Rattle.std.proofs.lemmas.Slice.Eq.{bytes_eq-Decides}
 use Rattle.dbg_base.specs.declared.limits.TheConstants.{OPEN_PARENTHESES}
 use Rattle.dbg_base.specs.Tokens.{Token, Word, Number, Symbol, Placed, sign_bytes, is_space, is_letter, is_digit, is_word_byte, is_word}
 use Rattle.dbg_base.specs.Tokens.{is_numeral, Spells, IsLongest, BeginsWith, IsWithinLimits, StaysShallow, HasTokens, IsTokenFault}
-use Rattle.dbg_base.specs.Tokens.{FaultsInFront, open_after, open_behind}
+use Rattle.dbg_base.specs.Tokens.{FaultsBefore, open_after, still_open}
 use Rattle.dbg_base.specs.declared.sign.Sign.{Sign}
 use Rattle.dbg_base.specs.declared.sign.Sign.TheVariants.{OpenBrace, CloseBrace, OpenParenthesis, CloseParenthesis, Semicolon, Colon}
 use Rattle.dbg_base.specs.declared.sign.Sign.TheVariants.{Becomes, Comma, Equals, NotEquals, LessThan, AtMost, GreaterThan, AtLeast, Plus}
@@ -154,14 +154,14 @@ begins_append [] more h = absurd h
 begins_append (b ∷ piece) more h = h
 
 -- two prefixes of the same length are equal
-front_once : (a b more others : List ℕ) → length a ≡ length b → a ++ more ≡ b ++ others → (a ≡ b) × (more ≡ others)
-front_once [] [] more others l e = (refl, e)
-front_once [] (y ∷ b) more others l e = absurd (omega arith)
-front_once (x ∷ a) [] more others l e = absurd (omega arith)
-front_once (x ∷ a) (y ∷ b) more others l e =
+prefix_once : (a b more others : List ℕ) → length a ≡ length b → a ++ more ≡ b ++ others → (a ≡ b) × (more ≡ others)
+prefix_once [] [] more others l e = (refl, e)
+prefix_once [] (y ∷ b) more others l e = absurd (omega arith)
+prefix_once (x ∷ a) [] more others l e = absurd (omega arith)
+prefix_once (x ∷ a) (y ∷ b) more others l e =
     let heads : x ≡ y = cc in
     let tails : a ++ more ≡ b ++ others = cc in
-    let rest = front_once a b more others (omega arith) tails in
+    let rest = prefix_once a b more others (omega arith) tails in
     (cc, rest.1)
 
 -- the first token of a text, and what is before and after it, are determined
@@ -183,12 +183,12 @@ step_once text gap other piece second more others a b x y whole also writes too 
     (sym (append_assoc gap piece more) ∙ sym whole ∙ also ∙ append_assoc other second others) in
     let sizes : length piece ≡ length second =
     omega (arith, longest second others b too (sym split.1), largest piece more a writes split.1) in
-    let fronts = front_once piece second more others sizes split.1 in
+    let prefixes = prefix_once piece second more others sizes split.1 in
     record {
       gaps = split.0;
-      pieces = fronts.0;
-      rests = fronts.1;
-      tokens = spells_once a b second (subst (λ z. Spells a z) fronts.0 writes) too;
+      pieces = prefixes.0;
+      rests = prefixes.1;
+      tokens = spells_once a b second (subst (λ z. Spells a z) prefixes.0 writes) too;
     }
 
 no_other : (gap rest : List ℕ) → list_all is_space (gap ++ rest) ≡ true → BeginsOther rest → ⊥
@@ -230,7 +230,7 @@ pub one_token_list : (text : List ℕ) (tokens others : List Placed) → HasToke
 one_token_list text tokens others x y = one_list tokens others 0 text (length text) (length text) x.1 y.1
 
 -- bytes with a fault do not begin with a space
-pub fault_begins : (kind : FaultKind) (depth : ℕ) (rest : List ℕ) → FaultsInFront kind depth rest → BeginsOther rest
+pub fault_begins : (kind : FaultKind) (depth : ℕ) (rest : List ℕ) → FaultsBefore kind depth rest → BeginsOther rest
 fault_begins kinds.Byte depth [] found = found.0
 fault_begins kinds.Byte depth (b ∷ rest) found = found.0
 fault_begins kinds.Token depth rest found =
@@ -281,33 +281,33 @@ opens (Number value) (b ∷ piece) more others writes e =
 opens (Symbol sign) piece more others writes e = ap Symbol (open_only sign more others (ap (λ z. z ++ more) (sym writes) ∙ e))
 
 -- bytes with a fault do not begin with a token without a fault
-pub clear_front : (kind : FaultKind) (depth : ℕ) (token : Token) (piece more rest : List ℕ) → rest ≡ piece ++ more → Spells token piece
+pub clear_prefix : (kind : FaultKind) (depth : ℕ) (token : Token) (piece more rest : List ℕ) → rest ≡ piece ++ more → Spells token piece
     → IsLongest piece more → IsWithinLimits token
-    → open_behind depth token ≤ OPEN_PARENTHESES → FaultsInFront kind depth rest → ⊥
-clear_front kinds.Byte depth token piece more rest whole writes longest within shallow found = found.1 piece more token writes whole
-clear_front kinds.Token depth token piece more rest whole writes longest within shallow found =
+    → still_open depth token ≤ OPEN_PARENTHESES → FaultsBefore kind depth rest → ⊥
+clear_prefix kinds.Byte depth token piece more rest whole writes longest within shallow found = found.1 piece more token writes whole
+clear_prefix kinds.Token depth token piece more rest whole writes longest within shallow found =
     let same : found.0 ++ found.1 ≡ piece ++ more = sym found.5 ∙ whole in
     let sizes : length piece ≡ length found.0 =
     omega (arith, longest found.0 found.1 found.2 found.3 same, found.4 piece more token writes (sym same)) in
-    let fronts = front_once piece found.0 more found.1 sizes (sym same) in
-    let tokens = spells_once token found.2 found.0 (subst (λ z. Spells token z) fronts.0 writes) found.3 in
+    let prefixes = prefix_once piece found.0 more found.1 sizes (sym same) in
+    let tokens = spells_once token found.2 found.0 (subst (λ z. Spells token z) prefixes.0 writes) found.3 in
     found.6 (subst IsWithinLimits tokens within)
-clear_front kinds.Limit depth token piece more rest whole writes longest within shallow found =
+clear_prefix kinds.Limit depth token piece more rest whole writes longest within shallow found =
     let is = opens token piece more found.1 writes (sym whole ∙ found.2) in
-    let count : open_behind depth token ≡ depth + 1 = ap (open_behind depth) is in
+    let count : still_open depth token ≡ depth + 1 = ap (still_open depth) is in
     omega (arith, count, shallow, found.0)
-clear_front kinds.Grammar depth token piece more rest whole writes longest within shallow found = found
-clear_front kinds.NameTaken depth token piece more rest whole writes longest within shallow found = found
-clear_front kinds.NameUnknown depth token piece more rest whole writes longest within shallow found = found
-clear_front kinds.TypeWrong depth token piece more rest whole writes longest within shallow found = found
-clear_front kinds.SelfSend depth token piece more rest whole writes longest within shallow found = found
-clear_front kinds.SetTwice depth token piece more rest whole writes longest within shallow found = found
+clear_prefix kinds.Grammar depth token piece more rest whole writes longest within shallow found = found
+clear_prefix kinds.NameTaken depth token piece more rest whole writes longest within shallow found = found
+clear_prefix kinds.NameUnknown depth token piece more rest whole writes longest within shallow found = found
+clear_prefix kinds.TypeWrong depth token piece more rest whole writes longest within shallow found = found
+clear_prefix kinds.SelfSend depth token piece more rest whole writes longest within shallow found = found
+clear_prefix kinds.SetTwice depth token piece more rest whole writes longest within shallow found = found
 
 -- a text with tokens has no fault among them
 no_fault : (tokens before : List Placed) (at depth : ℕ) (text : List ℕ) (end stop : ℕ) (rest : List ℕ) (kind : FaultKind)
     → BeginsWith at text tokens end []
     → AllByRecursion (λ p. IsWithinLimits p.token) tokens → StaysShallow depth tokens → BeginsWith at text before stop rest
-    → FaultsInFront kind (open_after depth before) rest → ⊥
+    → FaultsBefore kind (open_after depth before) rest → ⊥
 no_fault [] [] at depth text end stop rest kind x within shallow y found =
     no_other y.0 rest (subst (λ z. list_all is_space z ≡ true) (sym (append-nil x.0) ∙ sym x.2 ∙ y.2) x.1)
     (fault_begins kind depth rest found)
@@ -315,16 +315,16 @@ no_fault (p ∷ tokens) [] at depth text end stop rest kind x within shallow y f
     let split =
     gap_once y.0 x.0 rest (x.1 ++ x.2) y.1 x.3 (fault_begins kind depth rest found)
     (begins_append x.1 x.2 (spells_first p.token x.1 x.6)) (sym y.2 ∙ x.4 ∙ append_assoc x.0 x.1 x.2) in
-    clear_front kind depth p.token x.1 x.2 rest split.1 x.6 x.7 within.0 shallow.0 found
+    clear_prefix kind depth p.token x.1 x.2 rest split.1 x.6 x.7 within.0 shallow.0 found
 no_fault [] (q ∷ before) at depth text end stop rest kind x within shallow y found =
     no_token y.0 text x.0 y.1 y.2 x.1 x.2 y.4 y.3 (spells_first q.token y.1 y.6)
 no_fault (p ∷ tokens) (q ∷ before) at depth text end stop rest kind x within shallow y found =
     let same = step_once text x.0 y.0 x.1 y.1 x.2 y.2 p.token q.token x.3 y.3 x.4 y.4 x.6 y.6 x.7 y.7 in
     let places : p.at ≡ q.at = omega (arith, x.5, y.5, ap length same.gaps) in
     let ends : q.at + length y.1 ≡ p.at + length x.1 = omega (arith, places, ap length same.pieces) in
-    no_fault tokens before (p.at + length x.1) (open_behind depth p.token) x.2 end stop rest kind x.8 within.1 shallow.1
+    no_fault tokens before (p.at + length x.1) (still_open depth p.token) x.2 end stop rest kind x.8 within.1 shallow.1
     (moved_begins before (q.at + length y.1) (p.at + length x.1) y.2 x.2 stop rest ends (sym same.rests) y.8)
-    (subst (λ t. FaultsInFront kind (open_after (open_behind depth t) before) rest) (sym same.tokens) found)
+    (subst (λ t. FaultsBefore kind (open_after (still_open depth t) before) rest) (sym same.tokens) found)
 
 pub no_token_fault : (text : List ℕ) (tokens : List Placed) (fault : ProgFault) → HasTokens text tokens → IsTokenFault text fault → ⊥
 no_token_fault text tokens fault x y =

@@ -4,8 +4,8 @@ use Rattle.std.proofs.Common.{append_assoc, append-nil}
 use Rattle.std.specs.List.{list_all, AllByRecursion}
 use Rattle.std.proofs.lemmas.List.{length-append}
 use Rattle.dbg_base.specs.declared.limits.TheConstants.{OPEN_PARENTHESES, INPUT_BYTES}
-use Rattle.dbg_base.specs.Tokens.{Placed, is_space, BeginsWith, IsWithinLimits, StaysShallow, HasTokens, IsTokenFault, FaultsInFront}
-use Rattle.dbg_base.specs.Tokens.{open_after, open_behind}
+use Rattle.dbg_base.specs.Tokens.{Placed, is_space, BeginsWith, IsWithinLimits, StaysShallow, HasTokens, IsTokenFault, FaultsBefore}
+use Rattle.dbg_base.specs.Tokens.{open_after, still_open}
 use Rattle.dbg_base.specs.declared.fault.ProgFault.{ProgFault}
 use Rattle.std.proofs.lemmas.List.{map-append}
 use Rattle.proc_lang.specs.declared.token.Placed as code
@@ -45,9 +45,9 @@ regroup a b c d = simp append_assoc
 
 -- one more token
 pub begins_with_more : (tokens : List Placed) (at : ℕ) (text : List ℕ) (end depth : ℕ) (left : List ℕ) (p : Placed) (rest : List ℕ)
-    (stop behind : ℕ)
-    → BeginsWith at text tokens end left → TakesToken left end depth p rest stop behind → BeginsWith at text (tokens ++ p ∷ []) stop rest
-begins_with_more [] at text end depth left p rest stop behind begins step = (
+    (stop beyond : ℕ)
+    → BeginsWith at text tokens end left → TakesToken left end depth p rest stop beyond → BeginsWith at text (tokens ++ p ∷ []) stop rest
+begins_with_more [] at text end depth left p rest stop beyond begins step = (
   begins.0 ++ step.gap,
   step.piece,
   rest,
@@ -58,7 +58,7 @@ begins_with_more [] at text end depth left p rest stop behind begins step = (
   step.longest,
   ([], refl, refl, omega (arith, step.passed)),
 )
-begins_with_more (q ∷ tokens) at text end depth left p rest stop behind begins step = (
+begins_with_more (q ∷ tokens) at text end depth left p rest stop beyond begins step = (
   begins.0,
   begins.1,
   begins.2,
@@ -67,7 +67,7 @@ begins_with_more (q ∷ tokens) at text end depth left p rest stop behind begins
   begins.5,
   begins.6,
   begins.7,
-  begins_with_more tokens (q.at + length begins.1) begins.2 end depth left p rest stop behind begins.8 step,
+  begins_with_more tokens (q.at + length begins.1) begins.2 end depth left p rest stop beyond begins.8 step,
 )
 
 pub all_within_more : (tokens : List Placed) (p : Placed) → AllByRecursion (λ q. IsWithinLimits q.token) tokens → IsWithinLimits p.token
@@ -76,29 +76,29 @@ all_within_more [] p all one = (one, tt)
 all_within_more (q ∷ tokens) p all one = (all.0, all_within_more tokens p all.1 one)
 
 pub open_after_more : (depth : ℕ) (tokens : List Placed) (p : Placed)
-    → open_after depth (tokens ++ p ∷ []) ≡ open_behind (open_after depth tokens) p.token
+    → open_after depth (tokens ++ p ∷ []) ≡ still_open (open_after depth tokens) p.token
 open_after_more depth [] p = refl
-open_after_more depth (q ∷ tokens) p = open_after_more (open_behind depth q.token) tokens p
+open_after_more depth (q ∷ tokens) p = open_after_more (still_open depth q.token) tokens p
 
 pub shallow_more : (depth : ℕ) (tokens : List Placed) (p : Placed) → StaysShallow depth tokens
-    → open_behind (open_after depth tokens) p.token ≤ OPEN_PARENTHESES
+    → still_open (open_after depth tokens) p.token ≤ OPEN_PARENTHESES
     → StaysShallow depth (tokens ++ p ∷ [])
 shallow_more depth [] p all one = (one, tt)
-shallow_more depth (q ∷ tokens) p all one = (all.0, shallow_more (open_behind depth q.token) tokens p all.1 one)
+shallow_more depth (q ∷ tokens) p all one = (all.0, shallow_more (still_open depth q.token) tokens p all.1 one)
 
 -- the position of the lexer: after these tokens of the text
-pub record IsBehind (text : List ℕ) (tokens : List Placed) (at depth : ℕ) (rest : List ℕ) : Type 0 where
+pub record IsAfter (text : List ℕ) (tokens : List Placed) (at depth : ℕ) (rest : List ℕ) : Type 0 where
   pub begins : BeginsWith 0 text tokens at rest
   pub within : AllByRecursion (λ q. IsWithinLimits q.token) tokens
   pub shallow : StaysShallow 0 tokens
   pub counted : depth ≡ open_after 0 tokens
 
-pub behind_more : (text : List ℕ) (tokens : List Placed) (at depth : ℕ) (left : List ℕ) (p : Placed) (rest : List ℕ) (stop behind : ℕ)
-    → IsBehind text tokens at depth left → TakesToken left at depth p rest stop behind → IsBehind text (tokens ++ p ∷ []) stop behind rest
-behind_more text tokens at depth left p rest stop behind is step =
-    let count : open_behind (open_after 0 tokens) p.token ≡ behind = ap (λ d. open_behind d p.token) (sym is.counted) ∙ sym step.counted in
+pub after_more : (text : List ℕ) (tokens : List Placed) (at depth : ℕ) (left : List ℕ) (p : Placed) (rest : List ℕ) (stop beyond : ℕ)
+    → IsAfter text tokens at depth left → TakesToken left at depth p rest stop beyond → IsAfter text (tokens ++ p ∷ []) stop beyond rest
+after_more text tokens at depth left p rest stop beyond is step =
+    let count : still_open (open_after 0 tokens) p.token ≡ beyond = ap (λ d. still_open d p.token) (sym is.counted) ∙ sym step.counted in
     record {
-      begins = begins_with_more tokens 0 text at depth left p rest stop behind is.begins step;
+      begins = begins_with_more tokens 0 text at depth left p rest stop beyond is.begins step;
       within = all_within_more tokens p is.within step.within;
       shallow = shallow_more 0 tokens p is.shallow (omega (arith, count, step.shallow));
       counted = sym (open_after_more 0 tokens p ∙ count);
@@ -120,7 +120,7 @@ begins_length (p ∷ tokens) at text end begins =
     )
 
 pub has_tokens : (text : List ℕ) (tokens : List Placed) (at depth : ℕ) (rest : List ℕ) → length text ≤ INPUT_BYTES
-    → IsBehind text tokens at depth rest
+    → IsAfter text tokens at depth rest
     → list_all is_space rest ≡ true → HasTokens text tokens
 has_tokens text tokens at depth rest few is spaces =
     let begins = begins_with_gap tokens 0 text at rest rest [] is.begins spaces (sym (append-nil rest)) in
@@ -128,7 +128,7 @@ has_tokens text tokens at depth rest few is spaces =
     (few, subst (λ end. BeginsWith 0 text tokens end []) end_is begins, (is.within, is.shallow))
 
 pub has_fault : (text : List ℕ) (tokens : List Placed) (at depth : ℕ) (rest : List ℕ) (fault : ProgFault)
-    → IsBehind text tokens at depth rest → MeetsFault rest at depth fault
+    → IsAfter text tokens at depth rest → MeetsFault rest at depth fault
     → IsTokenFault text fault
 has_fault text tokens at depth rest fault is met =
     let begins = begins_with_gap tokens 0 text at rest met.gap met.rest is.begins met.spaces met.whole in (
@@ -136,16 +136,16 @@ has_fault text tokens at depth rest fault is met =
       met.rest,
       subst (λ end. BeginsWith 0 text tokens end met.rest) (sym met.place) begins,
       (is.within, is.shallow),
-      subst (λ d. FaultsInFront fault.kind d met.rest) is.counted met.faults,
+      subst (λ d. FaultsBefore fault.kind d met.rest) is.counted met.faults,
     )
 
 -- the code's list with one more token
-pub behind_pushed : (text : List ℕ) (old new : List code.Placed) (at depth : ℕ) (left : List ℕ) (p : code.Placed) (rest : List ℕ)
-    (stop behind : ℕ) → new ≡ old ++ p ∷ []
-    → IsBehind text (map placed_of old) at depth left → TakesToken left at depth (placed_of p) rest stop behind
-    → IsBehind text (map placed_of new) stop behind rest
-behind_pushed text old new at depth left p rest stop behind pushed is step =
+pub after_pushed : (text : List ℕ) (old new : List code.Placed) (at depth : ℕ) (left : List ℕ) (p : code.Placed) (rest : List ℕ)
+    (stop beyond : ℕ) → new ≡ old ++ p ∷ []
+    → IsAfter text (map placed_of old) at depth left → TakesToken left at depth (placed_of p) rest stop beyond
+    → IsAfter text (map placed_of new) stop beyond rest
+after_pushed text old new at depth left p rest stop beyond pushed is step =
     let mapped : map placed_of new ≡ map placed_of old ++ placed_of p ∷ [] =
     ap (map placed_of) pushed ∙ map-append placed_of old (p ∷ []) in
-    subst (λ (tokens : List Placed). IsBehind text tokens stop behind rest) (sym mapped)
-    (behind_more text (map placed_of old) at depth left (placed_of p) rest stop behind is step)
+    subst (λ (tokens : List Placed). IsAfter text tokens stop beyond rest) (sym mapped)
+    (after_more text (map placed_of old) at depth left (placed_of p) rest stop beyond is step)

@@ -77,8 +77,8 @@ module _ (test : Token → Bool) (t : Token) (only : (u : Token) → test u ≡ 
       (one_reader (place_where test) (record { at = 0; token = t }) 0 (ap (λ (b : Bool). cond b (Some 0) None) passes))
 
   token_completes : Completes Standing Anything (read_one (place_where test))
-  token_completes front rest at d any =
-      one_completes (place_where test) front rest at
+  token_completes prefix rest at d any =
+      one_completes (place_where test) prefix rest at
       (record { at = at; token = t }, d, ap (λ (b : Bool). cond b (Some at) None) passes) any
 
 -- a word
@@ -159,8 +159,8 @@ name_reader =
 
 pub name_completes : Completes DerivesName Anything read_name
 unfolding read_name
-name_completes front rest x d any =
-    one_completes named_in front rest x
+name_completes prefix rest x d any =
+    one_completes named_in prefix rest x
     (word_at x.at x.name, d.0, ap (option_map (λ name. record { at = x.at; name = name })) (name_found x.name d.1)) any
 
 -- a name is not a reserved word
@@ -186,8 +186,8 @@ number_reader =
 
 pub number_completes : Completes NumberAt Anything read_number
 unfolding read_number
-number_completes front rest value d any =
-    one_completes (λ p. number_in p.token) front rest value (number_at d.0 value, d.1, refl) any
+number_completes prefix rest value d any =
+    one_completes (λ p. number_in p.token) prefix rest value (number_at d.0 value, d.1, refl) any
 
 -- an operator
 sign_is : (sign : Sign) (operator : Operator) → sign_operator sign ≡ Some operator → Symbol sign ≡ operator_token operator
@@ -245,8 +245,8 @@ operator_reader =
 
 pub operator_completes : Completes OperatorAt Anything read_operator
 unfolding read_operator
-operator_completes front rest operator d any =
-    one_completes (λ p. operator_in p.token) front rest operator
+operator_completes prefix rest operator d any =
+    one_completes (λ p. operator_in p.token) prefix rest operator
     (record { at = d.0; token = operator_token operator }, d.1, operator_found operator) any
 
 pub operator_takes : Takes read_operator
@@ -282,8 +282,8 @@ direction_reader =
 
 pub direction_completes : Completes DirectionAt Anything read_direction
 unfolding read_direction
-direction_completes front rest word d any =
-    one_completes directed front rest word
+direction_completes prefix rest word d any =
+    one_completes directed prefix rest word
     (word_at word.0 (direction_word word.1), d, ap (option_map (λ direction. (word.0, direction))) (direction_found word.1)) any
 
 -- an expression of one token
@@ -332,7 +332,7 @@ name_phrase at name is =
 
 pub operand_completes : Completes Operand Anything read_operand
 unfolding read_operand
-operand_completes front rest e d any = one_completes phrase_in front rest e d any
+operand_completes prefix rest e d any = one_completes phrase_in prefix rest e d any
 
 -- the end of the tokens
 abbrev pub Nothing : List Placed → Unit {0} → Type 0
@@ -350,7 +350,7 @@ end_succeeds : (tokens rest : List Placed) (x : Unit {0}) → read_end tokens �
 end_succeeds [] rest x e =
     let same : [] ≡ rest = (ok_is tt x [] rest e).1 in
     record {
-      front = [];
+      prefix = [];
       derived = refl;
       whole = same;
       again = λ other is. at_end other (subst (λ (l : List Placed). SameFirst l other) (sym same) is);
@@ -360,7 +360,7 @@ end_succeeds (p ∷ tokens) rest x e = cc
 end_fails : (tokens : List Placed) (n : ℕ) → read_end tokens ≡ Err n → Failure Nothing read_end tokens n
 end_fails [] n e = cc
 end_fails (p ∷ tokens) n e = record {
-  front = [];
+  prefix = [];
   left = p ∷ tokens;
   viable = ([], tt, refl);
   whole = refl;

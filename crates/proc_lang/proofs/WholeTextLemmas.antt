@@ -31,7 +31,7 @@ variables_reader = many_reader DerivesVariable (is_word_token (codes "var")) rea
 variables_complete : Completes (DeriveInTurn DerivesVariable) (λ rest. begins_word (codes "var") rest ≡ false) read_variables
 variables_complete =
     many_complete DerivesVariable (is_word_token (codes "var")) read_variable variable_reader variable_takes variable_completes
-    (λ front rest x d. ap (λ (l : List Placed). begins_word (codes "var") (l ++ rest)) d.7)
+    (λ prefix rest x d. ap (λ (l : List Placed). begins_word (codes "var") (l ++ rest)) d.7)
 
 commands_reader : IsReader (DeriveInTurn DerivesCommand) read_commands
 commands_reader = many_reader DerivesCommand (is_word_token (codes "when")) read_command command_reader command_takes
@@ -39,13 +39,13 @@ commands_reader = many_reader DerivesCommand (is_word_token (codes "when")) read
 commands_complete : Completes (DeriveInTurn DerivesCommand) (λ rest. begins_word (codes "when") rest ≡ false) read_commands
 commands_complete =
     many_complete DerivesCommand (is_word_token (codes "when")) read_command command_reader command_takes command_completes
-    (λ front rest x d. ap (λ (l : List Placed). begins_word (codes "when") (l ++ rest)) d.6)
+    (λ prefix rest x d. ap (λ (l : List Placed). begins_word (codes "when") (l ++ rest)) d.6)
 
 -- commands do not begin with a variable
-commands_begin : (xs : List WrittenCommand) (front : List Placed) (at : ℕ) (rest : List Placed) → DeriveInTurn DerivesCommand front xs
-    → begins_word (codes "var") (front ++ (sign_at at CloseBrace ∷ rest)) ≡ false
-commands_begin [] front at rest d = ap (λ (l : List Placed). begins_word (codes "var") (l ++ (sign_at at CloseBrace ∷ rest))) d
-commands_begin (x ∷ xs) front at rest d =
+commands_begin : (xs : List WrittenCommand) (prefix : List Placed) (at : ℕ) (rest : List Placed) → DeriveInTurn DerivesCommand prefix xs
+    → begins_word (codes "var") (prefix ++ (sign_at at CloseBrace ∷ rest)) ≡ false
+commands_begin [] prefix at rest d = ap (λ (l : List Placed). begins_word (codes "var") (l ++ (sign_at at CloseBrace ∷ rest))) d
+commands_begin (x ∷ xs) prefix at rest d =
     ap (λ (l : List Placed). begins_word (codes "var") (l ++ (sign_at at CloseBrace ∷ rest)))
     (d.4 ∙ ap (λ (l : List Placed). l ++ d.1) d.2.6)
 
@@ -88,12 +88,12 @@ process_reader =
 
 process_completes : Completes DerivesProcess Anything read_process
 unfolding read_process
-process_completes front rest x d any =
+process_completes prefix rest x d any =
     let end : List Placed = sign_at d.5 CloseBrace ∷ rest in
     let last : List Placed = d.2 ++ end in
     let middle : List Placed = d.1 ++ last in
     let tail : List Placed = d.0 ++ (sign_at d.4 OpenBrace ∷ middle) in
-    let same : front ++ rest ≡ word_at d.3 (codes "process") ∷ tail = ap (λ (l : List Placed). l ++ rest) d.9 ∙ simp append_assoc in
+    let same : prefix ++ rest ≡ word_at d.3 (codes "process") ∷ tail = ap (λ (l : List Placed). l ++ rest) d.9 ∙ simp append_assoc in
     ap read_process same
     ∙ bind_to _ _ _ _ (word_here (codes "process") d.3 tail)
     (bind_to _ _ _ _ (name_completes d.0 (sign_at d.4 OpenBrace ∷ middle) x.name d.6 tt)
@@ -102,7 +102,7 @@ process_completes front rest x d any =
     (bind_to _ _ _ _ (commands_complete d.2 end x.commands d.8 refl) (bind_to _ _ _ _ (sign_here CloseBrace d.5 rest) refl)))))
 
 pub process_takes : Takes read_process
-process_takes = takes_by DerivesProcess read_process process_reader (λ front x d. (_, _, d.9))
+process_takes = takes_by DerivesProcess read_process process_reader (λ prefix x d. (_, _, d.9))
 
 -- at least one process
 further_reader : IsReader (DeriveInTurn DerivesProcess) (read_many (is_word_token (codes "process")) read_process)
@@ -124,14 +124,14 @@ processes_reader =
     (read_many (is_word_token (codes "process")) read_process) further_reader))
 
 processes_complete : Completes DerivesProgram (λ rest. begins_word (codes "process") rest ≡ false) read_processes
-processes_complete front rest [] d stop = absurd d
-processes_complete front rest (x ∷ xs) d stop =
+processes_complete prefix rest [] d stop = absurd d
+processes_complete prefix rest (x ∷ xs) d stop =
     ap (λ (l : List Placed). read_processes (l ++ rest)) d.4
     ∙ several_complete DerivesProcess read_process
     (read_many (is_word_token (codes "process")) read_process) process_completes d.0 d.1 rest x xs
     d.2
     (many_complete DerivesProcess (is_word_token (codes "process")) read_process process_reader process_takes process_completes
-    (λ front rest x d. ap (λ (l : List Placed). begins_word (codes "process") (l ++ rest)) d.9) d.1 rest xs d.3 stop)
+    (λ prefix rest x d. ap (λ (l : List Placed). begins_word (codes "process") (l ++ rest)) d.9) d.1 rest xs d.3 stop)
 
 -- what is read, with nothing after it
 module _ {A : Type 0} (Derives : List Placed → A → Type 0) (read : List Placed → Read A) (reader : IsReader Derives read)
@@ -158,20 +158,20 @@ module _ {A : Type 0} (Derives : List Placed → A → Type 0) (read : List Plac
   pub whole_read : (tokens : List Placed) (x : A) → read_whole read tokens ≡ Ok (x, []) → Derives tokens x
   whole_read tokens x e =
       let s = whole_reader.succeeds tokens [] x e in
-      subst (λ (l : List Placed). Derives l x) (sym (s.whole ∙ append-nil s.front)) s.derived
+      subst (λ (l : List Placed). Derives l x) (sym (s.whole ∙ append-nil s.prefix)) s.derived
 
   -- tokens derive at most one thing
   pub whole_once : (tokens : List Placed) (x y : A) → Derives tokens x → Derives tokens y → x ≡ y
   whole_once tokens x y d e = (ok_is x y [] [] (sym (whole_completes tokens x d) ∙ whole_completes tokens y e)).0
 
   -- if a token cannot follow, nothing is derived with it, whatever comes after it
-  never_follows : (tokens front others : List Placed) (p : Placed) (n : ℕ)
-      → ((other : List Placed) → SameFirst (p ∷ others) other → read_whole read (front ++ other) ≡ Err (length other))
-      → ¬ Begins Derives (front ++ p ∷ [])
-  never_follows tokens front others p n again begun =
+  never_follows : (tokens prefix others : List Placed) (p : Placed) (n : ℕ)
+      → ((other : List Placed) → SameFirst (p ∷ others) other → read_whole read (prefix ++ other) ≡ Err (length other))
+      → ¬ Begins Derives (prefix ++ p ∷ [])
+  never_follows tokens prefix others p n again begun =
       let more : List Placed = begun.0 in
-      let reads : read_whole read (front ++ (p ∷ more)) ≡ Ok (begun.1, []) =
-      ap (read_whole read) (sym (append_assoc front (p ∷ []) more)) ∙ whole_completes ((front ++ p ∷ []) ++ more) begun.1 begun.2 in
+      let reads : read_whole read (prefix ++ (p ∷ more)) ≡ Ok (begun.1, []) =
+      ap (read_whole read) (sym (append_assoc prefix (p ∷ []) more)) ∙ whole_completes ((prefix ++ p ∷ []) ++ more) begun.1 begun.2 in
       let bad : ◌≡◌ {A = Read A} (Ok (begun.1, [])) (Err (length (p ∷ more))) = sym reads ∙ again (p ∷ more) refl in
       cc
 
@@ -179,25 +179,25 @@ module _ {A : Type 0} (Derives : List Placed → A → Type 0) (read : List Plac
   derives_nothing tokens n e x d = let bad : ◌≡◌ {A = Read A} (Ok (x, [])) (Err n) = sym (whole_completes tokens x d) ∙ e in cc
 
   fault_at : (end n : ℕ) (tokens : List Placed) (found : ProgFault) → found.kind ≡ fault.Grammar → read_whole read tokens ≡ Err n
-      → (front left : List Placed) → Begins Derives front → tokens ≡ front ++ left
-      → ((other : List Placed) → SameFirst left other → read_whole read (front ++ other) ≡ Err (length other))
+      → (prefix left : List Placed) → Begins Derives prefix → tokens ≡ prefix ++ left
+      → ((other : List Placed) → SameFirst left other → read_whole read (prefix ++ other) ≡ Err (length other))
       → found.at ≡ first_offset end left → IsGrammarFault Derives end tokens found
-  fault_at end n tokens found kind e front [] viable whole again at = (
+  fault_at end n tokens found kind e prefix [] viable whole again at = (
     kind,
-    inr (subst (λ (l : List Placed). Begins Derives l) (sym (whole ∙ append-nil front)) viable, derives_nothing tokens n e, at),
+    inr (subst (λ (l : List Placed). Begins Derives l) (sym (whole ∙ append-nil prefix)) viable, derives_nothing tokens n e, at),
   )
-  fault_at end n tokens found kind e front (p ∷ others) viable whole again at =
-      (kind, inl (front, others, p, whole, viable, never_follows tokens front others p n again, at))
+  fault_at end n tokens found kind e prefix (p ∷ others) viable whole again at =
+      (kind, inl (prefix, others, p, whole, viable, never_follows tokens prefix others p n again, at))
 
   -- tokens that derive nothing fail at the first token that cannot follow, or at the end
   pub whole_fails : (end n : ℕ) (tokens : List Placed) (found : ProgFault) → read_whole read tokens ≡ Err n → found.kind ≡ fault.Grammar
       → found.at ≡ offset_of end n tokens → IsGrammarFault Derives end tokens found
   whole_fails end n tokens found e kind at =
       let f = whole_reader.fails tokens n e in
-      let behind : drop (length tokens - n) tokens ≡ f.left =
-      ap (λ (k : ℕ). drop k tokens) (omega (arith, ap length f.whole, length-append f.front f.left, f.size))
-      ∙ ap (drop (length f.front)) f.whole ∙ drop-append_seam f.front f.left in
-      fault_at end n tokens found kind e f.front f.left f.viable f.whole f.again (at ∙ ap (first_offset end) behind)
+      let beyond : drop (length tokens - n) tokens ≡ f.left =
+      ap (λ (k : ℕ). drop k tokens) (omega (arith, ap length f.whole, length-append f.prefix f.left, f.size))
+      ∙ ap (drop (length f.prefix)) f.whole ∙ drop-append_seam f.prefix f.left in
+      fault_at end n tokens found kind e f.prefix f.left f.viable f.whole f.again (at ∙ ap (first_offset end) beyond)
 
   at_end : (tokens : List Placed) (found : A × List Placed) → read_whole read tokens ≡ Ok found → found.1 ≡ []
   unfolding read_whole

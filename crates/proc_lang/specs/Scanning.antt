@@ -4,8 +4,8 @@ use Rattle.std.specs.List.{list_all}
 use Rattle.std.specs.Str.Parse.{digits_value}
 use Rattle.dbg_base.specs.declared.sign.Sign.TheVariants as sign
 use Rattle.dbg_base.specs.Tokens as model
-use Rattle.dbg_base.specs.Tokens.{Spells, IsLongest, IsWithinLimits, is_space, sign_bytes, open_behind, BeginsWithNoToken}
-use Rattle.dbg_base.specs.Tokens.{BeginsWithTooLarge, FaultsInFront, IsTokenFault}
+use Rattle.dbg_base.specs.Tokens.{Spells, IsLongest, IsWithinLimits, is_space, sign_bytes, still_open, BeginsWithNoToken}
+use Rattle.dbg_base.specs.Tokens.{BeginsWithTooLarge, FaultsBefore, IsTokenFault}
 use Rattle.dbg_base.specs.declared.limits.TheConstants.{INPUT_BYTES, OPEN_PARENTHESES}
 use Rattle.dbg_base.specs.declared.fault.ProgFault.{ProgFault}
 use Rattle.proc_lang.specs.declared.fault.ProgError.{ProgError}
@@ -38,13 +38,13 @@ abbrev pub BeginsWithNoSign : List ℕ → Type 0
 BeginsWithNoSign bytes = (sign : Sign) (more : List ℕ) → sign_bytes sign ++ more ≡ bytes → ⊥
 
 -- the token of so many bytes begins the bytes, and no longer one does
-pub record StandsInFront (token : model.Token) (n : ℕ) (bytes : List ℕ) : Type 0 where
+pub record IsBefore (token : model.Token) (n : ℕ) (bytes : List ℕ) : Type 0 where
   pub within : n ≤ length bytes
   pub spelled : Spells token (take n bytes)
   pub longest : IsLongest (take n bytes) (drop n bytes)
 
 -- the sign begins the bytes, and no longer one does
-pub record IsSignInFront (sign : Sign) (n : ℕ) (bytes : List ℕ) : Type 0 where
+pub record IsSignBefore (sign : Sign) (n : ℕ) (bytes : List ℕ) : Type 0 where
   pub within : n ≤ length bytes
   pub spelled : take n bytes ≡ sign_bytes sign
   pub longest : (other : Sign) (more : List ℕ) → sign_bytes other ++ more ≡ bytes → length (sign_bytes other) ≤ n
@@ -60,21 +60,21 @@ token_in piece bytes = token_by piece.kind (take piece.length bytes)
 
 -- the piece is a sign that begins the bytes
 abbrev pub IsSignPiece : ScannedToken → List ℕ → Type 0
-IsSignPiece piece bytes = (sign : Sign) × (piece.kind ≡ kind.Symbol sign) × IsSignInFront sign piece.length bytes
+IsSignPiece piece bytes = (sign : Sign) × (piece.kind ≡ kind.Symbol sign) × IsSignBefore sign piece.length bytes
 
 -- the token begins the bytes, has so many bytes and is within its limit
-abbrev pub IsFrontToken : Token → ℕ → List ℕ → Type 0
-IsFrontToken token n bytes = StandsInFront (token_of token) n bytes × IsWithinLimits (token_of token)
+abbrev pub IsPrefixToken : Token → ℕ → List ℕ → Type 0
+IsPrefixToken token n bytes = IsBefore (token_of token) n bytes × IsWithinLimits (token_of token)
 
 -- the kind of the fault at the beginning
-abbrev pub IsFrontFault : FaultKind → List ℕ → Type 0
-IsFrontFault Byte bytes = BeginsWithNoToken bytes
-IsFrontFault fault.Token bytes = BeginsWithTooLarge bytes
-IsFrontFault kind bytes = ⊥
+abbrev pub IsPrefixFault : FaultKind → List ℕ → Type 0
+IsPrefixFault Byte bytes = BeginsWithNoToken bytes
+IsPrefixFault fault.Token bytes = BeginsWithTooLarge bytes
+IsPrefixFault kind bytes = ⊥
 
 -- The lexer had `left` left of the text, at this offset and with so many parentheses open. It skipped spaces, passed a token, and has
 -- `rest` left.
-pub record TakesToken (left : List ℕ) (at depth : ℕ) (p : model.Placed) (rest : List ℕ) (end behind : ℕ) : Type 0 where
+pub record TakesToken (left : List ℕ) (at depth : ℕ) (p : model.Placed) (rest : List ℕ) (end beyond : ℕ) : Type 0 where
   pub gap : List ℕ
   pub piece : List ℕ
   pub spaces : IsTrue (list_all is_space gap)
@@ -84,8 +84,8 @@ pub record TakesToken (left : List ℕ) (at depth : ℕ) (p : model.Placed) (res
   pub longest : IsLongest piece rest
   pub within : IsWithinLimits p.token
   pub passed : end ≡ p.at + length piece
-  pub counted : behind ≡ open_behind depth p.token
-  pub shallow : behind ≤ OPEN_PARENTHESES
+  pub counted : beyond ≡ still_open depth p.token
+  pub shallow : beyond ≤ OPEN_PARENTHESES
 
 -- there the lexer skipped spaces and met a fault
 pub record MeetsFault (left : List ℕ) (at depth : ℕ) (found : ProgFault) : Type 0 where
@@ -94,12 +94,12 @@ pub record MeetsFault (left : List ℕ) (at depth : ℕ) (found : ProgFault) : T
   pub spaces : IsTrue (list_all is_space gap)
   pub whole : left ≡ gap ++ rest
   pub place : found.at ≡ at + length gap
-  pub faults : FaultsInFront found.kind depth rest
+  pub faults : FaultsBefore found.kind depth rest
 
 -- the parentheses that are open after a token were counted, or they are too many
 abbrev pub Counts : ℕ → model.Token → ℕ → Result (Unit {0}) ProgFault → ℕ → Type 0
-Counts depth token at (Ok done) behind = (behind ≡ open_behind depth token) × (behind ≤ OPEN_PARENTHESES)
-Counts depth token at (Err found) behind =
+Counts depth token at (Ok done) beyond = (beyond ≡ still_open depth token) × (beyond ≤ OPEN_PARENTHESES)
+Counts depth token at (Err found) beyond =
     (found ≡ record { kind = fault.Limit; at = at }) × (token ≡ model.Symbol sign.OpenParenthesis) × (depth ≡ OPEN_PARENTHESES)
 
 -- why a text has no tokens, unless memory ran out

@@ -7,7 +7,7 @@ ghost use Rattle.dbg_base.specs.Tokens.{is_space, HasTokens};
 ghost use Rattle.proc_lang.specs.Scanning.{token_of, placed_of, TakesToken, MeetsFault, Counts, HasNoTokens};
 
 use crate::fault::ProgError;
-use crate::scan::{front_token, space_length};
+use crate::scan::{prefix_token, space_length};
 use crate::token::{Placed, Token};
 use dbg_base::limits::{INPUT_BYTES, OPEN_PARENTHESES};
 use dbg_base::{FaultKind, ProgFault, Sign};
@@ -83,7 +83,7 @@ impl<'a> Lexer<'a> {
             return Ok(None);
         }
         let at = self.at;
-        match front_token(self.rest) {
+        match prefix_token(self.rest) {
             Ok((token, length)) => {
                 let placed = Placed { at, token };
                 match self.count(&placed.token) {

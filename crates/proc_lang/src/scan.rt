@@ -4,8 +4,8 @@ ghost use Rattle.std.specs.Prelude.{◌≡◌, ◌≤◌, ◌<◌, ◌+◌, ◌^
 ghost use Rattle.std.specs.List.{list_all, prefix_len};
 ghost use Rattle.std.specs.Str.Parse.{digits_value};
 ghost use Rattle.dbg_base.specs.Tokens.{is_space, is_digit, is_word_byte, sign_bytes, BeginsWithNoToken, Spells, IsWithinLimits};
-ghost use Rattle.proc_lang.specs.Scanning.{token_of, token_in, token_by, IsNoSign, BeginsWithNoSign, StandsInFront, IsSignPiece};
-ghost use Rattle.proc_lang.specs.Scanning.{IsFrontToken, IsFrontFault};
+ghost use Rattle.proc_lang.specs.Scanning.{token_of, token_in, token_by, IsNoSign, BeginsWithNoSign, IsBefore, IsSignPiece};
+ghost use Rattle.proc_lang.specs.Scanning.{IsPrefixToken, IsPrefixFault};
 
 use crate::token::{Magnitude, Token};
 use dbg_base::{FaultKind, Name, Sign};
@@ -110,7 +110,7 @@ fn double_sign(b: u8) -> Option<Sign>
 }
 
 // The longest sign at the beginning, with its length in bytes.
-fn front_sign(bytes: &[u8]) -> Option<ScannedToken>
+fn prefix_sign(bytes: &[u8]) -> Option<ScannedToken>
     ensures { MatchOption result (BeginsWithNoSign bytes.now) (λ piece. IsSignPiece piece bytes.now) }
 {
     let first = *bytes.first()?;
@@ -130,9 +130,9 @@ fn front_sign(bytes: &[u8]) -> Option<ScannedToken>
 }
 
 // The longest token at the beginning, if there is one.
-fn front_piece(bytes: &[u8]) -> Option<ScannedToken>
+fn prefix_piece(bytes: &[u8]) -> Option<ScannedToken>
     ensures { MatchOption result (BeginsWithNoToken bytes.now)
-        (λ piece. StandsInFront (token_in piece bytes.now) piece.length bytes.now) }
+        (λ piece. IsBefore (token_in piece bytes.now) piece.length bytes.now) }
 {
     let first = *bytes.first()?;
     if first.is_ascii_lowercase() {
@@ -147,7 +147,7 @@ fn front_piece(bytes: &[u8]) -> Option<ScannedToken>
             length: digit_length(bytes),
         });
     }
-    front_sign(bytes)
+    prefix_sign(bytes)
 }
 
 // The number of these digits, or None if it is above the largest i64.
@@ -187,10 +187,10 @@ fn limited_token(kind: TokenKind, bytes: &[u8]) -> Option<Token>
 }
 
 /// The token at the beginning with its length in bytes, or the kind of the fault there.
-pub(crate) fn front_token(bytes: &[u8]) -> Result<(Token, usize), FaultKind>
-    ensures { MatchResult result (λ found. IsFrontToken found.0 found.1 bytes.now) (λ kind. IsFrontFault kind bytes.now) }
+pub(crate) fn prefix_token(bytes: &[u8]) -> Result<(Token, usize), FaultKind>
+    ensures { MatchResult result (λ found. IsPrefixToken found.0 found.1 bytes.now) (λ kind. IsPrefixFault kind bytes.now) }
 {
-    let Some(piece) = front_piece(bytes) else {
+    let Some(piece) = prefix_piece(bytes) else {
         return Err(FaultKind::Byte);
     };
     match limited_token(piece.kind, &bytes[..piece.length]) {

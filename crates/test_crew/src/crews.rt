@@ -5,7 +5,7 @@ ghost use Rattle.std.specs.List.{AllByRecursion};
 ghost use Rattle.dbg_desk.specs.Openings.{IsOpeningOf};
 
 use crate::crew_gate::{BarringGate, CrewGate};
-use crate::desk_trial::{THREE, make_opening};
+use crate::desk_trial::{MEMORY, THREE, make_opening};
 use crate::expecting::{expect_same, expect_true};
 use dbg_base::{Gate, OpenGate, Pid};
 use dbg_command::{Command, NextCmd};
@@ -16,7 +16,6 @@ use std::collections::VecDeque;
 use std::marker::Brand;
 use std::process::Abort;
 use std::sync::Wait;
-use std::test::Fail;
 use std::thread::Threads;
 
 // So many commands, each of which is `next` for this process.
@@ -32,29 +31,47 @@ fn turns(alloc: Global, pid: Pid, count: u32) -> Result<VecDeque<NextCmd>, Alloc
 
 // A worker for each seat, which gives `next` so many times for the process with the seat's position.
 fn make_workers<L: Run>(
+    rt: &impl Abort,
     alloc: Global,
     seats: Vec<Seat<L>>,
     count: u32,
-) -> Result<Vec<Worker<L, NextCmd>>, AllocError> {
+) -> Vec<Worker<L, NextCmd>> {
     let mut workers = Vec::new(alloc);
     let mut process = 0;
     for seat in seats {
-        workers.push(Worker::new(seat, turns(alloc, Pid(process), count)?))?;
+        let orders = turns(alloc, Pid(process), count).expect(rt, MEMORY);
+        workers.push(Worker::new(seat, orders)).expect(rt, MEMORY);
         process = process.saturating_add(1);
     }
-    Ok(workers)
+    workers
 }
 
 // The seats of these workers.
 fn seats_of<L: Run>(
+    rt: &impl Abort,
     alloc: Global,
     workers: Vec<Worker<L, NextCmd>>,
-) -> Result<Vec<Seat<L>>, AllocError> {
+) -> Vec<Seat<L>> {
     let mut seats = Vec::new(alloc);
     for worker in workers {
-        seats.push(worker.into_seat())?;
+        seats.push(worker.into_seat()).expect(rt, MEMORY);
     }
-    Ok(seats)
+    seats
+}
+
+// Expects each seat to have so many calls, and the desk all of them.
+fn expect_settled<L: Run, R: Threads + Wait + Abort + Sync>(
+    rt: &R,
+    desk: &Desk<L, NextCmd>,
+    seats: &[Seat<L>],
+    lengths: [usize; 3],
+) {
+    let mut calls = 0usize;
+    for (seat, length) in seats.iter().zip(lengths) {
+        expect_same(rt, seat.own_calls().len(), length);
+        calls = calls.saturating_add(length);
+    }
+    expect_same(rt, desk.settle(rt, seats), Ok(Closing { calls }));
 }
 
 // Expects a crew of three workers, with this gate, to have this fault and so many calls, and each seat so many.
@@ -65,46 +82,41 @@ fn expect_crew<L: Run + Send + Sync, G: Gate, R: Threads + Wait + Abort + Sync>(
     gate: &G,
     count: u32,
     wanted: (Result<(), CrewFault>, [usize; 3]),
-) -> Result<(), Fail>
+)
     requires { IsOpeningOf L.program L.board L.name L.parts L.seats opening }
 {
-    let (desk, seats) = opening.desk::<L, NextCmd>(alloc)?;
-    let mut workers = make_workers(alloc, seats, count)?;
+    let (desk, seats) = opening.desk::<L, NextCmd>(alloc).expect(rt, "a desk");
+    let mut workers = make_workers(rt, alloc, seats, count);
     let ended = crew(rt, alloc, &desk, workers.as_mut_slice(), gate);
     let (fault, lengths) = wanted;
     expect_same(rt, ended, fault);
-    let seats = seats_of(alloc, workers)?;
-    let mut calls = 0usize;
-    for (seat, length) in seats.iter().zip(lengths) {
-        expect_same(rt, seat.own_calls().len(), length);
-        calls = calls.saturating_add(length);
-    }
-    expect_same(rt, desk.settle(rt, seats.as_slice()), Ok(Closing { calls }));
-    Ok(())
+    let seats = seats_of(rt, alloc, workers);
+    expect_settled(rt, &desk, seats.as_slice(), lengths);
+    drop(seats);
+    drop(desk);
 }
 
 #[test]
-fn a_crew_gives_all_its_commands(rt: HostRuntime) -> Result<(), Fail> {
-    let alloc = rt.alloc();
-    let opening = make_opening(alloc, THREE, 3)?;
-    expect_crew::<Brand, _, _>(&rt, alloc, opening, &OpenGate, 50, (Ok(()), [50; 3]))
+fn a_crew_gives_all_its_commands(rt: HostRuntime) {
+    let opening = make_opening(&rt, rt.alloc(), THREE, 3);
+    let wanted = (Ok(()), [50; 3]);
+    expect_crew::<Brand, _, _>(&rt, rt.alloc(), opening, &OpenGate, 50, wanted);
 }
 
 #[test]
-fn a_barred_worker_stops(rt: HostRuntime) -> Result<(), Fail> {
-    let alloc = rt.alloc();
-    let opening = make_opening(alloc, THREE, 3)?;
+fn a_barred_worker_stops(rt: HostRuntime) {
+    let opening = make_opening(&rt, rt.alloc(), THREE, 3);
     let gate = BarringGate { worker: 1, turn: 0 };
     let fault = CrewFault::Gate { worker: 1, turn: 0 };
-    expect_crew::<Brand, _, _>(&rt, alloc, opening, &gate, 2, (Err(fault), [2, 0, 2]))
+    let wanted = (Err(fault), [2, 0, 2]);
+    expect_crew::<Brand, _, _>(&rt, rt.alloc(), opening, &gate, 2, wanted);
 }
 
 #[test]
-fn crew_meets(rt: HostRuntime) -> Result<(), Fail> {
-    let alloc = rt.alloc();
-    let opening = make_opening(alloc, THREE, 3)?;
+fn crew_meets(rt: HostRuntime) {
+    let opening = make_opening(&rt, rt.alloc(), THREE, 3);
     let gate = CrewGate::new();
-    expect_crew::<Brand, _, _>(&rt, alloc, opening, &gate, 2, (Ok(()), [2; 3]))?;
+    let wanted = (Ok(()), [2; 3]);
+    expect_crew::<Brand, _, _>(&rt, rt.alloc(), opening, &gate, 2, wanted);
     expect_true(&rt, gate.all_passed());
-    Ok(())
 }

@@ -5,15 +5,18 @@ ghost use Rattle.dbg_base.specs.declared.limits.TheConstants.{SEATS};
 ghost use Rattle.test_crew.specs.Runs.{MakesFresh};
 ghost use Rattle.dbg_desk.specs.Openings.{IsOpeningOf};
 
-use crate::told::{said_to, said_to_question};
+use crate::reported::{said_to, said_to_question};
 use dbg_base::{Call, Gate, Plan, Refusal, Reply, Said};
 use dbg_command::Command;
 use dbg_desk::{Desk, Locked, Opening, Run, Seat};
 use proc_lang::parse_program;
 use std::alloc::Global;
+use std::process::Abort;
 use std::sync::Wait;
-use std::test::Fail;
 use std::thread::Threads;
+
+/// What a failure shows if memory is not ample.
+pub const MEMORY: &str = "ample memory";
 
 /// A process that sends, one that receives, and one that counts by itself.
 pub const THREE: &str = "process a {
@@ -33,11 +36,11 @@ process c {
 ";
 
 /// The opening of a run of this program with so many seats.
-pub fn make_opening(alloc: Global, text: &str, seats: u32) -> Result<Opening, Fail>
+pub fn make_opening(rt: &impl Abort, alloc: Global, text: &str, seats: u32) -> Opening
     requires { (1 ≤ seats) × (seats ≤ SEATS) }
 {
-    let program = parse_program(alloc, text.as_bytes())?;
-    Ok(Opening::new(alloc, program, seats)?)
+    let program = parse_program(alloc, text.as_bytes()).expect(rt, "a program");
+    Opening::new(alloc, program, seats).expect(rt, MEMORY)
 }
 
 /// A desk and two seats.
@@ -48,14 +51,18 @@ pub struct Pair<L: Run, C: Command> {
     pub two: Seat<L>,
 }
 
-/// A desk and its last two seats.
-pub fn begin_pair<L: Run, C: Command>(alloc: Global, opening: Opening) -> Result<Pair<L, C>, Fail>
+/// A desk and its last two seats. Error: out of memory, or no two seats.
+pub fn begin_pair<L: Run, C: Command>(
+    alloc: Global,
+    opening: Opening,
+) -> Result<Pair<L, C>, Refusal>
     requires { IsOpeningOf L.program L.board L.name L.parts L.seats opening }
 {
     let (desk, mut seats) = opening.desk::<L, C>(alloc)?;
-    let two = seats.pop().ok_or("no second seat")?;
-    let one = seats.pop().ok_or("no seat")?;
-    Ok(Pair { desk, one, two })
+    match (seats.pop(), seats.pop()) {
+        (Some(two), Some(one)) => Ok(Pair { desk, one, two }),
+        _ => Err(Refusal::BadLine),
+    }
 }
 
 /// The seat gives this at the desk.

@@ -20,8 +20,8 @@ mod plain;
 #[cfg(test)]
 mod plans;
 #[cfg(test)]
-mod shown;
+mod reported;
 #[cfg(test)]
-mod told;
+mod shown;
 #[cfg(test)]
 mod wide;

@@ -84,5 +84,5 @@ fn looks_beside_calls<L: Run + Send + Sync, R: Threads + Wait + Abort + Sync>(
 #[test]
 fn looks_are_made_beside_calls(rt: HostRuntime) -> Result<(), Fail> {
     let alloc = rt.alloc();
-    looks_beside_calls::<Brand, _>(&rt, alloc, make_opening(alloc, THREE, 2)?)
+    looks_beside_calls::<Brand, _>(&rt, alloc, make_opening(&rt, alloc, THREE, 2))
 }

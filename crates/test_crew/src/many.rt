@@ -6,7 +6,7 @@ ghost use Rattle.dbg_base.specs.Calls.{AreCommands};
 ghost use Rattle.test_crew.specs.Runs.{MakesFresh};
 ghost use Rattle.dbg_desk.specs.Openings.{IsOpeningOf};
 
-use crate::desk_trial::{THREE, enter, give, make_opening};
+use crate::desk_trial::{MEMORY, THREE, enter, give, make_opening};
 use crate::expecting::{expect_same, expect_true};
 use crate::plans::set_break;
 use dbg_base::{Call, OpenGate, Pid, Plan, Query, Refusal, Said};
@@ -17,7 +17,6 @@ use std::alloc::Global;
 use std::marker::Brand;
 use std::process::Abort;
 use std::sync::Wait;
-use std::test::Fail;
 use std::thread;
 use std::thread::Threads;
 
@@ -101,13 +100,13 @@ fn role_of(play: Play, place: usize) -> Role {
 }
 
 // The command that a seat of mixed calls gives at this turn.
-fn plan_at(alloc: Global, turn: u32) -> Result<Plan, Refusal> {
+fn plan_at(rt: &impl Abort, alloc: Global, turn: u32) -> Plan {
     let pid = Pid(turn % 3);
     match turn % 8 {
-        5 => Ok(Plan::Undo(pid)),
-        6 => Ok(Plan::Rollback(pid, 0)),
-        7 => set_break(alloc, "k", &[(A, 0, 2)]),
-        _ => Ok(Plan::Next(pid)),
+        5 => Plan::Undo(pid),
+        6 => Plan::Rollback(pid, 0),
+        7 => set_break(rt, alloc, "k", &[(A, 0, 2)]),
+        _ => Plan::Next(pid),
     }
 }
 
@@ -122,25 +121,21 @@ fn two_commands(alloc: Global) -> Result<Vec<Plan>, Refusal>
 }
 
 // A batch.
-fn batch(alloc: Global) -> Result<Plan, Refusal> {
-    Ok(Plan::Batch(two_commands(alloc)?))
+fn batch(rt: &impl Abort, alloc: Global) -> Plan {
+    Plan::Batch(two_commands(alloc).expect(rt, MEMORY))
 }
 
-// The seat gives this command, if there is one, whatever the answer is.
-fn try_give<L: Run, C: Command, M: Fn(Plan) -> Result<C, Refusal>, R: Threads + Wait + Sync>(
-    rt: &R,
-    alloc: Global,
-    desk: &Desk<L, C>,
-    seat: &mut Seat<L>,
-    make: &M,
-    plan: Result<Plan, Refusal>,
-)
+// The seat gives this command, whatever the answer is.
+fn try_give<
+    L: Run,
+    C: Command,
+    M: Fn(Plan) -> Result<C, Refusal>,
+    R: Threads + Wait + Abort + Sync,
+>(rt: &R, alloc: Global, desk: &Desk<L, C>, seat: &mut Seat<L>, make: &M, plan: Plan)
     requires may { M.IsAlwaysCallable make.now }
     requires fresh { MakesFresh (M.post make.now) C.IsFresh }
 {
-    if let Ok(plan) = plan {
-        let _reply = give(rt, alloc, desk, seat, make, plan, &OpenGate);
-    }
+    let _reply = give(rt, alloc, desk, seat, make, plan, &OpenGate);
 }
 
 // The seat looks at the board, again and again.
@@ -150,55 +145,51 @@ fn look_on<L: Run, C: Command>(desk: &Desk<L, C>, seat: &mut Seat<L>) {
     }
 }
 
+// The two commands of a seat that steps, rolls back or gives batches.
+fn two_of(rt: &impl Abort, alloc: Global, role: Role) -> (Plan, Plan) {
+    match role {
+        Role::Steps => (Plan::Next(A), Plan::Undo(A)),
+        Role::Rolls => (Plan::Next(B), Plan::Rollback(A, 0)),
+        _ => (batch(rt, alloc), Plan::Undo(B)),
+    }
+}
+
 // The seat has its turn.
-fn take_turn<L: Run, C: Command, M: Fn(Plan) -> Result<C, Refusal>, R: Threads + Wait + Sync>(
-    rt: &R,
-    alloc: Global,
-    desk: &Desk<L, C>,
-    seat: &mut Seat<L>,
-    make: &M,
-    role: Role,
-    turn: u32,
-)
+fn take_turn<
+    L: Run,
+    C: Command,
+    M: Fn(Plan) -> Result<C, Refusal>,
+    R: Threads + Wait + Abort + Sync,
+>(rt: &R, alloc: Global, desk: &Desk<L, C>, seat: &mut Seat<L>, make: &M, role: Role, turn: u32)
     requires may { M.IsAlwaysCallable make.now }
     requires fresh { MakesFresh (M.post make.now) C.IsFresh }
 {
     match role {
         Role::Mixed => {
-            try_give(rt, alloc, desk, seat, make, plan_at(alloc, turn));
+            try_give(rt, alloc, desk, seat, make, plan_at(rt, alloc, turn));
             let _reply = desk.back(rt, seat);
             let _answer = desk.ask(rt, alloc, seat, Query::Vars(Pid(turn % 3)));
         }
-        Role::Steps => {
-            try_give(rt, alloc, desk, seat, make, Ok(Plan::Next(A)));
-            try_give(rt, alloc, desk, seat, make, Ok(Plan::Undo(A)));
-        }
-        Role::Rolls => {
-            try_give(rt, alloc, desk, seat, make, Ok(Plan::Next(B)));
-            try_give(rt, alloc, desk, seat, make, Ok(Plan::Rollback(A, 0)));
-        }
         Role::Breaks => {
-            let plan = set_break(alloc, "k", &[(B, 1, 1)]);
+            let plan = set_break(rt, alloc, "k", &[(B, 1, 1)]);
             try_give(rt, alloc, desk, seat, make, plan);
             let _reply = desk.back(rt, seat);
         }
-        Role::Batches => {
-            try_give(rt, alloc, desk, seat, make, batch(alloc));
-            try_give(rt, alloc, desk, seat, make, Ok(Plan::Undo(B)));
-        }
         Role::Looks => look_on(desk, seat),
+        _ => {
+            let (first, second) = two_of(rt, alloc, role);
+            try_give(rt, alloc, desk, seat, make, first);
+            try_give(rt, alloc, desk, seat, make, second);
+        }
     }
 }
 
-fn take_turns<L: Run, C: Command, M: Fn(Plan) -> Result<C, Refusal>, R: Threads + Wait + Sync>(
-    rt: &R,
-    alloc: Global,
-    desk: &Desk<L, C>,
-    seat: &mut Seat<L>,
-    make: &M,
-    play: Play,
-    place: usize,
-)
+fn take_turns<
+    L: Run,
+    C: Command,
+    M: Fn(Plan) -> Result<C, Refusal>,
+    R: Threads + Wait + Abort + Sync,
+>(rt: &R, alloc: Global, desk: &Desk<L, C>, seat: &mut Seat<L>, make: &M, play: Play, place: usize)
     requires may { M.IsAlwaysCallable make.now }
     requires fresh { MakesFresh (M.post make.now) C.IsFresh }
 {
@@ -213,7 +204,7 @@ fn all_take_turns<
     L: Run + Send + Sync,
     C: Command,
     M: Fn(Plan) -> Result<C, Refusal> + Sync,
-    R: Threads + Wait + Sync,
+    R: Threads + Wait + Abort + Sync,
 >(rt: &R, alloc: Global, desk: &Desk<L, C>, seats: &mut [Seat<L>], make: &M, play: Play)
     requires may { M.IsAlwaysCallable make.now }
     requires fresh { MakesFresh (M.post make.now) C.IsFresh }
@@ -238,32 +229,44 @@ fn count_calls<L: Run>(seats: &[Seat<L>]) -> usize {
 
 // An entered call, its seat, and its answer.
 #[derive(Drop)]
-struct Told {
+struct Reported {
     seat: u32,
     call: Call,
     said: Said,
 }
 
 // Copies an entry.
-fn told_of(entry: &Entry) -> Result<Told, Refusal> {
-    let call = entry.call.copy()?;
-    let said = entry.said.copy()?;
+fn reported_of(rt: &impl Abort, entry: &Entry) -> Reported {
+    let call = entry.call.copy().expect(rt, MEMORY);
+    let said = entry.said.copy().expect(rt, MEMORY);
     let seat = entry.seat;
-    Ok(Told { seat, call, said })
+    Reported { seat, call, said }
 }
 
 // The entered calls, in order.
-fn told_calls<L: Run, C: Command>(
+fn reported_calls<L: Run, C: Command>(
+    rt: &impl Abort,
     alloc: Global,
     locked: &Locked<L, C>,
-) -> Result<Vec<Told>, Refusal> {
-    let mut told = Vec::new(alloc);
+) -> Vec<Reported> {
+    let mut reported = Vec::new(alloc);
     for place in 0..locked.calls() {
         if let Some(entry) = locked.entry(place) {
-            told.push(told_of(entry)?)?;
+            reported.push(reported_of(rt, entry)).expect(rt, MEMORY);
         }
     }
-    Ok(told)
+    reported
+}
+
+// Expects so many calls, of the seats and of the desk.
+fn expect_settled<L: Run, C: Command, R: Threads + Wait + Abort + Sync>(
+    rt: &R,
+    desk: &Desk<L, C>,
+    seats: &[Seat<L>],
+    calls: usize,
+) {
+    expect_same(rt, count_calls(seats), calls);
+    expect_same(rt, desk.settle(rt, seats), Ok(Closing { calls }));
 }
 
 // The play: all calls are entered, and the seats settle. Returns the entered calls.
@@ -272,36 +275,38 @@ fn many_calls<
     C: Command,
     M: Fn(Plan) -> Result<C, Refusal> + Sync,
     R: Threads + Wait + Abort + Sync,
->(rt: &R, alloc: Global, make: &M, opening: Opening, play: Play) -> Result<Vec<Told>, Fail>
+>(rt: &R, alloc: Global, make: &M, opening: Opening, play: Play) -> Vec<Reported>
     requires may { M.IsAlwaysCallable make.now }
     requires fresh { MakesFresh (M.post make.now) C.IsFresh }
     requires run { IsOpeningOf L.program L.board L.name L.parts L.seats opening }
 {
-    let (desk, mut seats) = opening.desk::<L, C>(alloc)?;
+    let (desk, mut seats) = opening.desk::<L, C>(alloc).expect(rt, "a desk");
     all_take_turns(rt, alloc, &desk, seats.as_mut_slice(), make, play);
-    let calls = calls_of(play);
-    expect_same(rt, count_calls(seats.as_slice()), calls);
-    expect_same(rt, desk.settle(rt, seats.as_slice()), Ok(Closing { calls }));
-    Ok(told_calls(alloc, &desk.into_locked())?)
+    expect_settled(rt, &desk, seats.as_slice(), calls_of(play));
+    let locked = desk.into_locked();
+    let reported = reported_calls(rt, alloc, &locked);
+    drop(seats);
+    drop(locked);
+    reported
 }
 
-// Whether this call has the same answer again.
-fn is_said_again<L: Run, C: Command, M: Fn(Plan) -> Result<C, Refusal>>(
+// Expects the call to have the same answer again.
+fn expect_said_again<L: Run, C: Command, M: Fn(Plan) -> Result<C, Refusal>>(
+    rt: &impl Abort,
     alloc: Global,
     locked: &mut Locked<L, C>,
     seats: &mut [Seat<L>],
     make: &M,
-    told: Told,
-) -> Result<bool, Refusal>
+    reported: Reported,
+)
     requires may { M.IsAlwaysCallable make.now }
     requires fresh { MakesFresh (M.post make.now) C.IsFresh }
 {
-    let Told { seat, call, said } = told;
-    let Some(seat) = seats.get_mut(seat.saturating_sub(1) as usize) else {
-        return Ok(false);
-    };
-    let again = enter(alloc, locked, seat, make, call)?;
-    Ok(is_same_said(&again, &said))
+    let Reported { seat, call, said } = reported;
+    let place = seat.saturating_sub(1) as usize;
+    let seat = seats.get_mut(place).expect(rt, "a seat");
+    let again = enter(alloc, locked, seat, make, call).expect(rt, "an answer");
+    expect_true(rt, is_same_said(&again, &said));
 }
 
 // Expects the same answers if the same calls are given in order on one thread.
@@ -310,23 +315,23 @@ fn expect_again<L: Run, C: Command, M: Fn(Plan) -> Result<C, Refusal>>(
     alloc: Global,
     make: &M,
     opening: Opening,
-    told: Vec<Told>,
-) -> Result<(), Fail>
+    reported: Vec<Reported>,
+)
     requires may { M.IsAlwaysCallable make.now }
     requires fresh { MakesFresh (M.post make.now) C.IsFresh }
     requires run { IsOpeningOf L.program L.board L.name L.parts L.seats opening }
 {
-    let (mut locked, mut seats) = opening.lock::<L, C>(alloc)?;
-    for told in told {
-        let same = is_said_again(alloc, &mut locked, seats.as_mut_slice(), make, told)?;
-        expect_true(rt, same);
+    let (mut locked, mut seats) = opening.lock::<L, C>(alloc).expect(rt, "a lock");
+    for reported in reported {
+        expect_said_again(rt, alloc, &mut locked, seats.as_mut_slice(), make, reported);
     }
-    Ok(())
+    drop(seats);
+    drop(locked);
 }
 
 // The parts of a desk for this play.
-fn opening_of(alloc: Global, play: Play) -> Result<Opening, Fail> {
-    make_opening(alloc, THREE, seats_of(play))
+fn opening_of(rt: &impl Abort, alloc: Global, play: Play) -> Opening {
+    make_opening(rt, alloc, THREE, seats_of(play))
 }
 
 // The play, at a new desk.
@@ -334,11 +339,11 @@ fn play_once<
     C: Command,
     M: Fn(Plan) -> Result<C, Refusal> + Sync,
     R: Threads + Wait + Abort + Sync,
->(rt: &R, alloc: Global, make: &M, play: Play) -> Result<Vec<Told>, Fail>
+>(rt: &R, alloc: Global, make: &M, play: Play) -> Vec<Reported>
     requires may { M.IsAlwaysCallable make.now }
     requires fresh { MakesFresh (M.post make.now) C.IsFresh }
 {
-    let opening = opening_of(alloc, play)?;
+    let opening = opening_of(rt, alloc, play);
     many_calls::<Brand, C, M, R>(rt, alloc, make, opening, play)
 }
 
@@ -347,18 +352,18 @@ fn play_again<
     C: Command,
     M: Fn(Plan) -> Result<C, Refusal> + Sync,
     R: Threads + Wait + Abort + Sync,
->(rt: &R, alloc: Global, make: &M, play: Play) -> Result<(), Fail>
+>(rt: &R, alloc: Global, make: &M, play: Play)
     requires may { M.IsAlwaysCallable make.now }
     requires fresh { MakesFresh (M.post make.now) C.IsFresh }
 {
-    let told = play_once(rt, alloc, make, play)?;
-    expect_same(rt, told.len(), calls_of(play));
-    let opening = opening_of(alloc, play)?;
-    expect_again::<Brand, C, M>(rt, alloc, make, opening, told)
+    let reported = play_once(rt, alloc, make, play);
+    expect_same(rt, reported.len(), calls_of(play));
+    let opening = opening_of(rt, alloc, play);
+    expect_again::<Brand, C, M>(rt, alloc, make, opening, reported);
 }
 
 #[test]
-fn seats_on_threads_settle(rt: HostRuntime) -> Result<(), Fail> {
+fn seats_on_threads_settle(rt: HostRuntime) {
     let alloc = rt.alloc();
     let make = |plan: Plan| -> Result<Box<dyn Command>, Refusal>
         ensures { IfOk result (λ command. IsFresh command) }
@@ -374,8 +379,8 @@ fn seats_on_threads_settle(rt: HostRuntime) -> Result<(), Fail> {
         Ok(command)
     };
     for _ in 0..ROUNDS {
-        play_once(&rt, alloc, &make, Play::Mixed)?;
+        play_once(&rt, alloc, &make, Play::Mixed);
     }
-    play_again(&rt, alloc, &make, Play::Rivals)?;
-    play_again(&rt, alloc, &make, Play::AllRivals)
+    play_again(&rt, alloc, &make, Play::Rivals);
+    play_again(&rt, alloc, &make, Play::AllRivals);
 }

@@ -1,29 +1,33 @@
 //! Commands that set breakpoints.
 
-use dbg_base::{Conjunct, Expr, Name, Operator, Pid, Plan, Refusal, Sequence};
+use crate::desk_trial::MEMORY;
+use dbg_base::{Conjunct, Expr, Name, Operator, Pid, Plan, Sequence};
 use std::alloc::Global;
+use std::process::Abort;
 
 /// The name of this text.
-pub fn named(text: &str) -> Result<Name, Refusal> {
-    Name::new(text.as_bytes()).ok_or(Refusal::BadLine)
+pub fn named(rt: &impl Abort, text: &str) -> Name {
+    Name::new(text.as_bytes()).expect(rt, "a name")
 }
 
-fn boxed(alloc: Global, expr: Expr) -> Result<Box<Expr>, Refusal> {
-    Ok(Box::new(alloc, expr)?)
+fn boxed(rt: &impl Abort, alloc: Global, expr: Expr) -> Box<Expr> {
+    Box::new(alloc, expr).expect(rt, MEMORY)
 }
 
 // The conjunct that this variable of a process is this number.
-fn equals(alloc: Global, pid: Pid, variable: u32, number: i64) -> Result<Conjunct, Refusal> {
-    let left = boxed(alloc, Expr::Variable(variable))?;
-    let expr = Expr::Binary(Operator::Equal, left, boxed(alloc, Expr::Number(number))?);
-    Ok(Conjunct { pid, expr })
+fn equals(rt: &impl Abort, alloc: Global, pid: Pid, variable: u32, number: i64) -> Conjunct {
+    let left = boxed(rt, alloc, Expr::Variable(variable));
+    let right = boxed(rt, alloc, Expr::Number(number));
+    let expr = Expr::Binary(Operator::Equal, left, right);
+    Conjunct { pid, expr }
 }
 
 /// Sets a breakpoint of this name, with the conjuncts that variables of processes, by their positions, are these numbers.
-pub fn set_break(alloc: Global, name: &str, wanted: &[(Pid, u32, i64)]) -> Result<Plan, Refusal> {
+pub fn set_break(rt: &impl Abort, alloc: Global, name: &str, wanted: &[(Pid, u32, i64)]) -> Plan {
     let mut conjuncts = Vec::new(alloc);
     for (pid, variable, number) in wanted {
-        conjuncts.push(equals(alloc, *pid, *variable, *number)?)?;
+        let conjunct = equals(rt, alloc, *pid, *variable, *number);
+        conjuncts.push(conjunct).expect(rt, MEMORY);
     }
-    Ok(Plan::Break(named(name)?, Sequence::new(conjuncts)))
+    Plan::Break(named(rt, name), Sequence::new(conjuncts))
 }

@@ -15,7 +15,6 @@ use std::alloc::Global;
 use std::marker::Brand;
 use std::process::Abort;
 use std::sync::Wait;
-use std::test::Fail;
 use std::thread::Threads;
 
 const A: Pid = Pid(0);
@@ -36,6 +35,20 @@ fn second_gives<L: Run, C: Command, M: Fn(Plan) -> Result<C, Refusal>, R: Thread
     give(rt, alloc, &pair.desk, &mut pair.two, make, plan, &OpenGate)
 }
 
+// The second seat gives this, which is accepted.
+fn expect_given<
+    L: Run,
+    C: Command,
+    M: Fn(Plan) -> Result<C, Refusal>,
+    R: Threads + Wait + Abort + Sync,
+>(rt: &R, alloc: Global, pair: &mut Pair<L, C>, make: &M, plan: Plan)
+    requires may { M.IsAlwaysCallable make.now }
+    requires fresh { MakesFresh (M.post make.now) C.IsFresh }
+{
+    let outcome = second_gives(rt, alloc, pair, make, plan);
+    expect_true(rt, outcome.is_ok());
+}
+
 // Expects the first seat to see so many calls, and the position of the breakpoint that halts.
 fn expect_shown<L: Run, C: Command>(rt: &impl Abort, pair: &mut Pair<L, C>, wanted: (u64, u64)) {
     let Glance { calls, halt } = pair.desk.look(&mut pair.one);
@@ -48,17 +61,16 @@ fn set_and_pass<
     C: Command,
     M: Fn(Plan) -> Result<C, Refusal>,
     R: Threads + Wait + Abort + Sync,
->(rt: &R, alloc: Global, make: &M, pair: &mut Pair<L, C>) -> Result<(), Refusal>
+>(rt: &R, alloc: Global, make: &M, pair: &mut Pair<L, C>)
     requires may { M.IsAlwaysCallable make.now }
     requires fresh { MakesFresh (M.post make.now) C.IsFresh }
 {
     expect_shown(rt, pair, (0, 0));
-    let halting = set_break(alloc, "k", &[(A, 0, 0)])?;
-    second_gives(rt, alloc, pair, make, halting)?;
+    let halting = set_break(rt, alloc, "k", &[(A, 0, 0)]);
+    expect_given(rt, alloc, pair, make, halting);
     expect_shown(rt, pair, (1, 1));
-    second_gives(rt, alloc, pair, make, Plan::Pass(named("k")?))?;
+    expect_given(rt, alloc, pair, make, Plan::Pass(named(rt, "k")));
     expect_shown(rt, pair, (2, 0));
-    Ok(())
 }
 
 // Another one is set after it. A refused command and a query are shown, too.
@@ -67,19 +79,19 @@ fn set_another<
     C: Command,
     M: Fn(Plan) -> Result<C, Refusal>,
     R: Threads + Wait + Abort + Sync,
->(rt: &R, alloc: Global, make: &M, pair: &mut Pair<L, C>) -> Result<(), Refusal>
+>(rt: &R, alloc: Global, make: &M, pair: &mut Pair<L, C>)
     requires may { M.IsAlwaysCallable make.now }
     requires fresh { MakesFresh (M.post make.now) C.IsFresh }
 {
-    let halting = set_break(alloc, "m", &[(B, 1, 0)])?;
-    second_gives(rt, alloc, pair, make, halting)?;
+    let halting = set_break(rt, alloc, "m", &[(B, 1, 0)]);
+    expect_given(rt, alloc, pair, make, halting);
     expect_shown(rt, pair, (3, 2));
     let refused = second_gives(rt, alloc, pair, make, Plan::Undo(A));
-    expect_true(rt, matches!(refused, Err(Refusal::NothingToUndo)));
+    expect_same(rt, refused.err(), Some(Refusal::NothingToUndo));
     expect_shown(rt, pair, (4, 2));
-    pair.desk.ask(rt, alloc, &mut pair.two, Query::Breaks)?;
+    let asked = pair.desk.ask(rt, alloc, &mut pair.two, Query::Breaks);
+    expect_true(rt, asked.is_ok());
     expect_shown(rt, pair, (5, 2));
-    Ok(())
 }
 
 // Each of these calls is shown.
@@ -88,12 +100,12 @@ fn set_both<
     C: Command,
     M: Fn(Plan) -> Result<C, Refusal>,
     R: Threads + Wait + Abort + Sync,
->(rt: &R, alloc: Global, make: &M, pair: &mut Pair<L, C>) -> Result<(), Refusal>
+>(rt: &R, alloc: Global, make: &M, pair: &mut Pair<L, C>)
     requires may { M.IsAlwaysCallable make.now }
     requires fresh { MakesFresh (M.post make.now) C.IsFresh }
 {
-    set_and_pass(rt, alloc, make, pair)?;
-    set_another(rt, alloc, make, pair)
+    set_and_pass(rt, alloc, make, pair);
+    set_another(rt, alloc, make, pair);
 }
 
 fn each_call_is_shown<
@@ -101,17 +113,18 @@ fn each_call_is_shown<
     C: Command,
     M: Fn(Plan) -> Result<C, Refusal>,
     R: Threads + Wait + Abort + Sync,
->(rt: &R, alloc: Global, make: &M, opening: Opening) -> Result<(), Fail>
+>(rt: &R, alloc: Global, make: &M, opening: Opening)
     requires may { M.IsAlwaysCallable make.now }
     requires fresh { MakesFresh (M.post make.now) C.IsFresh }
     requires run { IsOpeningOf L.program L.board L.name L.parts L.seats opening }
 {
-    let mut pair = begin_pair::<L, C>(alloc, opening)?;
-    Ok(set_both(rt, alloc, make, &mut pair)?)
+    let mut pair = begin_pair::<L, C>(alloc, opening).expect(rt, "a desk");
+    set_both(rt, alloc, make, &mut pair);
+    drop(pair);
 }
 
 #[test]
-fn a_look_shows_each_call_and_the_breakpoint_that_halts(rt: HostRuntime) -> Result<(), Fail> {
+fn a_look_shows_each_call_and_the_breakpoint_that_halts(rt: HostRuntime) {
     let alloc = rt.alloc();
     let make = |plan: Plan| -> Result<Box<dyn Command>, Refusal>
         ensures { IfOk result (λ command. IsFresh command) }
@@ -124,6 +137,6 @@ fn a_look_shows_each_call_and_the_breakpoint_that_halts(rt: HostRuntime) -> Resu
         };
         Ok(command)
     };
-    let opening = make_opening(alloc, THREE, 2)?;
-    each_call_is_shown::<Brand, Box<dyn Command>, _, _>(&rt, alloc, &make, opening)
+    let opening = make_opening(&rt, alloc, THREE, 2);
+    each_call_is_shown::<Brand, Box<dyn Command>, _, _>(&rt, alloc, &make, opening);
 }

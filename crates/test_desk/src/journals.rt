@@ -11,32 +11,35 @@ use dbg_desk::{Entry, RecordedCall, Run};
 use std::alloc::Global;
 use std::marker::Brand;
 use std::process::Abort;
-use std::test::Fail;
 
 const A: Pid = Pid(0);
 
 // Expects two processes, the two seats, and no call.
 fn expect_none<L: Run>(rt: &impl Abort, trial: &DeskTrial<L, NextCmd>) {
-    expect_same(rt, trial.locked.program().processes(), 2);
-    expect_same(rt, (trial.one.number(), trial.two.number()), (1, 2));
-    expect_same(rt, trial.locked.calls(), 0);
+    let processes = trial.locked.program().processes();
+    let seats = [processes, trial.one.number(), trial.two.number()];
+    expect_same(rt, seats, [2, 1, 2]);
+    let calls = [
+        trial.locked.calls(),
+        trial.one.own_calls().len(),
+        trial.two.own_calls().len(),
+    ];
+    expect_same(rt, calls, [0, 0, 0]);
     expect_true(rt, trial.locked.entry(0).is_none());
-    expect_true(rt, trial.one.own_calls().is_empty());
-    expect_true(rt, trial.two.own_calls().is_empty());
 }
 
-fn no_call_at_first<L: Run>(rt: &impl Abort, alloc: Global, beginning: TwoSeats) -> Result<(), Fail>
+fn no_call_at_first<L: Run>(rt: &impl Abort, alloc: Global, beginning: TwoSeats)
     requires { IsOpeningOf L.program L.board L.name L.parts L.seats beginning.opening }
 {
-    let trial = begin::<L, NextCmd>(alloc, beginning)?;
+    let trial = begin::<L, NextCmd>(rt, alloc, beginning);
     expect_none(rt, &trial);
-    Ok(())
+    drop(trial);
 }
 
 #[test]
-fn a_run_begins_with_no_call(rt: HostRuntime) -> Result<(), Fail> {
-    let alloc = rt.alloc();
-    no_call_at_first::<Brand>(&rt, alloc, make_beginning(alloc, TWO)?)
+fn a_run_begins_with_no_call(rt: HostRuntime) {
+    let beginning = make_beginning(&rt, rt.alloc(), TWO);
+    no_call_at_first::<Brand>(&rt, rt.alloc(), beginning);
 }
 
 // Whether the first process has played its first command, and no breakpoint halts.
@@ -60,20 +63,33 @@ fn is_one(answer: &Answer) -> bool {
     }
 }
 
-// Calls of two seats, accepted and refused.
-fn give_calls<L: Run>(rt: &impl Abort, alloc: Global, trial: &mut DeskTrial<L, NextCmd>) {
-    let played = next(trial, alloc, A);
-    expect_true(rt, matches!(&played, Ok(reply) if has_played(reply)));
+// Expects a command to be refused.
+fn expect_refused(rt: &impl Abort, outcome: &Result<Reply, Refusal>, wanted: Refusal) {
+    expect_same(rt, outcome.as_ref().err(), Some(&wanted));
+}
+
+// The first seat plays, and the second asks.
+fn play_and_ask<L: Run>(rt: &impl Abort, alloc: Global, trial: &mut DeskTrial<L, NextCmd>) {
+    let played = next(trial, alloc, A).expect(rt, "a reply");
+    expect_true(rt, has_played(&played));
     let values = trial
         .locked
-        .enter_ask(alloc, &mut trial.two, Query::Vars(A));
-    expect_true(rt, matches!(&values, Ok(answer) if is_one(answer)));
+        .enter_ask(alloc, &mut trial.two, Query::Vars(A))
+        .expect(rt, "an answer");
+    expect_true(rt, is_one(&values));
+}
+
+// The second seat may not take back, the first gives a command of no process, and takes back.
+fn take_back<L: Run>(rt: &impl Abort, alloc: Global, trial: &mut DeskTrial<L, NextCmd>) {
     let other = trial.locked.enter_back(&mut trial.two);
-    expect_true(rt, matches!(other, Err(Refusal::OtherSeat(1))));
+    expect_refused(rt, &other, Refusal::OtherSeat(1));
     let refused = next(trial, alloc, Pid(2));
-    expect_true(rt, matches!(refused, Err(Refusal::UnknownProcess)));
-    let back = trial.locked.enter_back(&mut trial.one);
-    expect_true(rt, matches!(&back, Ok(reply) if is_plain(reply)));
+    expect_refused(rt, &refused, Refusal::UnknownProcess);
+    let back = trial
+        .locked
+        .enter_back(&mut trial.one)
+        .expect(rt, "a reply");
+    expect_true(rt, is_plain(&back));
 }
 
 // Whether the call gives `next` for this process.
@@ -118,30 +134,46 @@ fn is_other(call: &Call, said: &Said) -> bool {
     matches!(call, Call::Back) && matches!(said, Said::Refused(Refusal::OtherSeat(1)))
 }
 
-// Whether this holds of a call of a seat's own record and of its answer.
-fn holds(own: &RecordedCall, is: fn(&Call, &Said) -> bool) -> Result<bool, Refusal>
-    requires { IsAlwaysCallable is }
-{
-    let call = own.call()?;
-    let said = own.said()?;
-    Ok(is(&call, &said))
+// The calls of the two seats.
+#[derive(Clone, Copy, Debug, PartialEq, Eq)]
+enum Kind {
+    First,
+    Unknown,
+    Back,
+    Asks,
+    Other,
+    None,
 }
 
-// Whether these are the calls of the first seat.
-fn are_ones(calls: &[RecordedCall]) -> Result<bool, Refusal> {
-    match calls {
-        [first, second, third] => {
-            Ok(holds(first, is_first)? && holds(second, is_unknown)? && holds(third, is_back)?)
-        }
-        _ => Ok(false),
+// Which of these calls it is.
+fn kind_of(call: &Call, said: &Said) -> Kind {
+    if is_first(call, said) {
+        Kind::First
+    } else if is_unknown(call, said) {
+        Kind::Unknown
+    } else if is_back(call, said) {
+        Kind::Back
+    } else if asks_values(call, said) {
+        Kind::Asks
+    } else if is_other(call, said) {
+        Kind::Other
+    } else {
+        Kind::None
     }
 }
 
-// Whether these are the calls of the second seat.
-fn are_others(calls: &[RecordedCall]) -> Result<bool, Refusal> {
-    match calls {
-        [first, second] => Ok(holds(first, asks_values)? && holds(second, is_other)?),
-        _ => Ok(false),
+// Which call a seat has recorded.
+fn kind_recorded(rt: &impl Abort, own: &RecordedCall) -> Kind {
+    let call = own.call().expect(rt, "ample memory");
+    let said = own.said().expect(rt, "ample memory");
+    kind_of(&call, &said)
+}
+
+// Expects a seat to have recorded these calls.
+fn expect_recorded(rt: &impl Abort, calls: &[RecordedCall], wanted: &[Kind]) {
+    expect_same(rt, calls.len(), wanted.len());
+    for (own, kind) in calls.iter().zip(wanted) {
+        expect_same(rt, kind_recorded(rt, own), *kind);
     }
 }
 
@@ -151,28 +183,29 @@ fn is_asked(entry: &Entry) -> bool {
 }
 
 // Expects the journal to have the calls in order, and each seat its own.
-fn expect_calls<L: Run>(rt: &impl Abort, trial: &DeskTrial<L, NextCmd>) -> Result<(), Fail> {
+fn expect_calls<L: Run>(rt: &impl Abort, trial: &DeskTrial<L, NextCmd>) {
     expect_same(rt, trial.locked.calls(), 5);
-    expect_true(
-        rt,
-        matches!(trial.locked.entry(1), Some(entry) if is_asked(entry)),
-    );
+    let entry = trial.locked.entry(1).expect(rt, "an entry");
+    expect_true(rt, is_asked(entry));
     expect_true(rt, trial.locked.entry(5).is_none());
-    expect_true(rt, are_ones(trial.one.own_calls())?);
-    expect_true(rt, are_others(trial.two.own_calls())?);
-    Ok(())
+    let ones = [Kind::First, Kind::Unknown, Kind::Back];
+    expect_recorded(rt, trial.one.own_calls(), &ones);
+    let others = [Kind::Asks, Kind::Other];
+    expect_recorded(rt, trial.two.own_calls(), &others);
 }
 
-fn calls_in_order<L: Run>(rt: &impl Abort, alloc: Global, beginning: TwoSeats) -> Result<(), Fail>
+fn calls_in_order<L: Run>(rt: &impl Abort, alloc: Global, beginning: TwoSeats)
     requires { IsOpeningOf L.program L.board L.name L.parts L.seats beginning.opening }
 {
-    let mut trial = begin::<L, NextCmd>(alloc, beginning)?;
-    give_calls(rt, alloc, &mut trial);
-    expect_calls(rt, &trial)
+    let mut trial = begin::<L, NextCmd>(rt, alloc, beginning);
+    play_and_ask(rt, alloc, &mut trial);
+    take_back(rt, alloc, &mut trial);
+    expect_calls(rt, &trial);
+    drop(trial);
 }
 
 #[test]
-fn calls_are_entered_in_order(rt: HostRuntime) -> Result<(), Fail> {
-    let alloc = rt.alloc();
-    calls_in_order::<Brand>(&rt, alloc, make_beginning(alloc, TWO)?)
+fn calls_are_entered_in_order(rt: HostRuntime) {
+    let beginning = make_beginning(&rt, rt.alloc(), TWO);
+    calls_in_order::<Brand>(&rt, rt.alloc(), beginning);
 }

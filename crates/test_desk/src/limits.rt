@@ -13,18 +13,17 @@ use dbg_desk::Run;
 use std::alloc::Global;
 use std::marker::Brand;
 use std::process::Abort;
-use std::test::Fail;
 
 const A: Pid = Pid(0);
 
 // The first seat asks for a place until the journal is full.
-fn fill<L: Run>(trial: &mut DeskTrial<L, NextCmd>, alloc: Global) -> Result<(), Refusal> {
+fn fill<L: Run>(rt: &impl Abort, trial: &mut DeskTrial<L, NextCmd>, alloc: Global) {
     for _ in 0..CALLS {
-        trial
+        let asked = trial
             .locked
-            .enter_ask(alloc, &mut trial.one, Query::Place(A))?;
+            .enter_ask(alloc, &mut trial.one, Query::Place(A));
+        expect_true(rt, asked.is_ok());
     }
-    Ok(())
 }
 
 // Expects a call to be refused because the journal is full.
@@ -46,28 +45,28 @@ fn expect_none_more<L: Run>(rt: &impl Abort, alloc: Global, trial: &mut DeskTria
 
 // Expects all calls to be the first seat's, and the board to show them.
 fn expect_all<L: Run>(rt: &impl Abort, trial: &mut DeskTrial<L, NextCmd>) {
-    let lengths = (
+    let lengths = [
         trial.locked.calls(),
         trial.one.own_calls().len(),
         trial.two.own_calls().len(),
-    );
-    expect_same(rt, lengths, (CALLS, CALLS, 0));
+    ];
+    expect_same(rt, lengths, [CALLS, CALLS, 0]);
     let Glance { calls, halt } = trial.board.look(&mut trial.display);
     expect_same(rt, (calls, halt), (CALLS as u64, 0));
 }
 
-fn no_call_more<L: Run>(rt: &impl Abort, alloc: Global, beginning: TwoSeats) -> Result<(), Fail>
+fn no_call_more<L: Run>(rt: &impl Abort, alloc: Global, beginning: TwoSeats)
     requires { IsOpeningOf L.program L.board L.name L.parts L.seats beginning.opening }
 {
-    let mut trial = begin::<L, NextCmd>(alloc, beginning)?;
-    fill(&mut trial, alloc)?;
+    let mut trial = begin::<L, NextCmd>(rt, alloc, beginning);
+    fill(rt, &mut trial, alloc);
     expect_none_more(rt, alloc, &mut trial);
     expect_all(rt, &mut trial);
-    Ok(())
+    drop(trial);
 }
 
 #[test]
-fn a_full_journal_takes_no_call_more(rt: HostRuntime) -> Result<(), Fail> {
-    let alloc = rt.alloc();
-    no_call_more::<Brand>(&rt, alloc, make_beginning(alloc, TWO)?)
+fn a_full_journal_takes_no_call_more(rt: HostRuntime) {
+    let beginning = make_beginning(&rt, rt.alloc(), TWO);
+    no_call_more::<Brand>(&rt, rt.alloc(), beginning);
 }

@@ -14,27 +14,28 @@ use dbg_desk::Run;
 use std::alloc::Global;
 use std::marker::Brand;
 use std::process::Abort;
-use std::test::Fail;
+
+const MEMORY: &str = "ample memory";
 
 const A: Pid = Pid(0);
 
 const B: Pid = Pid(1);
 
-fn named(text: &str) -> Result<Name, Refusal> {
-    Name::new(text.as_bytes()).ok_or(Refusal::BadLine)
+fn named(rt: &impl Abort, text: &str) -> Name {
+    Name::new(text.as_bytes()).expect(rt, "a name")
 }
 
-fn boxed(alloc: Global, expr: Expr) -> Result<Box<Expr>, Refusal> {
-    Ok(Box::new(alloc, expr)?)
+fn boxed(rt: &impl Abort, alloc: Global, expr: Expr) -> Box<Expr> {
+    Box::new(alloc, expr).expect(rt, MEMORY)
 }
 
 // The conjunct that this variable of a process is 0.
-fn is_zero(alloc: Global, pid: Pid, variable: u32) -> Result<Sequence<Conjunct>, Refusal> {
-    let left = boxed(alloc, Expr::Variable(variable))?;
-    let expr = Expr::Binary(Operator::Equal, left, boxed(alloc, Expr::Number(0))?);
-    let mut conjuncts = Vec::new(alloc);
-    conjuncts.push(Conjunct { pid, expr })?;
-    Ok(Sequence::new(conjuncts))
+fn is_zero(rt: &impl Abort, alloc: Global, pid: Pid, variable: u32) -> Sequence<Conjunct> {
+    let left = boxed(rt, alloc, Expr::Variable(variable));
+    let zero = boxed(rt, alloc, Expr::Number(0));
+    let expr = Expr::Binary(Operator::Equal, left, zero);
+    let conjuncts = Vec::from_array(alloc, [Conjunct { pid, expr }]).expect(rt, MEMORY);
+    Sequence::new(conjuncts)
 }
 
 // The second seat gives this.
@@ -51,6 +52,21 @@ fn give<L: Run, C: Command, M: Fn(Plan) -> Result<C, Refusal>>(
     trial.locked.enter(alloc, &mut trial.two, command, None)
 }
 
+// The second seat gives this, which is accepted.
+fn expect_given<L: Run, C: Command, M: Fn(Plan) -> Result<C, Refusal>>(
+    rt: &impl Abort,
+    trial: &mut DeskTrial<L, C>,
+    alloc: Global,
+    make: &M,
+    plan: Plan,
+)
+    requires may { M.IsAlwaysCallable make.now }
+    requires fresh { MakesFresh (M.post make.now) C.IsFresh }
+{
+    let outcome = give(trial, alloc, make, plan);
+    expect_true(rt, outcome.is_ok());
+}
+
 // Expects the display to show so many calls, and the position of the breakpoint that halts.
 fn expect<L: Run, C: Command>(rt: &impl Abort, trial: &mut DeskTrial<L, C>, wanted: (u64, u64)) {
     let Glance { calls, halt } = trial.board.look(&mut trial.display);
@@ -63,17 +79,16 @@ fn set_and_pass<L: Run, C: Command, M: Fn(Plan) -> Result<C, Refusal>>(
     alloc: Global,
     make: &M,
     trial: &mut DeskTrial<L, C>,
-) -> Result<(), Refusal>
+)
     requires may { M.IsAlwaysCallable make.now }
     requires fresh { MakesFresh (M.post make.now) C.IsFresh }
 {
     expect(rt, trial, (0, 0));
-    let halting = Plan::Break(named("k")?, is_zero(alloc, A, 0)?);
-    give(trial, alloc, make, halting)?;
+    let halting = Plan::Break(named(rt, "k"), is_zero(rt, alloc, A, 0));
+    expect_given(rt, trial, alloc, make, halting);
     expect(rt, trial, (1, 1));
-    give(trial, alloc, make, Plan::Pass(named("k")?))?;
+    expect_given(rt, trial, alloc, make, Plan::Pass(named(rt, "k")));
     expect(rt, trial, (2, 0));
-    Ok(())
 }
 
 // Another one is set after it. A refused command and a query are shown, too.
@@ -82,21 +97,19 @@ fn set_another<L: Run, C: Command, M: Fn(Plan) -> Result<C, Refusal>>(
     alloc: Global,
     make: &M,
     trial: &mut DeskTrial<L, C>,
-) -> Result<(), Refusal>
+)
     requires may { M.IsAlwaysCallable make.now }
     requires fresh { MakesFresh (M.post make.now) C.IsFresh }
 {
-    let halting = Plan::Break(named("m")?, is_zero(alloc, B, 1)?);
-    give(trial, alloc, make, halting)?;
+    let halting = Plan::Break(named(rt, "m"), is_zero(rt, alloc, B, 1));
+    expect_given(rt, trial, alloc, make, halting);
     expect(rt, trial, (3, 2));
     let refused = give(trial, alloc, make, Plan::Undo(A));
-    expect_true(rt, matches!(refused, Err(Refusal::NothingToUndo)));
+    expect_same(rt, refused.err(), Some(Refusal::NothingToUndo));
     expect(rt, trial, (4, 2));
-    trial
-        .locked
-        .enter_ask(alloc, &mut trial.two, Query::Breaks)?;
+    let asked = trial.locked.enter_ask(alloc, &mut trial.two, Query::Breaks);
+    expect_true(rt, asked.is_ok());
     expect(rt, trial, (5, 2));
-    Ok(())
 }
 
 // Each of these calls is shown.
@@ -105,12 +118,12 @@ fn set_both<L: Run, C: Command, M: Fn(Plan) -> Result<C, Refusal>>(
     alloc: Global,
     make: &M,
     trial: &mut DeskTrial<L, C>,
-) -> Result<(), Refusal>
+)
     requires may { M.IsAlwaysCallable make.now }
     requires fresh { MakesFresh (M.post make.now) C.IsFresh }
 {
-    set_and_pass(rt, alloc, make, trial)?;
-    set_another(rt, alloc, make, trial)
+    set_and_pass(rt, alloc, make, trial);
+    set_another(rt, alloc, make, trial);
 }
 
 fn each_call_is_shown<L: Run, C: Command, M: Fn(Plan) -> Result<C, Refusal>>(
@@ -118,17 +131,18 @@ fn each_call_is_shown<L: Run, C: Command, M: Fn(Plan) -> Result<C, Refusal>>(
     alloc: Global,
     make: &M,
     beginning: TwoSeats,
-) -> Result<(), Fail>
+)
     requires may { M.IsAlwaysCallable make.now }
     requires fresh { MakesFresh (M.post make.now) C.IsFresh }
     requires run { IsOpeningOf L.program L.board L.name L.parts L.seats beginning.opening }
 {
-    let mut trial = begin::<L, C>(alloc, beginning)?;
-    Ok(set_both(rt, alloc, make, &mut trial)?)
+    let mut trial = begin::<L, C>(rt, alloc, beginning);
+    set_both(rt, alloc, make, &mut trial);
+    drop(trial);
 }
 
 #[test]
-fn the_board_shows_each_call_and_the_breakpoint_that_halts(rt: HostRuntime) -> Result<(), Fail> {
+fn the_board_shows_each_call_and_the_breakpoint_that_halts(rt: HostRuntime) {
     let alloc = rt.alloc();
     let make = |plan: Plan| -> Result<Box<dyn Command>, Refusal>
         ensures { IfOk result (λ command. IsFresh command) }
@@ -141,5 +155,6 @@ fn the_board_shows_each_call_and_the_breakpoint_that_halts(rt: HostRuntime) -> R
         };
         Ok(command)
     };
-    each_call_is_shown::<Brand, Box<dyn Command>, _>(&rt, alloc, &make, make_beginning(alloc, TWO)?)
+    let beginning = make_beginning(&rt, alloc, TWO);
+    each_call_is_shown::<Brand, Box<dyn Command>, _>(&rt, alloc, &make, beginning);
 }

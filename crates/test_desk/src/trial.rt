@@ -10,8 +10,8 @@ use dbg_command::{Command, NextCmd};
 use dbg_desk::{Locked, Opening, Run, Seat};
 use proc_lang::parse_program;
 use std::alloc::Global;
+use std::process::Abort;
 use std::sync::ledger::Blank;
-use std::test::Fail;
 
 /// A process that sends, and one that receives.
 pub const TWO: &str = "process a {
@@ -27,10 +27,10 @@ process b {
 ";
 
 /// What a run of this program is made of.
-pub fn make_beginning(alloc: Global, text: &str) -> Result<TwoSeats, Fail> {
-    let program = parse_program(alloc, text.as_bytes())?;
-    let (board, publisher, mut views) = Board::new(alloc, 3)?;
-    let display = views.pop().ok_or("no view")?;
+pub fn make_beginning(rt: &impl Abort, alloc: Global, text: &str) -> TwoSeats {
+    let program = parse_program(alloc, text.as_bytes()).expect(rt, "a program");
+    let (board, publisher, mut views) = Board::new(alloc, 3).expect(rt, "a board");
+    let display = views.pop().expect(rt, "a view");
     let opening = Opening {
         program,
         blank: Blank::new(2),
@@ -38,7 +38,7 @@ pub fn make_beginning(alloc: Global, text: &str) -> Result<TwoSeats, Fail> {
         publisher,
         views,
     };
-    Ok(TwoSeats { opening, display })
+    TwoSeats { opening, display }
 }
 
 /// A session under its lock, two seats of it, and its board, with a display that looks at it.
@@ -53,18 +53,18 @@ pub struct DeskTrial<L: Run, C: Command> {
 }
 
 // The two seats.
-fn pair<L: Run>(mut seats: Vec<Seat<L>>) -> Result<(Seat<L>, Seat<L>), Fail> {
-    match (seats.pop(), seats.pop()) {
-        (Some(two), Some(one)) => Ok((one, two)),
-        _ => Err(Fail::from("no two seats")),
-    }
+fn pair<L: Run>(rt: &impl Abort, mut seats: Vec<Seat<L>>) -> (Seat<L>, Seat<L>) {
+    let two = seats.pop().expect(rt, "two seats");
+    let one = seats.pop().expect(rt, "a seat");
+    (one, two)
 }
 
 /// Begins a run.
 pub fn begin<L: Run, C: Command>(
+    rt: &impl Abort,
     alloc: Global,
     beginning: TwoSeats,
-) -> Result<DeskTrial<L, C>, Fail>
+) -> DeskTrial<L, C>
     requires { IsOpeningOf L.program L.board L.name L.parts L.seats beginning.opening }
 {
     let TwoSeats { opening, display } = beginning;
@@ -75,15 +75,18 @@ pub fn begin<L: Run, C: Command>(
         publisher,
         views,
     } = opening;
-    let (locked, seats) = Locked::new(alloc, blank, publisher, views, program)?;
-    let (one, two) = pair(seats)?;
-    Ok(DeskTrial {
+    let (locked, seats) = Locked::new(alloc, blank, publisher, views, program).expect(
+        rt,
+        "ample memory",
+    );
+    let (one, two) = pair(rt, seats);
+    DeskTrial {
         locked,
         one,
         two,
         board,
         display,
-    })
+    }
 }
 
 /// The first seat gives `next` for this process.

@@ -2,6 +2,7 @@
 //! expected offsets are visible and need not be counted.
 
 mod faults;
+mod fitting;
 mod grammar;
 mod limits;
 mod predicates;
@@ -10,9 +11,10 @@ mod programs;
 mod readers;
 mod ties;
 
+use crate::expecting::expect_same;
 use dbg_base::Pid;
 use proc_lang::{ProgError, Program, parse_program};
-use std::alloc::{AllocError, Global};
+use std::alloc::Global;
 use std::process::Abort;
 
 // What a case shows, and a text with its mark.
@@ -22,46 +24,53 @@ type Case = (&'static str, &'static str);
 #[derive(Clone, Copy)]
 struct Group {
     kind: u32,
-    front: &'static str,
+    prefix: &'static str,
     back: &'static str,
     cases: &'static [Case],
 }
 
+const MEMORY: &str = "ample memory";
+
+// Adds a part.
+fn add(rt: &impl Abort, text: &mut Vec<u8>, part: &str) {
+    text.extend_from_slice(part.as_bytes()).expect(rt, MEMORY);
+}
+
 // A text without its mark, and the offset of the mark.
-fn unmarked(alloc: Global, marked: &[u8]) -> Result<(Vec<u8>, usize), AllocError> {
+fn unmarked(rt: &impl Abort, alloc: Global, marked: &[u8]) -> (Vec<u8>, usize) {
     let mut text = Vec::new(alloc);
     let mut at = 0;
     for b in marked {
         if *b == b'^' {
             at = text.len();
         } else {
-            text.push(*b)?;
+            text.push(*b).expect(rt, MEMORY);
         }
     }
-    Ok((text, at))
+    (text, at)
 }
 
 // Three texts, one after the other.
-fn between(alloc: Global, front: &str, text: &str, back: &str) -> Result<Vec<u8>, AllocError> {
-    let mut all = Vec::from_slice(alloc, front.as_bytes())?;
-    all.extend_from_slice(text.as_bytes())?;
-    all.extend_from_slice(back.as_bytes())?;
-    Ok(all)
+fn between(rt: &impl Abort, alloc: Global, prefix: &str, text: &str, back: &str) -> Vec<u8> {
+    let mut all = Vec::new(alloc);
+    add(rt, &mut all, prefix);
+    add(rt, &mut all, text);
+    add(rt, &mut all, back);
+    all
 }
 
 // Adds a part so many times.
-fn add_times(text: &mut Vec<u8>, part: &str, count: u32) -> Result<(), AllocError> {
+fn add_times(rt: &impl Abort, text: &mut Vec<u8>, part: &str, count: u32) {
     for _ in 0..count {
-        text.extend_from_slice(part.as_bytes())?;
+        add(rt, text, part);
     }
-    Ok(())
 }
 
 // Adds a part so many times, a middle, and as many closing parentheses.
-fn add_nested(text: &mut Vec<u8>, part: &str, count: u32, middle: &str) -> Result<(), AllocError> {
-    add_times(text, part, count)?;
-    text.extend_from_slice(middle.as_bytes())?;
-    add_times(text, ")", count)
+fn add_nested(rt: &impl Abort, text: &mut Vec<u8>, part: &str, count: u32, middle: &str) {
+    add_times(rt, text, part, count);
+    add(rt, text, middle);
+    add_times(rt, text, ")", count);
 }
 
 // How many commands all processes have.
@@ -73,33 +82,28 @@ fn command_count(program: &Program) -> u32 {
     commands
 }
 
-// The size of the program, or its first fault, as a text.
-fn told(alloc: Global, text: &[u8]) -> Result<String, AllocError> {
-    match parse_program(alloc, text) {
-        Ok(program) => {
-            let processes = program.processes();
-            let commands = command_count(&program);
-            format!(in alloc; "{processes} processes, {commands} commands")
-        }
-        Err(ProgError::Bad(fault)) => {
-            let kind = fault.kind.number();
-            let at = fault.at;
-            format!(in alloc; "fault {kind} at {at}")
-        }
-        Err(ProgError::Memory) => format!(in alloc; "memory"),
+// How many processes and commands a program has, or the kind and the offset of the first fault.
+type Outcome = Result<(u32, u32), (u32, usize)>;
+
+// The kind and the offset of a fault; the kind is 0 if there is no memory.
+fn place_of(error: ProgError) -> (u32, usize) {
+    match error {
+        ProgError::Bad(fault) => (fault.kind.number(), fault.at),
+        ProgError::Memory => (0, 0),
     }
 }
 
-fn expect_told(
-    rt: &impl Abort,
-    alloc: Global,
-    name: &str,
-    text: &[u8],
-    want: &str,
-) -> Result<(), AllocError> {
-    let told = told(alloc, text)?;
-    assert_eq!(rt; told.as_str(), want, "{name}");
-    Ok(())
+// What a text is.
+fn outcome(alloc: Global, text: &[u8]) -> Outcome {
+    match parse_program(alloc, text) {
+        Ok(program) => Ok((program.processes(), command_count(&program))),
+        Err(error) => Err(place_of(error)),
+    }
+}
+
+// Expects what a text is; a failure shows the name.
+fn expect(rt: &impl Abort, alloc: Global, name: &str, text: &[u8], want: Outcome) {
+    expect_same(rt, (name, outcome(alloc, text)), (name, want));
 }
 
 // Expects the text to be a program of so many processes and commands.
@@ -110,52 +114,32 @@ fn expect_accepted(
     text: &[u8],
     processes: u32,
     commands: u32,
-) -> Result<(), AllocError> {
-    let want = format!(in alloc; "{processes} processes, {commands} commands")?;
-    expect_told(rt, alloc, name, text, want.as_str())
+) {
+    expect(rt, alloc, name, text, Ok((processes, commands)));
 }
 
 // Expects the text to have a first fault of this kind, at this offset.
-fn expect_refused(
-    rt: &impl Abort,
-    alloc: Global,
-    name: &str,
-    text: &[u8],
-    kind: u32,
-    at: usize,
-) -> Result<(), AllocError> {
-    let want = format!(in alloc; "fault {kind} at {at}")?;
-    expect_told(rt, alloc, name, text, want.as_str())
+fn expect_refused(rt: &impl Abort, alloc: Global, name: &str, text: &[u8], kind: u32, at: usize) {
+    expect(rt, alloc, name, text, Err((kind, at)));
 }
 
 // The same, at the mark of the text.
-fn expect_refused_at_mark(
-    rt: &impl Abort,
-    alloc: Global,
-    name: &str,
-    marked: &[u8],
-    kind: u32,
-) -> Result<(), AllocError> {
-    let (text, at) = unmarked(alloc, marked)?;
-    expect_refused(rt, alloc, name, text.as_slice(), kind, at)
+fn expect_refused_at_mark(rt: &impl Abort, alloc: Global, name: &str, marked: &[u8], kind: u32) {
+    let (text, at) = unmarked(rt, alloc, marked);
+    expect_refused(rt, alloc, name, text.as_slice(), kind, at);
+}
+
+// Expects each case of this group to be refused.
+fn expect_group(rt: &impl Abort, alloc: Global, group: &Group) {
+    for (name, case) in group.cases {
+        let marked = between(rt, alloc, group.prefix, case, group.back);
+        expect_refused_at_mark(rt, alloc, name, marked.as_slice(), group.kind);
+    }
 }
 
 // Expects each case of these groups to be refused.
-fn expect_groups(rt: &impl Abort, alloc: Global, groups: &[Group]) -> Result<(), AllocError> {
+fn expect_groups(rt: &impl Abort, alloc: Global, groups: &[Group]) {
     for group in groups {
-        for (name, case) in group.cases {
-            let marked = between(alloc, group.front, case, group.back)?;
-            expect_refused_at_mark(rt, alloc, name, marked.as_slice(), group.kind)?;
-        }
-    }
-    Ok(())
-}
-
-// The kind and the offset of the first fault of a text, or None if it is a program.
-fn first_fault(alloc: Global, text: &[u8]) -> Option<(u32, usize)> {
-    match parse_program(alloc, text) {
-        Ok(_) => None,
-        Err(ProgError::Bad(fault)) => Some((fault.kind.number(), fault.at)),
-        Err(ProgError::Memory) => Some((0, 0)),
+        expect_group(rt, alloc, group);
     }
 }

@@ -5,6 +5,7 @@ ghost use Rattle.std.specs.List.{AllByRecursion};
 ghost use Rattle.dbg_desk.specs.Openings.{IsOpeningOf};
 
 use crate::beginning::{ThreeSeats, begin};
+use crate::report::tell;
 use crate::scripts::TWO;
 use dbg_base::{OpenGate, Pid, Refusal};
 use dbg_command::{Command, NextCmd};
@@ -12,7 +13,6 @@ use dbg_crew::{Worker, crew};
 use dbg_desk::{Closing, Desk, Run, Seat};
 use std::alloc::{AllocError, Global};
 use std::collections::VecDeque;
-use std::io::Write;
 use std::marker::Brand;
 use std::sync::Wait;
 use std::thread::Threads;
@@ -98,5 +98,5 @@ pub(crate) fn tell_crew<R: Threads + Wait + Sync>(rt: &R, alloc: Global, report:
     if calls == Err(Refusal::Memory) || calls == Ok(CALLS - 1) {
         calls = begin_and_work(rt, alloc);
     }
-    let _ = write!(report, "crew: {calls:?}\n");
+    tell("crew", &calls, report);
 }

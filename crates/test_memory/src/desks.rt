@@ -5,10 +5,11 @@ ghost use Rattle.test_memory.specs.Runs.{MakesFresh};
 ghost use Rattle.dbg_desk.specs.Openings.{IsOpeningOf};
 
 use crate::beginning::{ThreeSeats, begin, program_of_text};
+use crate::report::tell;
 use crate::scripts::TWO;
 use dbg_base::{Answer, Call, OpenGate, Refusal, Reply};
 use dbg_command::{Command, Givable};
-use dbg_desk::{Desk, Run, Seat};
+use dbg_desk::{Desk, Locked, Run, Seat};
 use proc_lang::Program;
 use shell_parse::parse_line;
 use std::alloc::Global;
@@ -37,7 +38,7 @@ const LINES: [&str; 14] = [
 // The result of a call.
 #[derive(Debug, Drop)]
 enum DeskSaid {
-    Told(Result<Reply, Refusal>),
+    Reported(Result<Reply, Refusal>),
     Answered(Result<Answer, Refusal>),
 }
 
@@ -45,7 +46,7 @@ impl DeskSaid {
     fn wants_memory(&self) -> bool {
         matches!(
             self,
-            DeskSaid::Told(Err(Refusal::Memory)) | DeskSaid::Answered(Err(Refusal::Memory))
+            DeskSaid::Reported(Err(Refusal::Memory)) | DeskSaid::Answered(Err(Refusal::Memory))
         )
     }
 }
@@ -65,10 +66,10 @@ fn call<L: Run, C: Command, M: Fn(Givable) -> Result<C, Refusal>, R: Threads + W
 {
     match call {
         Call::Give(plan) => match make(Givable::new(plan)) {
-            Ok(command) => DeskSaid::Told(desk.call(rt, alloc, seat, command, &OpenGate)),
-            Err(refusal) => DeskSaid::Told(Err(refusal)),
+            Ok(command) => DeskSaid::Reported(desk.call(rt, alloc, seat, command, &OpenGate)),
+            Err(refusal) => DeskSaid::Reported(Err(refusal)),
         },
-        Call::Back => DeskSaid::Told(desk.back(rt, seat)),
+        Call::Back => DeskSaid::Reported(desk.back(rt, seat)),
         Call::Ask(query) => DeskSaid::Answered(desk.ask(rt, alloc, seat, query)),
     }
 }
@@ -89,10 +90,10 @@ fn say<L: Run, C: Command, M: Fn(Givable) -> Result<C, Refusal>, R: Threads + Wa
     match parse_line(alloc, program, line.as_bytes()) {
         Ok(Some(line)) => match seats.get_mut(line.seat as usize - 1) {
             Some(seat) => call(rt, alloc, make, desk, seat, line.call),
-            None => DeskSaid::Told(Err(Refusal::BadLine)),
+            None => DeskSaid::Reported(Err(Refusal::BadLine)),
         },
-        Ok(None) => DeskSaid::Told(Err(Refusal::BadLine)),
-        Err(refusal) => DeskSaid::Told(Err(refusal)),
+        Ok(None) => DeskSaid::Reported(Err(Refusal::BadLine)),
+        Err(refusal) => DeskSaid::Reported(Err(refusal)),
     }
 }
 
@@ -105,6 +106,31 @@ fn counts<L: Run, C: Command>(desk: &Desk<L, C>, seats: &mut [Seat<L>]) -> (u64,
         own = own.saturating_add(seat.own_calls().len());
     }
     (calls, own)
+}
+
+// The answer to a line, which is given again if memory runs out. It is reported if the first try changed something.
+fn say_twice<L: Run, C: Command, M: Fn(Givable) -> Result<C, Refusal>, R: Threads + Wait + Sync>(
+    rt: &R,
+    alloc: Global,
+    make: &M,
+    program: &Program,
+    desk: &Desk<L, C>,
+    seats: &mut [Seat<L>],
+    line: &str,
+    report: &mut Vec<u8>,
+) -> DeskSaid
+    requires may { M.IsAlwaysCallable make.now }
+    requires fresh { MakesFresh (M.post make.now) C.IsFresh }
+{
+    let before = counts(desk, seats);
+    let said = say(rt, alloc, make, program, desk, seats, line);
+    if !said.wants_memory() {
+        return said;
+    }
+    if counts(desk, seats) != before {
+        let _ = report.extend_from_slice(b"differs: ");
+    }
+    say(rt, alloc, make, program, desk, seats, line)
 }
 
 // Gives the lines, each again if memory runs out, and reports the answers.
@@ -121,15 +147,17 @@ fn say_all<L: Run, C: Command, M: Fn(Givable) -> Result<C, Refusal>, R: Threads 
     requires fresh { MakesFresh (M.post make.now) C.IsFresh }
 {
     for line in LINES {
-        let before = counts(desk, seats);
-        let mut said = say(rt, alloc, make, program, desk, seats, line);
-        if said.wants_memory() {
-            if counts(desk, seats) != before {
-                let _ = write!(report, "differs: ");
-            }
-            said = say(rt, alloc, make, program, desk, seats, line);
+        let said = say_twice(rt, alloc, make, program, desk, seats, line, report);
+        tell(line, &said, report);
+    }
+}
+
+// Reports the seat and the answer of each call that was entered.
+fn tell_entries<L: Run, C: Command>(locked: &Locked<L, C>, report: &mut Vec<u8>) {
+    for place in 0..locked.calls() {
+        if let Some(entry) = locked.entry(place) {
+            let _ = write!(report, "entry of {}: {:?}\n", entry.seat, entry.said);
         }
-        let _ = write!(report, "{line}: {said:?}\n");
     }
 }
 
@@ -146,8 +174,7 @@ fn play<L: Run, C: Command, M: Fn(Givable) -> Result<C, Refusal>, R: Threads + W
     requires fresh { MakesFresh (M.post make.now) C.IsFresh }
     requires run { IsOpeningOf L.program L.board L.name L.parts L.seats beginning.opening }
 {
-    let (desk, seats) = beginning.opening.desk::<L, C>(alloc)?;
-    let mut seats = seats;
+    let (desk, mut seats) = beginning.opening.desk::<L, C>(alloc)?;
     say_all(
         rt,
         alloc,
@@ -158,13 +185,11 @@ fn play<L: Run, C: Command, M: Fn(Givable) -> Result<C, Refusal>, R: Threads + W
         report,
     );
     let settled = desk.settle(rt, seats.as_slice());
-    let _ = write!(report, "settle: {settled:?}\n");
+    tell("settle", &settled, report);
     let locked = desk.into_locked();
-    for place in 0..locked.calls() {
-        if let Some(entry) = locked.entry(place) {
-            let _ = write!(report, "entry of {}: {:?}\n", entry.seat, entry.said);
-        }
-    }
+    tell_entries(&locked, report);
+    drop(seats);
+    drop(locked);
     Ok(())
 }
 
@@ -197,5 +222,5 @@ pub(crate) fn play_desk<C: Command, M: Fn(Givable) -> Result<C, Refusal>, R: Thr
     if played == Err(Refusal::Memory) {
         played = begin_and_play(rt, alloc, make, report);
     }
-    let _ = write!(report, "desk: {played:?}\n");
+    tell("desk", &played, report);
 }

@@ -4,6 +4,7 @@ ghost use Rattle.test_memory.specs.Runs.{MakesFresh};
 ghost use Rattle.dbg_desk.specs.Openings.{IsOpeningOf};
 
 use crate::beginning::{ThreeSeats, begin};
+use crate::report::{tell, tell_text};
 use crate::scripts::TWO;
 use crate::trial::{MemoryTrial, begin_trial, say};
 use dbg_base::limits::CALLS;
@@ -12,7 +13,6 @@ use dbg_board::Glance;
 use dbg_command::{Command, Givable};
 use dbg_desk::Run;
 use std::alloc::Global;
-use std::io::Write;
 use std::marker::Brand;
 
 // Lines that are given when the journal has room for only `LEFT` of them.
@@ -61,6 +61,30 @@ fn counts<L: Run, C: Command>(trial: &mut MemoryTrial<L, C>) -> (usize, usize, G
     (trial.locked.calls(), own, glance)
 }
 
+// The answer to a line, which is given again if memory runs out. The text tells if the first try changed something.
+fn say_twice<L: Run, C: Command, M: Fn(Givable) -> Result<C, Refusal>>(
+    alloc: Global,
+    make: &M,
+    trial: &mut MemoryTrial<L, C>,
+    line: &str,
+    text: &mut Vec<u8>,
+)
+    requires may { M.IsAlwaysCallable make.now }
+    requires fresh { MakesFresh (M.post make.now) C.IsFresh }
+{
+    let before = counts(trial);
+    text.clear();
+    say(alloc, make, trial, line, text);
+    if text.as_slice() != b"no 21\n".as_slice() {
+        return;
+    }
+    text.clear();
+    if counts(trial) != before {
+        let _ = text.extend_from_slice(b"differs: ");
+    }
+    say(alloc, make, trial, line, text);
+}
+
 // Fills the journal, and reports the answers to the lines.
 fn play<L: Run, C: Command, M: Fn(Givable) -> Result<C, Refusal>>(
     alloc: Global,
@@ -76,21 +100,11 @@ fn play<L: Run, C: Command, M: Fn(Givable) -> Result<C, Refusal>>(
     let mut trial = begin_trial::<L, C>(alloc, beginning)?;
     fill(alloc, &mut trial);
     for line in LINES {
-        let before = counts(&mut trial);
-        text.clear();
-        say(alloc, make, &mut trial, line, text);
-        if text.as_slice() == b"no 21\n".as_slice() {
-            text.clear();
-            if counts(&mut trial) != before {
-                let _ = write!(text, "differs: ");
-            }
-            say(alloc, make, &mut trial, line, text);
-        }
-        let _ = write!(report, "{line}: ");
-        let _ = report.extend_from_slice(text.as_slice());
+        say_twice(alloc, make, &mut trial, line, text);
+        tell_text(line, text.as_slice(), report);
     }
-    let settled = trial.locked.settle(&trial.seats);
-    let _ = write!(report, "settle: {settled:?}\n");
+    tell("settle", &trial.locked.settle(&trial.seats), report);
+    drop(trial);
     Ok(())
 }
 
@@ -121,5 +135,5 @@ pub(crate) fn play_full<C: Command, M: Fn(Givable) -> Result<C, Refusal>>(
     if played == Err(Refusal::Memory) {
         played = begin_and_play(alloc, make, text, report);
     }
-    let _ = write!(report, "full: {played:?}\n");
+    tell("full", &played, report);
 }

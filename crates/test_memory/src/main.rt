@@ -7,6 +7,7 @@ mod desks;
 mod full;
 mod makings;
 mod picture;
+mod report;
 mod script;
 mod scripts;
 mod sessions;

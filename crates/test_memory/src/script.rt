@@ -5,6 +5,7 @@ ghost use Rattle.dbg_desk.specs.Openings.{IsOpeningOf};
 
 use crate::beginning::{ThreeSeats, begin};
 use crate::picture::picture;
+use crate::report::{tell, tell_text};
 use crate::trial::{MemoryTrial, begin_trial, say};
 use dbg_base::Refusal;
 use dbg_command::{Command, Givable};
@@ -38,7 +39,9 @@ fn picture_of<L: Run, C: Command, M: Fn(Givable) -> Result<C, Refusal>>(
     for line in lines {
         say(alloc, make, &mut trial, line, &mut text);
     }
-    Ok(picture(alloc, make, &mut trial, script.looks)?)
+    let picture = picture(alloc, make, &mut trial, script.looks);
+    drop(trial);
+    Ok(picture?)
 }
 
 // What a session shows after the first lines of a script if no allocation fails.
@@ -56,7 +59,7 @@ fn expected<C: Command, M: Fn(Givable) -> Result<C, Refusal>>(
 }
 
 // Whether the session shows the same as after these lines alone.
-fn is_as_behind<L: Run, C: Command, M: Fn(Givable) -> Result<C, Refusal>>(
+fn is_as_after<L: Run, C: Command, M: Fn(Givable) -> Result<C, Refusal>>(
     alloc: Global,
     make: &M,
     trial: &mut MemoryTrial<L, C>,
@@ -83,15 +86,15 @@ fn say_twice<L: Run, C: Command, M: Fn(Givable) -> Result<C, Refusal>>(
     requires may { M.IsAlwaysCallable make.now }
     requires fresh { MakesFresh (M.post make.now) C.IsFresh }
 {
-    let (before, behind) = script.lines.split_at(place.min(script.lines.len()));
-    let Some(line) = behind.first() else {
+    let (before, after) = script.lines.split_at(place.min(script.lines.len()));
+    let Some(line) = after.first() else {
         return;
     };
     text.clear();
     say(alloc, make, trial, line, text);
     if text.as_slice() == b"no 21\n".as_slice() {
         text.clear();
-        match is_as_behind(alloc, make, trial, script, before) {
+        match is_as_after(alloc, make, trial, script, before) {
             Ok(true) => {}
             other => {
                 let _ = write!(text, "differs: {other:?}: ");
@@ -117,11 +120,11 @@ fn play<L: Run, C: Command, M: Fn(Givable) -> Result<C, Refusal>>(
     let mut trial = begin_trial::<L, C>(alloc, beginning)?;
     for (place, line) in script.lines.iter().enumerate() {
         say_twice(alloc, make, &mut trial, script, place, text);
-        let _ = write!(report, "{line}: ");
-        let _ = report.extend_from_slice(text.as_slice());
+        tell_text(line, text.as_slice(), report);
     }
     let settled = trial.locked.settle(&trial.seats).is_ok();
-    let _ = write!(report, "settled: {settled}\n");
+    tell("settled", &settled, report);
+    drop(trial);
     Ok(())
 }
 

@@ -3,7 +3,7 @@
 ghost use Rattle.std.specs.Prelude.{◌≡◌};
 ghost use Rattle.dbg_base.specs.Calls.{Give, call_of, order_of};
 ghost use Rattle.dbg_base.specs.Fits.{FitsCall};
-ghost use Rattle.dbg_command.specs.Tables.{IsGivable, said_of, told_of};
+ghost use Rattle.dbg_command.specs.Tables.{IsGivable, said_of, reported_of};
 ghost use Rattle.shell_parse.specs.Lines as lines;
 ghost use Rattle.test_memory.specs.Runs.{MakesFresh};
 ghost use Rattle.dbg_desk.specs.Openings.{IsOpeningOf};
@@ -62,7 +62,7 @@ fn said_to_command(outcome: Result<Reply, Refusal>) -> Said
 }
 
 fn said_to_question(outcome: Result<Answer, Refusal>) -> Said
-    ensures { result ≡ told_of outcome }
+    ensures { result ≡ reported_of outcome }
 {
     match outcome {
         Ok(answer) => Said::Answered(answer),

@@ -1,12 +1,13 @@
 //! Tests of `dbg_board`: with ample memory a board is made, and each call does its work, also on several threads.
 
-ghost use Rattle.std.specs.Prelude.{◌≡◌, ◌+◌, ◌≤◌, length};
+ghost use Rattle.std.specs.Prelude.{◌≡◌, ◌+◌, ◌≤◌, [], length};
 ghost use Rattle.dbg_base.specs.declared.limits.TheConstants.{BREAKPOINTS, CALLS};
+ghost use Rattle.dbg_board.specs.Boards.{listing};
 
 use crate::expecting::{expect_same, expect_true};
 use dbg_board::{Board, Glance, Publisher, SeatView};
+use std::alloc::Global;
 use std::process::Abort;
-use std::test::Fail;
 use std::thread;
 
 fn pair(calls: u64, halt: u64) -> Glance {
@@ -34,42 +35,71 @@ fn publish(publisher: &mut Publisher, calls: u64, halt: u64)
 }
 
 #[test]
-fn a_new_board_tells_of_no_call(rt: HostRuntime) -> Result<(), Fail> {
-    let (board, _publisher, mut views) = Board::new(rt.alloc(), 2)?;
+fn a_new_board_tells_of_no_call(rt: HostRuntime) {
+    let (board, _publisher, mut views) = Board::new(rt.alloc(), 2).expect(&rt, "a board");
     expect_same(&rt, views.len(), 2);
-    let mut view = views.pop().ok_or("no view")?;
+    let mut view = views.pop().expect(&rt, "a view");
     expect_look(&rt, &board, &mut view, (0, 0));
-    Ok(())
+}
+
+// Publishes three calls, and expects what the views show meanwhile.
+fn expect_published(
+    rt: &impl Abort,
+    board: &Board,
+    publisher: &mut Publisher,
+    one: &mut SeatView,
+    other: &mut SeatView,
+)
+    requires none { length publisher.old.pairs ≡ 0 }
+    requires one { one.old.board ≡ board.now }
+    requires other { other.old.board ≡ board.now }
+{
+    publish(publisher, 1, 64);
+    expect_look(rt, board, one, (1, 64));
+    publish(publisher, 2, 0);
+    publish(publisher, 3, 7);
+    expect_look(rt, board, other, (3, 7));
+    expect_look(rt, board, one, (3, 7));
+    expect_look(rt, board, one, (3, 7));
 }
 
 #[test]
-fn each_view_sees_what_was_published(rt: HostRuntime) -> Result<(), Fail> {
-    let (board, mut publisher, mut views) = Board::new(rt.alloc(), 2)?;
-    let mut one = views.pop().ok_or("no view")?;
-    let mut other = views.pop().ok_or("no second view")?;
-    publish(&mut publisher, 1, 64);
-    expect_look(&rt, &board, &mut one, (1, 64));
-    publish(&mut publisher, 2, 0);
-    publish(&mut publisher, 3, 7);
-    expect_look(&rt, &board, &mut other, (3, 7));
-    expect_look(&rt, &board, &mut one, (3, 7));
-    expect_look(&rt, &board, &mut one, (3, 7));
-    Ok(())
+fn each_view_sees_what_was_published(rt: HostRuntime) {
+    let (board, mut publisher, mut views) = Board::new(rt.alloc(), 2).expect(&rt, "a board");
+    let mut one = views.pop().expect(&rt, "a view");
+    let mut other = views.pop().expect(&rt, "a second view");
+    expect_published(&rt, &board, &mut publisher, &mut one, &mut other);
+}
+
+// A board with one view.
+fn viewed(rt: &impl Abort, alloc: Global) -> (Board, Publisher, SeatView)
+    ensures publisher { result.1 ≡ listing result.0 [] }
+    ensures view { result.2 ≡ listing result.0 [] }
+{
+    let (board, publisher, mut views) = Board::new(alloc, 1).expect(rt, "a board");
+    let view = views.pop().expect(rt, "a view");
+    (board, publisher, view)
+}
+
+// Publishes three calls, and reports the second to the view; expects what the view shows meanwhile.
+fn expect_reported(rt: &impl Abort, board: &Board, publisher: &mut Publisher, view: &mut SeatView)
+    requires publisher { publisher.old ≡ listing board.now [] }
+    requires view { view.old.board ≡ board.now }
+{
+    publish(publisher, 1, 0);
+    expect_look(rt, board, view, (1, 0));
+    publish(publisher, 2, 1);
+    publisher.tell(view);
+    publisher.tell(view);
+    expect_look(rt, board, view, (2, 1));
+    publish(publisher, 3, 0);
+    expect_look(rt, board, view, (3, 0));
 }
 
 #[test]
-fn a_view_that_was_told_looks_on(rt: HostRuntime) -> Result<(), Fail> {
-    let (board, mut publisher, mut views) = Board::new(rt.alloc(), 1)?;
-    let mut view = views.pop().ok_or("no view")?;
-    publish(&mut publisher, 1, 0);
-    expect_look(&rt, &board, &mut view, (1, 0));
-    publish(&mut publisher, 2, 1);
-    publisher.tell(&mut view);
-    publisher.tell(&mut view);
-    expect_look(&rt, &board, &mut view, (2, 1));
-    publish(&mut publisher, 3, 0);
-    expect_look(&rt, &board, &mut view, (3, 0));
-    Ok(())
+fn a_view_that_was_reported_looks_on(rt: HostRuntime) {
+    let (board, mut publisher, mut view) = viewed(&rt, rt.alloc());
+    expect_reported(&rt, &board, &mut publisher, &mut view);
 }
 
 // Accepts what may be moved to another thread and shared by several.
@@ -91,10 +121,16 @@ fn publish_next(mut publisher: Publisher) -> Publisher
     publisher
 }
 
+// Expects each look to show the first call or the second, and the second look none that is before that of the first.
+fn expect_looks(rt: &impl Abort, first: Glance, second: Glance) {
+    let (before, after) = (pair(1, 0), pair(2, 5));
+    expect_true(rt, first == before || first == after);
+    expect_true(rt, second == after || first == before && second == before);
+}
+
 #[test]
-fn looks_are_made_beside_a_publish(rt: HostRuntime) -> Result<(), Fail> {
-    let (board, mut publisher, mut views) = Board::new(rt.alloc(), 1)?;
-    let view = views.pop().ok_or("no view")?;
+fn looks_are_made_beside_a_publish(rt: HostRuntime) {
+    let (board, mut publisher, view) = viewed(&rt, rt.alloc());
     may_be_shared(&board);
     publisher.publish(1, 0);
     let ((first, second), _publisher) = thread::join(
@@ -102,25 +138,18 @@ fn looks_are_made_beside_a_publish(rt: HostRuntime) -> Result<(), Fail> {
         || two_looks(&board, view),
         || publish_next(publisher),
     );
-    let (before, after) = (pair(1, 0), pair(2, 5));
-    expect_true(&rt, first == before || first == after);
-    expect_true(&rt, second == after || first == before && second == before);
-    Ok(())
+    expect_looks(&rt, first, second);
 }
 
 #[test]
-fn a_publish_is_made_beside_looks(rt: HostRuntime) -> Result<(), Fail> {
-    let (board, mut publisher, mut views) = Board::new(rt.alloc(), 1)?;
-    let view = views.pop().ok_or("no view")?;
+fn a_publish_is_made_beside_looks(rt: HostRuntime) {
+    let (board, mut publisher, view) = viewed(&rt, rt.alloc());
     publisher.publish(1, 0);
     let (_publisher, (first, second)) = thread::join(
         &rt,
         || publish_next(publisher),
         || two_looks(&board, view),
     );
-    expect_true(
-        &rt,
-        first.calls >= 1 && first.calls <= second.calls && second.calls <= 2,
-    );
-    Ok(())
+    let calls = [1, first.calls, second.calls, 2];
+    expect_true(&rt, calls.is_sorted());
 }

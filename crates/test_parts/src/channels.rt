@@ -11,6 +11,9 @@ const A: Pid = Pid(0);
 
 const B: Pid = Pid(1);
 
+// A process that does not exist.
+const FAR: Pid = Pid(2);
+
 // Sends the message.
 fn send(grid: &mut Grid, from: Pid, to: Pid, message: i64) -> Result<(), AllocError> {
     if grid.has(from, to) {
@@ -29,12 +32,18 @@ fn put_back(grid: &mut Grid, from: Pid, to: Pid, message: i64) -> Result<(), All
     Ok(())
 }
 
+// Sends these messages, each from a process to another.
+fn send_all(grid: &mut Grid, messages: &[(Pid, Pid, i64)]) -> Result<(), AllocError> {
+    for (from, to, message) in messages {
+        send(grid, *from, *to, *message)?;
+    }
+    Ok(())
+}
+
 // Two messages from the first process to the second, and one in the other direction.
 fn three_messages(alloc: Global) -> Result<Grid, AllocError> {
     let mut grid = Grid::new(alloc, 2)?;
-    for (from, to, message) in [(A, B, 5), (B, A, 6), (A, B, 7)] {
-        send(&mut grid, from, to, message)?;
-    }
+    send_all(&mut grid, &[(A, B, 5), (B, A, 6), (A, B, 7)])?;
     Ok(grid)
 }
 
@@ -52,37 +61,42 @@ fn expect_items(
     Ok(())
 }
 
-#[test]
-fn messages_stand_in_turn(rt: HostRuntime) -> Result<(), Fail> {
-    let grid = three_messages(rt.alloc())?;
-    let far = Pid(2);
-    expect_true(
-        &rt,
-        grid.has(A, B) && !grid.has(B, far) && !grid.has(far, A),
-    );
+// How many messages there are from the first process to the second, back, and from the first to itself.
+fn lengths(grid: &Grid) -> [usize; 3] {
+    [grid.len(A, B), grid.len(B, A), grid.len(A, A)]
+}
+
+// Expects the three messages in the order in which they were sent.
+fn expect_order(rt: &impl Abort, alloc: Global, grid: &Grid) -> Result<(), AllocError> {
     expect_same(
-        &rt,
-        (grid.len(A, B), grid.len(B, A), grid.len(A, A)),
-        (2, 1, 0),
+        rt,
+        [grid.has(A, B), grid.has(B, FAR), grid.has(FAR, A)],
+        [true, false, false],
     );
-    expect_same(&rt, grid.front(A, B), Some(5));
-    expect_items(&rt, rt.alloc(), &grid, A, B, &[5, 7])?;
-    expect_items(&rt, rt.alloc(), &grid, far, B, &[])?;
-    Ok(())
+    expect_same(rt, lengths(grid), [2, 1, 0]);
+    expect_same(rt, grid.front(A, B), Some(5));
+    expect_items(rt, alloc, grid, A, B, &[5, 7])?;
+    expect_items(rt, alloc, grid, FAR, B, &[])
+}
+
+// Takes the messages to the second process at both ends, and then no message is there.
+fn expect_ends(rt: &impl Abort, grid: &mut Grid) {
+    let taken = [
+        grid.unpush_back(A, B),
+        grid.pop_front(A, B),
+        grid.pop_front(A, B),
+        grid.unpush_back(A, B),
+    ];
+    expect_same(rt, taken, [Some(7), Some(5), None, None]);
+    expect_same(rt, [grid.front(B, A), grid.front(A, B)], [Some(6), None]);
+    expect_same(rt, grid.reserve(A, FAR, 1), Ok(()));
 }
 
 #[test]
-fn messages_are_taken_at_both_ends(rt: HostRuntime) -> Result<(), Fail> {
+fn messages_are_in_order_and_are_taken_at_both_ends(rt: HostRuntime) -> Result<(), Fail> {
     let mut grid = three_messages(rt.alloc())?;
-    expect_same(&rt, grid.unpush_back(A, B), Some(7));
-    expect_same(&rt, grid.pop_front(A, B), Some(5));
-    expect_same(
-        &rt,
-        (grid.pop_front(A, B), grid.unpush_back(A, B)),
-        (None, None),
-    );
-    expect_same(&rt, (grid.front(B, A), grid.front(A, B)), (Some(6), None));
-    expect_same(&rt, grid.reserve(A, Pid(2), 1), Ok(()));
+    expect_order(&rt, rt.alloc(), &grid)?;
+    expect_ends(&rt, &mut grid);
     Ok(())
 }
 
@@ -97,42 +111,45 @@ fn send_many(rt: &impl Abort, grid: &mut Grid, count: i64) -> Result<(), AllocEr
     Ok(())
 }
 
+// Expects the first, the second and the last message.
+fn expect_long(rt: &impl Abort, items: &[i64]) {
+    let ends = [items.first(), items.get(1), items.last()];
+    expect_same(rt, ends, [Some(&-1), Some(&33), Some(&99)]);
+}
+
+// Sends a hundred messages, and puts one back at the head.
+fn expect_round(rt: &impl Abort, alloc: Global, grid: &mut Grid) -> Result<(), AllocError> {
+    send_many(rt, grid, 100)?;
+    put_back(grid, A, A, -1)?;
+    expect_same(rt, grid.len(A, A), 68);
+    let messages = grid.items(alloc, A, A)?;
+    expect_long(rt, messages.items());
+    Ok(())
+}
+
 #[test]
 fn a_long_queue_wraps_round(rt: HostRuntime) -> Result<(), Fail> {
     let mut grid = Grid::new(rt.alloc(), 1)?;
-    send_many(&rt, &mut grid, 100)?;
-    put_back(&mut grid, A, A, -1)?;
-    expect_same(&rt, grid.len(A, A), 68);
-    let messages = grid.items(rt.alloc(), A, A)?;
-    let items = messages.items();
-    expect_same(
-        &rt,
-        (items.first().copied(), items.get(1).copied()),
-        (Some(-1), Some(33)),
-    );
-    expect_same(&rt, items.last().copied(), Some(99));
+    expect_round(&rt, rt.alloc(), &mut grid)?;
     Ok(())
+}
+
+// Takes a message of a copy, which the original keeps.
+fn expect_apart(rt: &impl Abort, made: &mut Grid, grid: &Grid) {
+    expect_same(rt, made.pop_front(A, B), Some(5));
+    expect_same(
+        rt,
+        [made.len(A, B), made.len(B, A), grid.len(A, B)],
+        [1, 0, 2],
+    );
+    expect_same(rt, [made.front(A, B), grid.front(A, B)], [Some(7), Some(5)]);
 }
 
 #[test]
 fn a_copied_grid_is_apart(rt: HostRuntime) -> Result<(), Fail> {
     let mut grid = Grid::new(rt.alloc(), 2)?;
-    if grid.has(A, B) {
-        grid.reserve(A, B, 2)?;
-        grid.push_back(A, B, 5);
-        grid.push_back(A, B, 7);
-    }
+    send_all(&mut grid, &[(A, B, 5), (A, B, 7)])?;
     let mut made = grid.copy()?;
-    expect_same(&rt, made.pop_front(A, B), Some(5));
-    expect_same(
-        &rt,
-        (made.len(A, B), made.len(B, A), grid.len(A, B)),
-        (1, 0, 2),
-    );
-    expect_same(
-        &rt,
-        (made.front(A, B), grid.front(A, B)),
-        (Some(7), Some(5)),
-    );
+    expect_apart(&rt, &mut made, &grid);
     Ok(())
 }

@@ -9,136 +9,162 @@ use dbg_base::{
 use std::alloc::{AllocError, Global};
 use std::fmt::Debug;
 use std::process::Abort;
-use std::test::Fail;
+
+const MEMORY: &str = "ample memory";
 
 fn shown<T: Debug>(alloc: Global, value: &T) -> Result<String, AllocError> {
     format!(in alloc; "{value:?}")
 }
 
 // Expects that a copy shows the same as its original.
-fn expect_alike<T: Debug>(rt: &impl Abort, alloc: Global, made: &T, of: &T) -> Result<(), Fail> {
-    let (made, of) = (shown(alloc, made)?, shown(alloc, of)?);
-    assert_eq!(rt; made, of);
-    Ok(())
+fn expect_alike<T: Debug>(rt: &impl Abort, alloc: Global, made: &T, of: &T) {
+    let made = shown(alloc, made).expect(rt, MEMORY);
+    let of = shown(alloc, of).expect(rt, MEMORY);
+    expect_same(rt, made.as_str(), of.as_str());
 }
 
 fn name(rt: &impl Abort) -> Name {
     Name::new(b"k").expect(rt, "a name")
 }
 
-fn cut(alloc: Global) -> Result<Cut, AllocError> {
-    Ok(Cut::new(Vec::from_slice(alloc, &[0, 20_000])?))
+fn sequence<T: Copy>(rt: &impl Abort, alloc: Global, items: &[T]) -> Sequence<T> {
+    Sequence::new(Vec::from_slice(alloc, items).expect(rt, MEMORY))
+}
+
+fn cut(rt: &impl Abort, alloc: Global) -> Cut {
+    Cut::new(Vec::from_slice(alloc, &[0, 20_000]).expect(rt, MEMORY))
 }
 
 // An expression with each form.
-fn every_form(alloc: Global) -> Result<Expr, AllocError> {
-    let counted = negate(alloc, Expr::Got(Pid(2)))?;
-    let equal = binary(alloc, Operator::Equal, Expr::Sent(Pid(1)), counted)?;
-    let less = binary(alloc, Operator::Less, Expr::Variable(0), Expr::Number(-7))?;
-    let either = binary(alloc, Operator::Or, not(alloc, equal)?, less)?;
-    binary(alloc, Operator::And, either, Expr::Truth(true))
+fn every_form(rt: &impl Abort, alloc: Global) -> Expr {
+    let counted = negate(rt, alloc, Expr::Got(Pid(2)));
+    let equal = binary(rt, alloc, Operator::Equal, Expr::Sent(Pid(1)), counted);
+    let seven = Expr::Number(-7);
+    let less = binary(rt, alloc, Operator::Less, Expr::Variable(0), seven);
+    let either = binary(rt, alloc, Operator::Or, not(rt, alloc, equal), less);
+    binary(rt, alloc, Operator::And, either, Expr::Truth(true))
 }
 
-fn two_conjuncts(alloc: Global) -> Result<Sequence<Conjunct>, AllocError> {
+fn conjunct(rt: &impl Abort, alloc: Global, p: u32) -> Conjunct {
+    let expr = every_form(rt, alloc);
+    Conjunct { pid: Pid(p), expr }
+}
+
+fn two_conjuncts(rt: &impl Abort, alloc: Global) -> Sequence<Conjunct> {
     let mut conjuncts = Vec::new(alloc);
     for p in 0..2u32 {
-        conjuncts.push(Conjunct {
-            pid: Pid(p),
-            expr: every_form(alloc)?,
-        })?;
+        conjuncts.push(conjunct(rt, alloc, p)).expect(rt, MEMORY);
     }
-    Ok(Sequence::new(conjuncts))
+    Sequence::new(conjuncts)
 }
 
 #[test]
-fn cuts_and_expressions(rt: HostRuntime) -> Result<(), Fail> {
-    let alloc = rt.alloc();
-    expect_same(&rt, cut(alloc)?.copy()?.counts(), [0, 20_000].as_slice());
-    let expr = every_form(alloc)?;
-    expect_alike(&rt, alloc, &expr.copy()?, &expr)?;
-    let conjunct = Conjunct { pid: Pid(3), expr };
-    expect_alike(&rt, alloc, &conjunct.copy()?, &conjunct)
-}
-
-fn expect_plan(rt: &impl Abort, alloc: Global, plan: Plan) -> Result<(), Fail> {
-    expect_alike(rt, alloc, &plan.copy()?, &plan)
+fn cuts(rt: HostRuntime) {
+    let copy = cut(&rt, rt.alloc()).copy().expect(&rt, MEMORY);
+    expect_same(&rt, copy.counts(), &[0, 20_000]);
 }
 
 #[test]
-fn plans(rt: HostRuntime) -> Result<(), Fail> {
-    let alloc = rt.alloc();
-    let k = name(&rt);
-    expect_plan(&rt, alloc, Plan::Step(Pid(1), Choice(2)))?;
-    expect_plan(&rt, alloc, Plan::Next(Pid(1)))?;
-    expect_plan(&rt, alloc, Plan::Undo(Pid(1)))?;
-    expect_plan(&rt, alloc, Plan::Redo(Pid(1)))?;
-    expect_plan(&rt, alloc, Plan::Rollback(Pid(1), 3))?;
-    expect_plan(&rt, alloc, Plan::Goto(k))?;
-    expect_plan(&rt, alloc, Plan::Break(k, two_conjuncts(alloc)?))?;
-    expect_plan(&rt, alloc, Plan::Clear(k))?;
-    expect_plan(&rt, alloc, Plan::Arm(k))?;
-    expect_plan(&rt, alloc, Plan::Pass(k))
-}
-
-fn expect_call(rt: &impl Abort, alloc: Global, call: Call) -> Result<(), Fail> {
-    expect_alike(rt, alloc, &call.copy()?, &call)
+fn expressions(rt: HostRuntime) {
+    let expr = every_form(&rt, rt.alloc());
+    let copy = expr.copy().expect(&rt, MEMORY);
+    expect_alike(&rt, rt.alloc(), &copy, &expr);
 }
 
 #[test]
-fn calls(rt: HostRuntime) -> Result<(), Fail> {
+fn conjuncts(rt: HostRuntime) {
+    let conjunct = conjunct(&rt, rt.alloc(), 3);
+    let copy = conjunct.copy().expect(&rt, MEMORY);
+    expect_alike(&rt, rt.alloc(), &copy, &conjunct);
+}
+
+fn expect_plan(rt: &impl Abort, alloc: Global, plan: Plan) {
+    let copy = plan.copy().expect(rt, MEMORY);
+    expect_alike(rt, alloc, &copy, &plan);
+}
+
+#[test]
+fn plans(rt: HostRuntime) {
     let alloc = rt.alloc();
     let k = name(&rt);
-    let given = Plan::Break(k, two_conjuncts(alloc)?);
-    expect_call(&rt, alloc, Call::Give(given))?;
-    expect_call(&rt, alloc, Call::Back)?;
-    expect_call(&rt, alloc, Call::Ask(Query::Why(k)))?;
+    expect_plan(&rt, alloc, Plan::Step(Pid(1), Choice(2)));
+    expect_plan(&rt, alloc, Plan::Next(Pid(1)));
+    expect_plan(&rt, alloc, Plan::Undo(Pid(1)));
+    expect_plan(&rt, alloc, Plan::Redo(Pid(1)));
+    expect_plan(&rt, alloc, Plan::Rollback(Pid(1), 3));
+    expect_plan(&rt, alloc, Plan::Goto(k));
+    expect_plan(&rt, alloc, Plan::Break(k, two_conjuncts(&rt, alloc)));
+    expect_plan(&rt, alloc, Plan::Clear(k));
+    expect_plan(&rt, alloc, Plan::Arm(k));
+    expect_plan(&rt, alloc, Plan::Pass(k));
+}
+
+fn expect_call(rt: &impl Abort, alloc: Global, call: Call) {
+    let copy = call.copy().expect(rt, MEMORY);
+    expect_alike(rt, alloc, &copy, &call);
+}
+
+#[test]
+fn calls(rt: HostRuntime) {
+    let alloc = rt.alloc();
+    let k = name(&rt);
+    let conjuncts = two_conjuncts(&rt, alloc);
+    expect_call(&rt, alloc, Call::Give(Plan::Break(k, conjuncts)));
+    expect_call(&rt, alloc, Call::Back);
+    expect_call(&rt, alloc, Call::Ask(Query::Why(k)));
+}
+
+#[test]
+fn queries(rt: HostRuntime) {
     let query = Query::Chan(Pid(0), Pid(1));
-    expect_same(&rt, query.copy()?, query);
-    Ok(())
+    let copy = query.copy().expect(&rt, MEMORY);
+    expect_same(&rt, copy, query);
 }
 
-fn expect_said(rt: &impl Abort, alloc: Global, said: Said) -> Result<(), Fail> {
-    expect_alike(rt, alloc, &said.copy()?, &said)
+fn expect_said(rt: &impl Abort, alloc: Global, said: Said) {
+    let copy = said.copy().expect(rt, MEMORY);
+    expect_alike(rt, alloc, &copy, &said);
 }
 
-#[test]
-fn replies(rt: HostRuntime) -> Result<(), Fail> {
-    let alloc = rt.alloc();
-    let halted = Some(name(&rt));
-    let done = Done::Played(Pid(0), Choice(1));
-    expect_said(&rt, alloc, Said::Accepted(Reply { done, halted }))?;
-    let done = Done::Undone(Pid(0), Choice(1));
-    expect_said(&rt, alloc, Said::Accepted(Reply { done, halted: None }))?;
-    let done = Done::Places(cut(alloc)?);
-    expect_said(&rt, alloc, Said::Accepted(Reply { done, halted }))?;
-    let done = Done::Plain;
-    expect_said(&rt, alloc, Said::Accepted(Reply { done, halted }))?;
-    expect_said(&rt, alloc, Said::Refused(Refusal::OtherSeat(2)))
+fn expect_reply(rt: &impl Abort, alloc: Global, done: Done, halted: Option<Name>) {
+    expect_said(rt, alloc, Said::Accepted(Reply { done, halted }));
 }
 
 #[test]
-fn answers(rt: HostRuntime) -> Result<(), Fail> {
+fn replies(rt: HostRuntime) {
     let alloc = rt.alloc();
-    let values = Sequence::new(Vec::from_slice(alloc, &[1i64, -2])?);
-    expect_said(&rt, alloc, Said::Answered(Answer::Values(values)))?;
-    let messages = Sequence::new(Vec::from_slice(alloc, &[3i64])?);
-    expect_said(&rt, alloc, Said::Answered(Answer::Messages(messages)))?;
-    let counts = cut(alloc)?;
-    expect_said(&rt, alloc, Said::Answered(Answer::Counts(counts)))?;
-    let place = Answer::PlaceOf { at: 1, line: 2 };
-    expect_said(&rt, alloc, Said::Answered(place))?;
-    let consequence = Answer::CanUndo(Err(Refusal::Consequence(Pid(1))));
-    expect_said(&rt, alloc, Said::Answered(consequence))
+    let k = name(&rt);
+    expect_reply(&rt, alloc, Done::Played(Pid(0), Choice(1)), Some(k));
+    expect_reply(&rt, alloc, Done::Undone(Pid(0), Choice(1)), None);
+    expect_reply(&rt, alloc, Done::Places(cut(&rt, alloc)), Some(k));
+    expect_reply(&rt, alloc, Done::Plain, Some(k));
+    expect_said(&rt, alloc, Said::Refused(Refusal::OtherSeat(2)));
+}
+
+fn expect_answer(rt: &impl Abort, alloc: Global, answer: Answer) {
+    expect_said(rt, alloc, Said::Answered(answer));
 }
 
 #[test]
-fn answers_on_breakpoints(rt: HostRuntime) -> Result<(), Fail> {
+fn answers(rt: HostRuntime) {
     let alloc = rt.alloc();
-    let found = Some(cut(alloc)?);
-    expect_said(&rt, alloc, Said::Answered(Answer::CutIs(found)))?;
-    expect_said(&rt, alloc, Said::Answered(Answer::CutIs(None)))?;
-    let heads = Sequence::new(Vec::from_slice(alloc, &[Head::At(4), Head::Past])?);
-    expect_said(&rt, alloc, Said::Answered(Answer::Frontier(heads)))?;
-    let marks = Sequence::new(Vec::from_slice(alloc, &[(name(&rt), true)])?);
-    expect_said(&rt, alloc, Said::Answered(Answer::Marks(marks)))
+    let values = sequence(&rt, alloc, &[1i64, -2]);
+    expect_answer(&rt, alloc, Answer::Values(values));
+    let messages = sequence(&rt, alloc, &[3i64]);
+    expect_answer(&rt, alloc, Answer::Messages(messages));
+    expect_answer(&rt, alloc, Answer::Counts(cut(&rt, alloc)));
+    expect_answer(&rt, alloc, Answer::PlaceOf { at: 1, line: 2 });
+    let consequence = Err(Refusal::Consequence(Pid(1)));
+    expect_answer(&rt, alloc, Answer::CanUndo(consequence));
+}
+
+#[test]
+fn answers_on_breakpoints(rt: HostRuntime) {
+    let alloc = rt.alloc();
+    expect_answer(&rt, alloc, Answer::CutIs(Some(cut(&rt, alloc))));
+    expect_answer(&rt, alloc, Answer::CutIs(None));
+    let heads = sequence(&rt, alloc, &[Head::At(4), Head::Past]);
+    expect_answer(&rt, alloc, Answer::Frontier(heads));
+    let marks = sequence(&rt, alloc, &[(name(&rt), true)]);
+    expect_answer(&rt, alloc, Answer::Marks(marks));
 }

@@ -1,40 +1,32 @@
-//! Expressions as trees.
+//! Expressions as trees. Memory is ample.
 
 use dbg_base::{Expr, Operator};
-use std::alloc::{AllocError, Global};
+use std::alloc::Global;
+use std::process::Abort;
 
 /// An expression in a box, as a part of another.
-pub fn boxed(alloc: Global, expr: Expr) -> Result<Box<Expr>, AllocError> {
-    Ok(Box::new(alloc, expr)?)
+pub fn boxed(rt: &impl Abort, alloc: Global, expr: Expr) -> Box<Expr> {
+    Box::new(alloc, expr).expect(rt, "ample memory")
 }
 
 /// `(not E)`.
-pub fn not(alloc: Global, expr: Expr) -> Result<Expr, AllocError> {
-    Ok(Expr::Not(boxed(alloc, expr)?))
+pub fn not(rt: &impl Abort, alloc: Global, expr: Expr) -> Expr {
+    Expr::Not(boxed(rt, alloc, expr))
 }
 
 /// `(- E)`.
-pub fn negate(alloc: Global, expr: Expr) -> Result<Expr, AllocError> {
-    Ok(Expr::Negate(boxed(alloc, expr)?))
+pub fn negate(rt: &impl Abort, alloc: Global, expr: Expr) -> Expr {
+    Expr::Negate(boxed(rt, alloc, expr))
 }
 
 /// `(LEFT OPERATOR RIGHT)`.
-pub fn binary(
-    alloc: Global,
-    operator: Operator,
-    left: Expr,
-    right: Expr,
-) -> Result<Expr, AllocError> {
-    let left = boxed(alloc, left)?;
-    Ok(Expr::Binary(operator, left, boxed(alloc, right)?))
+pub fn binary(rt: &impl Abort, alloc: Global, operator: Operator, left: Expr, right: Expr) -> Expr {
+    let left = boxed(rt, alloc, left);
+    Expr::Binary(operator, left, boxed(rt, alloc, right))
 }
 
 /// The variable is greater than this number.
-pub fn above(alloc: Global, variable: u32, number: i64) -> Result<Expr, AllocError> {
-    binary(
-        alloc,
-        Operator::Greater,
-        Expr::Variable(variable),
-        Expr::Number(number),
-    )
+pub fn above(rt: &impl Abort, alloc: Global, variable: u32, number: i64) -> Expr {
+    let left = Expr::Variable(variable);
+    binary(rt, alloc, Operator::Greater, left, Expr::Number(number))
 }

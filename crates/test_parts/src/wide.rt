@@ -4,15 +4,16 @@ use crate::events::push_setting;
 use crate::expecting::expect_same;
 use crate::trees::above;
 use crossbeam_utils::CachePadded;
-use dbg_base::{Gate, OpenGate, Pid};
+use dbg_base::{Expr, Gate, OpenGate, Pid, Sequence};
 use event_rows::{Exchange, Rows};
 use proc_lang::parse_program;
 use std::alloc::Global;
 use std::process::Abort;
 use std::sync::Wait;
 use std::sync::atomic::{AtomicBool, Ordering};
-use std::test::Fail;
 use std::thread::Threads;
+
+const MEMORY: &str = "ample memory";
 
 const A: Pid = Pid(0);
 
@@ -59,7 +60,7 @@ impl GateNotes {
 struct NotingGate {
     lets: [bool; 3],
     asked: GateNotes,
-    told: GateNotes,
+    reported: GateNotes,
 }
 
 impl NotingGate {
@@ -67,7 +68,7 @@ impl NotingGate {
         NotingGate {
             lets,
             asked: GateNotes::new(),
-            told: GateNotes::new(),
+            reported: GateNotes::new(),
         }
     }
 }
@@ -81,65 +82,78 @@ impl Gate for NotingGate {
     }
 
     fn answered(&self, worker: u32, turn: u32) {
-        self.told.note(worker, turn);
+        self.reported.note(worker, turn);
     }
 }
 
 // The first process has set its variable to 5 and 7, and the second to 9.
-fn rows(alloc: Global) -> Result<Rows, Fail> {
+fn rows(rt: &impl Abort, alloc: Global) -> Rows {
     let text = "process a { var x = 3; } process b { var y = 4; }";
-    let mut rows = Rows::new(alloc, &parse_program(alloc, text.as_bytes())?)?;
+    let program = parse_program(alloc, text.as_bytes()).expect(rt, "a program");
+    let mut rows = Rows::new(alloc, &program).expect(rt, MEMORY);
     for (pid, old, new) in [(A, 3, 5), (A, 5, 7), (B, 4, 9)] {
-        push_setting(&mut rows, alloc, pid, 0, (old, new), Exchange::Nothing)?;
+        push_setting(&mut rows, alloc, pid, 0, (old, new), Exchange::Nothing).expect(rt, MEMORY);
     }
-    Ok(rows)
+    rows
+}
+
+// Expects the list of `truths` of this process.
+fn expect_list(
+    rt: &impl Abort,
+    alloc: Global,
+    rows: &Rows,
+    list: &Sequence<bool>,
+    pid: Pid,
+    expr: &Expr,
+) {
+    let truths = rows.truths(alloc, pid, expr).expect(rt, MEMORY);
+    expect_same(rt, list.items(), truths.items());
+}
+
+// Expects the lists of `truths` of these processes.
+fn expect_lists<R: Threads + Wait + Sync + Abort, G: Gate>(
+    rt: &R,
+    alloc: Global,
+    rows: &Rows,
+    named: &[(Pid, &Expr)],
+    gate: &G,
+) {
+    let lists = rows.truths_par(rt, alloc, named, gate).expect(rt, MEMORY);
+    expect_same(rt, lists.len(), named.len());
+    for (list, (pid, expr)) in lists.iter().zip(named) {
+        expect_list(rt, alloc, rows, list, *pid, expr);
+    }
 }
 
 // Expects the lists of `truths` of two processes and of one that does not exist.
-fn expect<R: Threads + Wait + Sync + Abort, G: Gate>(
-    rt: &R,
-    alloc: Global,
-    gate: &G,
-) -> Result<(), Fail> {
-    let rows = rows(alloc)?;
-    let (four, six) = (above(alloc, 0, 4)?, above(alloc, 0, 6)?);
+fn expect<R: Threads + Wait + Sync + Abort, G: Gate>(rt: &R, alloc: Global, gate: &G) {
+    let rows = rows(rt, alloc);
+    let (four, six) = (above(rt, alloc, 0, 4), above(rt, alloc, 0, 6));
     let named = [(A, &six), (B, &four), (Pid(2), &four)];
-    let lists = rows.truths_par(rt, alloc, &named, gate)?;
-    expect_same(rt, lists.len(), named.len());
-    for (list, (pid, expr)) in lists.iter().zip(named) {
-        expect_same(rt, list.items(), rows.truths(alloc, pid, expr)?.items());
+    expect_lists(rt, alloc, &rows, &named, gate);
+}
+
+#[test]
+fn lists_are_made_in_threads(rt: HostRuntime) {
+    expect(&rt, rt.alloc(), &OpenGate);
+}
+
+// Expects each worker to ask a gate that lets these start, and those that it lets to report.
+fn expect_notes<R: Threads + Wait + Sync + Abort>(rt: &R, alloc: Global, lets: [bool; 3]) {
+    let gate = NotingGate::new(lets);
+    expect(rt, alloc, &gate);
+    expect_same(rt, gate.asked.seen(), [true, true, true]);
+    expect_same(rt, gate.reported.seen(), lets);
+}
+
+#[test]
+fn each_worker_asks_and_those_that_may_start_report(rt: HostRuntime) {
+    // all start, one is barred, and all are
+    for lets in [
+        [true, true, true],
+        [true, false, true],
+        [false, false, false],
+    ] {
+        expect_notes(&rt, rt.alloc(), lets);
     }
-    Ok(())
-}
-
-#[test]
-fn lists_are_made_in_threads(rt: HostRuntime) -> Result<(), Fail> {
-    expect(&rt, rt.alloc(), &OpenGate)
-}
-
-#[test]
-fn each_worker_asks_and_tells(rt: HostRuntime) -> Result<(), Fail> {
-    let gate = NotingGate::new([true, true, true]);
-    expect(&rt, rt.alloc(), &gate)?;
-    expect_same(&rt, gate.asked.seen(), [true, true, true]);
-    expect_same(&rt, gate.told.seen(), [true, true, true]);
-    Ok(())
-}
-
-#[test]
-fn a_barred_list_is_made_all_the_same(rt: HostRuntime) -> Result<(), Fail> {
-    let gate = NotingGate::new([true, false, true]);
-    expect(&rt, rt.alloc(), &gate)?;
-    expect_same(&rt, gate.asked.seen(), [true, true, true]);
-    expect_same(&rt, gate.told.seen(), [true, false, true]);
-    Ok(())
-}
-
-#[test]
-fn lists_are_made_where_all_are_barred(rt: HostRuntime) -> Result<(), Fail> {
-    let gate = NotingGate::new([false, false, false]);
-    expect(&rt, rt.alloc(), &gate)?;
-    expect_same(&rt, gate.asked.seen(), [true, true, true]);
-    expect_same(&rt, gate.told.seen(), [false, false, false]);
-    Ok(())
 }

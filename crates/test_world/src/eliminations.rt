@@ -1,6 +1,5 @@
 //! Tests of `check_why`: with ample memory a list of eliminations is sound exactly if each step is justified.
 
-ghost use Rattle.std.specs.Prelude.{IfOk};
 ghost use Rattle.proc_lang.specs.Programs.{program_of};
 ghost use Rattle.causal_world.specs.Scenes.{IsWorldOf};
 
@@ -8,12 +7,13 @@ use crate::detector_calls::{checked, conjunct};
 use crate::expecting::expect_same;
 use crate::world_calls::play;
 use causal_world::World;
-use dbg_base::{Choice, Conjunct, Pid, Refusal, Sequence};
+use dbg_base::{Choice, Conjunct, Pid};
 use least_cut::{Cause, Elimination};
-use proc_lang::{ProgError, Program, parse_program};
+use proc_lang::{Program, parse_program};
 use std::alloc::Global;
 use std::process::Abort;
-use std::test::Fail;
+
+const MEMORY: &str = "ample memory";
 
 const A: Pid = Pid(0);
 
@@ -22,28 +22,27 @@ const B: Pid = Pid(1);
 const C: Pid = Pid(2);
 
 // The first counts to 3 and sends each count to the second, which counts the messages that it receives.
-fn feeder(alloc: Global) -> Result<Program, ProgError> {
+fn feeder(rt: &impl Abort, alloc: Global) -> Program {
     let text = "process a { var x = 0; when (x < 3) : send b (x + 1), x := (x + 1); }
         process b { var y = 0; var n = 0; when true : recv a y, n := (n + 1); }";
-    parse_program(alloc, text.as_bytes())
+    parse_program(alloc, text.as_bytes()).expect(rt, "a program")
 }
 
 // The world of the program after the first has sent once and the second has received that.
-fn played(alloc: Global, program: &Program) -> Result<World, Refusal>
-    ensures { IfOk result (λ world. IsWorldOf (program_of program.now) world) }
+fn played(rt: &impl Abort, alloc: Global, program: &Program) -> World
+    ensures { IsWorldOf (program_of program.now) result }
 {
-    let mut world = World::new(alloc, program)?;
+    let mut world = World::new(alloc, program).expect(rt, MEMORY);
     let moves = [(A, Choice(0)), (B, Choice(0))];
-    play(&mut world, alloc, program, &moves)?;
-    Ok(world)
+    play(&mut world, alloc, program, &moves).expect(rt, "the events");
+    world
 }
 
 // The first has not counted, and the second has received one message: no cut has both.
-fn apart(alloc: Global, program: &Program) -> Result<Sequence<Conjunct>, Refusal> {
-    let mut conjuncts = Vec::new(alloc);
-    conjuncts.push(conjunct(alloc, program, A, "(x = 0)")?)?;
-    conjuncts.push(conjunct(alloc, program, B, "(n = 1)")?)?;
-    Ok(Sequence::new(conjuncts))
+fn apart(rt: &impl Abort, alloc: Global, program: &Program) -> Vec<Conjunct> {
+    let first = conjunct(alloc, program, A, "(x = 0)").expect(rt, "a conjunct");
+    let second = conjunct(alloc, program, B, "(n = 1)").expect(rt, "a conjunct");
+    Vec::from_array(alloc, [first, second]).expect(rt, MEMORY)
 }
 
 fn passes(pid: Pid, from: u32, to: u32, cause: Cause) -> Elimination {
@@ -55,61 +54,77 @@ fn passes(pid: Pid, from: u32, to: u32, cause: Cause) -> Elimination {
     }
 }
 
-// The second must receive a message, which the first must have sent. Then the first is no longer where it was.
-fn steps() -> [Elimination; 3] {
-    [
+// Expects whether the list is sound.
+fn expect(
+    rt: &impl Abort,
+    alloc: Global,
+    program: &Program,
+    world: &World,
+    case: (&str, bool),
+    list: &[Elimination],
+)
+    requires { IsWorldOf (program_of program.now) world.now }
+{
+    let (name, sound) = case;
+    let conjuncts = apart(rt, alloc, program);
+    let reported = checked(alloc, program, world, conjuncts.as_slice(), list);
+    expect_same(rt, (name, reported), (name, Ok(sound)));
+}
+
+// Expects a list whose steps follow to be sound, and one of no step.
+fn expect_sound(rt: &impl Abort, alloc: Global, program: &Program, world: &World)
+    requires { IsWorldOf (program_of program.now) world.now }
+{
+    // The second must receive a message, which the first must have sent. Then the first is no longer where it was.
+    let steps = [
         passes(B, 0, 1, Cause::FalseAt),
         passes(A, 0, 1, Cause::Passed(B, 1)),
         passes(A, 1, 2, Cause::FalseAt),
-    ]
+    ];
+    expect(
+        rt,
+        alloc,
+        program,
+        world,
+        ("steps that follow", true),
+        &steps,
+    );
+    expect(rt, alloc, program, world, ("no step", true), &[]);
 }
 
-// Expects whether the list is sound.
-fn expect(rt: &impl Abort, alloc: Global, list: &[Elimination], sound: bool) -> Result<(), Fail> {
-    let program = feeder(alloc)?;
-    let world = played(alloc, &program)?;
-    let conjuncts = apart(alloc, &program)?;
-    let told = checked(alloc, &program, &world, conjuncts.items(), list)?;
-    expect_same(rt, told, sound);
-    Ok(())
-}
-
-#[test]
-fn a_list_whose_steps_follow_is_sound(rt: HostRuntime) -> Result<(), Fail> {
-    expect(&rt, rt.alloc(), &steps(), true)
-}
-
-#[test]
-fn no_step_is_sound(rt: HostRuntime) -> Result<(), Fail> {
-    expect(&rt, rt.alloc(), &[], true)
-}
-
-#[test]
-fn a_conjunct_that_is_true_rules_nothing_out(rt: HostRuntime) -> Result<(), Fail> {
-    expect(&rt, rt.alloc(), &[passes(A, 0, 1, Cause::FalseAt)], false)
-}
-
-#[test]
-fn a_clock_rules_out_no_more_than_it_counts(rt: HostRuntime) -> Result<(), Fail> {
-    let list = [
+// Expects that a clock rules out no more than it counts.
+fn expect_counted(rt: &impl Abort, alloc: Global, program: &Program, world: &World)
+    requires { IsWorldOf (program_of program.now) world.now }
+{
+    let steps = [
         passes(B, 0, 1, Cause::FalseAt),
         passes(A, 0, 2, Cause::Passed(B, 1)),
         passes(A, 1, 2, Cause::FalseAt),
     ];
-    expect(&rt, rt.alloc(), &list, false)
+    let case = ("a clock that does not count so far", false);
+    expect(rt, alloc, program, world, case, &steps);
+}
+
+// Expects that one step that does not follow is not sound.
+fn expect_unsound(rt: &impl Abort, alloc: Global, program: &Program, world: &World)
+    requires { IsWorldOf (program_of program.now) world.now }
+{
+    let step = passes(A, 0, 1, Cause::FalseAt);
+    let case = ("a conjunct that is true", false);
+    expect(rt, alloc, program, world, case, &[step]);
+    let step = passes(A, 0, 1, Cause::Passed(B, 1));
+    let case = ("a clock that no cut needs yet", false);
+    expect(rt, alloc, program, world, case, &[step]);
+    let step = passes(C, 0, 1, Cause::FalseAt);
+    let case = ("a process that does not exist", false);
+    expect(rt, alloc, program, world, case, &[step]);
 }
 
 #[test]
-fn a_clock_that_no_cut_needs_yet_rules_nothing_out(rt: HostRuntime) -> Result<(), Fail> {
-    expect(
-        &rt,
-        rt.alloc(),
-        &[passes(A, 0, 1, Cause::Passed(B, 1))],
-        false,
-    )
-}
-
-#[test]
-fn a_process_that_is_not_there_is_not_passed(rt: HostRuntime) -> Result<(), Fail> {
-    expect(&rt, rt.alloc(), &[passes(C, 0, 1, Cause::FalseAt)], false)
+fn a_list_is_sound_if_each_step_follows(rt: HostRuntime) {
+    let program = feeder(&rt, rt.alloc());
+    let world = played(&rt, rt.alloc(), &program);
+    expect_sound(&rt, rt.alloc(), &program, &world);
+    expect_counted(&rt, rt.alloc(), &program, &world);
+    expect_unsound(&rt, rt.alloc(), &program, &world);
 }

@@ -1,24 +1,18 @@
 //! What a test expects. Each is a function of its own, so a test's own proof has no text to make for a failure.
 
+ghost use Rattle.std.specs.Prelude.{IsTrue};
+
 use std::fmt::Debug;
 use std::process::Abort;
 
 /// Expects the wanted value.
-pub fn expect_same<T: Debug + PartialEq + Drop>(rt: &impl Abort, told: T, want: T) {
-    assert_eq!(rt; told, want);
-}
-
-/// Expects the wanted value; a failure shows the name.
-pub fn expect_same_of<T: Debug + PartialEq + Drop>(rt: &impl Abort, name: &str, told: T, want: T) {
-    assert_eq!(rt; told, want, "{name}");
+pub fn expect_same<T: Debug + PartialEq + Drop>(rt: &impl Abort, reported: T, want: T) {
+    assert_eq!(rt; reported, want);
 }
 
 /// Expects that something holds.
-pub fn expect_true(rt: &impl Abort, holds: bool) {
+pub fn expect_true(rt: &impl Abort, holds: bool)
+    ensures { IsTrue holds }
+{
     assert!(rt; holds);
-}
-
-/// Expects that something holds; a failure shows the name.
-pub fn expect_true_of(rt: &impl Abort, name: &str, holds: bool) {
-    assert!(rt; holds, "{name}");
 }

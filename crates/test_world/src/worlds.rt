@@ -1,6 +1,5 @@
 //! Tests of `causal_world`: with ample memory a world goes forward and back, and shows what its events did.
 
-ghost use Rattle.std.specs.Prelude.{IfOk, OnOk};
 ghost use Rattle.proc_lang.specs.Programs.{program_of};
 ghost use Rattle.causal_world.specs.Scenes.{IsWorldOf};
 
@@ -10,11 +9,12 @@ use crate::world_calls::{
 };
 use causal_world::World;
 use cut_core::Tally;
-use dbg_base::{Choice, Pid, Refusal};
-use proc_lang::{ProgError, Program, parse_program};
+use dbg_base::{Choice, Pid};
+use proc_lang::{Program, parse_program};
 use std::alloc::Global;
 use std::process::Abort;
-use std::test::Fail;
+
+const MEMORY: &str = "ample memory";
 
 const A: Pid = Pid(0);
 
@@ -23,27 +23,29 @@ const B: Pid = Pid(1);
 const C: Pid = Pid(2);
 
 // The first sends 1 and 2 to the second, which receives one and sends ten more to the third.
-fn relay(alloc: Global) -> Result<Program, ProgError> {
+fn relay(rt: &impl Abort, alloc: Global) -> Program {
     let text = "process a { var x = 0; when true : send b (x + 1), x := (x + 1); }
         process b { var y = 0; when true : recv a y; when true : send c (y + 10); }
         process c { var z = 0; when true : recv b z; }";
-    parse_program(alloc, text.as_bytes())
+    parse_program(alloc, text.as_bytes()).expect(rt, "a program")
 }
 
-// The world of the program after two events of the first process, two of the second and one of the third.
-fn played(alloc: Global, program: &Program) -> Result<World, Refusal>
-    ensures { IfOk result (λ world. IsWorldOf (program_of program.now) world) }
+// Two events of the first process, two of the second and one of the third.
+const MOVES: [(Pid, Choice); 5] = [
+    (A, Choice(0)),
+    (A, Choice(0)),
+    (B, Choice(0)),
+    (B, Choice(1)),
+    (C, Choice(0)),
+];
+
+// The world of the program after these events.
+fn played(rt: &impl Abort, alloc: Global, program: &Program) -> World
+    ensures { IsWorldOf (program_of program.now) result }
 {
-    let mut world = World::new(alloc, program)?;
-    let moves = [
-        (A, Choice(0)),
-        (A, Choice(0)),
-        (B, Choice(0)),
-        (B, Choice(1)),
-        (C, Choice(0)),
-    ];
-    play(&mut world, alloc, program, &moves)?;
-    Ok(world)
+    let mut world = World::new(alloc, program).expect(rt, MEMORY);
+    play(&mut world, alloc, program, &MOVES).expect(rt, "the events");
+    world
 }
 
 // The place, the length of the line and the value of each process; and the messages from the first to the second, and from the second to
@@ -54,17 +56,22 @@ struct ShownWorld<'a> {
     messages: [&'a [i64]; 2],
 }
 
-// Expects the value of the process, which is its only one.
-fn expect_value(
+// Expects the place, the length of the line and the value of the process.
+fn expect_process(
     rt: &impl Abort,
     alloc: Global,
     world: &World,
     pid: Pid,
-    value: i64,
-) -> Result<(), Refusal> {
-    let values = world.vars(alloc, pid)?;
-    expect_same(rt, values.items(), [value].as_slice());
-    Ok(())
+    wanted: (u32, u32, i64),
+) {
+    let (place, line_len, value) = wanted;
+    expect_same(
+        rt,
+        [world.place(pid), world.line_len(pid)],
+        [place, line_len],
+    );
+    let values = world.vars(alloc, pid).expect(rt, MEMORY);
+    expect_same(rt, values.items(), &[value]);
 }
 
 // Expects the messages between two processes.
@@ -75,40 +82,25 @@ fn expect_messages(
     source: Pid,
     target: Pid,
     wanted: &[i64],
-) -> Result<(), Refusal> {
-    let messages = world.channel(alloc, source, target)?;
+) {
+    let messages = world.channel(alloc, source, target).expect(rt, MEMORY);
     expect_same(rt, messages.items(), wanted);
-    Ok(())
 }
 
 // Expects the places of the processes.
-fn expect_places(
-    rt: &impl Abort,
-    alloc: Global,
-    world: &World,
-    wanted: &[u32],
-) -> Result<(), Refusal> {
-    let places = world.places(alloc)?;
+fn expect_places(rt: &impl Abort, alloc: Global, world: &World, wanted: &[u32]) {
+    let places = world.places(alloc).expect(rt, MEMORY);
     expect_same(rt, places.counts(), wanted);
-    Ok(())
 }
 
-fn expect(
-    rt: &impl Abort,
-    alloc: Global,
-    world: &World,
-    shown: &ShownWorld,
-) -> Result<(), Refusal> {
-    for (pid, (place, line_len, value)) in [A, B, C].into_iter().zip(shown.processes) {
-        expect_same(
-            rt,
-            (world.place(pid), world.line_len(pid)),
-            (place, line_len),
-        );
-        expect_value(rt, alloc, world, pid, value)?;
-    }
-    expect_messages(rt, alloc, world, A, B, shown.messages[0])?;
-    expect_messages(rt, alloc, world, B, C, shown.messages[1])
+fn expect(rt: &impl Abort, alloc: Global, world: &World, shown: &ShownWorld) {
+    let [first, second, third] = shown.processes;
+    expect_process(rt, alloc, world, A, first);
+    expect_process(rt, alloc, world, B, second);
+    expect_process(rt, alloc, world, C, third);
+    let [sent_on, last] = shown.messages;
+    expect_messages(rt, alloc, world, A, B, sent_on);
+    expect_messages(rt, alloc, world, B, C, last);
 }
 
 // What the world shows after it has played.
@@ -123,6 +115,15 @@ const RECEIVED_BACK: ShownWorld = ShownWorld {
     messages: [&[2], &[11]],
 };
 
+// How many events of a process are in the clock of an event.
+fn part(rt: &impl Abort, world: &World, program: &Program, event: (Pid, u32), of: Pid) -> u32
+    requires { IsWorldOf (program_of program.now) world.now }
+{
+    let (pid, n) = event;
+    clock_part(world, program, pid, n, of).expect(rt, "an event")
+}
+
+// Expects the clock of an event, whole and in parts, of which that of a process that does not exist is 0.
 fn expect_clock(
     rt: &impl Abort,
     alloc: Global,
@@ -130,71 +131,60 @@ fn expect_clock(
     program: &Program,
     event: (Pid, u32),
     counts: [u32; 3],
-) -> Result<(), Fail>
+)
     requires { IsWorldOf (program_of program.now) world.now }
 {
     let (pid, n) = event;
-    expect_same(
-        rt,
-        clock(world, alloc, program, pid, n)?.counts(),
-        counts.as_slice(),
-    );
+    let clock = clock(world, alloc, program, pid, n).expect(rt, "an event");
+    expect_same(rt, clock.counts(), &counts);
     let [first, second, third] = counts;
     for (of, count) in [(A, first), (B, second), (C, third), (Pid(3), 0)] {
-        expect_same(rt, clock_part(world, program, pid, n, of)?, count);
+        expect_same(rt, part(rt, world, program, event, of), count);
     }
-    Ok(())
 }
 
+// Events, and their clocks.
+const CLOCKS: [((Pid, u32), [u32; 3]); 5] = [
+    ((C, 1), [1, 2, 1]),
+    ((C, 0), [0, 0, 0]),
+    ((B, 2), [1, 2, 0]),
+    ((B, 1), [1, 1, 0]),
+    ((A, 1), [1, 0, 0]),
+];
+
 #[test]
-fn clocks_of_earlier_events(rt: HostRuntime) -> Result<(), Fail> {
-    let alloc = rt.alloc();
-    let program = relay(alloc)?;
-    let world = played(alloc, &program)?;
-    let clocks = [
-        ((C, 1), [1, 2, 1]),
-        ((C, 0), [0, 0, 0]),
-        ((B, 2), [1, 2, 0]),
-        ((B, 1), [1, 1, 0]),
-        ((A, 1), [1, 0, 0]),
-    ];
-    for (event, counts) in clocks {
-        expect_clock(&rt, alloc, &world, &program, event, counts)?;
+fn clocks_of_earlier_events(rt: HostRuntime) {
+    let program = relay(&rt, rt.alloc());
+    let world = played(&rt, rt.alloc(), &program);
+    for (event, counts) in &CLOCKS {
+        expect_clock(&rt, rt.alloc(), &world, &program, *event, *counts);
     }
-    Ok(())
 }
 
 // Expects the sends and receives of the world that has played.
 fn expect_tally(rt: &impl Abort, tally: &Tally) {
-    expect_same(rt, (tally.len(A), tally.len(B), tally.len(C)), (2, 2, 1));
-    expect_same(
-        rt,
-        [
-            tally.sent(A, B, 1),
-            tally.sent(A, B, 2),
-            tally.sent(B, C, 1),
-            tally.sent(B, C, 2),
-        ],
-        [1, 2, 0, 1],
-    );
-    expect_same(
-        rt,
-        [
-            tally.got(B, A, 0),
-            tally.got(B, A, 2),
-            tally.got(C, B, 1),
-            tally.got(C, A, 1),
-        ],
-        [0, 1, 1, 0],
-    );
+    expect_same(rt, [tally.len(A), tally.len(B), tally.len(C)], [2, 2, 1]);
+    let sent = [
+        tally.sent(A, B, 1),
+        tally.sent(A, B, 2),
+        tally.sent(B, C, 1),
+        tally.sent(B, C, 2),
+    ];
+    expect_same(rt, sent, [1, 2, 0, 1]);
+    let got = [
+        tally.got(B, A, 0),
+        tally.got(B, A, 2),
+        tally.got(C, B, 1),
+        tally.got(C, A, 1),
+    ];
+    expect_same(rt, got, [0, 1, 1, 0]);
 }
 
 #[test]
-fn a_tally_of_events(rt: HostRuntime) -> Result<(), Fail> {
-    let alloc = rt.alloc();
-    let world = played(alloc, &relay(alloc)?)?;
+fn a_tally_of_events(rt: HostRuntime) {
+    let program = relay(&rt, rt.alloc());
+    let world = played(&rt, rt.alloc(), &program);
     expect_tally(&rt, world.tally());
-    Ok(())
 }
 
 // The process goes back to this count of events, which is shown. Then all that was undone is made again.
@@ -205,15 +195,15 @@ fn back_and_forth(
     program: &Program,
     back: (Pid, u32),
     shown: &ShownWorld,
-) -> Result<(), Refusal>
+)
     requires { IsWorldOf (program_of program.now) world.old }
-    ensures { OnOk result (IsWorldOf (program_of program.now) world.new) }
+    ensures { IsWorldOf (program_of program.now) world.new }
 {
     let (pid, n) = back;
-    let rolled = rollback(world, alloc, program, pid, n)?;
-    expect(rt, alloc, world, shown)?;
-    forth(world, program, rolled)?;
-    expect(rt, alloc, world, &PLAYED)
+    let rolled = rollback(world, alloc, program, pid, n).expect(rt, MEMORY);
+    expect(rt, alloc, world, shown);
+    forth(world, program, rolled).expect(rt, MEMORY);
+    expect(rt, alloc, world, &PLAYED);
 }
 
 // What the world shows after its first process has gone back to its start.
@@ -223,12 +213,11 @@ const START: ShownWorld = ShownWorld {
 };
 
 #[test]
-fn a_rollback_and_forth(rt: HostRuntime) -> Result<(), Fail> {
-    let alloc = rt.alloc();
-    let program = relay(alloc)?;
-    let mut world = played(alloc, &program)?;
-    back_and_forth(&rt, alloc, &mut world, &program, (A, 0), &START)?;
-    expect_clock(&rt, alloc, &world, &program, (C, 1), [1, 2, 1])
+fn a_rollback_and_forth(rt: HostRuntime) {
+    let program = relay(&rt, rt.alloc());
+    let mut world = played(&rt, rt.alloc(), &program);
+    back_and_forth(&rt, rt.alloc(), &mut world, &program, (A, 0), &START);
+    expect_clock(&rt, rt.alloc(), &world, &program, (C, 1), [1, 2, 1]);
 }
 
 // What it shows after the second process has gone back to its first event.
@@ -238,92 +227,69 @@ const SENT_BACK: ShownWorld = ShownWorld {
 };
 
 #[test]
-fn a_rollback_of_some_and_forth(rt: HostRuntime) -> Result<(), Fail> {
-    let alloc = rt.alloc();
-    let program = relay(alloc)?;
-    let mut world = played(alloc, &program)?;
-    back_and_forth(&rt, alloc, &mut world, &program, (B, 1), &SENT_BACK)?;
-    Ok(())
+fn a_rollback_of_some_and_forth(rt: HostRuntime) {
+    let program = relay(&rt, rt.alloc());
+    let mut world = played(&rt, rt.alloc(), &program);
+    back_and_forth(&rt, rt.alloc(), &mut world, &program, (B, 1), &SENT_BACK);
 }
 
 // The third process undoes its event, and makes it again.
-fn undo_and_forth(
-    rt: &impl Abort,
-    alloc: Global,
-    world: &mut World,
-    program: &Program,
-) -> Result<(), Refusal>
+fn undo_and_forth(rt: &impl Abort, alloc: Global, world: &mut World, program: &Program)
     requires { IsWorldOf (program_of program.now) world.old }
 {
-    let rolled = undo(world, alloc, program, C)?;
-    expect(rt, alloc, world, &RECEIVED_BACK)?;
-    forth(world, program, rolled)?;
-    expect(rt, alloc, world, &PLAYED)
+    let rolled = undo(world, alloc, program, C).expect(rt, MEMORY);
+    expect(rt, alloc, world, &RECEIVED_BACK);
+    forth(world, program, rolled).expect(rt, MEMORY);
+    expect(rt, alloc, world, &PLAYED);
 }
 
 #[test]
-fn an_undo_and_forth(rt: HostRuntime) -> Result<(), Fail> {
-    let alloc = rt.alloc();
-    let program = relay(alloc)?;
-    let mut world = played(alloc, &program)?;
-    undo_and_forth(&rt, alloc, &mut world, &program)?;
-    Ok(())
+fn an_undo_and_forth(rt: HostRuntime) {
+    let program = relay(&rt, rt.alloc());
+    let mut world = played(&rt, rt.alloc(), &program);
+    undo_and_forth(&rt, rt.alloc(), &mut world, &program);
 }
 
 // Expects a world whose third process has gone back, and one whose third process has not.
-fn expect_both(rt: &impl Abort, alloc: Global, world: &World, made: &World) -> Result<(), Refusal> {
-    expect_places(rt, alloc, world, &[2, 2, 0])?;
-    expect_places(rt, alloc, made, &[2, 2, 1])?;
-    expect(rt, alloc, world, &RECEIVED_BACK)?;
-    expect(rt, alloc, made, &PLAYED)
+fn expect_both(rt: &impl Abort, alloc: Global, world: &World, made: &World) {
+    expect_places(rt, alloc, world, &[2, 2, 0]);
+    expect_places(rt, alloc, made, &[2, 2, 1]);
+    expect(rt, alloc, world, &RECEIVED_BACK);
+    expect(rt, alloc, made, &PLAYED);
 }
 
 // The third process undoes its event, in one world and not in its copy.
-fn undo_apart(
-    rt: &impl Abort,
-    alloc: Global,
-    world: &mut World,
-    program: &Program,
-) -> Result<(), Refusal>
+fn undo_apart(rt: &impl Abort, alloc: Global, world: &mut World, program: &Program)
     requires { IsWorldOf (program_of program.now) world.old }
 {
-    let made = world.copy()?;
-    undo(world, alloc, program, C)?;
-    expect_both(rt, alloc, world, &made)
+    let made = world.copy().expect(rt, MEMORY);
+    undo(world, alloc, program, C).expect(rt, MEMORY);
+    expect_both(rt, alloc, world, &made);
 }
 
 #[test]
-fn a_copied_world_is_apart(rt: HostRuntime) -> Result<(), Fail> {
-    let alloc = rt.alloc();
-    let program = relay(alloc)?;
-    let mut world = played(alloc, &program)?;
-    undo_apart(&rt, alloc, &mut world, &program)?;
-    Ok(())
+fn a_copied_world_is_apart(rt: HostRuntime) {
+    let program = relay(&rt, rt.alloc());
+    let mut world = played(&rt, rt.alloc(), &program);
+    undo_apart(&rt, rt.alloc(), &mut world, &program);
 }
 
 // The third process undoes its event, makes it again, and undoes that.
-fn redo_and_back(
-    rt: &impl Abort,
-    alloc: Global,
-    world: &mut World,
-    program: &Program,
-) -> Result<(), Refusal>
+fn redo_and_back(rt: &impl Abort, alloc: Global, world: &mut World, program: &Program)
     requires { IsWorldOf (program_of program.now) world.old }
 {
-    undo(world, alloc, program, C)?;
-    redo(world, alloc, program, C)?;
-    expect(rt, alloc, world, &PLAYED)?;
-    unredo(world, program, C)?;
-    expect(rt, alloc, world, &RECEIVED_BACK)
+    undo(world, alloc, program, C).expect(rt, MEMORY);
+    redo(world, alloc, program, C).expect(rt, MEMORY);
+    expect(rt, alloc, world, &PLAYED);
+    unredo(world, program, C).expect(rt, MEMORY);
+    expect(rt, alloc, world, &RECEIVED_BACK);
 }
 
 #[test]
-fn a_redo_is_taken_back(rt: HostRuntime) -> Result<(), Fail> {
-    let alloc = rt.alloc();
-    let program = relay(alloc)?;
-    let mut world = played(alloc, &program)?;
-    redo_and_back(&rt, alloc, &mut world, &program)?;
-    Ok(())
+fn a_redo_is_taken_back(rt: HostRuntime) {
+    let program = relay(&rt, rt.alloc());
+    let mut world = played(&rt, rt.alloc(), &program);
+    redo_and_back(&rt, rt.alloc(), &mut world, &program);
 }
 
 // What the world shows after its second process has gone back, and has sent its first message again.
@@ -333,41 +299,29 @@ const SENT_TEN: ShownWorld = ShownWorld {
 };
 
 // A step that cuts off the later choices of the second process is made and undone.
-fn step_and_back(
-    rt: &impl Abort,
-    alloc: Global,
-    world: &mut World,
-    program: &Program,
-) -> Result<(), Refusal>
+fn step_and_back(rt: &impl Abort, alloc: Global, world: &mut World, program: &Program)
     requires { IsWorldOf (program_of program.now) world.old }
-    ensures { OnOk result (IsWorldOf (program_of program.now) world.new) }
+    ensures { IsWorldOf (program_of program.now) world.new }
 {
-    let cutoff = step(world, alloc, program, B, Choice(1))?;
-    expect(rt, alloc, world, &SENT_TEN)?;
-    unstep(world, program, B, cutoff)
+    let cutoff = step(world, alloc, program, B, Choice(1)).expect(rt, MEMORY);
+    expect(rt, alloc, world, &SENT_TEN);
+    unstep(world, program, B, cutoff).expect(rt, MEMORY);
 }
 
 // The second process goes back, makes a step, undoes it, and makes its two events again.
-fn step_between(
-    rt: &impl Abort,
-    alloc: Global,
-    world: &mut World,
-    program: &Program,
-) -> Result<(), Refusal>
+fn step_between(rt: &impl Abort, alloc: Global, world: &mut World, program: &Program)
     requires { IsWorldOf (program_of program.now) world.old }
 {
-    rollback(world, alloc, program, B, 0)?;
-    step_and_back(rt, alloc, world, program)?;
-    redo(world, alloc, program, B)?;
-    redo(world, alloc, program, B)?;
-    expect(rt, alloc, world, &RECEIVED_BACK)
+    rollback(world, alloc, program, B, 0).expect(rt, MEMORY);
+    step_and_back(rt, alloc, world, program);
+    redo(world, alloc, program, B).expect(rt, MEMORY);
+    redo(world, alloc, program, B).expect(rt, MEMORY);
+    expect(rt, alloc, world, &RECEIVED_BACK);
 }
 
 #[test]
-fn a_step_gives_back_what_it_cut_off(rt: HostRuntime) -> Result<(), Fail> {
-    let alloc = rt.alloc();
-    let program = relay(alloc)?;
-    let mut world = played(alloc, &program)?;
-    step_between(&rt, alloc, &mut world, &program)?;
-    Ok(())
+fn a_step_gives_back_what_it_cut_off(rt: HostRuntime) {
+    let program = relay(&rt, rt.alloc());
+    let mut world = played(&rt, rt.alloc(), &program);
+    step_between(&rt, rt.alloc(), &mut world, &program);
 }

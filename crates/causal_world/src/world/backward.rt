@@ -13,7 +13,7 @@ ghost use Rattle.causal_world.specs.Rollings.{IsRolledFrom, IsRedone, IsStepped,
 
 use crate::channels::make_room_before;
 use crate::rolled::{Cutoff, Rolled, Taken};
-use crate::rolling::{behind, last_exchange, make_room_back, roll_back, take_back};
+use crate::rolling::{beyond, last_exchange, make_room_back, roll_back, take_back};
 use crate::world::World;
 use dbg_base::{Cut, Pid, Refusal};
 use event_rows::{Event, Exchange};
@@ -119,7 +119,7 @@ impl World {
     {
         let counts = cut.counts();
         let mut taken = Vec::new(alloc);
-        taken.reserve(behind(self.past.tally(), counts))?;
+        taken.reserve(beyond(self.past.tally(), counts))?;
         make_room_back(&mut self.grid, self.past.tally(), counts)?;
         roll_back(
             &mut self.lines,

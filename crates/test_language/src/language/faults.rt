@@ -1,12 +1,14 @@
 //! Each kind of fault except for the grammar and the limits, at each place that may have it.
 
-use super::{Group, expect_accepted, expect_groups, expect_refused};
-use std::test::Fail;
+use super::{Group, MEMORY, Outcome, add, between, expect_groups, outcome};
+use crate::expecting::expect_same;
+use std::alloc::Global;
+use std::process::Abort;
 
 const TOKENS: &[Group] = &[
     Group {
         kind: 1,
-        front: "",
+        prefix: "",
         back: "",
         cases: &[
             ("a `!` alone", "^!"),
@@ -30,7 +32,7 @@ const TOKENS: &[Group] = &[
     },
     Group {
         kind: 2,
-        front: "",
+        prefix: "",
         back: "",
         // The words of 33 bytes are the 26 letters and 7 more bytes.
         cases: &[
@@ -56,11 +58,11 @@ const TOKENS: &[Group] = &[
                 "process a { var x = ^9223372036854775808; }",
             ),
             (
-                "the same behind a minus",
+                "the same after a minus",
                 "process a { var x = -^9223372036854775808; }",
             ),
             (
-                "the same with zeros in front",
+                "the same with zeros before it",
                 "process a { var x = ^0009223372036854775808; }",
             ),
             (
@@ -82,17 +84,17 @@ const TOKENS: &[Group] = &[
 const NAMES: &[Group] = &[
     Group {
         kind: 4,
-        front: "",
+        prefix: "",
         back: "",
         cases: &[
             ("a process name", "process a { } process ^a { }"),
             (
-                "a process name further in front",
+                "a process name further before it",
                 "process a { } process b { } process ^a { }",
             ),
             ("a variable name", "process a { var x = 0; var ^x = 0; }"),
             (
-                "a variable name further in front",
+                "a variable name further before it",
                 "process a { var x = 0; var y = 0; var ^x = 0; }",
             ),
             (
@@ -103,7 +105,7 @@ const NAMES: &[Group] = &[
     },
     Group {
         kind: 5,
-        front: "process a { var x = 0; when true : ",
+        prefix: "process a { var x = 0; when true : ",
         back: "; } process b { var z = 0; }",
         cases: &[
             ("a target", "send ^c 1"),
@@ -131,7 +133,7 @@ const NAMES: &[Group] = &[
     },
     Group {
         kind: 5,
-        front: "process a { var x = 0; when ",
+        prefix: "process a { var x = 0; when ",
         back: " : x := 1; } process b { var z = 0; }",
         cases: &[
             ("a variable in a guard", "(^y = 1)"),
@@ -144,7 +146,7 @@ const NAMES: &[Group] = &[
     },
     Group {
         kind: 8,
-        front: "process b { } process a { var x = 0; var y = 0; when ",
+        prefix: "process b { } process a { var x = 0; var y = 0; when ",
         back: "; }",
         cases: &[
             ("a target", "true : send ^a 1"),
@@ -163,7 +165,7 @@ const NAMES: &[Group] = &[
     },
     Group {
         kind: 9,
-        front: "process a { var x = 0; var y = 0; when true : ",
+        prefix: "process a { var x = 0; var y = 0; when true : ",
         back: "; } process b { }",
         cases: &[
             ("two assignments", "x := 1, ^x := 2"),
@@ -174,10 +176,10 @@ const NAMES: &[Group] = &[
                 "recv b x, y := 1, ^x := 2",
             ),
             (
-                "two assignments behind a message",
+                "two assignments after a message",
                 "recv b x, y := 1, ^y := 2",
             ),
-            ("two assignments behind a send", "send b x, x := 1, ^x := 2"),
+            ("two assignments after a send", "send b x, x := 1, ^x := 2"),
             ("the third of one variable", "x := 1, ^x := 2, x := 3"),
         ],
     },
@@ -187,7 +189,7 @@ const NAMES: &[Group] = &[
 const SORTS: &[Group] = &[
     Group {
         kind: 6,
-        front: "process a { var x = 0; when true : x := ",
+        prefix: "process a { var x = 0; when true : x := ",
         back: "; } process b { }",
         cases: &[
             ("a truth value to set", "^true"),
@@ -205,7 +207,7 @@ const SORTS: &[Group] = &[
     },
     Group {
         kind: 6,
-        front: "process a { var x = 0; when ",
+        prefix: "process a { var x = 0; when ",
         back: " : send b x; } process b { }",
         cases: &[
             ("a variable", "^x"),
@@ -229,17 +231,14 @@ const SORTS: &[Group] = &[
     },
     Group {
         kind: 6,
-        front: "process a { var x = 0; var y = 0; when true : ",
+        prefix: "process a { var x = 0; var y = 0; when true : ",
         back: "; } process b { }",
         cases: &[
             ("a truth value to send", "send b ^true"),
             ("a comparison to send", "send b ^(x < 1), x := 1"),
+            ("a truth value to set after a send", "send b 1, x := ^false"),
             (
-                "a truth value to set behind a send",
-                "send b 1, x := ^false",
-            ),
-            (
-                "a truth value to set behind a message",
+                "a truth value to set after a message",
                 "recv b x, y := ^true",
             ),
         ],
@@ -247,32 +246,38 @@ const SORTS: &[Group] = &[
 ];
 
 #[test]
-fn each_kind_of_fault_is_told_at_its_place(rt: HostRuntime) -> Result<(), Fail> {
-    for groups in [TOKENS, NAMES, SORTS] {
-        expect_groups(&rt, rt.alloc(), groups)?;
+fn each_kind_of_fault_is_reported_at_its_place(rt: HostRuntime) {
+    expect_groups(&rt, rt.alloc(), TOKENS);
+    expect_groups(&rt, rt.alloc(), NAMES);
+    expect_groups(&rt, rt.alloc(), SORTS);
+}
+
+// What `process a {`, this byte and `}` are, with blanks between.
+fn wanted(b: u8) -> Outcome {
+    let begins = b.is_ascii_lowercase() || b.is_ascii_digit() || b"{();:,=<>+-*/%".contains(&b);
+    if b" \t\n\r".contains(&b) {
+        Ok((1, 0))
+    } else if b == b'}' {
+        Err((3, 14))
+    } else if begins {
+        Err((3, 12))
+    } else {
+        Err((1, 12))
     }
-    Ok(())
+}
+
+// Expects what that text is.
+fn expect_byte(rt: &impl Abort, alloc: Global, b: u8) {
+    // 12 bytes before it, and a blank after it
+    let mut text = between(rt, alloc, "process a { ", "", "");
+    text.push(b).expect(rt, MEMORY);
+    add(rt, &mut text, " }");
+    expect_same(rt, (b, outcome(alloc, text.as_slice())), (b, wanted(b)));
 }
 
 #[test]
-fn a_byte_begins_a_token_or_is_refused(rt: HostRuntime) -> Result<(), Fail> {
-    let alloc = rt.alloc();
+fn a_byte_begins_a_token_or_is_refused(rt: HostRuntime) {
     for number in 0..256u32 {
-        let b = number as u8;
-        let name = format!(in alloc; "byte {number}")?;
-        // 12 bytes before it, and a blank after it
-        let mut text = Vec::from_slice(alloc, b"process a { ")?;
-        text.push(b)?;
-        text.extend_from_slice(b" }")?;
-        let begins = b.is_ascii_lowercase() || b.is_ascii_digit() || b"{();:,=<>+-*/%".contains(&b);
-        if b" \t\n\r".contains(&b) {
-            expect_accepted(&rt, alloc, name.as_str(), text.as_slice(), 1, 0)?;
-        } else if b == b'}' {
-            expect_refused(&rt, alloc, name.as_str(), text.as_slice(), 3, 14)?;
-        } else {
-            let kind = if begins { 3 } else { 1 };
-            expect_refused(&rt, alloc, name.as_str(), text.as_slice(), kind, 12)?;
-        }
+        expect_byte(&rt, rt.alloc(), number as u8);
     }
-    Ok(())
 }

@@ -1,11 +1,12 @@
 //! Faults of the grammar: a token that cannot follow, at each production, and texts that end too early.
 
-use super::{Group, between, expect_groups, expect_refused};
-use std::test::Fail;
+use super::{Group, between, expect_group, expect_refused};
+use std::alloc::Global;
+use std::process::Abort;
 
 const PROGRAMS: Group = Group {
     kind: 3,
-    front: "",
+    prefix: "",
     back: "",
     cases: &[
         ("a text without a token", "^"),
@@ -16,10 +17,10 @@ const PROGRAMS: Group = Group {
         ("a command without a process", "^when true : x := 1;"),
         ("a brace too many", "process a { } ^}"),
         (
-            "a command behind a process",
+            "a command after a process",
             "process a { } ^when true : x := 1;",
         ),
-        ("a semicolon behind a process", "process a { }^;"),
+        ("a semicolon after a process", "process a { }^;"),
         ("no name", "process ^{ }"),
         ("a number as a name", "process ^1 { }"),
         ("a name that begins with a digit", "process ^1a { }"),
@@ -34,7 +35,7 @@ const PROGRAMS: Group = Group {
             "process a { var x = 0; ^x := 1; }",
         ),
         (
-            "a variable behind a command",
+            "a variable after a command",
             "process a { when true : x := 1; ^var x = 0; }",
         ),
     ],
@@ -42,7 +43,7 @@ const PROGRAMS: Group = Group {
 
 const VARIABLES: Group = Group {
     kind: 3,
-    front: "process a { var ",
+    prefix: "process a { var ",
     back: " }",
     cases: &[
         ("no name", "^= 0;"),
@@ -56,7 +57,7 @@ const VARIABLES: Group = Group {
         ("two minuses", "x = -^-1;"),
         ("a plus", "x = ^+1;"),
         ("an expression", "x = ^(- 1);"),
-        ("a word right behind a number", "x = 12^ab;"),
+        ("a word right after a number", "x = 12^ab;"),
         ("no semicolon", "x = 0 ^}"),
         ("a colon", "x = 0^:"),
         ("two variables", "x = 0^, y = 0;"),
@@ -66,7 +67,7 @@ const VARIABLES: Group = Group {
 
 const COMMANDS: Group = Group {
     kind: 3,
-    front: "process a { var x = 0; when ",
+    prefix: "process a { var x = 0; when ",
     back: " }",
     cases: &[
         ("no guard", "^: x := 1;"),
@@ -87,21 +88,21 @@ const COMMANDS: Group = Group {
 
 const BODIES: Group = Group {
     kind: 3,
-    front: "process a { var x = 0; when true : ",
+    prefix: "process a { var x = 0; when true : ",
     back: "; }",
     cases: &[
         ("no comma", "x := 1 ^x := 2"),
-        ("nothing behind a comma", "x := 1, ^"),
+        ("nothing after a comma", "x := 1, ^"),
         ("two commas", "x := 1,^, x := 2"),
-        ("a send behind an assignment", "x := 1, ^send b 1"),
-        ("a receive behind a send", "send b 1, ^recv b x"),
+        ("a send after an assignment", "x := 1, ^send b 1"),
+        ("a receive after a send", "send b 1, ^recv b x"),
         ("two sends", "send b 1, ^send b 2"),
         ("no target", "send ^"),
         ("a number as a target", "send ^1 b"),
         ("no value", "send b^"),
-        ("`:=` behind a target", "send b ^:= 1"),
+        ("`:=` after a target", "send b ^:= 1"),
         ("two values", "send b 1 ^2"),
-        ("a comma behind a target", "send b^, 1"),
+        ("a comma after a target", "send b^, 1"),
         ("no source", "recv ^"),
         ("a number as a source", "recv ^1 x"),
         ("no variable", "recv b ^"),
@@ -117,7 +118,7 @@ const BODIES: Group = Group {
 
 const EXPRESSIONS: Group = Group {
     kind: 3,
-    front: "process a { var x = 0; when true : x := ",
+    prefix: "process a { var x = 0; when true : x := ",
     back: "; }",
     cases: &[
         ("a sum without parentheses", "x ^+ 1"),
@@ -163,10 +164,12 @@ const EXPRESSIONS: Group = Group {
 };
 
 #[test]
-fn what_cannot_follow_is_refused(rt: HostRuntime) -> Result<(), Fail> {
-    let groups = [PROGRAMS, VARIABLES, COMMANDS, BODIES, EXPRESSIONS];
-    expect_groups(&rt, rt.alloc(), groups.as_slice())?;
-    Ok(())
+fn what_cannot_follow_is_refused(rt: HostRuntime) {
+    expect_group(&rt, rt.alloc(), &PROGRAMS);
+    expect_group(&rt, rt.alloc(), &VARIABLES);
+    expect_group(&rt, rt.alloc(), &COMMANDS);
+    expect_group(&rt, rt.alloc(), &BODIES);
+    expect_group(&rt, rt.alloc(), &EXPRESSIONS);
 }
 
 const RESERVED: [&str; 12] = [
@@ -184,15 +187,19 @@ const NAMES: [(&str, &str); 7] = [
     ("process a { when (sent(", ") = 0) : x := 1; }"),
 ];
 
-#[test]
-fn a_reserved_word_is_no_name(rt: HostRuntime) -> Result<(), Fail> {
-    for word in RESERVED {
-        for (front, back) in NAMES {
-            let text = between(rt.alloc(), front, word, back)?;
-            expect_refused(&rt, rt.alloc(), word, text.as_slice(), 3, front.len())?;
-        }
+// Expects a reserved word not to be a name, wherever there may be one.
+fn expect_no_name(rt: &impl Abort, alloc: Global, word: &str) {
+    for (prefix, back) in &NAMES {
+        let text = between(rt, alloc, prefix, word, back);
+        expect_refused(rt, alloc, word, text.as_slice(), 3, prefix.len());
     }
-    Ok(())
+}
+
+#[test]
+fn a_reserved_word_is_no_name(rt: HostRuntime) {
+    for word in &RESERVED {
+        expect_no_name(&rt, rt.alloc(), word);
+    }
 }
 
 // Texts with which a program can begin, and which are not programs.
@@ -240,14 +247,17 @@ const FRONTS: &[&str] = &[
     "process a { } process b {",
 ];
 
+// Expects a text to be refused at its end.
+fn expect_end(rt: &impl Abort, alloc: Global, prefix: &str, blanks: &str) {
+    let text = between(rt, alloc, prefix, blanks, "");
+    expect_refused(rt, alloc, prefix, text.as_slice(), 3, text.len());
+}
+
 #[test]
-fn a_text_that_ends_too_early_is_told_by_its_length(rt: HostRuntime) -> Result<(), Fail> {
-    let alloc = rt.alloc();
-    for front in FRONTS {
-        for blanks in ["", " ", "\r\n\t"] {
-            let text = between(alloc, front, blanks, "")?;
-            expect_refused(&rt, alloc, front, text.as_slice(), 3, text.len())?;
-        }
+fn a_text_that_ends_too_early_is_reported_by_its_length(rt: HostRuntime) {
+    for prefix in FRONTS {
+        expect_end(&rt, rt.alloc(), prefix, "");
+        expect_end(&rt, rt.alloc(), prefix, " ");
+        expect_end(&rt, rt.alloc(), prefix, "\r\n\t");
     }
-    Ok(())
 }

@@ -1,106 +1,107 @@
 //! Texts at each limit, and one beyond it. Offsets are counted by hand, from the parts before.
 
-use super::{add_nested, expect_told, first_fault};
-use std::alloc::{AllocError, Global};
-use std::test::Fail;
+use super::{MEMORY, Outcome, add, add_nested, expect, outcome};
+use crate::expecting::expect_same;
+use std::alloc::Global;
+use std::process::Abort;
 
 // A text that repeats a part, in which `#` is the part's number from 0, and the expected result.
 struct Repeated {
     name: &'static str,
-    front: &'static str,
+    prefix: &'static str,
     part: &'static str,
     count: u32,
     back: &'static str,
-    want: &'static str,
+    want: Outcome,
 }
 
 const PROCESSES: [Repeated; 6] = [
     Repeated {
         name: "32 processes",
-        front: "",
+        prefix: "",
         part: "process p# { } ",
         count: 32,
         back: "",
-        want: "32 processes, 0 commands",
+        want: Ok((32, 0)),
     },
     Repeated {
         name: "33 processes",
-        front: "",
+        prefix: "",
         part: "process p# { } ",
         count: 33,
         back: "",
         // 10 parts of 15 bytes, 22 of 16, and `process ` of 8
-        want: "fault 7 at 510",
+        want: Err((7, 510)),
     },
     Repeated {
         name: "a 33rd process whose body has a fault",
-        front: "",
+        prefix: "",
         part: "process p# { } ",
         count: 32,
         back: "process p { when 1 : x := 1; }",
-        want: "fault 7 at 510",
+        want: Err((7, 510)),
     },
     Repeated {
         name: "a 33rd process whose name is taken",
-        front: "",
+        prefix: "",
         part: "process p# { } ",
         count: 32,
         back: "process p0 { }",
-        want: "fault 4 at 510",
+        want: Err((4, 510)),
     },
     Repeated {
         name: "a message to the 33rd process, which is known",
-        front: "process a { when true : send p31 1; } ",
+        prefix: "process a { when true : send p31 1; } ",
         part: "process p# { } ",
         count: 32,
         back: "",
         // a beginning of 38 bytes, 10 parts of 15, 21 of 16, and `process ` of 8
-        want: "fault 7 at 532",
+        want: Err((7, 532)),
     },
     Repeated {
         name: "a fault before the 33rd process",
-        front: "process a { when 1 : x := 1; } ",
+        prefix: "process a { when 1 : x := 1; } ",
         part: "process p# { } ",
         count: 32,
         back: "",
         // `process a { when ` has 17 bytes
-        want: "fault 6 at 17",
+        want: Err((6, 17)),
     },
 ];
 
 const VARIABLES: [Repeated; 4] = [
     Repeated {
         name: "32 variables",
-        front: "process a { ",
+        prefix: "process a { ",
         part: "var v# = 0; ",
         count: 32,
         back: "} process b { var x = 0; }",
-        want: "2 processes, 0 commands",
+        want: Ok((2, 0)),
     },
     Repeated {
         name: "33 variables",
-        front: "process a { ",
+        prefix: "process a { ",
         part: "var v# = 0; ",
         count: 33,
         back: "}",
         // a beginning of 12 bytes, 10 parts of 12, 22 of 13, and `var ` of 4
-        want: "fault 7 at 422",
+        want: Err((7, 422)),
     },
     Repeated {
         name: "a 33rd variable whose name is taken",
-        front: "process a { ",
+        prefix: "process a { ",
         part: "var v# = 0; ",
         count: 32,
         back: "var v31 = 0; }",
-        want: "fault 4 at 422",
+        want: Err((4, 422)),
     },
     Repeated {
-        name: "a fault behind the 33rd variable",
-        front: "process a { ",
+        name: "a fault after the 33rd variable",
+        prefix: "process a { ",
         part: "var v# = 0; ",
         count: 33,
         back: "when v32 : send a 1; }",
-        want: "fault 7 at 422",
+        want: Err((7, 422)),
     },
 ];
 
@@ -108,141 +109,142 @@ const VARIABLES: [Repeated; 4] = [
 const COMMANDS: [Repeated; 5] = [
     Repeated {
         name: "64 commands",
-        front: "process a { var x = 0; ",
+        prefix: "process a { var x = 0; ",
         part: "when (x = #) : x := (x + 1); ",
         count: 64,
         back: "}",
-        want: "1 processes, 64 commands",
+        want: Ok((1, 64)),
     },
     Repeated {
         name: "64 commands of one process and one of another",
-        front: "process b { when true : send a 1; } process a { var x = 0; ",
+        prefix: "process b { when true : send a 1; } process a { var x = 0; ",
         part: "when (x = #) : x := (x + 1); ",
         count: 64,
         back: "}",
-        want: "2 processes, 65 commands",
+        want: Ok((2, 65)),
     },
     Repeated {
         name: "65 commands",
-        front: "process a { var x = 0; ",
+        prefix: "process a { var x = 0; ",
         part: "when (x = #) : x := (x + 1); ",
         count: 65,
         back: "}",
         // a beginning of 23 bytes, 10 parts of 29 and 54 of 30
-        want: "fault 7 at 1933",
+        want: Err((7, 1933)),
     },
     Repeated {
         name: "a 65th command that has a fault",
-        front: "process a { var x = 0; ",
+        prefix: "process a { var x = 0; ",
         part: "when (x = #) : x := (x + 1); ",
         count: 64,
         back: "when y : x := 1; }",
-        want: "fault 7 at 1933",
+        want: Err((7, 1933)),
     },
     Repeated {
         name: "a fault before the 65th command",
-        front: "process a { var x = 0; when x : x := 1; ",
+        prefix: "process a { var x = 0; when x : x := 1; ",
         part: "when (x = #) : x := (x + 1); ",
         count: 64,
         back: "}",
         // a beginning of 23 bytes, and `when ` of 5
-        want: "fault 6 at 28",
+        want: Err((6, 28)),
     },
 ];
 
 const WORDS: [Repeated; 4] = [
     Repeated {
         name: "a name of 32 letters",
-        front: "process ",
+        prefix: "process ",
         part: "a",
         count: 32,
         back: " { }",
-        want: "1 processes, 0 commands",
+        want: Ok((1, 0)),
     },
     Repeated {
         name: "a word of 33 letters",
-        front: "process ",
+        prefix: "process ",
         part: "a",
         count: 33,
         back: "",
-        want: "fault 2 at 8",
+        want: Err((2, 8)),
     },
     Repeated {
-        name: "a number with 1,000 zeros in front",
-        front: "process a { var x = ",
+        name: "a number with 1,000 zeros before it",
+        prefix: "process a { var x = ",
         part: "0",
         count: 1_000,
         back: "9223372036854775807; }",
-        want: "1 processes, 0 commands",
+        want: Ok((1, 0)),
     },
     Repeated {
         name: "a number of 1,000 digits",
-        front: "process a { var x = ",
+        prefix: "process a { var x = ",
         part: "1",
         count: 1_000,
         back: "; }",
-        want: "fault 2 at 20",
+        want: Err((2, 20)),
     },
 ];
 
 // Appends the part to the text, with its number in place of `#`.
-fn add_part(text: &mut Vec<u8>, part: &str, number: u32, alloc: Global) -> Result<(), AllocError> {
-    let digits = format!(in alloc; "{number}")?;
+fn add_part(rt: &impl Abort, text: &mut Vec<u8>, part: &str, digits: &str) {
     for b in part.as_bytes() {
         if *b == b'#' {
-            text.extend_from_slice(digits.as_bytes())?;
+            add(rt, text, digits);
         } else {
-            text.push(*b)?;
+            text.push(*b).expect(rt, MEMORY);
         }
     }
-    Ok(())
 }
 
-fn text_of(alloc: Global, text: &Repeated) -> Result<Vec<u8>, AllocError> {
-    let mut all = Vec::from_slice(alloc, text.front.as_bytes())?;
+fn text_of(rt: &impl Abort, alloc: Global, text: &Repeated) -> Vec<u8> {
+    let mut all = Vec::new(alloc);
+    add(rt, &mut all, text.prefix);
     for number in 0..text.count {
-        add_part(&mut all, text.part, number, alloc)?;
+        let digits = format!(in alloc; "{number}").expect(rt, MEMORY);
+        add_part(rt, &mut all, text.part, digits.as_str());
     }
-    all.extend_from_slice(text.back.as_bytes())?;
-    Ok(all)
+    add(rt, &mut all, text.back);
+    all
+}
+
+fn expect_repeated(rt: &impl Abort, alloc: Global, rows: &[Repeated]) {
+    for row in rows {
+        let text = text_of(rt, alloc, row);
+        expect(rt, alloc, row.name, text.as_slice(), row.want);
+    }
 }
 
 #[test]
-fn as_many_as_may_be_and_one_more(rt: HostRuntime) -> Result<(), Fail> {
-    let alloc = rt.alloc();
-    let tables: [&[Repeated]; 4] = [&PROCESSES, &VARIABLES, &COMMANDS, &WORDS];
-    for table in tables {
-        for row in table {
-            let text = text_of(alloc, row)?;
-            expect_told(&rt, alloc, row.name, text.as_slice(), row.want)?;
-        }
-    }
-    Ok(())
+fn as_many_as_may_be_and_one_more(rt: HostRuntime) {
+    expect_repeated(&rt, rt.alloc(), &PROCESSES);
+    expect_repeated(&rt, rt.alloc(), &VARIABLES);
+    expect_repeated(&rt, rt.alloc(), &COMMANDS);
+    expect_repeated(&rt, rt.alloc(), &WORDS);
 }
 
 // What is repeated before the middle of a value, how often, the middle, and the expected result. After the middle as many parentheses
 // close.
-const NESTED: [(&str, u32, &str, &str); 5] = [
-    ("(1 + ", 32, "x", "2 processes, 1 commands"),
+const NESTED: [(&str, u32, &str, Outcome); 5] = [
+    ("(1 + ", 32, "x", Ok((2, 1))),
     // a beginning of 40 bytes, and 32 parts of 5
-    ("(1 + ", 33, "x", "fault 7 at 200"),
-    ("(- ", 31, "sent(b)", "2 processes, 1 commands"),
+    ("(1 + ", 33, "x", Err((7, 200))),
+    ("(- ", 31, "sent(b)", Ok((2, 1))),
     // a beginning of 40 bytes, 32 parts of 3, and `sent` of 4
-    ("(- ", 32, "sent(b)", "fault 7 at 140"),
+    ("(- ", 32, "sent(b)", Err((7, 140))),
     // a comparison is not a number: the outermost one comes after 40 bytes
-    ("(1 < ", 32, "x", "fault 6 at 40"),
+    ("(1 < ", 32, "x", Err((6, 40))),
 ];
 
 #[test]
-fn thirty_two_parentheses_may_be_open(rt: HostRuntime) -> Result<(), Fail> {
-    let alloc = rt.alloc();
-    for (part, count, middle, want) in NESTED {
-        let mut text = Vec::from_slice(alloc, b"process a { var x = 0; when true : x := ")?;
-        add_nested(&mut text, part, count, middle)?;
-        text.extend_from_slice(b"; } process b { }")?;
-        expect_told(&rt, alloc, part, text.as_slice(), want)?;
+fn thirty_two_parentheses_may_be_open(rt: HostRuntime) {
+    for (part, count, middle, want) in &NESTED {
+        let mut text = Vec::new(rt.alloc());
+        add(&rt, &mut text, "process a { var x = 0; when true : x := ");
+        add_nested(&rt, &mut text, part, *count, middle);
+        add(&rt, &mut text, "; } process b { }");
+        expect(&rt, rt.alloc(), part, text.as_slice(), *want);
     }
-    Ok(())
 }
 
 // A text, filled up with blanks to so many bytes, and its first fault.
@@ -255,17 +257,24 @@ const LENGTHS: [(&str, usize, Option<(u32, usize)>); 6] = [
     ("", 1_048_576, Some((3, 1_048_576))),
 ];
 
+// Expects the first fault of a text that is filled up to so many bytes.
+fn expect_filled(
+    rt: &impl Abort,
+    alloc: Global,
+    text: &str,
+    bytes: usize,
+    want: Option<(u32, usize)>,
+) {
+    let mut all = Vec::new(alloc);
+    add(rt, &mut all, text);
+    all.resize(bytes, b' ').expect(rt, MEMORY);
+    let fault = outcome(alloc, all.as_slice()).err();
+    expect_same(rt, (text, bytes, fault), (text, bytes, want));
+}
+
 #[test]
-fn a_text_has_at_most_1048576_bytes(rt: HostRuntime) -> Result<(), Fail> {
-    let alloc = rt.alloc();
-    for (text, bytes, want) in LENGTHS {
-        let mut all = Vec::from_slice(alloc, text.as_bytes())?;
-        all.resize(bytes, b' ')?;
-        assert_eq!(rt;
-            first_fault(alloc, all.as_slice()),
-            want,
-            "{text:?} and {bytes} bytes"
-        );
+fn a_text_has_at_most_1048576_bytes(rt: HostRuntime) {
+    for (text, bytes, want) in &LENGTHS {
+        expect_filled(&rt, rt.alloc(), text, *bytes, *want);
     }
-    Ok(())
 }

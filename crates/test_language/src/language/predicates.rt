@@ -1,15 +1,18 @@
 //! Predicates of one process.
 
-use super::{Case, add_nested, unmarked};
-use crate::expecting::{expect_same, expect_same_of, expect_true, expect_true_of};
-use dbg_base::{Expr, Operator, Pid};
+use super::{Case, MEMORY, add_nested, place_of, unmarked};
+use crate::expecting::expect_same;
+use dbg_base::{Expr, Pid};
 use proc_lang::{ProgError, Program, fits, parse_predicate, parse_program};
-use std::alloc::{AllocError, Global};
+use std::alloc::Global;
 use std::process::Abort;
-use std::test::Fail;
 
 const PROGRAM: &[u8] =
     b"process a { var x = 0; var y = 0; } process b { var z = 0; when true : send a z; } process c { }";
+
+pub(super) fn program(rt: &impl Abort, alloc: Global) -> Program {
+    parse_program(alloc, PROGRAM).expect(rt, "a program")
+}
 
 fn read(
     rt: &impl Abort,
@@ -87,17 +90,27 @@ const ACCEPTED: &[(u32, &str, &str)] = &[
     ),
 ];
 
+// Expects a predicate to be read as this expression, which fits its process.
+fn expect_read(
+    rt: &impl Abort,
+    alloc: Global,
+    program: &Program,
+    process: u32,
+    text: &str,
+    want: &str,
+) {
+    let expr = read(rt, alloc, program, process, text.as_bytes()).expect(rt, text);
+    let reported = format!(in alloc; "{expr:?}").expect(rt, MEMORY);
+    let fits = fits(program, Pid(process), &expr);
+    expect_same(rt, (text, reported.as_str(), fits), (text, want, true));
+}
+
 #[test]
-fn predicates_are_read(rt: HostRuntime) -> Result<(), Fail> {
-    let alloc = rt.alloc();
-    let program = parse_program(alloc, PROGRAM)?;
+fn predicates_are_read(rt: HostRuntime) {
+    let program = program(&rt, rt.alloc());
     for (process, text, want) in ACCEPTED {
-        let expr = read(&rt, alloc, &program, *process, text.as_bytes())?;
-        let told = format!(in alloc; "{expr:?}")?;
-        expect_same_of(&rt, text, told.as_str(), *want);
-        expect_true_of(&rt, text, fits(&program, Pid(*process), &expr));
+        expect_read(&rt, rt.alloc(), &program, *process, text, want);
     }
-    Ok(())
 }
 
 // A process, a kind of fault, and cases.
@@ -108,8 +121,8 @@ const REFUSED: &[(u32, u32, &[Case])] = &[
         &[
             ("a byte that begins no token", "(x ^! 1)"),
             ("a capital letter", "^X"),
-            ("a byte behind an expression", "true ^."),
-            ("a byte behind a fault of the grammar", "x y ^?"),
+            ("a byte after an expression", "true ^."),
+            ("a byte after a fault of the grammar", "x y ^?"),
         ],
     ),
     (
@@ -121,7 +134,7 @@ const REFUSED: &[(u32, u32, &[Case])] = &[
                 "a word of 33 letters",
                 "(^abcdefghijklmnopqrstuvwxyz0123456 = 1)",
             ),
-            ("a number behind an expression", "true ^9223372036854775808"),
+            ("a number after an expression", "true ^9223372036854775808"),
         ],
     ),
     (
@@ -130,9 +143,9 @@ const REFUSED: &[(u32, u32, &[Case])] = &[
         &[
             ("the empty text", "^"),
             ("blanks alone", " \t^"),
-            ("an expression behind an expression", "true ^true"),
-            ("parentheses behind parentheses", "(x = 1) ^(y = 1)"),
-            ("a semicolon behind an expression", "(x = 1)^;"),
+            ("an expression after an expression", "true ^true"),
+            ("parentheses after parentheses", "(x = 1) ^(y = 1)"),
+            ("a semicolon after an expression", "(x = 1)^;"),
             ("a parenthesis too many", "(x = 1)^)"),
             ("a comparison without parentheses", "x ^= 1"),
             ("a count and a comparison", "sent(b) ^= 1"),
@@ -144,7 +157,7 @@ const REFUSED: &[(u32, u32, &[Case])] = &[
             ("a command", "^when true : x := 1;"),
             ("a program", "^process a { }"),
             ("an operator alone", "^="),
-            ("the text behind a number", "x ^y"),
+            ("the text after a number", "x ^y"),
         ],
     ),
     (
@@ -194,171 +207,82 @@ const REFUSED: &[(u32, u32, &[Case])] = &[
 ];
 
 // The kind and the offset of the fault of a predicate.
-fn fault_of(outcome: Result<Expr, ProgError>) -> Option<(u32, usize)> {
-    match outcome {
-        Err(ProgError::Bad(fault)) => Some((fault.kind.number(), fault.at)),
-        _ => None,
-    }
-}
-
-#[test]
-fn predicates_are_refused(rt: HostRuntime) -> Result<(), Fail> {
-    let alloc = rt.alloc();
-    let program = parse_program(alloc, PROGRAM)?;
-    for (process, kind, cases) in REFUSED {
-        for (name, marked) in *cases {
-            let (text, at) = unmarked(alloc, marked.as_bytes())?;
-            let outcome = read(&rt, alloc, &program, *process, text.as_slice());
-            expect_same_of(&rt, name, fault_of(outcome), Some((*kind, at)));
-        }
-    }
-    Ok(())
-}
-
-// So many negations of `true`.
-fn negated(alloc: Global, count: u32) -> Result<Vec<u8>, AllocError> {
-    let mut text = Vec::new(alloc);
-    add_nested(&mut text, "(not ", count, "true")?;
-    Ok(text)
-}
-
-#[test]
-fn a_predicate_has_the_limits_of_a_program(rt: HostRuntime) -> Result<(), Fail> {
-    let alloc = rt.alloc();
-    let program = parse_program(alloc, PROGRAM)?;
-    let deep = negated(alloc, 32)?;
-    expect_true(&rt, read(&rt, alloc, &program, 0, deep.as_slice()).is_ok());
-    // 32 times 5 bytes come before the 33rd parenthesis
-    let deeper = negated(alloc, 33)?;
-    let outcome = read(&rt, alloc, &program, 0, deeper.as_slice());
-    expect_same(&rt, fault_of(outcome), Some((7, 160)));
-    let mut long = Vec::from_slice(alloc, b"true")?;
-    long.resize(1_048_576, b' ')?;
-    expect_true(&rt, read(&rt, alloc, &program, 0, long.as_slice()).is_ok());
-    long.push(b' ')?;
-    let outcome = read(&rt, alloc, &program, 0, long.as_slice());
-    expect_same(&rt, fault_of(outcome), Some((7, 1_048_576)));
-    Ok(())
-}
-
-fn boxed(alloc: Global, expr: Expr) -> Result<Box<Expr>, AllocError> {
-    Ok(Box::new(alloc, expr)?)
-}
-
-fn binary(alloc: Global, operator: Operator, left: Expr, right: Expr) -> Result<Expr, AllocError> {
-    let left = boxed(alloc, left)?;
-    Ok(Expr::Binary(operator, left, boxed(alloc, right)?))
-}
-
-// Expects whether an expression fits a process.
-fn expect_fit(rt: &impl Abort, program: &Program, process: u32, expr: &Expr, wanted: bool) {
-    assert_eq!(rt;
-        fits(program, Pid(process), expr),
-        wanted,
-        "{expr:?} of {process}"
-    );
-}
-
-// Expects whether `(E = 0)` fits a process.
-fn expect_number(
+fn fault_of(
     rt: &impl Abort,
     alloc: Global,
     program: &Program,
     process: u32,
-    expr: Expr,
-    wanted: bool,
-) -> Result<(), AllocError> {
-    let zero = binary(alloc, Operator::Equal, expr, Expr::Number(0))?;
-    expect_fit(rt, program, process, &zero, wanted);
-    Ok(())
+    text: &[u8],
+) -> Option<(u32, usize)> {
+    read(rt, alloc, program, process, text).err().map(place_of)
 }
 
-// Expects whether `(not E)` fits the first process.
-fn expect_truth(
+// Expects a predicate to be refused at its mark.
+fn expect_fault(
     rt: &impl Abort,
     alloc: Global,
     program: &Program,
-    expr: Expr,
-    wanted: bool,
-) -> Result<(), AllocError> {
-    let negation = Expr::Not(boxed(alloc, expr)?);
-    expect_fit(rt, program, 0, &negation, wanted);
-    Ok(())
+    process: u32,
+    kind: u32,
+    case: &Case,
+) {
+    let (name, marked) = *case;
+    let (text, at) = unmarked(rt, alloc, marked.as_bytes());
+    let fault = fault_of(rt, alloc, program, process, text.as_slice());
+    expect_same(rt, (name, fault), (name, Some((kind, at))));
 }
 
-#[test]
-fn what_an_expression_names_is_there(rt: HostRuntime) -> Result<(), Fail> {
-    let alloc = rt.alloc();
-    let program = parse_program(alloc, PROGRAM)?;
-    let operands = [
-        (0, Expr::Number(-1), true),
-        (0, Expr::Variable(1), true),
-        // a third variable
-        (0, Expr::Variable(2), false),
-        (0, Expr::Variable(u32::MAX), false),
-        (0, Expr::Sent(Pid(2)), true),
-        (0, Expr::Got(Pid(1)), true),
-        // messages to itself, and from itself
-        (0, Expr::Sent(Pid(0)), false),
-        (0, Expr::Got(Pid(0)), false),
-        // a fourth process
-        (0, Expr::Sent(Pid(3)), false),
-        (0, Expr::Got(Pid(u32::MAX)), false),
-        (1, Expr::Sent(Pid(0)), true),
-        (1, Expr::Sent(Pid(1)), false),
-        (1, Expr::Variable(1), false),
-        (2, Expr::Variable(0), false),
-    ];
-    for (process, expr, wanted) in operands {
-        expect_number(&rt, alloc, &program, process, expr, wanted)?;
+fn expect_faults(
+    rt: &impl Abort,
+    alloc: Global,
+    program: &Program,
+    process: u32,
+    kind: u32,
+    cases: &[Case],
+) {
+    for case in cases {
+        expect_fault(rt, alloc, program, process, kind, case);
     }
-    expect_fit(&rt, &program, 2, &Expr::Truth(true), true);
-    // a fourth process
-    expect_fit(&rt, &program, 3, &Expr::Truth(true), false);
-    Ok(())
 }
 
 #[test]
-fn a_predicate_is_a_truth_value(rt: HostRuntime) -> Result<(), Fail> {
-    let alloc = rt.alloc();
-    let program = parse_program(alloc, PROGRAM)?;
-    expect_fit(&rt, &program, 0, &Expr::Truth(false), true);
-    expect_fit(&rt, &program, 0, &Expr::Number(1), false);
-    expect_fit(&rt, &program, 0, &Expr::Variable(0), false);
-    expect_fit(&rt, &program, 0, &Expr::Sent(Pid(1)), false);
-    let sum = binary(alloc, Operator::Add, Expr::Variable(0), Expr::Got(Pid(1)))?;
-    expect_fit(&rt, &program, 0, &sum, false);
-    expect_number(&rt, alloc, &program, 0, sum, true)?;
-    Ok(())
-}
-
-#[test]
-fn operands_have_their_types(rt: HostRuntime) -> Result<(), Fail> {
-    let alloc = rt.alloc();
-    let program = parse_program(alloc, PROGRAM)?;
-    // a truth value is compared
-    expect_number(&rt, alloc, &program, 0, Expr::Truth(true), false)?;
-    // a truth value has a minus
-    let negative = Expr::Negate(boxed(alloc, Expr::Truth(true))?);
-    expect_number(&rt, alloc, &program, 0, negative, false)?;
-    // `not` of a number
-    expect_truth(&rt, alloc, &program, Expr::Number(0), false)?;
-    expect_truth(&rt, alloc, &program, Expr::Truth(true), true)?;
-    Ok(())
-}
-
-#[test]
-fn connectives_are_of_truths(rt: HostRuntime) -> Result<(), Fail> {
-    let alloc = rt.alloc();
-    let program = parse_program(alloc, PROGRAM)?;
-    let table = [
-        (Operator::And, Expr::Number(1), Expr::Truth(true), false),
-        (Operator::Or, Expr::Truth(true), Expr::Variable(0), false),
-        (Operator::Or, Expr::Truth(true), Expr::Truth(false), true),
-    ];
-    for (operator, left, right, wanted) in table {
-        let both = binary(alloc, operator, left, right)?;
-        expect_truth(&rt, alloc, &program, both, wanted)?;
+fn predicates_are_refused(rt: HostRuntime) {
+    let program = program(&rt, rt.alloc());
+    for (process, kind, cases) in REFUSED {
+        expect_faults(&rt, rt.alloc(), &program, *process, *kind, cases);
     }
-    Ok(())
+}
+
+// So many negations of `true`.
+fn negated(rt: &impl Abort, alloc: Global, count: u32) -> Vec<u8> {
+    let mut text = Vec::new(alloc);
+    add_nested(rt, &mut text, "(not ", count, "true");
+    text
+}
+
+// Expects 32 negations to be read, and one more to be refused.
+fn expect_deep(rt: &impl Abort, alloc: Global, program: &Program) {
+    let deep = negated(rt, alloc, 32);
+    expect_same(rt, fault_of(rt, alloc, program, 0, deep.as_slice()), None);
+    // 32 times 5 bytes come before the 33rd parenthesis
+    let deeper = negated(rt, alloc, 33);
+    let fault = fault_of(rt, alloc, program, 0, deeper.as_slice());
+    expect_same(rt, fault, Some((7, 160)));
+}
+
+// Expects a text of 1,048,576 bytes to be read, and one byte more to be refused.
+fn expect_long(rt: &impl Abort, alloc: Global, program: &Program) {
+    let mut long = Vec::from_slice(alloc, b"true").expect(rt, MEMORY);
+    long.resize(1_048_576, b' ').expect(rt, MEMORY);
+    expect_same(rt, fault_of(rt, alloc, program, 0, long.as_slice()), None);
+    long.push(b' ').expect(rt, MEMORY);
+    let fault = fault_of(rt, alloc, program, 0, long.as_slice());
+    expect_same(rt, fault, Some((7, 1_048_576)));
+}
+
+#[test]
+fn a_predicate_has_the_limits_of_a_program(rt: HostRuntime) {
+    let program = program(&rt, rt.alloc());
+    expect_deep(&rt, rt.alloc(), &program);
+    expect_long(&rt, rt.alloc(), &program);
 }

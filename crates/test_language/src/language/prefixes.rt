@@ -1,9 +1,9 @@
 //! Texts that break off, and texts with one byte replaced: each has a result.
 
-use proc_lang::{ProgError, parse_program};
+use super::{Outcome, between, outcome};
+use crate::expecting::{expect_same, expect_true};
 use std::alloc::Global;
 use std::process::Abort;
-use std::test::Fail;
 
 // A process that sends to another one.
 const SENDS: &str = "process a {
@@ -42,47 +42,54 @@ process second { var x = 0; var z = 0; when true : recv first x, z := (x + 1); }
 ",
 ];
 
+// Expects so many bytes of a program to be the whole of it, or to have a fault within them.
+fn expect_prefix(rt: &impl Abort, alloc: Global, all: &[u8], length: usize) {
+    let prefix = all.get(..length).unwrap_or(&[]);
+    let is_whole = length >= all.len().saturating_sub(1);
+    let outcome = outcome(alloc, prefix);
+    expect_same(rt, (length, outcome.is_ok()), (length, is_whole));
+    expect_within(rt, outcome, length);
+}
+
+// Expects a program, or a fault within so many bytes.
+fn expect_within(rt: &impl Abort, outcome: Outcome, length: usize) {
+    match outcome {
+        Ok(_) => {}
+        Err((kind, at)) => expect_true(rt, kind > 0 && at <= length),
+    }
+}
+
 #[test]
-fn each_front_of_a_program_is_answered(rt: HostRuntime) {
-    for text in PROGRAMS {
+fn each_prefix_of_a_program_is_answered(rt: HostRuntime) {
+    for text in &PROGRAMS {
         let all = text.as_bytes();
         for length in 0..all.len().saturating_add(1) {
-            let front = all.get(..length).unwrap_or(&[]);
-            let is_whole = length >= all.len().saturating_sub(1);
-            match parse_program(rt.alloc(), front) {
-                Ok(_) => assert!(rt; is_whole, "{length} bytes are no program"),
-                Err(ProgError::Bad(fault)) => {
-                    assert!(rt; !is_whole, "{length} bytes are a program");
-                    assert!(rt; fault.at <= length, "{fault:?} of {length} bytes");
-                }
-                Err(ProgError::Memory) => panic!(rt; "no memory for {length} bytes"),
-            }
+            expect_prefix(&rt, rt.alloc(), all, length);
         }
     }
 }
 
 // Expects a text to be a program, or to have a fault within its bytes.
-fn expect_answered(rt: &impl Abort, alloc: Global, text: &[u8], at: usize) {
-    match parse_program(alloc, text) {
-        Ok(_) => {}
-        Err(ProgError::Bad(fault)) => {
-            assert!(rt; fault.at <= text.len(), "{fault:?} with byte {at} replaced");
+fn expect_answered(rt: &impl Abort, alloc: Global, text: &[u8]) {
+    expect_within(rt, outcome(alloc, text), text.len());
+}
+
+// Expects it where any other byte is at this place.
+fn expect_replaced(rt: &impl Abort, alloc: Global, text: &mut [u8], at: usize) {
+    if at < text.len() {
+        let was = text[at];
+        for byte in 0..256u32 {
+            text[at] = byte as u8;
+            expect_answered(rt, alloc, text);
         }
-        Err(ProgError::Memory) => panic!(rt; "no memory with byte {at} replaced"),
+        text[at] = was;
     }
 }
 
 #[test]
-fn each_byte_may_be_any_other(rt: HostRuntime) -> Result<(), Fail> {
-    let alloc = rt.alloc();
-    let mut text = Vec::from_slice(alloc, SENDS.as_bytes())?;
+fn each_byte_may_be_any_other(rt: HostRuntime) {
+    let mut text = between(&rt, rt.alloc(), SENDS, "", "");
     for at in 0..text.len() {
-        let was = text[at];
-        for byte in 0..256u32 {
-            text[at] = byte as u8;
-            expect_answered(&rt, alloc, text.as_slice(), at);
-        }
-        text[at] = was;
+        expect_replaced(&rt, rt.alloc(), text.as_mut_slice(), at);
     }
-    Ok(())
 }

@@ -1,7 +1,8 @@
 //! Texts that are programs: each production of the grammar at least once.
 
-use super::{between, expect_accepted, expect_refused};
-use std::test::Fail;
+use super::{between, expect, expect_accepted};
+use std::alloc::Global;
+use std::process::Abort;
 
 // What a text shows, the text, and how many processes and commands it has.
 const PROGRAMS: &[(&str, &str, u32, u32)] = &[
@@ -13,12 +14,7 @@ const PROGRAMS: &[(&str, &str, u32, u32)] = &[
         2,
         1,
     ),
-    (
-        "spaces in front and behind",
-        "\n\t process a { } \r\n",
-        1,
-        0,
-    ),
+    ("spaces before and after", "\n\t process a { } \r\n", 1, 0),
     (
         "tabs and line ends between tokens",
         "process\ta\r\n{\rvar\nx\t=\r0\n;\t}",
@@ -100,18 +96,11 @@ const PROGRAMS: &[(&str, &str, u32, u32)] = &[
 ];
 
 #[test]
-fn programs_are_accepted(rt: HostRuntime) -> Result<(), Fail> {
+fn programs_are_accepted(rt: HostRuntime) {
     for (name, text, processes, commands) in PROGRAMS {
-        expect_accepted(
-            &rt,
-            rt.alloc(),
-            name,
-            text.as_bytes(),
-            *processes,
-            *commands,
-        )?;
+        let text = text.as_bytes();
+        expect_accepted(&rt, rt.alloc(), name, text, *processes, *commands);
     }
-    Ok(())
 }
 
 // What may be between a guard with its colon and a semicolon.
@@ -167,7 +156,7 @@ const TRUTHS: &[&str] = &[
 
 // What is before a place of a program and after it, what may be there, and what has the wrong type.
 struct Place {
-    front: &'static str,
+    prefix: &'static str,
     back: &'static str,
     fitting: &'static [&'static str],
     wrong: &'static [&'static str],
@@ -175,55 +164,60 @@ struct Place {
 
 const PLACES: [Place; 6] = [
     Place {
-        front: "process a { var x = 0; var y = 1; var z = 2; when true : ",
+        prefix: "process a { var x = 0; var y = 1; var z = 2; when true : ",
         back: "; } process b { }",
         fitting: BODIES,
         wrong: &[],
     },
     Place {
-        front: "process a { var x = 0; var y = 1; var z = 2; when ",
+        prefix: "process a { var x = 0; var y = 1; var z = 2; when ",
         back: " : x := 1; } process b { }",
         fitting: TRUTHS,
         wrong: NUMBERS,
     },
     Place {
-        front: "process a { var x = 0; var y = 1; var z = 2; when true : x := ",
+        prefix: "process a { var x = 0; var y = 1; var z = 2; when true : x := ",
         back: "; } process b { }",
         fitting: NUMBERS,
         wrong: TRUTHS,
     },
     Place {
-        front: "process a { var x = 0; var y = 1; var z = 2; when true : send b ",
+        prefix: "process a { var x = 0; var y = 1; var z = 2; when true : send b ",
         back: "; } process b { }",
         fitting: NUMBERS,
         wrong: TRUTHS,
     },
     Place {
-        front: "process a { var x = 0; var y = 1; var z = 2; when true : send b 1, z := ",
+        prefix: "process a { var x = 0; var y = 1; var z = 2; when true : send b 1, z := ",
         back: ", x := 1; } process b { }",
         fitting: NUMBERS,
         wrong: TRUTHS,
     },
     Place {
-        front: "process a { var x = 0; var y = 1; var z = 2; when true : recv b x, y := ",
+        prefix: "process a { var x = 0; var y = 1; var z = 2; when true : recv b x, y := ",
         back: "; } process b { }",
         fitting: NUMBERS,
         wrong: TRUTHS,
     },
 ];
 
-#[test]
-fn each_place_asks_a_type(rt: HostRuntime) -> Result<(), Fail> {
-    let alloc = rt.alloc();
-    for place in &PLACES {
-        for part in place.fitting {
-            let text = between(alloc, place.front, part, place.back)?;
-            expect_accepted(&rt, alloc, part, text.as_slice(), 2, 1)?;
-        }
-        for part in place.wrong {
-            let text = between(alloc, place.front, part, place.back)?;
-            expect_refused(&rt, alloc, part, text.as_slice(), 6, place.front.len())?;
-        }
+// Expects a place to accept these parts, if they fit, or to refuse them for their type.
+fn expect_parts(rt: &impl Abort, alloc: Global, place: &Place, parts: &[&str], fits: bool) {
+    let want = if fits {
+        Ok((2, 1))
+    } else {
+        Err((6, place.prefix.len()))
+    };
+    for part in parts {
+        let text = between(rt, alloc, place.prefix, part, place.back);
+        expect(rt, alloc, part, text.as_slice(), want);
     }
-    Ok(())
+}
+
+#[test]
+fn each_place_asks_a_type(rt: HostRuntime) {
+    for place in &PLACES {
+        expect_parts(&rt, rt.alloc(), place, place.fitting, true);
+        expect_parts(&rt, rt.alloc(), place, place.wrong, false);
+    }
 }

@@ -1,14 +1,14 @@
 //! Which of several faults is reported.
 
-use super::{Group, expect_groups, expect_refused_at_mark};
-use std::alloc::{AllocError, Global};
-use std::test::Fail;
+use super::{Group, MEMORY, add, expect_groups, expect_refused_at_mark};
+use std::alloc::Global;
+use std::process::Abort;
 
 // Two kinds at one offset.
 const KINDS: &[Group] = &[
     Group {
         kind: 5,
-        front: "process a { var x = 0; when ",
+        prefix: "process a { var x = 0; when ",
         back: "; } process b { }",
         cases: &[
             ("an unknown name as a guard", "^y : x := 1"),
@@ -29,7 +29,7 @@ const KINDS: &[Group] = &[
     },
     Group {
         kind: 8,
-        front: "process a { } process b { var x = 0; when ",
+        prefix: "process a { } process b { var x = 0; when ",
         back: "; }",
         cases: &[
             ("the own name is known", "true : send ^b 1"),
@@ -43,7 +43,7 @@ const KINDS: &[Group] = &[
 const OFFSETS: &[Group] = &[
     Group {
         kind: 4,
-        front: "process a { } ",
+        prefix: "process a { } ",
         back: "",
         cases: &[
             (
@@ -67,7 +67,7 @@ const OFFSETS: &[Group] = &[
     },
     Group {
         kind: 5,
-        front: "process a { var x = 0; when ",
+        prefix: "process a { var x = 0; when ",
         back: "; } process a { } process b { var y = 0; var y = 0; }",
         cases: &[
             ("a guard before a later process name", "(^z = 1) : x := 1"),
@@ -97,7 +97,7 @@ const OFFSETS: &[Group] = &[
     },
     Group {
         kind: 6,
-        front: "process a { var x = 0; when ",
+        prefix: "process a { var x = 0; when ",
         back: "; } process a { } process b { }",
         cases: &[
             ("an expression before its operands", "^(y + z) : x := 1"),
@@ -118,7 +118,7 @@ const OFFSETS: &[Group] = &[
     },
     Group {
         kind: 8,
-        front: "process a { var x = 0; when true : ",
+        prefix: "process a { var x = 0; when true : ",
         back: "; } process a { }",
         cases: &[
             ("a target before what is sent", "send ^a true"),
@@ -128,7 +128,7 @@ const OFFSETS: &[Group] = &[
     },
     Group {
         kind: 9,
-        front: "process a { var x = 0; when true : ",
+        prefix: "process a { var x = 0; when true : ",
         back: "; } process a { }",
         cases: &[
             ("a variable before its value", "x := 1, ^x := true"),
@@ -145,16 +145,16 @@ const OFFSETS: &[Group] = &[
 const PASSES: &[Group] = &[
     Group {
         kind: 1,
-        front: "",
+        prefix: "",
         back: "",
         cases: &[
             (
-                "a byte behind a fault of the grammar",
+                "a byte after a fault of the grammar",
                 "process process { ^! }",
             ),
-            ("a byte behind a text that is none", "} 1 ) ^! process"),
+            ("a byte after a text that is none", "} 1 ) ^! process"),
             (
-                "a byte behind a fault of the checks",
+                "a byte after a fault of the checks",
                 "process a { when true : send a 1; } ^!",
             ),
             (
@@ -166,15 +166,15 @@ const PASSES: &[Group] = &[
     },
     Group {
         kind: 2,
-        front: "",
+        prefix: "",
         back: "",
         cases: &[
             (
-                "a long word behind a fault of the grammar",
+                "a long word after a fault of the grammar",
                 "process { ^abcdefghijklmnopqrstuvwxyz0123456 }",
             ),
             (
-                "a number behind a fault of the checks",
+                "a number after a fault of the checks",
                 "process a { } process a { var x = ^9223372036854775808; }",
             ),
             (
@@ -185,19 +185,19 @@ const PASSES: &[Group] = &[
     },
     Group {
         kind: 3,
-        front: "",
+        prefix: "",
         back: "",
         cases: &[
             (
-                "the grammar behind a fault of the checks",
+                "the grammar after a fault of the checks",
                 "process a { when true : send a 1; } ^}",
             ),
             (
-                "the text's end behind a fault of the checks",
+                "the text's end after a fault of the checks",
                 "process a { when true : send a 1;^",
             ),
             (
-                "the grammar behind a name that is taken",
+                "the grammar after a name that is taken",
                 "process a { } process a { ^x }",
             ),
             ("the first of two", "process ^process { x := }"),
@@ -206,11 +206,10 @@ const PASSES: &[Group] = &[
 ];
 
 #[test]
-fn one_of_several_faults_is_told(rt: HostRuntime) -> Result<(), Fail> {
-    for groups in [KINDS, OFFSETS, PASSES] {
-        expect_groups(&rt, rt.alloc(), groups)?;
-    }
-    Ok(())
+fn one_of_several_faults_is_reported(rt: HostRuntime) {
+    expect_groups(&rt, rt.alloc(), KINDS);
+    expect_groups(&rt, rt.alloc(), OFFSETS);
+    expect_groups(&rt, rt.alloc(), PASSES);
 }
 
 // Texts of parentheses; each `@` is 16 opening ones.
@@ -218,7 +217,7 @@ const PARENTHESES: &[(&str, u32, &str)] = &[
     ("32 may be open", 3, "process a { when @@^"),
     ("the 33rd", 7, "process a { when @@^("),
     (
-        "the 33rd, and a byte behind it",
+        "the 33rd, and a byte after it",
         7,
         "process a { when @@^( !",
     ),
@@ -240,7 +239,7 @@ const PARENTHESES: &[(&str, u32, &str)] = &[
     ),
     ("more are closed than were open", 3, "^)))@@"),
     ("the count doesn't go below 0", 7, ")))@@^("),
-    ("nor behind parentheses", 7, "())) @@^("),
+    ("nor after parentheses", 7, "())) @@^("),
     (
         "the count goes on in another expression",
         7,
@@ -259,24 +258,22 @@ const PARENTHESES: &[(&str, u32, &str)] = &[
 ];
 
 // A text with 16 parentheses in place of each `@`.
-fn with_parentheses(alloc: Global, text: &str) -> Result<Vec<u8>, AllocError> {
+fn with_parentheses(rt: &impl Abort, alloc: Global, text: &str) -> Vec<u8> {
     let mut all = Vec::new(alloc);
     for b in text.as_bytes() {
         if *b == b'@' {
-            all.extend_from_slice(b"((((((((((((((((")?;
+            add(rt, &mut all, "((((((((((((((((");
         } else {
-            all.push(*b)?;
+            all.push(*b).expect(rt, MEMORY);
         }
     }
-    Ok(all)
+    all
 }
 
 #[test]
-fn open_parentheses_are_counted_over_the_whole_text(rt: HostRuntime) -> Result<(), Fail> {
-    let alloc = rt.alloc();
+fn open_parentheses_are_counted_over_the_whole_text(rt: HostRuntime) {
     for (name, kind, text) in PARENTHESES {
-        let marked = with_parentheses(alloc, text)?;
-        expect_refused_at_mark(&rt, alloc, name, marked.as_slice(), *kind)?;
+        let marked = with_parentheses(&rt, rt.alloc(), text);
+        expect_refused_at_mark(&rt, rt.alloc(), name, marked.as_slice(), *kind);
     }
-    Ok(())
 }

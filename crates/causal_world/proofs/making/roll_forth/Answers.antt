@@ -11,7 +11,7 @@ use Rattle.causal_world.specs.Worlds.{CanMake}
 use Rattle.causal_world.specs.Rollings.{IsRolled, IsRolledFrom, unmade_all}
 use Rattle.causal_world.proofs.WorldCallLemmas.{can_here, can_keep, can_few, can_whole, next_few, same_scene}
 use Rattle.causal_world.proofs.RollbackLemmas.{channels_there}
-use Rattle.causal_world.proofs.Inverses.{Again, again, room_for_last, room_behind, room_one, room_each}
+use Rattle.causal_world.proofs.Inverses.{Again, again, room_for_last, room_after, room_one, room_each}
 use Rattle.causal_world.proofs.making.roll_forth.Goals as goal
 use Rattle.causal_world.proofs.making.roll_forth.Goals.{In-Some}
 
@@ -85,7 +85,7 @@ loop-pid-preserved c =
     let i = (goal.at.loop-pid-preserved c).In-Some in
     let t = c.in-Some.field-0 in
     let p = t.pid.0 in
-    let front = c.pop.new.self.items in
+    let prefix = c.pop.new.self.items in
     let past = c.happen.new.past in
     let size : length past.kinds ≡ length c.loop-pid.past.kinds =
     ap (λ (k : List (List Kind)). length k) c.happen.ensures.appended.kinds
@@ -98,12 +98,12 @@ loop-pid-preserved c =
           ≡ made (now i) p t.event (after_redo c.loop-pid.lines p) past.clocks =
           same_scene _ _ _ past _ c.advance.ensures c.happen.ensures.states c.happen.ensures.channels c.happen.ensures.appended.starts
           c.happen.ensures.appended.events c.happen.ensures.appended.kinds refl in
-          subst (IsRolledFrom P r.before front) (sym (new ∙ a.same past.clocks timed)) a.left;
-      ways = subst (λ (n : ℕ). HasRoomForth n c.happen.new.grid.room front) (sym size)
-          (room_behind (length c.loop-pid.past.kinds) c.loop-pid.grid.room c.happen.new.grid.room front t c.happen.ensures.ways
+          subst (IsRolledFrom P r.before prefix) (sym (new ∙ a.same past.clocks timed)) a.left;
+      ways = subst (λ (n : ℕ). HasRoomForth n c.happen.new.grid.room prefix) (sym size)
+          (room_after (length c.loop-pid.past.kinds) c.loop-pid.grid.room c.happen.new.grid.room prefix t c.happen.ensures.ways
           (subst (HasRoomForth (length c.loop-pid.past.kinds) c.loop-pid.grid.room) c.in-Some.ensures.items
           c.loop-pid.invariant.ways));
-      room = room_each c.loop-pid.past past front t size c.happen.ensures.appended.own c.happen.ensures.appended.others
+      room = room_each c.loop-pid.past past prefix t size c.happen.ensures.appended.own c.happen.ensures.appended.others
           (subst (HasRoomForEach c.loop-pid.past) c.in-Some.ensures.items c.loop-pid.invariant.room);
     }
 

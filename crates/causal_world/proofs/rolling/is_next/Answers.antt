@@ -14,8 +14,8 @@ use Rattle.causal_world.proofs.rolling.is_next.Goals as goal
 module _ (w : Scene) (cut : List ℕ) (p : ℕ) where
   next_if : (found : Result Exchange Refusal) → LastExchange w.events w.standing.channels p found → get_or cut p 0 < place_at w.state p
       → IsSomeWorld w → is_ok found ≡ true → IsNextBack w cut p
-  next_if (Ok exchange) last behind some may = next_by w cut p exchange last behind some
-  next_if (Err refusal) last behind some may = cc
+  next_if (Ok exchange) last beyond some may = next_by w cut p exchange last beyond some
+  next_if (Err refusal) last beyond some may = cc
 
   stuck_if : (found : Result Exchange Refusal) → LastExchange w.events w.standing.channels p found → is_ok found ≡ false
       → (P : Program) → IsWorldOf P w → MayUndo P (history_of w.state) p → ⊥

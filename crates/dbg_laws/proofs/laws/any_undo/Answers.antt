@@ -2,15 +2,15 @@ use Rattle.std.proofs.Common.{ap, ◌∙◌}
 use Rattle.dbg_base.specs.Histories.{play}
 use Rattle.dbg_base.specs.Reversal.{after_undos}
 use Rattle.dbg_laws.proofs.UndoLemmas.{unfired_all}
-use Rattle.dbg_laws.proofs.UndoneCutLemmas.{cut_of, undos_to, front_after, front_is_cut, front_consistent}
+use Rattle.dbg_laws.proofs.UndoneCutLemmas.{cut_of, undos_to, prefix_after, prefix_is_cut, prefix_consistent}
 use Rattle.dbg_laws.proofs.laws.any_undo.Goals as goal
 
 pub returns-clause-reached : goal.returns-clause-reached
 returns-clause-reached c P H undos all permitted =
-    let front = front_after P H undos permitted in (
+    let prefix = prefix_after P H undos permitted in (
       cut_of (after_undos H undos),
-      front_consistent P H (after_undos H undos) (unfired_all P H undos all permitted).0 front,
-      front_is_cut H (after_undos H undos) front,
+      prefix_consistent P H (after_undos H undos) (unfired_all P H undos all permitted).0 prefix,
+      prefix_is_cut H (after_undos H undos) prefix,
     )
 
 pub returns-clause-leads : goal.returns-clause-leads

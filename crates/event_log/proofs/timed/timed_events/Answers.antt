@@ -38,7 +38,7 @@ pub loop-pid-init : goal.loop-pid-init
 loop-pid-init c =
     let size = sizes c.args.world.now c.tally.ensures.world in
     timed_none c.args.world.now (numbers c.items-pid-items.result.now) _ c.processes.result _
-    (omega (arith, c.processes.ensures, ap lines c.tally.ensures.kinds, size)) c.in_ok-told.ensures c.new-events.ensures.items
+    (omega (arith, c.processes.ensures, ap lines c.tally.ensures.kinds, size)) c.in_ok-reported.ensures c.new-events.ensures.items
 
 pub overflow_add-number : goal.overflow_add-number
 overflow_add-number c =
@@ -58,11 +58,11 @@ loop-pid-preserved c =
     let number = c.count-number.result + 1 in
     let is = next _ _ _ _ _ _ c.tally.ensures.world c.in_ok-order.ensures.order c.items-pid-items.ensures c.loop-pid.invariant c.loop-pid-test.true in
     let counted = ap (λ (m : ℕ). m + 1) c.count-number.ensures in
-    elim c.match-branch-4.branch [ in-Some+in_ok-push b ↦ timed_more w (numbers pids) c.loop-pid.told n c.loop-pid.events.items (record { pid = pid_at pids n; number = number; clock = b.in-Some.clock }) c.in_ok-clock.field-0 _ _ c.loop-pid.invariant (below pids n c.loop-pid-test.true) (number_at pids n c.loop-pid-test.true) counted is c.in_ok-clock.ensures.clock b.in-Some.is c.set.ensures (ap (λ v. v.items) b.events-is ∙ b.in_ok-push.ensures.items) | in_default b ↦ absurd (has_clock w c.loop-pid.told (pid_at pids n).0 number c.in_ok-clock.field-0 is counted c.in_ok-clock.ensures.clock b.in_default.is) ]
+    elim c.match-branch-4.branch [ in-Some+in_ok-push b ↦ timed_more w (numbers pids) c.loop-pid.reported n c.loop-pid.events.items (record { pid = pid_at pids n; number = number; clock = b.in-Some.clock }) c.in_ok-clock.field-0 _ _ c.loop-pid.invariant (below pids n c.loop-pid-test.true) (number_at pids n c.loop-pid-test.true) counted is c.in_ok-clock.ensures.clock b.in-Some.is c.set.ensures (ap (λ v. v.items) b.events-is ∙ b.in_ok-push.ensures.items) | in_default b ↦ absurd (has_clock w c.loop-pid.reported (pid_at pids n).0 number c.in_ok-clock.field-0 is counted c.in_ok-clock.ensures.clock b.in_default.is) ]
 
 pub returns-clause-events : goal.returns-clause-events
 returns-clause-events c =
     let pids = c.items-pid-items.result.now in
     let end : length (numbers pids) ≤ c.loop-pid.pid-index = simp length-map c.loop-pid-test.false in
-    timed_all c.args.world.now (numbers pids) c.loop-pid.told c.loop-pid.pid-index c.loop-pid.events.items _ c.loop-pid.invariant end
+    timed_all c.args.world.now (numbers pids) c.loop-pid.reported c.loop-pid.pid-index c.loop-pid.events.items _ c.loop-pid.invariant end
     (subst (λ l. AreOrdered c.args.world.now (numbers l)) (sym c.items-pid-items.ensures) c.in_ok-order.ensures.order) c.new.ensures

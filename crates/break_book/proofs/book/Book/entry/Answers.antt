@@ -9,7 +9,7 @@ returns-clause-found c =
     let spot = here c.args.name c.args.self.now c.in-Some.position c.in-Some.found.now
     (ap (position_of c.args.name) (sym c.self.view_is) ∙ sym c.in-Some.ensures.index)
     (ap (lookup (bytes_eq c.args.name)) (sym c.self.view_is) ∙ sym c.in-Some.ensures.value) in
-    spot.stands
+    spot.placed_at
 
 pub returns-in_default-clause-refuses : goal.returns-in_default-clause-refuses
 returns-in_default-clause-refuses c =

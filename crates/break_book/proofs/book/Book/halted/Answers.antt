@@ -2,7 +2,7 @@ use Rattle.std.proofs.Common.{List, Some, None, refl, sym, subst}
 use Rattle.dbg_base.specs.Breakpoints.{IsHaltedBy}
 use Rattle.dbg_base.specs.SystemStates.{history_of}
 use Rattle.break_book.specs.Books.{Entry, breakpoints_of, AreDetectorsOf}
-use Rattle.break_book.proofs.HaltLemmas.{halts_here, halts_behind}
+use Rattle.break_book.proofs.HaltLemmas.{halts_here, halts_after}
 use Rattle.break_book.proofs.book.Book.halted.Goals as goal
 
 pub returns-then-halts : goal.returns-then-halts
@@ -25,7 +25,7 @@ loop-name-preserved c = λ w P are now.
       all.1,
       λ halted later. before.1 halted
           (subst (λ (l : List Entry). IsHaltedBy P H (breakpoints_of l) halted) (sym c.in-Some.ensures.steps)
-          (halts_behind P H kept name (breakpoints_of c.next.new.self) halted (c.if-halts.ensures w P all.0 now) later)),
+          (halts_after P H kept name (breakpoints_of c.next.new.self) halted (c.if-halts.ensures w P all.0 now) later)),
     )
 
 pub returns : goal.returns

@@ -1,7 +1,7 @@
 use Rattle.std.proofs.Common.{◌≡◌, ℕ, ◌+◌, ◌-◌, get_or, sym, ap, ◌∙◌, arith}
 use Rattle.cut_core.specs.Kinds.{is_like}
 use Rattle.cut_core.specs.Places.{IsPlace}
-use Rattle.cut_core.proofs.PositionLemmas.{place_behind}
+use Rattle.cut_core.proofs.PositionLemmas.{place_after}
 use Rattle.cut_core.proofs.PositionListLemmas.{own_there, own_place}
 use Rattle.cut_core.proofs.line.CountLine.nth.Goals as goal
 
@@ -44,4 +44,4 @@ returns-then-list-len-clause-count c =
     (sym c.index.ensures) c.args.wanted c.own_list-list.ensures (omega (arith, c.self.inside.lists.ok.0)) c.args.k c.at.result
     c.requires.first (rw (← c.self.view_is) at c.requires.enough) c.at.ensures in
     let count : c.args.k - 1 + 1 ≡ c.args.k = omega (arith, c.requires.first) in
-    rw (← c.self.view_is) (place_behind (is_like c.args.wanted) c.self.inside.kinds.items (c.args.k - 1) c.at.result place ∙ count)
+    rw (← c.self.view_is) (place_after (is_like c.args.wanted) c.self.inside.kinds.items (c.args.k - 1) c.at.result place ∙ count)

@@ -37,14 +37,14 @@ here g c =
     subst (λ (Q : Program). FollowsOrRefuses Q order session.state result after.state) c.self.invariant.program
     c.perform-outcome.ensures.follows in
     let due = due_given P (effective (map entry_of items)) c.seat.inside.number order session.state after.state result
-    c.self.invariant.stands follows there in
+    c.self.invariant.leads_to follows there in
     entered P g.L.Run.seats session items c.self.inside.log.publisher.pairs c.self.invariant c.seat.inside.number
     (Give order) (said_of result) few due
     kept c.new-entry.ensures.seat
     (ap call_of c.new-entry.ensures.call ∙ c.in_ok-call.ensures.copies ∙ ap (λ (o : Order). Give o) c.plan.ensures)
     (c.new-entry.ensures.said ∙ c.say.ensures.said) c.enter.new.self.journal.items
     (c.enter.ensures.journal ∙ ap (λ (l : List entry.Entry). l ++ kept ∷ []) c.make_room.ensures.journal)
-    after c.perform-outcome.ensures.program c.perform-outcome.ensures.effective c.perform-outcome.ensures.stands c.halt_at.result
+    after c.perform-outcome.ensures.program c.perform-outcome.ensures.effective c.perform-outcome.ensures.leads_to c.halt_at.result
     c.halt_at.ensures.place (vec_len c.enter.new.self.journal) long c.enter.new.self.publisher.pairs
     (c.enter.ensures.pairs ∙ ap (λ (l : Listing). l.pairs ++ pair ∷ []) c.make_room.ensures.publisher)
     c.seat.invariant.among c.args.self.now c.args.seat.now mine c.seat.inside.own.items c.enter.new.own.items c.seat.inside.view.pairs

@@ -5,16 +5,16 @@ use Rattle.dbg_base.specs.Calls.{Ask, query_of, call_of}
 use Rattle.dbg_base.specs.Journals.{effective}
 use Rattle.dbg_board.specs.declared.glance.Glance.{Glance}
 use Rattle.dbg_board.specs.Boards.{Listing}
-use Rattle.dbg_command.specs.Tables.{AnswersOrRefuses, told_of}
+use Rattle.dbg_command.specs.Tables.{AnswersOrRefuses, reported_of}
 use Rattle.dbg_calls.specs.Small.{small_call_of, small_said_of}
 use Rattle.dbg_desk.specs.declared.entry.Entry as entry
 use Rattle.dbg_desk.specs.declared.entry.RecordedCall as own
 use Rattle.dbg_desk.specs.Desks.{entry_of, own_of}
-use Rattle.dbg_desk.proofs.EnteredCallLemmas.{IsEntered, due_asked, stands_still, entered}
+use Rattle.dbg_desk.proofs.EnteredCallLemmas.{IsEntered, due_asked, leads_to_still, entered}
 use Rattle.dbg_desk.proofs.locked.Locked.enter_ask.Goals as goal
 
 here : (g : _) (c : goal.After-enter g)
-    → IsEntered g.L.Run.program g.L.Run.seats (Ask (query_of c.args.query)) (told_of c.ask-answered.result) c.args.self.now c.args.seat.now
+    → IsEntered g.L.Run.program g.L.Run.seats (Ask (query_of c.args.query)) (reported_of c.ask-answered.result) c.args.self.now c.args.seat.now
     c.self.inside.session (map entry_of c.enter.new.self.journal.items) c.enter.new.self.publisher.pairs
     (record { number = c.seat.inside.number; own = map own_of c.enter.new.own.items; seen = c.enter.new.view.pairs })
 here g c =
@@ -29,13 +29,13 @@ here g c =
     subst (λ (P : Program). AnswersOrRefuses P session.state (query_of c.args.query) c.ask-answered.result) c.self.invariant.program
     c.ask-answered.ensures.answers in
     let due = due_asked g.L.Run.program (effective (map entry_of items)) c.seat.inside.number (query_of c.args.query) session.state
-    c.ask-answered.result c.self.invariant.stands answers c.in_ok-said.ensures.there in
+    c.ask-answered.result c.self.invariant.leads_to answers c.in_ok-said.ensures.there in
     entered g.L.Run.program g.L.Run.seats session items c.self.inside.log.publisher.pairs c.self.invariant c.seat.inside.number
-    (Ask (query_of c.args.query)) (told_of c.ask-answered.result) few due
+    (Ask (query_of c.args.query)) (reported_of c.ask-answered.result) few due
     kept c.new-entry.ensures.seat (ap call_of c.new-entry.ensures.call) (c.new-entry.ensures.said ∙ c.in_ok-said.ensures.said)
     c.enter.new.self.journal.items
     (c.enter.ensures.journal ∙ ap (λ (l : List entry.Entry). l ++ kept ∷ []) c.make_room.ensures.journal)
-    session refl refl (stands_still _ _ _ _ _ c.self.invariant) c.halt_at.result c.halt_at.ensures.place (vec_len c.enter.new.self.journal) long
+    session refl refl (leads_to_still _ _ _ _ _ c.self.invariant) c.halt_at.result c.halt_at.ensures.place (vec_len c.enter.new.self.journal) long
     c.enter.new.self.publisher.pairs
     (c.enter.ensures.pairs ∙ ap (λ (l : Listing). l.pairs ++ pair ∷ []) c.make_room.ensures.publisher)
     c.seat.invariant.among c.args.self.now c.args.seat.now mine c.seat.inside.own.items c.enter.new.own.items c.seat.inside.view.pairs

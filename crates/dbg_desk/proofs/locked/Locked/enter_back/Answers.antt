@@ -45,7 +45,7 @@ here g c =
     kept c.new-entry.ensures.seat (ap call_of c.new-entry.ensures.call)
     (c.new-entry.ensures.said ∙ c.say.ensures.said) c.enter.new.self.journal.items
     (c.enter.ensures.journal ∙ ap (λ (l : List entry.Entry). l ++ kept ∷ []) c.make_room.ensures.journal)
-    after c.back-taken.ensures.program c.back-taken.ensures.effective c.back-taken.ensures.stands c.halt_at.result
+    after c.back-taken.ensures.program c.back-taken.ensures.effective c.back-taken.ensures.leads_to c.halt_at.result
     c.halt_at.ensures.place (vec_len c.enter.new.self.journal) long c.enter.new.self.publisher.pairs
     (c.enter.ensures.pairs ∙ ap (λ (l : Listing). l.pairs ++ pair ∷ []) c.make_room.ensures.publisher)
     c.seat.invariant.among c.args.self.now c.args.seat.now mine c.seat.inside.own.items c.enter.new.own.items c.seat.inside.view.pairs

@@ -2,15 +2,15 @@ use Rattle.std.proofs.Common.{inl, rules, vec_len}
 use Rattle.proc_lang.specs.Programs.{program_of}
 use Rattle.dbg_command.specs.Tables.{IsTableOf}
 use Rattle.dbg_session.proofs.Stacks.{EndsWith, last_written}
-use Rattle.dbg_session.proofs.StackUndoLemmas.{session_stands, session_kept, session_shorter, last_may_go_back, last_stays, answers_back, seen_same}
+use Rattle.dbg_session.proofs.StackUndoLemmas.{session_leads_to, session_kept, session_shorter, last_may_go_back, last_stays, answers_back, seen_same}
 use Rattle.dbg_session.proofs.AnswerFitLemmas.{plain_fits}
 use Rattle.dbg_session.proofs.session.Session.back.Given.{Over}
 use Rattle.dbg_session.proofs.session.Session.back.Goals as goal
 
-pub returns-then-last-seat-clause-stands : goal.returns-then-last-seat-clause-stands
-returns-then-last-seat-clause-stands g c =
+pub returns-then-last-seat-clause-leads_to : goal.returns-then-last-seat-clause-leads_to
+returns-then-last-seat-clause-leads_to g c =
     let ends : EndsWith c.self.inside.stack.items (vec_len c.self.inside.stack) c.in-Some.last.now = search rules in
-    rw (last_written _ _ _ ends) (session_stands c.self.invariant)
+    rw (last_written _ _ _ ends) (session_leads_to c.self.invariant)
 
 pub revert-requires : goal.revert-requires
 revert-requires g c =
@@ -25,8 +25,8 @@ invariant_of-self-in_err-revert g c =
     rw (last_stays c.self.invariant ends c.revert.new.self c.in_err-revert.ensures.unchanged)
     (session_kept c.self.invariant of c.in_err-revert.ensures.kept)
 
-pub returns-in_err-revert-clause-stands : goal.returns-in_err-revert-clause-stands
-returns-in_err-revert-clause-stands g c = session_stands (invariant_of-self-in_err-revert g c)
+pub returns-in_err-revert-clause-leads_to : goal.returns-in_err-revert-clause-leads_to
+returns-in_err-revert-clause-leads_to g c = session_leads_to (invariant_of-self-in_err-revert g c)
 
 pub returns-in_err-revert-clause-kept : goal.returns-in_err-revert-clause-kept
 returns-in_err-revert-clause-kept g c =
@@ -52,8 +52,8 @@ returns-clause-due g c =
     rw (← c.self.view_is) (inl (answers_back c.self.invariant (ends_of g c) (still_of g c) c.in_ok-revert.ensures.back c.args.seat
     c.reply.result c.if-last-seat.false (c.reply.ensures _ (still_of g c))))
 
-pub returns-clause-stands : goal.returns-clause-stands
-returns-clause-stands g c = session_stands (invariant_of-self-2 g c)
+pub returns-clause-leads_to : goal.returns-clause-leads_to
+returns-clause-leads_to g c = session_leads_to (invariant_of-self-2 g c)
 
 pub returns-clause-fits : goal.returns-clause-fits
 returns-clause-fits g c = plain_fits c.args.self.now.program c.reply.result.done (c.reply.ensures _ (still_of g c)).done

@@ -1,19 +1,19 @@
 use Rattle.std.proofs.Common.{Ok, rules}
 use Rattle.proc_lang.specs.Programs.{program_of}
 use Rattle.dbg_command.specs.Tables.{FollowsOrRefuses, state_of}
-use Rattle.dbg_session.proofs.StackUndoLemmas.{session_stands, session_kept, session_longer, seen_same}
+use Rattle.dbg_session.proofs.StackUndoLemmas.{session_leads_to, session_kept, session_longer, seen_same}
 use Rattle.dbg_session.proofs.AnswerFitLemmas.{order_fits}
 use Rattle.dbg_session.proofs.session.Session.perform.Goals as goal
 
-pub returns-in_err-reserve-clause-stands : goal.returns-in_err-reserve-clause-stands
-returns-in_err-reserve-clause-stands g c = rw c.reserve.ensures.items (session_stands c.self.invariant)
+pub returns-in_err-reserve-clause-leads_to : goal.returns-in_err-reserve-clause-leads_to
+returns-in_err-reserve-clause-leads_to g c = rw c.reserve.ensures.items (session_leads_to c.self.invariant)
 
 pub invariant_of-self-in_err-reply : goal.invariant_of-self-in_err-reply
 invariant_of-self-in_err-reply g c =
     rw c.reserve.ensures.items (session_kept c.self.invariant c.apply.ensures.of c.in_err-reply.ensures.refused.0)
 
-pub returns-in_err-reply-clause-stands : goal.returns-in_err-reply-clause-stands
-returns-in_err-reply-clause-stands g c = session_stands (invariant_of-self-in_err-reply g c)
+pub returns-in_err-reply-clause-leads_to : goal.returns-in_err-reply-clause-leads_to
+returns-in_err-reply-clause-leads_to g c = session_leads_to (invariant_of-self-in_err-reply g c)
 
 pub returns-in_err-reply-clause-fits : goal.returns-in_err-reply-clause-fits
 returns-in_err-reply-clause-fits g c =
@@ -31,8 +31,8 @@ invariant_of-self-2 g c =
     (record { seat = c.args.seat; command = c.apply.new.self }) (g.C.Command.order c.args.command) c.in_ok-reply.reply
     c.apply.ensures.same c.in_ok-reply.ensures.acts c.in_ok-reply.ensures.leads.1)
 
-pub returns-clause-stands : goal.returns-clause-stands
-returns-clause-stands g c = session_stands (invariant_of-self-2 g c)
+pub returns-clause-leads_to : goal.returns-clause-leads_to
+returns-clause-leads_to g c = session_leads_to (invariant_of-self-2 g c)
 
 pub returns-clause-fits : goal.returns-clause-fits
 returns-clause-fits g c =

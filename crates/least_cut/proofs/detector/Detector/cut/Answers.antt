@@ -5,7 +5,7 @@ use Rattle.least_cut.specs.Watches.{WatchRoom}
 use Rattle.least_cut.specs.Detectors.{DetectorState, conjuncts_of, lines_of, is_past_in}
 use Rattle.least_cut.proofs.ListLoopLemmas.{found, none_more, none_left}
 use Rattle.least_cut.proofs.Truths.{is_past_at}
-use Rattle.least_cut.proofs.DetectorResultLemmas.{is_own_past, own_false, own_none, told_none, told_least}
+use Rattle.least_cut.proofs.DetectorResultLemmas.{is_own_past, own_false, own_none, reported_none, reported_least}
 use Rattle.least_cut.proofs.detector.Detector.cut.Goals as goal
 
 pub returns-then-is_past : goal.returns-then-is_past
@@ -16,7 +16,7 @@ returns-then-is_past c w P is of =
     sym (found (λ (watch : WatchRoom). watch.state.line) (is_past_at p c.candidate.result) c.deref-watch-items.ensures.value
     (ap lines_of c.self.view_is) c.loop-watch.watch-index c.watch-item.result c.watch-item.is c.loop-watch-test.true
     (sym c.is_past.ensures ∙ c.if-is_past.true)) in
-    told_none P w of d is p (subst (λ (n : ℕ). is_past_in (lines_of d) p n ≡ true) c.candidate.ensures past)
+    reported_none P w of d is p (subst (λ (n : ℕ). is_past_in (lines_of d) p n ≡ true) c.candidate.ensures past)
 
 pub loop-watch-preserved : goal.loop-watch-preserved
 loop-watch-preserved c =
@@ -34,4 +34,4 @@ returns c w P is of =
     (ap lines_of c.self.view_is) c.loop-watch.watch-index c.loop-watch-test.false c.loop-watch.invariant in
     subst (λ (tuple : List ℕ). IsLeast P (history_of w.state) (conjuncts_of d) tuple)
     (sym (ap (λ (s : DetectorState). s.candidates) c.self.view_is))
-    (told_least P w of d is (own_none d.candidates (lines_of d) (sym none)))
+    (reported_least P w of d is (own_none d.candidates (lines_of d) (sym none)))

@@ -4,8 +4,8 @@ use Rattle.std.proofs.lemmas.List.{length_push, get_or_push, get_or_append_left}
 use Rattle.dbg_base.specs.declared.said.Head.{Head}
 use Rattle.dbg_base.specs.declared.said.Head.TheVariants.{Past}
 use Rattle.dbg_base.specs.SystemStates.{history_of}
-use Rattle.least_cut.specs.Detectors.{conjuncts_of, lines_of, TellsFrontier, told_head}
-use Rattle.least_cut.proofs.DetectorResultLemmas.{told_heads}
+use Rattle.least_cut.specs.Detectors.{conjuncts_of, lines_of, TellsFrontier, reported_head}
+use Rattle.least_cut.proofs.DetectorResultLemmas.{reported_heads}
 use Rattle.least_cut.proofs.detector.Detector.frontier.Goals as goal
 
 pub loop-p-init : goal.loop-p-init
@@ -32,8 +32,8 @@ loop-p-preserved c =
           (λ (last : c.loop-p.p ≤ p).
           let here : p ≡ c.loop-p.p = omega arith in
           get_or_push heads c.head.result Past p (len ∙ sym here) ∙ c.head.ensures
-          ∙ ap (λ (l : List ℕ). told_head (lines_of d) c.loop-p.p (get_or l c.loop-p.p 0)) counts
-          ∙ ap (λ (q : ℕ). told_head (lines_of d) q (get_or d.candidates q 0)) (sym here))
+          ∙ ap (λ (l : List ℕ). reported_head (lines_of d) c.loop-p.p (get_or l c.loop-p.p 0)) counts
+          ∙ ap (λ (q : ℕ). reported_head (lines_of d) q (get_or d.candidates q 0)) (sym here))
           (cases_lt p c.loop-p.p);
     }
 
@@ -44,5 +44,5 @@ returns-clause-frontier c w P is of =
     let whole : c.loop-p.p ≡ length d.candidates =
     (let size = ap (λ (l : List ℕ). length l) counts in omega (arith, size, c.loop-p-test.false, c.loop-p.auto.p-end)) in
     subst (λ (heads : List Head). TellsFrontier P (history_of w.state) (conjuncts_of d) heads) (sym c.new.ensures)
-    (told_heads P w of d is c.loop-p.heads.items (c.loop-p.invariant.len ∙ whole)
+    (reported_heads P w of d is c.loop-p.heads.items (c.loop-p.invariant.len ∙ whole)
     (λ p lt. c.loop-p.invariant.each p (omega (arith, whole))))

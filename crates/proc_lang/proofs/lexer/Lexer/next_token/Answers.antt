@@ -2,7 +2,7 @@ use Rattle.std.proofs.Common.{◌≡◌, ◌+◌, ◌<◌, ◌≤◌, length, dr
 use Rattle.std.proofs.lemmas.Bool.{eqb-true, eqb-false}
 use Rattle.std.proofs.lemmas.List.Sums.{prefix_len-le-length}
 use Rattle.dbg_base.specs.declared.limits.TheConstants.{OPEN_PARENTHESES}
-use Rattle.dbg_base.specs.Tokens.{is_space, open_behind}
+use Rattle.dbg_base.specs.Tokens.{is_space, still_open}
 use Rattle.proc_lang.specs.Scanning.{token_of, MeetsFault}
 use Rattle.proc_lang.proofs.LexerStepLemmas.{only_spaces, takes_token, meets_fault, meets_limit}
 use Rattle.proc_lang.proofs.lexer.Lexer.next_token.Goals as goal
@@ -26,8 +26,8 @@ returns-in-Err-count c =
 pub returns-in-Ok-count : goal.returns-in-Ok-count
 returns-in-Ok-count c =
     let counted = c.in-Ok-count.ensures.depth in
-    let behind : c.pass-in-Ok-count.new.self.depth ≡ open_behind c.args.self.now.depth (token_of c.in-Ok.token) =
-    c.pass-in-Ok-count.ensures.depth ∙ counted.0 ∙ ap (λ d. open_behind d (token_of c.in-Ok.token)) c.pass.ensures.depth in
+    let beyond : c.pass-in-Ok-count.new.self.depth ≡ still_open c.args.self.now.depth (token_of c.in-Ok.token) =
+    c.pass-in-Ok-count.ensures.depth ∙ counted.0 ∙ ap (λ d. still_open d (token_of c.in-Ok.token)) c.pass.ensures.depth in
     let shallow : c.pass-in-Ok-count.new.self.depth ≤ OPEN_PARENTHESES = omega (arith, counted.1, c.pass-in-Ok-count.ensures.depth) in
     let others : c.pass-in-Ok-count.new.self.rest.now ≡ drop c.in-Ok.length c.pass.new.self.rest.now =
     cc (c.pass-in-Ok-count.ensures.rest, c.in-Ok-count.ensures.rest) in
@@ -36,7 +36,7 @@ returns-in-Ok-count c =
     takes_token c.args.self.now.rest.now c.pass.new.self.rest.now c.space_length.result c.space_length.ensures c.pass.ensures.rest
     c.args.self.now.at c.pass.new.self.at c.args.self.now.depth c.pass-in-Ok-count.new.self.at c.pass-in-Ok-count.new.self.depth
     c.in-Ok.length (token_of c.in-Ok.token) c.pass-in-Ok-count.new.self.rest.now c.pass.ensures.at c.in-Ok.ensures.0 c.in-Ok.ensures.1
-    behind shallow others end
+    beyond shallow others end
 
 pub returns-in-Err : goal.returns-in-Err
 returns-in-Err c =

@@ -4,7 +4,7 @@ use Rattle.dbg_base.specs.declared.said.Said.TheVariants.{Refused}
 use Rattle.dbg_base.specs.declared.refusal.Refusal.TheVariants.{JournalFull, Memory}
 
 -- the answer is neither "out of memory" nor "journal full"
-abbrev pub IsTold : Said → Type 0
-IsTold (Refused Memory) = ⊥
-IsTold (Refused JournalFull) = ⊥
-IsTold said = Unit {0}
+abbrev pub IsReported : Said → Type 0
+IsReported (Refused Memory) = ⊥
+IsReported (Refused JournalFull) = ⊥
+IsReported said = Unit {0}

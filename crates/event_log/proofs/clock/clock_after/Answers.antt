@@ -1,8 +1,8 @@
 use Rattle.std.proofs.Common.{ℕ, List, length, ap, arith}
 use Rattle.cut_core.specs.declared.kind.Kind.{Kind}
 use Rattle.event_log.proofs.UndoneOrderLemmas.{sizes}
-use Rattle.event_log.proofs.clock.clock_behind.Goals as goal
-use Rattle.event_log.proofs.clock.clock_behind.Goals.{then-pid-processes-via-then-pid-processes, then-pid-processes-via-else-pid-processes+then-n-place}
+use Rattle.event_log.proofs.clock.clock_after.Goals as goal
+use Rattle.event_log.proofs.clock.clock_after.Goals.{then-pid-processes-via-then-pid-processes, then-pid-processes-via-else-pid-processes+then-n-place}
 
 abbrev lines : List (List Kind) → ℕ
 lines kinds = length kinds

@@ -1,7 +1,7 @@
 use Rattle.std.proofs.Common.{arith}
 use Rattle.cut_core.specs.ConsistentCuts.{places}
 use Rattle.causal_world.proofs.LastKindLemmas.{sum_next, placed}
-use Rattle.causal_world.proofs.rolling.behind.Goals as goal
+use Rattle.causal_world.proofs.rolling.beyond.Goals as goal
 
 pub loop-p-preserved : goal.loop-p-preserved
 loop-p-preserved c =

@@ -1,6 +1,6 @@
 use Rattle.std.proofs.Common.{◌+◌, ◌*◌, ◌≤◌, sum, take}
 use Rattle.cut_core.specs.ConsistentCuts.{places}
-use Rattle.causal_world.proofs.rolling.behind.Given as goal
+use Rattle.causal_world.proofs.rolling.beyond.Given as goal
 
 abbrev pub invariant-loop-p : goal.invariant-loop-p
 invariant-loop-p l =
