@@ -1,11 +1,12 @@
 //! Processes, variables and commands, written in the process language.
 
-use crate::environment::Value;
-use crate::fault::{Problem, Stop};
+use crate::environment::ConstantValue;
+use crate::fault::{ExpansionStop, Problem};
 use crate::limits::{REPEATS, UNFOLDING};
 use crate::model::Tables;
 use crate::syntax::{
-    Action, Assignment, Binder, Command, Constant, Declaration, Item, Process, Variable, place,
+    ActionNode, AssignmentNode, Binder, CommandNode, Constant, DeclarationNode, ItemNode,
+    ProcessNode, VariableNode, place,
 };
 use crate::writing::{Writer, put_index};
 use dbg_base::Name;
@@ -39,7 +40,12 @@ pub(crate) struct Builder<'a> {
 }
 
 // The name of a member of a family.
-fn member_name(alloc: Global, name: &Name, values: &[i64], at: usize) -> Result<Vec<u8>, Stop> {
+fn member_name(
+    alloc: Global,
+    name: &Name,
+    values: &[i64],
+    at: usize,
+) -> Result<Vec<u8>, ExpansionStop> {
     let mut text = Vec::from_slice(alloc, name.bytes())?;
     for value in values {
         put_index(&mut text, *value, at)?;
@@ -81,12 +87,16 @@ impl<'a> Builder<'a> {
     }
 
     // Computes a constant.
-    fn constant(&mut self, constant: &'a Constant) -> Result<(), Stop> {
+    fn constant(&mut self, constant: &'a Constant) -> Result<(), ExpansionStop> {
         self.writer.constant(constant)
     }
 
     // Writes the variable for these members.
-    fn variable_copy(&mut self, variable: &'a Variable, values: &[i64]) -> Result<(), Stop> {
+    fn variable_copy(
+        &mut self,
+        variable: &'a VariableNode,
+        values: &[i64],
+    ) -> Result<(), ExpansionStop> {
         let alloc = self.alloc();
         let writer = &mut self.writer;
         let start = writer.environment.number(&variable.value, UNFOLDING)?;
@@ -105,7 +115,7 @@ impl<'a> Builder<'a> {
     }
 
     // Writes a variable, or each of a family: no more than the first 33, since the process language reports the 33rd.
-    fn variable(&mut self, variable: &'a Variable) -> Result<(), Stop> {
+    fn variable(&mut self, variable: &'a VariableNode) -> Result<(), ExpansionStop> {
         let ranges = variable.ranges.as_slice();
         let tuples = self.writer.environment.combinations(ranges, PROCESSES)?;
         for values in &tuples {
@@ -120,7 +130,7 @@ impl<'a> Builder<'a> {
     }
 
     // The label of a command in the present copy, or nothing.
-    fn label(&self, command: &Command) -> Result<Vec<u8>, Stop> {
+    fn label(&self, command: &CommandNode) -> Result<Vec<u8>, ExpansionStop> {
         let Some(label) = command.label else {
             return Ok(Vec::new(self.alloc()));
         };
@@ -130,7 +140,7 @@ impl<'a> Builder<'a> {
     }
 
     // Notes a command: its label, which no other command of the process may have, and its place.
-    fn note_command(&mut self, command: &Command) -> Result<(), Stop> {
+    fn note_command(&mut self, command: &CommandNode) -> Result<(), ExpansionStop> {
         let label = self.label(command)?;
         let at = match command.label {
             Some(label) => label.at,
@@ -138,7 +148,7 @@ impl<'a> Builder<'a> {
         };
         if let Some(process) = self.processes.last_mut() {
             if !label.is_empty() && has_label(process.commands.as_slice(), label.as_slice()) {
-                return Err(Stop::Bad(Problem::LabelTaken, at));
+                return Err(ExpansionStop::Bad(Problem::LabelTaken, at));
             }
             process.commands.push(CommandOrigin { label, at })?;
         }
@@ -146,7 +156,7 @@ impl<'a> Builder<'a> {
     }
 
     // Writes an assignment.
-    fn assignment(&mut self, assignment: &'a Assignment) -> Result<(), Stop> {
+    fn assignment(&mut self, assignment: &'a AssignmentNode) -> Result<(), ExpansionStop> {
         let writer = &mut self.writer;
         writer.reference(&assignment.target, UNFOLDING)?;
         writer.token(b":=", assignment.at)?;
@@ -154,16 +164,16 @@ impl<'a> Builder<'a> {
     }
 
     // Writes what a command does besides its assignments.
-    fn action(&mut self, action: &'a Action) -> Result<(), Stop> {
+    fn action(&mut self, action: &'a ActionNode) -> Result<(), ExpansionStop> {
         let writer = &mut self.writer;
         match action {
-            Action::Local => Ok(()),
-            Action::Send(at, target, value) => {
+            ActionNode::Local => Ok(()),
+            ActionNode::Send(at, target, value) => {
                 writer.token(b"send", *at)?;
                 writer.reference(target, UNFOLDING)?;
                 writer.expression(value, UNFOLDING)
             }
-            Action::Receive(at, source, variable) => {
+            ActionNode::Receive(at, source, variable) => {
                 writer.token(b"recv", *at)?;
                 writer.reference(source, UNFOLDING)?;
                 writer.reference(variable, UNFOLDING)
@@ -172,14 +182,14 @@ impl<'a> Builder<'a> {
     }
 
     // Writes a command.
-    fn command(&mut self, command: &'a Command) -> Result<(), Stop> {
+    fn command(&mut self, command: &'a CommandNode) -> Result<(), ExpansionStop> {
         self.note_command(command)?;
         self.writer.text.line(b"  ", command.at)?;
         self.writer.token(b"when", command.at)?;
         self.writer.expression(&command.guard, UNFOLDING)?;
         self.writer.token(b":", command.colon)?;
         self.action(&command.action)?;
-        let mut is_first = matches!(command.action, Action::Local);
+        let mut is_first = matches!(command.action, ActionNode::Local);
         for assignment in &command.assignments {
             if !is_first {
                 self.writer.joined_token(b",", assignment.target.at)?;
@@ -192,9 +202,14 @@ impl<'a> Builder<'a> {
 
     // Writes the items for each member of a range.
     #[cycle(copies)]
-    fn repeat(&mut self, binder: &'a Binder, items: &'a [Item], depth: u32) -> Result<(), Stop> {
+    fn repeat(
+        &mut self,
+        binder: &'a Binder,
+        items: &'a [ItemNode],
+        depth: u32,
+    ) -> Result<(), ExpansionStop> {
         if depth == 0 {
-            return Err(Stop::Bad(Problem::DeepNesting, binder.at));
+            return Err(ExpansionStop::Bad(Problem::DeepNesting, binder.at));
         }
         let members = self.writer.environment.range(binder, UNFOLDING)?;
         for member in &members {
@@ -209,13 +224,13 @@ impl<'a> Builder<'a> {
 
     // Writes items, in order.
     #[cycle(copies)]
-    fn items(&mut self, items: &'a [Item], depth: u32) -> Result<(), Stop> {
+    fn items(&mut self, items: &'a [ItemNode], depth: u32) -> Result<(), ExpansionStop> {
         for item in items {
             match item {
-                Item::Constant(constant) => self.constant(constant)?,
-                Item::Variable(variable) => self.variable(variable)?,
-                Item::Command(command) => self.command(command)?,
-                Item::Repeat(binder, items) => self.repeat(binder, items.as_slice(), depth)?,
+                ItemNode::Constant(constant) => self.constant(constant)?,
+                ItemNode::Variable(variable) => self.variable(variable)?,
+                ItemNode::Command(command) => self.command(command)?,
+                ItemNode::Repeat(binder, items) => self.repeat(binder, items.as_slice(), depth)?,
             }
         }
         Ok(())
@@ -224,10 +239,10 @@ impl<'a> Builder<'a> {
     // Writes the process for these members.
     fn process_copy(
         &mut self,
-        process: &'a Process,
+        process: &'a ProcessNode,
         declaration: usize,
         values: &[i64],
-    ) -> Result<(), Stop> {
+    ) -> Result<(), ExpansionStop> {
         let alloc = self.alloc();
         let name = member_name(alloc, &process.name, values, process.name_at)?;
         self.writer.text.line(b"", process.at)?;
@@ -246,7 +261,11 @@ impl<'a> Builder<'a> {
     }
 
     // Writes a process, or each of a family: no more than the first 33, since the process language reports the 33rd.
-    fn process(&mut self, process: &'a Process, declaration: usize) -> Result<(), Stop> {
+    fn process(
+        &mut self,
+        process: &'a ProcessNode,
+        declaration: usize,
+    ) -> Result<(), ExpansionStop> {
         let ranges = process.ranges.as_slice();
         let tuples = self.writer.environment.combinations(ranges, PROCESSES)?;
         for values in &tuples {
@@ -261,11 +280,14 @@ impl<'a> Builder<'a> {
     }
 
     /// Writes all declarations of a model, in order.
-    pub(crate) fn model(&mut self, declarations: &'a [Declaration]) -> Result<(), Stop> {
+    pub(crate) fn model(
+        &mut self,
+        declarations: &'a [DeclarationNode],
+    ) -> Result<(), ExpansionStop> {
         for (number, declaration) in declarations.iter().enumerate() {
             match declaration {
-                Declaration::Constant(constant) => self.constant(constant)?,
-                Declaration::Process(process) => self.process(process, number)?,
+                DeclarationNode::Constant(constant) => self.constant(constant)?,
+                DeclarationNode::Process(process) => self.process(process, number)?,
             }
         }
         if !self.writer.text.bytes.is_empty() {
@@ -277,8 +299,8 @@ impl<'a> Builder<'a> {
 
 impl<'a> Writer<'a> {
     /// Computes a constant.
-    pub(crate) fn constant(&mut self, constant: &'a Constant) -> Result<(), Stop> {
-        let value: Value = self.environment.value(&constant.value, UNFOLDING)?;
+    pub(crate) fn constant(&mut self, constant: &'a Constant) -> Result<(), ExpansionStop> {
+        let value: ConstantValue = self.environment.value(&constant.value, UNFOLDING)?;
         self.environment.set_constant(constant.number, value);
         Ok(())
     }

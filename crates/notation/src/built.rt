@@ -4,7 +4,7 @@ ghost use Rattle.std.specs.Prelude.{◌≡◌, vec_len};
 ghost use Rattle.notation.specs.TokenCounts.{token_count};
 
 use crate::building::ProcessCopy;
-use crate::environment::{CopyOf, Value};
+use crate::environment::{ConstantValue, CopyOf};
 use crate::plain_text::{Origin, PlainText};
 
 /// The plain text of a model, its processes, the copies in which its tokens are, the values of constants, and for each token of the plain
@@ -14,7 +14,7 @@ pub(crate) struct Built {
     pub(crate) text: PlainText,
     pub(crate) processes: Vec<ProcessCopy>,
     pub(crate) copies: Vec<CopyOf>,
-    pub(crate) constants: Vec<Option<Value>>,
+    pub(crate) constants: Vec<Option<ConstantValue>>,
     pub(crate) map: Vec<Origin>,
     ghost mapped: { vec_len map ≡ token_count text.bytes.items },
 }

@@ -2,7 +2,7 @@
 
 ghost use Rattle.std.specs.Prelude.{◌≡◌, ◌+◌, IfOk};
 
-use crate::fault::{MemberValue, Problem, Stop};
+use crate::fault::{ExpansionStop, MemberValue, Problem};
 use crate::limits::STEPS;
 use crate::model::Tables;
 use crate::syntax::{Definition, Expression};
@@ -11,7 +11,7 @@ use std::alloc::{AllocError, Global};
 
 /// A value that was computed.
 #[derive(Clone, Copy)]
-pub(crate) enum Value {
+pub(crate) enum ConstantValue {
     Number(i64),
     Truth(bool),
 }
@@ -26,7 +26,7 @@ pub(crate) struct CopyOf {
 
 /// What a member and the copy were before.
 #[derive(Clone, Copy)]
-pub(crate) struct Before {
+pub(crate) struct SavedValues {
     member: usize,
     value: i64,
     copy: usize,
@@ -38,7 +38,7 @@ pub(crate) struct Environment<'a> {
     pub(crate) alloc: Global,
     definitions: &'a [Definition],
     pub(crate) names: Vec<Name>,
-    pub(crate) constants: Vec<Option<Value>>,
+    pub(crate) constants: Vec<Option<ConstantValue>>,
     members: Vec<i64>,
     arguments: Vec<Option<&'a Expression>>,
     pub(crate) copies: Vec<CopyOf>,
@@ -50,7 +50,7 @@ pub(crate) struct Environment<'a> {
 }
 
 // So many constants without a value.
-fn no_values(alloc: Global, count: usize) -> Result<Vec<Option<Value>>, AllocError> {
+fn no_values(alloc: Global, count: usize) -> Result<Vec<Option<ConstantValue>>, AllocError> {
     let mut values = Vec::new(alloc);
     for _ in 0..count {
         values.push(None)?;
@@ -97,29 +97,33 @@ impl<'a> Environment<'a> {
     }
 
     /// Takes a step, at this offset, so deep.
-    pub(crate) fn step(&mut self, depth: u32, at: usize) -> Result<u32, Stop>
+    pub(crate) fn step(&mut self, depth: u32, at: usize) -> Result<u32, ExpansionStop>
         ensures { IfOk result (λ inner. inner + 1 ≡ depth) }
     {
         if self.steps == 0 {
-            return Err(Stop::Bad(Problem::MuchWork, at));
+            return Err(ExpansionStop::Bad(Problem::MuchWork, at));
         }
         self.steps -= 1;
         if depth == 0 {
-            return Err(Stop::Bad(Problem::DeepUnfolding, at));
+            return Err(ExpansionStop::Bad(Problem::DeepUnfolding, at));
         }
         Ok(depth - 1)
     }
 
     /// The value of a constant.
-    pub(crate) fn constant(&self, number: usize, at: usize) -> Result<Value, Stop> {
+    pub(crate) fn constant(
+        &self,
+        number: usize,
+        at: usize,
+    ) -> Result<ConstantValue, ExpansionStop> {
         match self.constants.get(number) {
             Some(Some(value)) => Ok(*value),
-            _ => Err(Stop::Bad(Problem::VariableComputed, at)),
+            _ => Err(ExpansionStop::Bad(Problem::VariableComputed, at)),
         }
     }
 
     /// Gives a constant its value.
-    pub(crate) fn set_constant(&mut self, number: usize, value: Value) {
+    pub(crate) fn set_constant(&mut self, number: usize, value: ConstantValue) {
         if let Some(place) = self.constants.get_mut(number) {
             *place = Some(value);
         }
@@ -147,8 +151,8 @@ impl<'a> Environment<'a> {
     }
 
     /// Begins the copy in which the member has this value.
-    pub(crate) fn enter(&mut self, member: usize, value: i64) -> Result<Before, AllocError> {
-        let before = Before {
+    pub(crate) fn enter(&mut self, member: usize, value: i64) -> Result<SavedValues, AllocError> {
+        let before = SavedValues {
             member,
             value: self.member(member),
             copy: self.copy,
@@ -164,7 +168,7 @@ impl<'a> Environment<'a> {
     }
 
     /// Ends a copy. It is forgotten if nothing refers to it.
-    pub(crate) fn leave(&mut self, before: Before) {
+    pub(crate) fn leave(&mut self, before: SavedValues) {
         if self.copies.len() == self.copy && self.copies.len() > self.kept {
             let _ = self.copies.pop();
         }
@@ -178,18 +182,26 @@ impl<'a> Environment<'a> {
     }
 
     /// A definition.
-    pub(crate) fn definition(&self, number: usize, at: usize) -> Result<&'a Definition, Stop> {
+    pub(crate) fn definition(
+        &self,
+        number: usize,
+        at: usize,
+    ) -> Result<&'a Definition, ExpansionStop> {
         match self.definitions.get(number) {
             Some(definition) => Ok(definition),
-            None => Err(Stop::Bad(Problem::NotADefinition, at)),
+            None => Err(ExpansionStop::Bad(Problem::NotADefinition, at)),
         }
     }
 
     /// The argument that a parameter stands for.
-    pub(crate) fn argument(&self, number: usize, at: usize) -> Result<&'a Expression, Stop> {
+    pub(crate) fn argument(
+        &self,
+        number: usize,
+        at: usize,
+    ) -> Result<&'a Expression, ExpansionStop> {
         match self.arguments.get(number) {
             Some(Some(argument)) => Ok(*argument),
-            _ => Err(Stop::Bad(Problem::VariableComputed, at)),
+            _ => Err(ExpansionStop::Bad(Problem::VariableComputed, at)),
         }
     }
 

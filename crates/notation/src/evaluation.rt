@@ -1,38 +1,38 @@
 //! Values that are computed during expansion, with the arithmetic of the process language.
 
-use crate::environment::{Environment, Value};
-use crate::fault::{Problem, Stop};
-use crate::syntax::{Binder, Each, Expression, Form, Link, place};
+use crate::environment::{ConstantValue, Environment};
+use crate::fault::{ExpansionStop, Problem};
+use crate::syntax::{Binder, Each, Expression, FormNode, Link, place};
 use dbg_base::Operator;
 
 // The number, if it is in range.
-fn in_range(number: Option<i64>, at: usize) -> Result<Value, Stop> {
+fn in_range(number: Option<i64>, at: usize) -> Result<ConstantValue, ExpansionStop> {
     match number {
-        Some(number) => Ok(Value::Number(number)),
-        None => Err(Stop::Bad(Problem::Overflow, at)),
+        Some(number) => Ok(ConstantValue::Number(number)),
+        None => Err(ExpansionStop::Bad(Problem::Overflow, at)),
     }
 }
 
 // A number that is an operand.
-fn number_of(value: Value, at: usize) -> Result<i64, Stop> {
+fn number_of(value: ConstantValue, at: usize) -> Result<i64, ExpansionStop> {
     match value {
-        Value::Number(number) => Ok(number),
-        Value::Truth(_) => Err(Stop::Bad(Problem::NumberExpected, at)),
+        ConstantValue::Number(number) => Ok(number),
+        ConstantValue::Truth(_) => Err(ExpansionStop::Bad(Problem::NumberExpected, at)),
     }
 }
 
 // A truth value that is an operand.
-fn truth_of(value: Value, at: usize) -> Result<bool, Stop> {
+fn truth_of(value: ConstantValue, at: usize) -> Result<bool, ExpansionStop> {
     match value {
-        Value::Truth(truth) => Ok(truth),
-        Value::Number(_) => Err(Stop::Bad(Problem::TruthExpected, at)),
+        ConstantValue::Truth(truth) => Ok(truth),
+        ConstantValue::Number(_) => Err(ExpansionStop::Bad(Problem::TruthExpected, at)),
     }
 }
 
 // A division, at this offset.
-fn divide(operator: Operator, x: i64, y: i64, at: usize) -> Result<Value, Stop> {
+fn divide(operator: Operator, x: i64, y: i64, at: usize) -> Result<ConstantValue, ExpansionStop> {
     if y == 0 {
-        return Err(Stop::Bad(Problem::DivisionByZero, at));
+        return Err(ExpansionStop::Bad(Problem::DivisionByZero, at));
     }
     match operator {
         Operator::Divide => in_range(x.checked_div(y), at),
@@ -41,40 +41,49 @@ fn divide(operator: Operator, x: i64, y: i64, at: usize) -> Result<Value, Stop> 
 }
 
 // What two numbers give; the operator is at this offset.
-fn calculate(operator: Operator, x: i64, y: i64, at: usize) -> Result<Value, Stop> {
+fn calculate(
+    operator: Operator,
+    x: i64,
+    y: i64,
+    at: usize,
+) -> Result<ConstantValue, ExpansionStop> {
     match operator {
         Operator::Add => in_range(x.checked_add(y), at),
         Operator::Subtract => in_range(x.checked_sub(y), at),
         Operator::Multiply => in_range(x.checked_mul(y), at),
         Operator::Divide | Operator::Remainder => divide(operator, x, y, at),
-        Operator::Equal => Ok(Value::Truth(x == y)),
-        Operator::NotEqual => Ok(Value::Truth(x != y)),
-        Operator::Less => Ok(Value::Truth(x < y)),
-        Operator::LessOrEqual => Ok(Value::Truth(x <= y)),
-        Operator::Greater => Ok(Value::Truth(x > y)),
-        Operator::GreaterOrEqual => Ok(Value::Truth(x >= y)),
-        Operator::And | Operator::Or => Err(Stop::Bad(Problem::TruthExpected, at)),
+        Operator::Equal => Ok(ConstantValue::Truth(x == y)),
+        Operator::NotEqual => Ok(ConstantValue::Truth(x != y)),
+        Operator::Less => Ok(ConstantValue::Truth(x < y)),
+        Operator::LessOrEqual => Ok(ConstantValue::Truth(x <= y)),
+        Operator::Greater => Ok(ConstantValue::Truth(x > y)),
+        Operator::GreaterOrEqual => Ok(ConstantValue::Truth(x >= y)),
+        Operator::And | Operator::Or => Err(ExpansionStop::Bad(Problem::TruthExpected, at)),
     }
 }
 
 impl<'a> Environment<'a> {
     /// The value of an expression, where so many levels are left.
     #[cycle(evaluation)]
-    pub(crate) fn value(&mut self, expression: &'a Expression, depth: u32) -> Result<Value, Stop> {
+    pub(crate) fn value(
+        &mut self,
+        expression: &'a Expression,
+        depth: u32,
+    ) -> Result<ConstantValue, ExpansionStop> {
         let inner = self.step(depth, place(expression))?;
         match expression {
-            Expression::Number(_, number) => Ok(Value::Number(*number)),
-            Expression::Truth(_, truth) => Ok(Value::Truth(*truth)),
+            Expression::Number(_, number) => Ok(ConstantValue::Number(*number)),
+            Expression::Truth(_, truth) => Ok(ConstantValue::Truth(*truth)),
             Expression::Constant(at, number) => self.constant(*number, *at),
-            Expression::Member(_, number) => Ok(Value::Number(self.member(*number))),
+            Expression::Member(_, number) => Ok(ConstantValue::Number(self.member(*number))),
             Expression::Parameter(at, number) => {
                 let argument = self.argument(*number, *at)?;
                 self.value(argument, inner)
             }
             Expression::Name(reference) => {
-                Err(Stop::Bad(Problem::VariableComputed, reference.at))
+                Err(ExpansionStop::Bad(Problem::VariableComputed, reference.at))
             }
-            Expression::Count(at, _, _) => Err(Stop::Bad(Problem::CountComputed, *at)),
+            Expression::Count(at, _, _) => Err(ExpansionStop::Bad(Problem::CountComputed, *at)),
             Expression::Call(at, number, arguments) => {
                 let definition = self.definition(*number, *at)?;
                 let before = self.bind(definition, arguments.as_slice())?;
@@ -84,7 +93,7 @@ impl<'a> Environment<'a> {
             }
             Expression::Not(_, operand) => {
                 let truth = self.truth(operand, inner)?;
-                Ok(Value::Truth(!truth))
+                Ok(ConstantValue::Truth(!truth))
             }
             Expression::Negate(at, operand) => {
                 let number = self.number(operand, inner)?;
@@ -97,28 +106,42 @@ impl<'a> Environment<'a> {
 
     /// The number that an expression gives.
     #[cycle(evaluation)]
-    pub(crate) fn number(&mut self, expression: &'a Expression, depth: u32) -> Result<i64, Stop> {
+    pub(crate) fn number(
+        &mut self,
+        expression: &'a Expression,
+        depth: u32,
+    ) -> Result<i64, ExpansionStop> {
         let value = self.value(expression, depth)?;
         number_of(value, place(expression))
     }
 
     /// The truth value that an expression gives.
     #[cycle(evaluation)]
-    pub(crate) fn truth(&mut self, expression: &'a Expression, depth: u32) -> Result<bool, Stop> {
+    pub(crate) fn truth(
+        &mut self,
+        expression: &'a Expression,
+        depth: u32,
+    ) -> Result<bool, ExpansionStop> {
         let value = self.value(expression, depth)?;
         truth_of(value, place(expression))
     }
 
     // What an operator gives: `and` and `or` compute their right operand only where the left one does not decide.
     #[cycle(evaluation)]
-    fn link(&mut self, left: Value, at: usize, link: &'a Link, depth: u32) -> Result<Value, Stop> {
+    fn link(
+        &mut self,
+        left: ConstantValue,
+        at: usize,
+        link: &'a Link,
+        depth: u32,
+    ) -> Result<ConstantValue, ExpansionStop> {
         if matches!(link.operator, Operator::And | Operator::Or) {
             let decided = matches!(link.operator, Operator::Or);
             if truth_of(left, at)? == decided {
                 return Ok(left);
             }
             let right = self.truth(&link.operand, depth)?;
-            return Ok(Value::Truth(right));
+            return Ok(ConstantValue::Truth(right));
         }
         let x = number_of(left, at)?;
         let y = self.number(&link.operand, depth)?;
@@ -132,7 +155,7 @@ impl<'a> Environment<'a> {
         first: &'a Expression,
         links: &'a [Link],
         depth: u32,
-    ) -> Result<Value, Stop> {
+    ) -> Result<ConstantValue, ExpansionStop> {
         let at = place(first);
         let mut value = self.value(first, depth)?;
         for link in links {
@@ -143,7 +166,7 @@ impl<'a> Environment<'a> {
 
     // Whether the condition of a range holds.
     #[cycle(evaluation)]
-    fn holds(&mut self, binder: &'a Binder, depth: u32) -> Result<bool, Stop> {
+    fn holds(&mut self, binder: &'a Binder, depth: u32) -> Result<bool, ExpansionStop> {
         match &binder.condition {
             Some(condition) => self.truth(condition, depth),
             None => Ok(true),
@@ -152,7 +175,11 @@ impl<'a> Environment<'a> {
 
     /// The members of a range for which its condition holds, in order.
     #[cycle(evaluation)]
-    pub(crate) fn range(&mut self, binder: &'a Binder, depth: u32) -> Result<Vec<i64>, Stop> {
+    pub(crate) fn range(
+        &mut self,
+        binder: &'a Binder,
+        depth: u32,
+    ) -> Result<Vec<i64>, ExpansionStop> {
         let low = self.number(&binder.low, depth)?;
         let high = self.number(&binder.high, depth)?;
         let mut members = Vec::new(self.alloc);
@@ -177,7 +204,12 @@ impl<'a> Environment<'a> {
 
     // The value of the expression for one member.
     #[cycle(evaluation)]
-    fn at_member(&mut self, each: &'a Each, member: i64, depth: u32) -> Result<Value, Stop> {
+    fn at_member(
+        &mut self,
+        each: &'a Each,
+        member: i64,
+        depth: u32,
+    ) -> Result<ConstantValue, ExpansionStop> {
         let before = self.enter(each.binder.member, member)?;
         let value = self.value(&each.body, depth)?;
         self.leave(before);
@@ -186,15 +218,20 @@ impl<'a> Environment<'a> {
 
     // The sum over these members, the first half and the rest.
     #[cycle(evaluation)]
-    fn sum(&mut self, each: &'a Each, members: &[i64], depth: u32) -> Result<Value, Stop> {
+    fn sum(
+        &mut self,
+        each: &'a Each,
+        members: &[i64],
+        depth: u32,
+    ) -> Result<ConstantValue, ExpansionStop> {
         match members {
-            [] => return Ok(Value::Number(0)),
+            [] => return Ok(ConstantValue::Number(0)),
             [only] => return self.at_member(each, *only, depth),
             _ => {}
         }
         let inner = self.step(depth, each.at)?;
-        let (front, rest) = halves(members);
-        let x = number_of(self.sum(each, front, inner)?, place(&each.body))?;
+        let (prefix, rest) = halves(members);
+        let x = number_of(self.sum(each, prefix, inner)?, place(&each.body))?;
         let y = number_of(self.sum(each, rest, inner)?, place(&each.body))?;
         in_range(x.checked_add(y), each.at)
     }
@@ -207,7 +244,7 @@ impl<'a> Environment<'a> {
         least: i64,
         members: &[i64],
         depth: u32,
-    ) -> Result<bool, Stop> {
+    ) -> Result<bool, ExpansionStop> {
         let mut missing = least;
         for (i, member) in members.iter().enumerate() {
             if missing <= 0 {
@@ -226,31 +263,31 @@ impl<'a> Environment<'a> {
 
     // The value of a form.
     #[cycle(evaluation)]
-    fn each(&mut self, each: &'a Each, depth: u32) -> Result<Value, Stop> {
+    fn each(&mut self, each: &'a Each, depth: u32) -> Result<ConstantValue, ExpansionStop> {
         let inner = self.step(depth, each.at)?;
         let least = self.least(each, inner)?;
         let members = self.range(&each.binder, inner)?;
         let count = count_of(members.len());
         match each.form {
-            Form::Sum => self.sum(each, members.as_slice(), inner),
-            Form::All => {
+            FormNode::Sum => self.sum(each, members.as_slice(), inner),
+            FormNode::All => {
                 let all = self.at_least(each, count, members.as_slice(), inner)?;
-                Ok(Value::Truth(all))
+                Ok(ConstantValue::Truth(all))
             }
-            Form::Some => {
+            FormNode::Some => {
                 let some = self.at_least(each, 1, members.as_slice(), inner)?;
-                Ok(Value::Truth(some))
+                Ok(ConstantValue::Truth(some))
             }
-            Form::AtLeast => {
+            FormNode::AtLeast => {
                 let enough = self.at_least(each, least, members.as_slice(), inner)?;
-                Ok(Value::Truth(enough))
+                Ok(ConstantValue::Truth(enough))
             }
         }
     }
 
     /// The number of `at_least`, and 0 for other forms.
     #[cycle(evaluation)]
-    pub(crate) fn least(&mut self, each: &'a Each, depth: u32) -> Result<i64, Stop> {
+    pub(crate) fn least(&mut self, each: &'a Each, depth: u32) -> Result<i64, ExpansionStop> {
         match &each.least {
             Some(least) => self.number(least, depth),
             None => Ok(0),

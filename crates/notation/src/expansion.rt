@@ -9,9 +9,9 @@ ghost use Rattle.notation.specs.Expansions.{plain_of, source_length};
 use crate::building::{Builder, CommandOrigin};
 use crate::built::Built;
 use crate::environment::{Environment, member_values};
-use crate::fault::{Fault, MemberValue, NotationError, Problem, Stop};
+use crate::fault::{ExpansionStop, Fault, MemberValue, NotationError, Problem};
 use crate::lexer::{first_wrong, tokens};
-use crate::model::Model;
+use crate::model::ParsedModel;
 use crate::parser::model;
 use crate::plain_text::{Origin, map_of};
 use crate::writing::Writer;
@@ -21,19 +21,19 @@ use std::alloc::{AllocError, Global};
 /// A model that was expanded: the plain program, and where its parts come from.
 #[derive(Drop)]
 pub struct Expansion {
-    pub(crate) model: Model,
+    pub(crate) model: ParsedModel,
     // How many bytes the source has.
     pub(crate) source: usize,
     pub(crate) built: Built,
 }
 
 // Why work stopped, where the text has so many bytes and these members have values.
-pub(crate) fn failed(stop: Stop, members: Vec<MemberValue>, length: usize) -> NotationError
+pub(crate) fn failed(stop: ExpansionStop, members: Vec<MemberValue>, length: usize) -> NotationError
     ensures { IsInside length result }
 {
     match stop {
-        Stop::Memory => NotationError::Memory,
-        Stop::Bad(problem, at) => NotationError::Bad(Fault {
+        ExpansionStop::Memory => NotationError::Memory,
+        ExpansionStop::Bad(problem, at) => NotationError::Bad(Fault {
             problem,
             at: at.min(length),
             members,
@@ -42,7 +42,11 @@ pub(crate) fn failed(stop: Stop, members: Vec<MemberValue>, length: usize) -> No
 }
 
 // Why work stopped in the present copy.
-pub(crate) fn failed_in(environment: &Environment<'_>, stop: Stop, length: usize) -> NotationError
+pub(crate) fn failed_in(
+    environment: &Environment<'_>,
+    stop: ExpansionStop,
+    length: usize,
+) -> NotationError
     ensures { IsInside length result }
 {
     match environment.members_of(environment.copy) {
@@ -52,7 +56,7 @@ pub(crate) fn failed_in(environment: &Environment<'_>, stop: Stop, length: usize
 }
 
 // The plain program of a model, whose source has so many bytes.
-fn build(alloc: Global, model: &Model, source: usize) -> Result<Built, NotationError>
+fn build(alloc: Global, model: &ParsedModel, source: usize) -> Result<Built, NotationError>
     ensures { IfErr result (IsInside source) }
 {
     let mut builder = Builder::new(alloc, &model.tables)?;
@@ -81,7 +85,7 @@ fn build(alloc: Global, model: &Model, source: usize) -> Result<Built, NotationE
 }
 
 // The expansion of a model, whose source has so many bytes.
-fn expanded(alloc: Global, model: Model, source: usize) -> Result<Expansion, NotationError>
+fn expanded(alloc: Global, model: ParsedModel, source: usize) -> Result<Expansion, NotationError>
     ensures source { IfOk result (λ expansion. source_length expansion ≡ source) }
     ensures inside { IfErr result (IsInside source) }
 {
@@ -100,7 +104,7 @@ pub fn expand(alloc: Global, source: &[u8]) -> Result<Expansion, NotationError>
 {
     let tokens = tokens(alloc, source)?;
     if let Some((problem, at)) = first_wrong(tokens.as_slice()) {
-        let stop = Stop::Bad(problem, at);
+        let stop = ExpansionStop::Bad(problem, at);
         return Err(failed(stop, Vec::new(alloc), source.len()));
     }
     match model(alloc, source, tokens.as_slice()) {

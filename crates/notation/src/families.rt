@@ -1,7 +1,7 @@
 //! The members of families of processes and variables.
 
-use crate::environment::{Before, Environment};
-use crate::fault::Stop;
+use crate::environment::{Environment, SavedValues};
+use crate::fault::ExpansionStop;
 use crate::limits::UNFOLDING;
 use crate::syntax::Binder;
 use std::alloc::AllocError;
@@ -12,7 +12,7 @@ impl<'a> Environment<'a> {
         &mut self,
         ranges: &[Binder],
         values: &[i64],
-    ) -> Result<Vec<Before>, AllocError> {
+    ) -> Result<Vec<SavedValues>, AllocError> {
         let mut before = Vec::new(self.alloc);
         for (binder, value) in ranges.iter().zip(values) {
             before.push(self.enter(binder.member, *value)?)?;
@@ -21,7 +21,7 @@ impl<'a> Environment<'a> {
     }
 
     /// Ends copies, the innermost first.
-    pub(crate) fn leave_all(&mut self, before: Vec<Before>) {
+    pub(crate) fn leave_all(&mut self, before: Vec<SavedValues>) {
         for entered in before.iter().rev() {
             self.leave(*entered);
         }
@@ -34,7 +34,7 @@ impl<'a> Environment<'a> {
         binder: &'a Binder,
         tuples: &[Vec<i64>],
         limit: usize,
-    ) -> Result<Vec<Vec<i64>>, Stop> {
+    ) -> Result<Vec<Vec<i64>>, ExpansionStop> {
         let mut longer = Vec::new(self.alloc);
         for tuple in tuples {
             let before = self.enter_all(outer, tuple.as_slice())?;
@@ -57,7 +57,7 @@ impl<'a> Environment<'a> {
         &mut self,
         ranges: &'a [Binder],
         limit: usize,
-    ) -> Result<Vec<Vec<i64>>, Stop> {
+    ) -> Result<Vec<Vec<i64>>, ExpansionStop> {
         let mut tuples = Vec::new(self.alloc);
         tuples.push(Vec::new(self.alloc))?;
         for (i, binder) in ranges.iter().enumerate() {

@@ -17,7 +17,7 @@ pub enum Expected {
     Declaration,
     /// `const`, `let`, `var`, `when`, a label, `for` or `}`.
     Item,
-    /// `when`, behind a label.
+    /// `when`, after a label.
     When,
     /// `send`, `recv` or an assignment.
     Action,
@@ -130,20 +130,20 @@ impl Fault {
 
 /// Why work stopped.
 #[derive(Clone, Copy)]
-pub(crate) enum Stop {
+pub(crate) enum ExpansionStop {
     Memory,
     Bad(Problem, usize),
 }
 
-impl From<AllocError> for Stop {
-    fn from(_error: AllocError) -> Stop {
-        Stop::Memory
+impl From<AllocError> for ExpansionStop {
+    fn from(_error: AllocError) -> ExpansionStop {
+        ExpansionStop::Memory
     }
 }
 
-impl<T: Drop> From<AllocFailed<T>> for Stop {
-    fn from(_error: AllocFailed<T>) -> Stop {
-        Stop::Memory
+impl<T: Drop> From<AllocFailed<T>> for ExpansionStop {
+    fn from(_error: AllocFailed<T>) -> ExpansionStop {
+        ExpansionStop::Memory
     }
 }
 
@@ -164,6 +164,6 @@ impl<T: Drop> From<AllocFailed<T>> for NotationError {
 }
 
 /// Something else is expected at this offset.
-pub(crate) fn due(what: Expected, at: usize) -> Stop {
-    Stop::Bad(Problem::Expected(what), at)
+pub(crate) fn due(what: Expected, at: usize) -> ExpansionStop {
+    ExpansionStop::Bad(Problem::Expected(what), at)
 }

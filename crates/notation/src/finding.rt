@@ -1,7 +1,7 @@
 //! Processes, commands and declarations, found by their names.
 
 use crate::building::{CommandOrigin, ProcessCopy};
-use crate::syntax::Declaration;
+use crate::syntax::DeclarationNode;
 use std::alloc::{AllocError, Global};
 
 /// The declaration of the process of this plain name.
@@ -23,13 +23,13 @@ pub(crate) fn named_declaration(
 /// The declarations of families of this name with so many ranges.
 pub(crate) fn family_declarations(
     alloc: Global,
-    declarations: &[Declaration],
+    declarations: &[DeclarationNode],
     name: &[u8],
     ranges: usize,
 ) -> Result<Vec<Option<usize>>, AllocError> {
     let mut found = Vec::new(alloc);
     for (number, declaration) in declarations.iter().enumerate() {
-        if let Declaration::Process(process) = declaration {
+        if let DeclarationNode::Process(process) = declaration {
             if process.name.bytes() == name && process.ranges.len() == ranges {
                 found.push(Some(number))?;
             }

@@ -3,7 +3,7 @@
 ghost use Rattle.std.specs.Prelude.{◌≤◌, length};
 
 use crate::fault::Problem;
-use crate::token::{Kind, Mark, Token};
+use crate::token::{Mark, SourceToken, SourceTokenKind};
 use dbg_base::limits::NAME_BYTES;
 use std::alloc::{AllocError, Global};
 
@@ -15,7 +15,7 @@ fn is_word_byte(byte: u8) -> bool {
     byte.is_ascii_lowercase() || byte.is_ascii_digit() || byte == b'_'
 }
 
-/// How many bytes at the front are blanks, line ends and comments.
+/// How many bytes at the start are blanks, line ends and comments.
 pub(crate) fn gap_length(bytes: &[u8]) -> usize
     ensures { result ≤ length bytes.now }
 {
@@ -32,7 +32,7 @@ pub(crate) fn gap_length(bytes: &[u8]) -> usize
     bytes.len()
 }
 
-// How many bytes at the front may be in a word.
+// How many bytes at the start may be in a word.
 fn word_length(bytes: &[u8]) -> usize
     ensures { result ≤ length bytes.now }
 {
@@ -44,7 +44,7 @@ fn word_length(bytes: &[u8]) -> usize
     bytes.len()
 }
 
-// How many digits are at the front.
+// How many digits are at the start.
 fn digit_length(bytes: &[u8]) -> usize
     ensures { result ≤ length bytes.now }
 {
@@ -102,51 +102,51 @@ fn single_mark(byte: u8) -> Option<Mark> {
     }
 }
 
-// The mark at the front and how many bytes it has, or what is wrong there.
-fn front_mark(bytes: &[u8]) -> (Kind, usize) {
+// The mark at the start and how many bytes it has, or what is wrong there.
+fn prefix_mark(bytes: &[u8]) -> (SourceTokenKind, usize) {
     if let [first, second, ..] = bytes {
         if let Some(mark) = double_mark(*first, *second) {
-            return (Kind::Mark(mark), 2);
+            return (SourceTokenKind::Mark(mark), 2);
         }
     }
     match bytes {
         [first, ..] => match single_mark(*first) {
-            Some(mark) => (Kind::Mark(mark), 1),
-            None => (Kind::Wrong(Problem::Byte), 1),
+            Some(mark) => (SourceTokenKind::Mark(mark), 1),
+            None => (SourceTokenKind::Wrong(Problem::Byte), 1),
         },
-        [] => (Kind::End, 0),
+        [] => (SourceTokenKind::End, 0),
     }
 }
 
-// The word at the front.
-fn front_word(bytes: &[u8]) -> (Kind, usize) {
+// The word at the start.
+fn prefix_word(bytes: &[u8]) -> (SourceTokenKind, usize) {
     let length = word_length(bytes);
     if length > NAME_BYTES {
-        return (Kind::Wrong(Problem::LongWord), length);
+        return (SourceTokenKind::Wrong(Problem::LongWord), length);
     }
-    (Kind::Word, length)
+    (SourceTokenKind::Word, length)
 }
 
-// The number at the front.
-fn front_number(bytes: &[u8]) -> (Kind, usize) {
+// The number at the start.
+fn prefix_number(bytes: &[u8]) -> (SourceTokenKind, usize) {
     let length = digit_length(bytes);
     match number_value(&bytes[..length]) {
-        Some(value) => (Kind::Number(value), length),
-        None => (Kind::Wrong(Problem::LargeNumber), length),
+        Some(value) => (SourceTokenKind::Number(value), length),
+        None => (SourceTokenKind::Wrong(Problem::LargeNumber), length),
     }
 }
 
-// What is at the front, and how many bytes it has.
-fn front(bytes: &[u8]) -> (Kind, usize) {
+// What is at the start, and how many bytes it has.
+fn prefix(bytes: &[u8]) -> (SourceTokenKind, usize) {
     match bytes {
-        [first, ..] if first.is_ascii_lowercase() => front_word(bytes),
-        [first, ..] if first.is_ascii_digit() => front_number(bytes),
-        _ => front_mark(bytes),
+        [first, ..] if first.is_ascii_lowercase() => prefix_word(bytes),
+        [first, ..] if first.is_ascii_digit() => prefix_number(bytes),
+        _ => prefix_mark(bytes),
     }
 }
 
 /// All tokens of a text, and `End` at the length of the text. What is no token is `Wrong`.
-pub(crate) fn tokens(alloc: Global, text: &[u8]) -> Result<Vec<Token>, AllocError> {
+pub(crate) fn tokens(alloc: Global, text: &[u8]) -> Result<Vec<SourceToken>, AllocError> {
     let mut tokens = Vec::new(alloc);
     let mut rest = text;
     for _ in 0..text.len() {
@@ -155,22 +155,22 @@ pub(crate) fn tokens(alloc: Global, text: &[u8]) -> Result<Vec<Token>, AllocErro
             break;
         }
         let at = text.len().saturating_sub(rest.len());
-        let (kind, length) = front(rest);
-        tokens.push(Token { at, length, kind })?;
+        let (kind, length) = prefix(rest);
+        tokens.push(SourceToken { at, length, kind })?;
         rest = rest.get(length..).unwrap_or(&[]);
     }
-    tokens.push(Token {
+    tokens.push(SourceToken {
         at: text.len(),
         length: 0,
-        kind: Kind::End,
+        kind: SourceTokenKind::End,
     })?;
     Ok(tokens)
 }
 
 /// The first token that is wrong, and why.
-pub(crate) fn first_wrong(tokens: &[Token]) -> Option<(Problem, usize)> {
+pub(crate) fn first_wrong(tokens: &[SourceToken]) -> Option<(Problem, usize)> {
     for token in tokens {
-        if let Kind::Wrong(problem) = token.kind {
+        if let SourceTokenKind::Wrong(problem) = token.kind {
             return Some((problem, token.at));
         }
     }
@@ -178,21 +178,21 @@ pub(crate) fn first_wrong(tokens: &[Token]) -> Option<(Problem, usize)> {
 }
 
 /// Whether tokens have a mark that the process language does not have.
-pub(crate) fn has_notation(tokens: &[Token]) -> bool {
+pub(crate) fn has_notation(tokens: &[SourceToken]) -> bool {
     tokens.iter().any(|token| {
         matches!(
             token.kind,
-            Kind::Mark(Mark::OpenBracket | Mark::CloseBracket | Mark::Range)
+            SourceTokenKind::Mark(Mark::OpenBracket | Mark::CloseBracket | Mark::Range)
         )
     })
 }
 
 /// Whether a line of these tokens may have an expression.
-pub(crate) fn needs_names(tokens: &[Token]) -> bool {
+pub(crate) fn needs_names(tokens: &[SourceToken]) -> bool {
     tokens.iter().any(|token| {
         matches!(
             token.kind,
-            Kind::Mark(Mark::OpenBracket | Mark::OpenParenthesis | Mark::Colon)
+            SourceTokenKind::Mark(Mark::OpenBracket | Mark::OpenParenthesis | Mark::Colon)
         )
     })
 }

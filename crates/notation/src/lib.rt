@@ -1,4 +1,4 @@
-//! The model notation: a layer in front of the process language.
+//! The model notation: a layer over the process language.
 //!
 //! A text in the notation is expanded into a text of the process language. `expand` does so, and knows for each token of the plain text
 //! from which place of the source it comes. `Expansion::expand_line` does the same for a command line.

@@ -5,14 +5,14 @@ ghost use Rattle.notation.specs.Places.{IsInside};
 
 use crate::building::{ProcessCopy, put_indices};
 use crate::expansion::{Expansion, failed, failed_in};
-use crate::fault::{NotationError, Problem, Stop};
+use crate::fault::{ExpansionStop, NotationError, Problem};
 use crate::finding::{find_command, find_process};
 use crate::lexer::tokens;
 use crate::limits::{COPIES, UNFOLDING};
-use crate::pieces::{Divider, Meant, Piece, Pieces, Reading};
+use crate::pieces::{Divider, LinePiece, LinePieces, Meant, Reading};
 use crate::plain_text::PlainText;
-use crate::syntax::{Binder, Declaration, Expression, Item, Reference};
-use crate::token::{Token, part};
+use crate::syntax::{Binder, DeclarationNode, Expression, ItemNode, Reference};
+use crate::token::{SourceToken, part};
 use crate::writing::Writer;
 use dbg_base::limits::{INPUT_BYTES, LINE_BYTES};
 use itoa::Buffer;
@@ -48,7 +48,12 @@ struct Renderer<'a> {
 }
 
 // Whether two texts have the same tokens.
-fn are_same(left: &[u8], left_tokens: &[Token], right: &[u8], right_tokens: &[Token]) -> bool {
+fn are_same(
+    left: &[u8],
+    left_tokens: &[SourceToken],
+    right: &[u8],
+    right_tokens: &[SourceToken],
+) -> bool {
     if left_tokens.len() != right_tokens.len() {
         return false;
     }
@@ -91,13 +96,13 @@ impl<'a> Renderer<'a> {
     }
 
     // The lines become too long.
-    fn too_long(&self) -> Stop {
+    fn too_long(&self) -> ExpansionStop {
         let at = self.expansion.source.saturating_add(self.from);
-        Stop::Bad(Problem::LongText, at)
+        ExpansionStop::Bad(Problem::LongText, at)
     }
 
     // Writes bytes, unless the lines become too long.
-    fn put(&mut self, bytes: &[u8]) -> Result<(), Stop> {
+    fn put(&mut self, bytes: &[u8]) -> Result<(), ExpansionStop> {
         let used = self.written.saturating_add(self.output.len());
         if bytes.len() > INPUT_BYTES.saturating_sub(used) {
             return Err(self.too_long());
@@ -107,13 +112,13 @@ impl<'a> Renderer<'a> {
     }
 
     // Writes the bytes of the line from one offset to another.
-    fn copy(&mut self, from: usize, to: usize) -> Result<(), Stop> {
+    fn copy(&mut self, from: usize, to: usize) -> Result<(), ExpansionStop> {
         let line = self.line;
         self.put(part(line, from, to.saturating_sub(from)))
     }
 
     // Writes a name.
-    fn name(&mut self, reference: &'a Reference) -> Result<(), Stop> {
+    fn name(&mut self, reference: &'a Reference) -> Result<(), ExpansionStop> {
         let name = self.writer.name_of(reference, UNFOLDING)?;
         self.put(name.as_slice())?;
         self.process = name;
@@ -121,7 +126,7 @@ impl<'a> Renderer<'a> {
     }
 
     // The label that a name with indices is.
-    fn label_text(&mut self, reference: &'a Reference) -> Result<Vec<u8>, Stop> {
+    fn label_text(&mut self, reference: &'a Reference) -> Result<Vec<u8>, ExpansionStop> {
         let mut indices = Vec::new(self.alloc());
         for index in &reference.indices {
             indices.push(self.writer.environment.number(index, UNFOLDING)?)?;
@@ -132,7 +137,7 @@ impl<'a> Renderer<'a> {
     }
 
     // Writes the number of the command of a label. A name that is no label remains.
-    fn label(&mut self, reference: &'a Reference) -> Result<(), Stop> {
+    fn label(&mut self, reference: &'a Reference) -> Result<(), ExpansionStop> {
         let label = self.label_text(reference)?;
         let processes = self.expansion.built.processes.as_slice();
         if let Some(process) = find_process(processes, self.process.as_slice()) {
@@ -144,13 +149,13 @@ impl<'a> Renderer<'a> {
         if reference.indices.is_empty() {
             return self.put(reference.name.bytes());
         }
-        Err(Stop::Bad(Problem::NoLabel, reference.at))
+        Err(ExpansionStop::Bad(Problem::NoLabel, reference.at))
     }
 
     // Computes the constants among these items.
-    fn constants(&mut self, items: &'a [Item]) -> Result<(), Stop> {
+    fn constants(&mut self, items: &'a [ItemNode]) -> Result<(), ExpansionStop> {
         for item in items {
-            if let Item::Constant(constant) = item {
+            if let ItemNode::Constant(constant) = item {
                 self.writer.constant(constant)?;
             }
         }
@@ -158,15 +163,19 @@ impl<'a> Renderer<'a> {
     }
 
     // The plain text of a predicate.
-    fn plain(&mut self, expression: &'a Expression) -> Result<(), Stop> {
+    fn plain(&mut self, expression: &'a Expression) -> Result<(), ExpansionStop> {
         self.writer.text = PlainText::new(self.alloc());
         self.writer.expression(expression, UNFOLDING)
     }
 
     // The plain text of a predicate over this process, where the members of its family are visible.
-    fn plain_in(&mut self, copy: &'a ProcessCopy, expression: &'a Expression) -> Result<(), Stop> {
+    fn plain_in(
+        &mut self,
+        copy: &'a ProcessCopy,
+        expression: &'a Expression,
+    ) -> Result<(), ExpansionStop> {
         let declaration = self.expansion.model.declarations.get(copy.declaration);
-        let Some(Declaration::Process(process)) = declaration else {
+        let Some(DeclarationNode::Process(process)) = declaration else {
             return self.plain(expression);
         };
         let ranges = process.ranges.as_slice();
@@ -181,7 +190,7 @@ impl<'a> Renderer<'a> {
     }
 
     // The plain text of a predicate over the last process.
-    fn plain_reading(&mut self, readings: &'a [Reading]) -> Result<(), Stop> {
+    fn plain_reading(&mut self, readings: &'a [Reading]) -> Result<(), ExpansionStop> {
         let expansion = self.expansion;
         let found = find_process(
             expansion.built.processes.as_slice(),
@@ -201,7 +210,11 @@ impl<'a> Renderer<'a> {
     }
 
     // Writes a predicate. One that is plain remains as it is.
-    fn predicate(&mut self, piece: &'a Piece, readings: &'a [Reading]) -> Result<(), Stop> {
+    fn predicate(
+        &mut self,
+        piece: &'a LinePiece,
+        readings: &'a [Reading],
+    ) -> Result<(), ExpansionStop> {
         self.plain_reading(readings)?;
         let line = self.line;
         let written = part(line, piece.from, piece.to.saturating_sub(piece.from));
@@ -215,7 +228,7 @@ impl<'a> Renderer<'a> {
     }
 
     // Writes what a piece stands for, but for repeated parts.
-    fn piece(&mut self, piece: &'a Piece) -> Result<(), Stop> {
+    fn piece(&mut self, piece: &'a LinePiece) -> Result<(), ExpansionStop> {
         self.from = piece.from;
         match &piece.meant {
             Meant::Name(reference) => self.name(reference),
@@ -226,7 +239,12 @@ impl<'a> Renderer<'a> {
     }
 
     // Writes the bytes of the line from one offset to another, where these pieces are among them.
-    fn part(&mut self, pieces: &'a [Piece], from: usize, to: usize) -> Result<(), Stop> {
+    fn part(
+        &mut self,
+        pieces: &'a [LinePiece],
+        from: usize,
+        to: usize,
+    ) -> Result<(), ExpansionStop> {
         let mut at = from;
         for piece in pieces {
             self.copy(at, piece.from)?;
@@ -237,7 +255,7 @@ impl<'a> Renderer<'a> {
     }
 
     // The values of the members of these ranges.
-    fn copies(&mut self, ranges: &'a [Binder]) -> Result<Vec<Vec<i64>>, Stop> {
+    fn copies(&mut self, ranges: &'a [Binder]) -> Result<Vec<Vec<i64>>, ExpansionStop> {
         let tuples = self.writer.environment.combinations(ranges, COPIES)?;
         if tuples.len() > COPIES {
             return Err(self.too_long());
@@ -249,10 +267,10 @@ impl<'a> Renderer<'a> {
     fn repeat(
         &mut self,
         ranges: &'a [Binder],
-        pieces: &'a [Piece],
+        pieces: &'a [LinePiece],
         from: usize,
         to: usize,
-    ) -> Result<(), Stop> {
+    ) -> Result<(), ExpansionStop> {
         let tuples = self.copies(ranges)?;
         for (number, values) in tuples.iter().enumerate() {
             if number > 0 {
@@ -269,7 +287,7 @@ impl<'a> Renderer<'a> {
     }
 
     // Writes a line.
-    fn whole(&mut self, pieces: &'a [Piece]) -> Result<(), Stop> {
+    fn whole(&mut self, pieces: &'a [LinePiece]) -> Result<(), ExpansionStop> {
         let mut at = 0usize;
         let mut next = 0usize;
         for (number, piece) in pieces.iter().enumerate() {
@@ -289,7 +307,7 @@ impl<'a> Renderer<'a> {
     }
 
     // Writes a line for each member of its ranges.
-    fn lines(&mut self, pieces: &'a Pieces) -> Result<Vec<Vec<u8>>, Stop> {
+    fn lines(&mut self, pieces: &'a LinePieces) -> Result<Vec<Vec<u8>>, ExpansionStop> {
         let ranges = pieces.ranges.as_slice();
         let tuples = self.copies(ranges)?;
         let mut lines = Vec::new(self.alloc());
@@ -318,11 +336,14 @@ fn without_comment(line: &[u8]) -> &[u8] {
 }
 
 // A fault at its place in the line. What is in the model is shown at the piece that uses it.
-fn placed(stop: Stop, base: usize, from: usize) -> Stop {
+fn placed(stop: ExpansionStop, base: usize, from: usize) -> ExpansionStop {
     match stop {
-        Stop::Memory => Stop::Memory,
-        Stop::Bad(problem, at) if at >= base => Stop::Bad(problem, at.saturating_sub(base)),
-        Stop::Bad(problem, _) => Stop::Bad(problem, from),
+        ExpansionStop::Memory => ExpansionStop::Memory,
+        ExpansionStop::Bad(problem, at) if at >= base => ExpansionStop::Bad(
+            problem,
+            at.saturating_sub(base),
+        ),
+        ExpansionStop::Bad(problem, _) => ExpansionStop::Bad(problem, from),
     }
 }
 
@@ -337,7 +358,7 @@ impl Expansion {
         &self,
         alloc: Global,
         line: &[u8],
-        pieces: &Pieces,
+        pieces: &LinePieces,
         divider: &Divider<'_>,
         length: usize,
     ) -> Result<PlainLines, NotationError>

@@ -1,7 +1,7 @@
 //! A model that was read: its declarations, and what names of it mean.
 
 use crate::scope::Binding;
-use crate::syntax::{Declaration, Definition};
+use crate::syntax::{DeclarationNode, Definition};
 use dbg_base::Name;
 use std::alloc::Global;
 
@@ -39,7 +39,7 @@ impl Tables {
 
 /// A model that was read.
 #[derive(Drop)]
-pub(crate) struct Model {
-    pub(crate) declarations: Vec<Declaration>,
+pub(crate) struct ParsedModel {
+    pub(crate) declarations: Vec<DeclarationNode>,
     pub(crate) tables: Tables,
 }

@@ -3,12 +3,12 @@
 mod expressions;
 mod items;
 
-use crate::fault::{Expected, Problem, Stop, due};
+use crate::fault::{ExpansionStop, Expected, Problem, due};
 use crate::limits::NESTING;
 use crate::model::{Tables, Visible};
-use crate::scope::{Binding, Scope};
+use crate::scope::{Binding, ModelScope};
 use crate::syntax::Expression;
-use crate::token::{Kind, Mark, Token, part};
+use crate::token::{Mark, SourceToken, SourceTokenKind, part};
 use dbg_base::{Name, Operator};
 pub(crate) use items::model;
 use std::alloc::Global;
@@ -26,22 +26,22 @@ pub(crate) enum Level {
 #[derive(Clone, Copy)]
 pub(crate) struct Written {
     pub(crate) at: usize,
-    pub(crate) token: Token,
+    pub(crate) token: SourceToken,
     pub(crate) name: Name,
 }
 
 /// Reads the tokens of a text. Each method reads what it is named for, and leaves the tokens after it.
 #[derive(Drop)]
-pub(crate) struct Parser<'a> {
+pub(crate) struct ModelParser<'a> {
     pub(crate) alloc: Global,
     text: &'a [u8],
-    tokens: &'a [Token],
+    tokens: &'a [SourceToken],
     next: usize,
     // What is added to the offsets of the text.
     base: usize,
     // How many members are numbered already.
     members: usize,
-    pub(crate) scope: Scope<'a>,
+    pub(crate) scope: ModelScope<'a>,
     pub(crate) tables: Tables,
     // The number of the declaration that is read.
     declaration: Option<usize>,
@@ -69,44 +69,44 @@ fn is_reserved(word: &[u8]) -> bool {
     .any(|reserved| *reserved == word)
 }
 
-impl<'a> Parser<'a> {
+impl<'a> ModelParser<'a> {
     /// Reads these tokens of the text, from the first on. Offsets begin with `base`, and the numbers of members with `members`.
     pub(crate) fn new(
         alloc: Global,
         text: &'a [u8],
-        tokens: &'a [Token],
+        tokens: &'a [SourceToken],
         base: usize,
         members: usize,
-    ) -> Parser<'a> {
-        Parser {
+    ) -> ModelParser<'a> {
+        ModelParser {
             alloc,
             text,
             tokens,
             next: 0,
             base,
             members,
-            scope: Scope::new(alloc),
+            scope: ModelScope::new(alloc),
             tables: Tables::new(alloc),
             declaration: None,
             repeats: 0,
         }
     }
 
-    // The token so many behind the next one.
-    fn token_behind(&self, count: usize) -> Token {
+    // The token so many after the next one.
+    fn token_after(&self, count: usize) -> SourceToken {
         match self.tokens.get(self.next.saturating_add(count)) {
             Some(token) => *token,
-            None => Token {
+            None => SourceToken {
                 at: self.text.len(),
                 length: 0,
-                kind: Kind::End,
+                kind: SourceTokenKind::End,
             },
         }
     }
 
     /// The next token.
-    pub(crate) fn token(&self) -> Token {
-        self.token_behind(0)
+    pub(crate) fn token(&self) -> SourceToken {
+        self.token_after(0)
     }
 
     /// The offset of the next token.
@@ -115,13 +115,13 @@ impl<'a> Parser<'a> {
     }
 
     /// The token before the next one.
-    pub(crate) fn token_before(&self) -> Token {
+    pub(crate) fn token_before(&self) -> SourceToken {
         match self.tokens.get(self.next.wrapping_sub(1)) {
             Some(token) => *token,
-            None => Token {
+            None => SourceToken {
                 at: 0,
                 length: 0,
-                kind: Kind::End,
+                kind: SourceTokenKind::End,
             },
         }
     }
@@ -132,7 +132,7 @@ impl<'a> Parser<'a> {
     }
 
     /// The tokens from one number to another.
-    pub(crate) fn between(&self, from: usize, to: usize) -> &'a [Token] {
+    pub(crate) fn between(&self, from: usize, to: usize) -> &'a [SourceToken] {
         self.tokens.get(from..to).unwrap_or(&[])
     }
 
@@ -152,7 +152,7 @@ impl<'a> Parser<'a> {
     }
 
     /// The bytes of a token.
-    pub(crate) fn bytes(&self, token: Token) -> &'a [u8] {
+    pub(crate) fn bytes(&self, token: SourceToken) -> &'a [u8] {
         part(self.text, token.at, token.length)
     }
 
@@ -160,7 +160,7 @@ impl<'a> Parser<'a> {
     pub(crate) fn word(&self) -> Option<&'a [u8]> {
         let token = self.token();
         match token.kind {
-            Kind::Word => Some(self.bytes(token)),
+            SourceTokenKind::Word => Some(self.bytes(token)),
             _ => None,
         }
     }
@@ -173,21 +173,21 @@ impl<'a> Parser<'a> {
         }
     }
 
-    /// Whether the token so many behind the next one is this mark.
-    pub(crate) fn has_mark_behind(&self, count: usize, mark: Mark) -> bool {
-        match self.token_behind(count).kind {
-            Kind::Mark(found) => found == mark,
+    /// Whether the token so many after the next one is this mark.
+    pub(crate) fn has_mark_after(&self, count: usize, mark: Mark) -> bool {
+        match self.token_after(count).kind {
+            SourceTokenKind::Mark(found) => found == mark,
             _ => false,
         }
     }
 
     /// Whether the next token is this mark.
     pub(crate) fn is_mark(&self, mark: Mark) -> bool {
-        self.has_mark_behind(0, mark)
+        self.has_mark_after(0, mark)
     }
 
     /// Passes this mark. The answer is its offset.
-    pub(crate) fn mark(&mut self, mark: Mark) -> Result<usize, Stop> {
+    pub(crate) fn mark(&mut self, mark: Mark) -> Result<usize, ExpansionStop> {
         let at = self.at();
         if !self.is_mark(mark) {
             return Err(self.unexpected(Expected::Mark(mark)));
@@ -197,16 +197,16 @@ impl<'a> Parser<'a> {
     }
 
     /// Something else is expected in place of the next token, or the next token is none.
-    pub(crate) fn unexpected(&self, what: Expected) -> Stop {
+    pub(crate) fn unexpected(&self, what: Expected) -> ExpansionStop {
         match self.token().kind {
-            Kind::Wrong(problem) => Stop::Bad(problem, self.at()),
+            SourceTokenKind::Wrong(problem) => ExpansionStop::Bad(problem, self.at()),
             _ => due(what, self.at()),
         }
     }
 
     /// Whether no token is left.
     pub(crate) fn is_at_end(&self) -> bool {
-        matches!(self.token().kind, Kind::End)
+        matches!(self.token().kind, SourceTokenKind::End)
     }
 
     /// Whether the next token is a name.
@@ -218,7 +218,7 @@ impl<'a> Parser<'a> {
     }
 
     /// A name.
-    pub(crate) fn name(&mut self) -> Result<Written, Stop> {
+    pub(crate) fn name(&mut self) -> Result<Written, ExpansionStop> {
         let at = self.at();
         let token = self.token();
         if let Some(bytes) = self.word() {
@@ -233,10 +233,10 @@ impl<'a> Parser<'a> {
     }
 
     /// Gives a name a meaning, unless it has another one here.
-    pub(crate) fn declare(&mut self, name: &Written, new: Binding) -> Result<(), Stop> {
+    pub(crate) fn declare(&mut self, name: &Written, new: Binding) -> Result<(), ExpansionStop> {
         let bytes = self.bytes(name.token);
         if let Some(old) = self.scope.declare(bytes, new)? {
-            return Err(Stop::Bad(Problem::NameTaken(old), name.at));
+            return Err(ExpansionStop::Bad(Problem::NameTaken(old), name.at));
         }
         if self.repeats == 0 && new != Binding::Variable {
             self.tables.visible.push(Visible {
@@ -251,13 +251,13 @@ impl<'a> Parser<'a> {
     // The operator of this precedence that the next token is.
     fn operator(&self, level: Level) -> Option<Operator> {
         match (level, self.token().kind) {
-            (Level::Or, Kind::Word) if self.is_word(b"or") => Some(Operator::Or),
-            (Level::And, Kind::Word) if self.is_word(b"and") => Some(Operator::And),
-            (Level::Sum, Kind::Mark(Mark::Plus)) => Some(Operator::Add),
-            (Level::Sum, Kind::Mark(Mark::Minus)) => Some(Operator::Subtract),
-            (Level::Product, Kind::Mark(Mark::Star)) => Some(Operator::Multiply),
-            (Level::Product, Kind::Mark(Mark::Slash)) => Some(Operator::Divide),
-            (Level::Product, Kind::Mark(Mark::Percent)) => Some(Operator::Remainder),
+            (Level::Or, SourceTokenKind::Word) if self.is_word(b"or") => Some(Operator::Or),
+            (Level::And, SourceTokenKind::Word) if self.is_word(b"and") => Some(Operator::And),
+            (Level::Sum, SourceTokenKind::Mark(Mark::Plus)) => Some(Operator::Add),
+            (Level::Sum, SourceTokenKind::Mark(Mark::Minus)) => Some(Operator::Subtract),
+            (Level::Product, SourceTokenKind::Mark(Mark::Star)) => Some(Operator::Multiply),
+            (Level::Product, SourceTokenKind::Mark(Mark::Slash)) => Some(Operator::Divide),
+            (Level::Product, SourceTokenKind::Mark(Mark::Percent)) => Some(Operator::Remainder),
             _ => None,
         }
     }
@@ -265,18 +265,18 @@ impl<'a> Parser<'a> {
     // The comparison that the next token is.
     fn comparison(&self) -> Option<Operator> {
         match self.token().kind {
-            Kind::Mark(Mark::Equals) => Some(Operator::Equal),
-            Kind::Mark(Mark::NotEquals) => Some(Operator::NotEqual),
-            Kind::Mark(Mark::LessThan) => Some(Operator::Less),
-            Kind::Mark(Mark::AtMost) => Some(Operator::LessOrEqual),
-            Kind::Mark(Mark::GreaterThan) => Some(Operator::Greater),
-            Kind::Mark(Mark::AtLeast) => Some(Operator::GreaterOrEqual),
+            SourceTokenKind::Mark(Mark::Equals) => Some(Operator::Equal),
+            SourceTokenKind::Mark(Mark::NotEquals) => Some(Operator::NotEqual),
+            SourceTokenKind::Mark(Mark::LessThan) => Some(Operator::Less),
+            SourceTokenKind::Mark(Mark::AtMost) => Some(Operator::LessOrEqual),
+            SourceTokenKind::Mark(Mark::GreaterThan) => Some(Operator::Greater),
+            SourceTokenKind::Mark(Mark::AtLeast) => Some(Operator::GreaterOrEqual),
             _ => None,
         }
     }
 
     /// An expression.
-    pub(crate) fn expression(&mut self) -> Result<Expression, Stop> {
+    pub(crate) fn expression(&mut self) -> Result<Expression, ExpansionStop> {
         self.chain(Level::Or, NESTING)
     }
 }

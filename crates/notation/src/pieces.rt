@@ -1,13 +1,13 @@
 //! What a command line is made of: which of its bytes stand for something else.
 
 use crate::expansion::Expansion;
-use crate::fault::Stop;
+use crate::fault::ExpansionStop;
 use crate::finding::{family_declarations, named_declaration};
 use crate::lexer::{has_notation, needs_names};
 use crate::limits::NESTING;
-use crate::parser::Parser;
+use crate::parser::ModelParser;
 use crate::syntax::{Binder, Expression, Reference};
-use crate::token::{Kind, Mark, Token};
+use crate::token::{Mark, SourceToken, SourceTokenKind};
 use std::alloc::{AllocError, Global};
 
 /// What some bytes of a line stand for.
@@ -34,7 +34,7 @@ pub(crate) struct Reading {
 
 /// The bytes of a line from one offset to another, and what they stand for.
 #[derive(Drop)]
-pub(crate) struct Piece {
+pub(crate) struct LinePiece {
     pub(crate) from: usize,
     pub(crate) to: usize,
     pub(crate) meant: Meant,
@@ -42,15 +42,15 @@ pub(crate) struct Piece {
 
 /// A line: the ranges before it, and its pieces in order.
 #[derive(Drop)]
-pub(crate) struct Pieces {
+pub(crate) struct LinePieces {
     pub(crate) ranges: Vec<Binder>,
-    pub(crate) pieces: Vec<Piece>,
+    pub(crate) pieces: Vec<LinePiece>,
 }
 
 /// Divides a line into pieces.
 #[derive(Drop)]
 pub(crate) struct Divider<'a> {
-    pub(crate) parser: Parser<'a>,
+    pub(crate) parser: ModelParser<'a>,
     expansion: &'a Expansion,
 }
 
@@ -60,16 +60,16 @@ impl<'a> Divider<'a> {
         alloc: Global,
         expansion: &'a Expansion,
         line: &'a [u8],
-        tokens: &'a [Token],
+        tokens: &'a [SourceToken],
     ) -> Divider<'a> {
         let members = expansion.model.tables.members.len();
         Divider {
-            parser: Parser::new(alloc, line, tokens, expansion.source, members),
+            parser: ModelParser::new(alloc, line, tokens, expansion.source, members),
             expansion,
         }
     }
 
-    // The offset in the line behind the last token that was passed.
+    // The offset in the line after the last token that was passed.
     fn end(&self) -> usize {
         let token = self.parser.token_before();
         token.at.saturating_add(token.length)
@@ -95,7 +95,7 @@ impl<'a> Divider<'a> {
 
     // Whether indices follow the next token.
     fn has_indices(&self) -> bool {
-        self.parser.has_mark_behind(1, Mark::OpenBracket)
+        self.parser.has_mark_after(1, Mark::OpenBracket)
     }
 
     // The declarations that may have made the process that a name with indices names; None alone where there is none.
@@ -115,12 +115,12 @@ impl<'a> Divider<'a> {
     }
 
     // A name with indices, which becomes a piece. The answer is the declarations that may have made the process of this name.
-    fn name(&mut self, pieces: &mut Vec<Piece>) -> Result<Vec<Option<usize>>, Stop> {
+    fn name(&mut self, pieces: &mut Vec<LinePiece>) -> Result<Vec<Option<usize>>, ExpansionStop> {
         let from = self.start();
         let reference = self.parser.reference(NESTING)?;
         let declarations = self.declarations_of(&reference)?;
         let to = self.end();
-        pieces.push(Piece {
+        pieces.push(LinePiece {
             from,
             to,
             meant: Meant::Name(reference),
@@ -129,7 +129,7 @@ impl<'a> Divider<'a> {
     }
 
     // `for` and its ranges, up to the colon.
-    fn ranges(&mut self) -> Result<Vec<Binder>, Stop> {
+    fn ranges(&mut self) -> Result<Vec<Binder>, ExpansionStop> {
         let mut ranges = Vec::new(self.parser.alloc);
         for _ in 0..self.parser.count() {
             if !self.parser.is_word(b"for") {
@@ -167,7 +167,7 @@ impl<'a> Divider<'a> {
         &mut self,
         declaration: Option<usize>,
         end: usize,
-    ) -> Result<Option<Expression>, Stop> {
+    ) -> Result<Option<Expression>, ExpansionStop> {
         let first = self.parser.place();
         let mark = self.parser.scope.mark();
         if declaration.is_some() {
@@ -177,7 +177,7 @@ impl<'a> Divider<'a> {
         self.parser.scope.leave(mark);
         match read {
             Ok(expression) if self.parser.place() == end => Ok(Some(expression)),
-            Err(Stop::Memory) => Err(Stop::Memory),
+            Err(ExpansionStop::Memory) => Err(ExpansionStop::Memory),
             Err(stop) if has_notation(self.parser.between(first, end)) => Err(stop),
             _ => Ok(None),
         }
@@ -189,7 +189,7 @@ impl<'a> Divider<'a> {
         declarations: &[Option<usize>],
         first: usize,
         end: usize,
-    ) -> Result<Vec<Reading>, Stop> {
+    ) -> Result<Vec<Reading>, ExpansionStop> {
         let mut readings = Vec::new(self.parser.alloc);
         for declaration in declarations {
             self.parser.go_to(first);
@@ -208,8 +208,8 @@ impl<'a> Divider<'a> {
     fn predicate(
         &mut self,
         declarations: &[Option<usize>],
-        pieces: &mut Vec<Piece>,
-    ) -> Result<(), Stop> {
+        pieces: &mut Vec<LinePiece>,
+    ) -> Result<(), ExpansionStop> {
         if !self.parser.is_mark(Mark::OpenParenthesis) {
             self.word(pieces)?;
             return Ok(());
@@ -221,7 +221,7 @@ impl<'a> Divider<'a> {
         let to = self.end();
         let readings = self.readings(declarations, first, end)?;
         if !readings.is_empty() {
-            pieces.push(Piece {
+            pieces.push(LinePiece {
                 from,
                 to,
                 meant: Meant::Predicate(readings),
@@ -231,7 +231,7 @@ impl<'a> Divider<'a> {
     }
 
     // A process and its predicate.
-    fn part(&mut self, pieces: &mut Vec<Piece>) -> Result<(), Stop> {
+    fn part(&mut self, pieces: &mut Vec<LinePiece>) -> Result<(), ExpansionStop> {
         if !self.parser.is_name() {
             return self.word(pieces);
         }
@@ -241,11 +241,11 @@ impl<'a> Divider<'a> {
 
     // Whether the next tokens begin a range: `for`, a name and a colon.
     fn is_at_range(&self) -> bool {
-        self.parser.is_word(b"for") && self.parser.has_mark_behind(2, Mark::Colon)
+        self.parser.is_word(b"for") && self.parser.has_mark_after(2, Mark::Colon)
     }
 
     // A part for each member of ranges.
-    fn repeat(&mut self, pieces: &mut Vec<Piece>) -> Result<(), Stop> {
+    fn repeat(&mut self, pieces: &mut Vec<LinePiece>) -> Result<(), ExpansionStop> {
         let from = self.start();
         let mark = self.parser.scope.mark();
         let ranges = self.ranges()?;
@@ -255,7 +255,7 @@ impl<'a> Divider<'a> {
         self.parser.scope.leave(mark);
         let to = self.end();
         let count = pieces.len().saturating_sub(place);
-        let repeat = Piece {
+        let repeat = LinePiece {
             from,
             to,
             meant: Meant::Repeat(ranges, start, count),
@@ -265,7 +265,7 @@ impl<'a> Divider<'a> {
     }
 
     // A word, or another token. A name with indices becomes a piece.
-    fn word(&mut self, pieces: &mut Vec<Piece>) -> Result<(), Stop> {
+    fn word(&mut self, pieces: &mut Vec<LinePiece>) -> Result<(), ExpansionStop> {
         if self.parser.is_name() && self.has_indices() {
             self.name(pieces)?;
         } else {
@@ -280,7 +280,7 @@ impl<'a> Divider<'a> {
     }
 
     // `break`, a name, and parts.
-    fn breakpoint(&mut self, pieces: &mut Vec<Piece>) -> Result<(), Stop> {
+    fn breakpoint(&mut self, pieces: &mut Vec<LinePiece>) -> Result<(), ExpansionStop> {
         self.parser.pass();
         if !self.is_at_end() {
             self.word(pieces)?;
@@ -299,7 +299,7 @@ impl<'a> Divider<'a> {
     }
 
     // `step`, a process, and a label in place of a number.
-    fn step(&mut self, pieces: &mut Vec<Piece>) -> Result<(), Stop> {
+    fn step(&mut self, pieces: &mut Vec<LinePiece>) -> Result<(), ExpansionStop> {
         self.parser.pass();
         if !self.parser.is_name() {
             return Ok(());
@@ -311,7 +311,7 @@ impl<'a> Divider<'a> {
         let from = self.start();
         let reference = self.parser.reference(NESTING)?;
         let to = self.end();
-        pieces.push(Piece {
+        pieces.push(LinePiece {
             from,
             to,
             meant: Meant::Label(reference),
@@ -320,7 +320,7 @@ impl<'a> Divider<'a> {
     }
 
     // One command, up to the end of the line or to a semicolon.
-    fn command(&mut self, pieces: &mut Vec<Piece>) -> Result<(), Stop> {
+    fn command(&mut self, pieces: &mut Vec<LinePiece>) -> Result<(), ExpansionStop> {
         if self.parser.is_word(b"break") {
             self.breakpoint(pieces)?;
         } else if self.parser.is_word(b"step") {
@@ -336,7 +336,7 @@ impl<'a> Divider<'a> {
     }
 
     // Commands, with semicolons between them.
-    fn commands(&mut self, pieces: &mut Vec<Piece>) -> Result<(), Stop> {
+    fn commands(&mut self, pieces: &mut Vec<LinePiece>) -> Result<(), ExpansionStop> {
         if self.parser.is_word(b"batch") {
             self.parser.pass();
         }
@@ -352,13 +352,13 @@ impl<'a> Divider<'a> {
 
     // Passes the number of a seat.
     fn seat(&mut self) {
-        if matches!(self.parser.token().kind, Kind::Number(_)) {
+        if matches!(self.parser.token().kind, SourceTokenKind::Number(_)) {
             self.parser.pass();
         }
     }
 
     /// The pieces of the line.
-    pub(crate) fn line(&mut self) -> Result<Pieces, Stop> {
+    pub(crate) fn line(&mut self) -> Result<LinePieces, ExpansionStop> {
         if needs_names(self.parser.between(0, self.parser.count())) {
             self.declare(None)?;
         }
@@ -369,7 +369,7 @@ impl<'a> Divider<'a> {
             let from = self.start();
             ranges = self.ranges()?;
             let to = self.start();
-            pieces.push(Piece {
+            pieces.push(LinePiece {
                 from,
                 to,
                 meant: Meant::Nothing,
@@ -377,6 +377,6 @@ impl<'a> Divider<'a> {
             self.seat();
         }
         self.commands(&mut pieces)?;
-        Ok(Pieces { ranges, pieces })
+        Ok(LinePieces { ranges, pieces })
     }
 }

@@ -5,7 +5,7 @@ ghost use Rattle.notation.specs.TokenCounts.{are_joined, begins_token, token_cou
 ghost use Rattle.dbg_base.specs.Tokens.{is_space, is_word_byte};
 ghost use Rattle.dbg_base.specs.declared.limits.TheConstants.{INPUT_BYTES};
 
-use crate::fault::{Problem, Stop};
+use crate::fault::{ExpansionStop, Problem};
 use dbg_base::limits::INPUT_BYTES;
 use std::alloc::{AllocError, Global};
 
@@ -38,16 +38,16 @@ impl PlainText {
     }
 
     // Writes these bytes, unless the text becomes too long. A fault is at this offset of the source.
-    fn put(&mut self, bytes: &[u8], at: usize) -> Result<(), Stop> {
+    fn put(&mut self, bytes: &[u8], at: usize) -> Result<(), ExpansionStop> {
         if bytes.len() > INPUT_BYTES.saturating_sub(self.bytes.len()) {
-            return Err(Stop::Bad(Problem::LongText, at));
+            return Err(ExpansionStop::Bad(Problem::LongText, at));
         }
         self.bytes.extend_from_slice(bytes)?;
         Ok(())
     }
 
     /// Begins a line, with so many blanks.
-    pub(crate) fn line(&mut self, indent: &[u8], at: usize) -> Result<(), Stop> {
+    pub(crate) fn line(&mut self, indent: &[u8], at: usize) -> Result<(), ExpansionStop> {
         if !self.bytes.is_empty() {
             self.put(b"\n", at)?;
         }
@@ -56,8 +56,13 @@ impl PlainText {
         Ok(())
     }
 
-    /// Writes a token, behind a blank where one belongs there. It comes from this offset of the source, in this copy.
-    pub(crate) fn token(&mut self, token: &[u8], at: usize, copy: usize) -> Result<(), Stop> {
+    /// Writes a token, after a blank where one belongs there. It comes from this offset of the source, in this copy.
+    pub(crate) fn token(
+        &mut self,
+        token: &[u8],
+        at: usize,
+        copy: usize,
+    ) -> Result<(), ExpansionStop> {
         if !self.tight {
             self.put(b" ", at)?;
         }
@@ -88,7 +93,7 @@ fn is_space(byte: u8) -> bool
     byte == b' ' || byte == b'\t' || byte == b'\n' || byte == b'\r'
 }
 
-// Whether two bytes, one behind the other, are of one token.
+// Whether two bytes, one after the other, are of one token.
 fn are_joined(before: u8, byte: u8) -> bool
     ensures { result ≡ are_joined before byte }
 {
@@ -96,7 +101,7 @@ fn are_joined(before: u8, byte: u8) -> bool
         || ((before == b':' || before == b'!' || before == b'<' || before == b'>') && byte == b'=')
 }
 
-// Whether a token begins with a byte that is behind another one.
+// Whether a token begins with a byte that comes after another one.
 fn begins_token(before: u8, byte: u8) -> bool
     ensures { result ≡ begins_token before byte }
 {

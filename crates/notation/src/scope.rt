@@ -47,15 +47,15 @@ struct Declared<'a> {
 
 /// The names that are visible.
 #[derive(Drop)]
-pub(crate) struct Scope<'a> {
+pub(crate) struct ModelScope<'a> {
     meanings: BTreeMap<&'a [u8], Binding>,
     declared: Vec<Declared<'a>>,
 }
 
-impl<'a> Scope<'a> {
+impl<'a> ModelScope<'a> {
     /// No name is visible.
-    pub(crate) fn new(alloc: Global) -> Scope<'a> {
-        Scope {
+    pub(crate) fn new(alloc: Global) -> ModelScope<'a> {
+        ModelScope {
             meanings: BTreeMap::new(alloc),
             declared: Vec::new(alloc),
         }

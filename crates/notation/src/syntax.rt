@@ -41,7 +41,7 @@ pub(crate) struct Reference {
     pub(crate) indices: Vec<Expression>,
 }
 
-/// A member of a range: its number, the bounds of the range, and the condition behind `where`.
+/// A member of a range: its number, the bounds of the range, and the condition after `where`.
 #[derive(Drop)]
 #[cycle(syntax)]
 pub(crate) struct Binder {
@@ -54,7 +54,7 @@ pub(crate) struct Binder {
 
 /// How the expressions of the members are joined.
 #[derive(Clone, Copy, PartialEq, Eq)]
-pub(crate) enum Form {
+pub(crate) enum FormNode {
     All,
     Some,
     Sum,
@@ -66,7 +66,7 @@ pub(crate) enum Form {
 #[cycle(syntax)]
 pub(crate) struct Each {
     pub(crate) at: usize,
-    pub(crate) form: Form,
+    pub(crate) form: FormNode,
     pub(crate) least: Option<Expression>,
     pub(crate) binder: Binder,
     pub(crate) body: Expression,
@@ -89,7 +89,7 @@ pub(crate) struct Definition {
 
 /// A variable, or a family of variables.
 #[derive(Drop)]
-pub(crate) struct Variable {
+pub(crate) struct VariableNode {
     pub(crate) at: usize,
     pub(crate) name_at: usize,
     pub(crate) name: Name,
@@ -99,7 +99,7 @@ pub(crate) struct Variable {
 
 /// An assignment, with the offset of `:=`.
 #[derive(Drop)]
-pub(crate) struct Assignment {
+pub(crate) struct AssignmentNode {
     pub(crate) target: Reference,
     pub(crate) at: usize,
     pub(crate) value: Expression,
@@ -107,7 +107,7 @@ pub(crate) struct Assignment {
 
 /// What a command does besides its assignments, with the offset of its word.
 #[derive(Drop)]
-pub(crate) enum Action {
+pub(crate) enum ActionNode {
     Local,
     Send(usize, Reference, Expression),
     Receive(usize, Reference, Reference),
@@ -122,42 +122,42 @@ pub(crate) struct Label {
 
 /// A command, with the offsets of `when`, `:` and `;`.
 #[derive(Drop)]
-pub(crate) struct Command {
+pub(crate) struct CommandNode {
     pub(crate) label: Option<Label>,
     pub(crate) at: usize,
     pub(crate) guard: Expression,
     pub(crate) colon: usize,
-    pub(crate) action: Action,
-    pub(crate) assignments: Vec<Assignment>,
+    pub(crate) action: ActionNode,
+    pub(crate) assignments: Vec<AssignmentNode>,
     pub(crate) end: usize,
 }
 
 /// What a process is made of.
 #[derive(Drop)]
-pub(crate) enum Item {
+pub(crate) enum ItemNode {
     Constant(Constant),
-    Variable(Variable),
-    Command(Command),
-    Repeat(Binder, Vec<Item>),
+    Variable(VariableNode),
+    Command(CommandNode),
+    Repeat(Binder, Vec<ItemNode>),
 }
 
 /// A process, or a family of processes, with the offsets of its braces.
 #[derive(Drop)]
-pub(crate) struct Process {
+pub(crate) struct ProcessNode {
     pub(crate) at: usize,
     pub(crate) name_at: usize,
     pub(crate) name: Name,
     pub(crate) ranges: Vec<Binder>,
     pub(crate) open: usize,
-    pub(crate) items: Vec<Item>,
+    pub(crate) items: Vec<ItemNode>,
     pub(crate) close: usize,
 }
 
 /// What a model is made of.
 #[derive(Drop)]
-pub(crate) enum Declaration {
+pub(crate) enum DeclarationNode {
     Constant(Constant),
-    Process(Process),
+    Process(ProcessNode),
 }
 
 /// The offset of an expression.

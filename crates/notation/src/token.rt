@@ -31,7 +31,7 @@ pub enum Mark {
 
 /// What a token is.
 #[derive(Clone, Copy)]
-pub(crate) enum Kind {
+pub(crate) enum SourceTokenKind {
     Word,
     Number(i64),
     Mark(Mark),
@@ -43,10 +43,10 @@ pub(crate) enum Kind {
 
 /// A token: the offset of its first byte, and how many bytes it has.
 #[derive(Clone, Copy)]
-pub(crate) struct Token {
+pub(crate) struct SourceToken {
     pub(crate) at: usize,
     pub(crate) length: usize,
-    pub(crate) kind: Kind,
+    pub(crate) kind: SourceTokenKind,
 }
 
 /// So many bytes of a text from this offset on, or those of them that there are.

@@ -1,11 +1,11 @@
 //! Expressions, written in the process language.
 
-use crate::environment::{Environment, Value};
+use crate::environment::{ConstantValue, Environment};
 use crate::evaluation::{count_of, halves};
-use crate::fault::{Problem, Stop};
+use crate::fault::{ExpansionStop, Problem};
 use crate::model::Tables;
 use crate::plain_text::PlainText;
-use crate::syntax::{Definition, Each, Expression, Form, Link, Reference, place};
+use crate::syntax::{Definition, Each, Expression, FormNode, Link, Reference, place};
 use dbg_base::{Direction, Operator};
 use itoa::Buffer;
 use std::alloc::{AllocError, Global};
@@ -37,18 +37,18 @@ fn operator_text(operator: Operator) -> &'static [u8] {
 }
 
 // What joins the members' expressions, and what is written where there is none.
-fn form_texts(form: Form) -> (&'static [u8], &'static [u8]) {
+fn form_texts(form: FormNode) -> (&'static [u8], &'static [u8]) {
     match form {
-        Form::All => (b"and", b"true"),
-        Form::Some | Form::AtLeast => (b"or", b"false"),
-        Form::Sum => (b"+", b"0"),
+        FormNode::All => (b"and", b"true"),
+        FormNode::Some | FormNode::AtLeast => (b"or", b"false"),
+        FormNode::Sum => (b"+", b"0"),
     }
 }
 
 /// Appends `_` and a number that is not below 0.
-pub(crate) fn put_index(name: &mut Vec<u8>, number: i64, at: usize) -> Result<(), Stop> {
+pub(crate) fn put_index(name: &mut Vec<u8>, number: i64, at: usize) -> Result<(), ExpansionStop> {
     if number < 0 {
-        return Err(Stop::Bad(Problem::BelowZero, at));
+        return Err(ExpansionStop::Bad(Problem::BelowZero, at));
     }
     let mut buffer = Buffer::new();
     name.push(b'_')?;
@@ -66,35 +66,35 @@ impl<'a> Writer<'a> {
     }
 
     /// Writes a token, which comes from this offset of the source.
-    pub(crate) fn token(&mut self, token: &[u8], at: usize) -> Result<(), Stop> {
+    pub(crate) fn token(&mut self, token: &[u8], at: usize) -> Result<(), ExpansionStop> {
         self.environment.keep();
         self.text.token(token, at, self.environment.copy)
     }
 
-    /// Writes a token right behind the one before.
-    pub(crate) fn joined_token(&mut self, token: &[u8], at: usize) -> Result<(), Stop> {
+    /// Writes a token right after the one before.
+    pub(crate) fn joined_token(&mut self, token: &[u8], at: usize) -> Result<(), ExpansionStop> {
         self.text.join();
         self.token(token, at)
     }
 
     /// Writes the digits of a number, without its sign.
-    pub(crate) fn magnitude(&mut self, number: i64, at: usize) -> Result<(), Stop> {
+    pub(crate) fn magnitude(&mut self, number: i64, at: usize) -> Result<(), ExpansionStop> {
         let mut buffer = Buffer::new();
         self.token(buffer.format(number.unsigned_abs()).as_bytes(), at)
     }
 
     // Writes a value: a number below 0 in parentheses.
-    fn value(&mut self, value: Value, at: usize) -> Result<(), Stop> {
+    fn value(&mut self, value: ConstantValue, at: usize) -> Result<(), ExpansionStop> {
         match value {
-            Value::Truth(true) => self.token(b"true", at),
-            Value::Truth(false) => self.token(b"false", at),
-            Value::Number(number) if number < 0 => {
+            ConstantValue::Truth(true) => self.token(b"true", at),
+            ConstantValue::Truth(false) => self.token(b"false", at),
+            ConstantValue::Number(number) if number < 0 => {
                 self.token(b"(", at)?;
                 self.token(b"-", at)?;
                 self.magnitude(number, at)?;
                 self.joined_token(b")", at)
             }
-            Value::Number(number) => self.magnitude(number, at),
+            ConstantValue::Number(number) => self.magnitude(number, at),
         }
     }
 
@@ -103,7 +103,7 @@ impl<'a> Writer<'a> {
         &mut self,
         reference: &'a Reference,
         depth: u32,
-    ) -> Result<Vec<u8>, Stop> {
+    ) -> Result<Vec<u8>, ExpansionStop> {
         let mut name = Vec::from_slice(self.environment.alloc, reference.name.bytes())?;
         for index in &reference.indices {
             let number = self.environment.number(index, depth)?;
@@ -113,7 +113,11 @@ impl<'a> Writer<'a> {
     }
 
     /// Writes a name with indices.
-    pub(crate) fn reference(&mut self, reference: &'a Reference, depth: u32) -> Result<(), Stop> {
+    pub(crate) fn reference(
+        &mut self,
+        reference: &'a Reference,
+        depth: u32,
+    ) -> Result<(), ExpansionStop> {
         let name = self.name_of(reference, depth)?;
         self.token(name.as_slice(), reference.at)
     }
@@ -125,7 +129,7 @@ impl<'a> Writer<'a> {
         direction: Direction,
         other: &'a Reference,
         depth: u32,
-    ) -> Result<(), Stop> {
+    ) -> Result<(), ExpansionStop> {
         match direction {
             Direction::Sent => self.token(b"sent", at)?,
             Direction::Got => self.token(b"got", at)?,
@@ -141,18 +145,18 @@ impl<'a> Writer<'a> {
         &mut self,
         expression: &'a Expression,
         depth: u32,
-    ) -> Result<(), Stop> {
+    ) -> Result<(), ExpansionStop> {
         let inner = self.environment.step(depth, place(expression))?;
         match expression {
-            Expression::Number(at, number) => self.value(Value::Number(*number), *at),
-            Expression::Truth(at, truth) => self.value(Value::Truth(*truth), *at),
+            Expression::Number(at, number) => self.value(ConstantValue::Number(*number), *at),
+            Expression::Truth(at, truth) => self.value(ConstantValue::Truth(*truth), *at),
             Expression::Constant(at, number) => {
                 let value = self.environment.constant(*number, *at)?;
                 self.value(value, *at)
             }
             Expression::Member(at, number) => {
                 let value = self.environment.member(*number);
-                self.value(Value::Number(value), *at)
+                self.value(ConstantValue::Number(value), *at)
             }
             Expression::Parameter(at, number) => {
                 let argument = self.environment.argument(*number, *at)?;
@@ -180,7 +184,7 @@ impl<'a> Writer<'a> {
         definition: &'a Definition,
         arguments: &'a [Expression],
         depth: u32,
-    ) -> Result<(), Stop> {
+    ) -> Result<(), ExpansionStop> {
         let before = self.environment.bind(definition, arguments)?;
         self.expression(&definition.body, depth)?;
         self.environment.unbind(definition, before.as_slice());
@@ -195,7 +199,7 @@ impl<'a> Writer<'a> {
         at: usize,
         operand: &'a Expression,
         depth: u32,
-    ) -> Result<(), Stop> {
+    ) -> Result<(), ExpansionStop> {
         self.token(b"(", at)?;
         self.token(operator, at)?;
         self.expression(operand, depth)?;
@@ -210,7 +214,7 @@ impl<'a> Writer<'a> {
         first: &'a Expression,
         links: &'a [Link],
         depth: u32,
-    ) -> Result<(), Stop> {
+    ) -> Result<(), ExpansionStop> {
         for _ in links {
             self.token(b"(", at)?;
         }
@@ -225,7 +229,7 @@ impl<'a> Writer<'a> {
 
     // Writes the expression for one member.
     #[cycle(writing)]
-    fn at_member(&mut self, each: &'a Each, member: i64, depth: u32) -> Result<(), Stop> {
+    fn at_member(&mut self, each: &'a Each, member: i64, depth: u32) -> Result<(), ExpansionStop> {
         let before = self.environment.enter(each.binder.member, member)?;
         self.expression(&each.body, depth)?;
         self.environment.leave(before);
@@ -237,10 +241,10 @@ impl<'a> Writer<'a> {
     fn joined(
         &mut self,
         each: &'a Each,
-        form: Form,
+        form: FormNode,
         members: &[i64],
         depth: u32,
-    ) -> Result<(), Stop> {
+    ) -> Result<(), ExpansionStop> {
         let (operator, nothing) = form_texts(form);
         match members {
             [] => return self.token(nothing, each.at),
@@ -248,9 +252,9 @@ impl<'a> Writer<'a> {
             _ => {}
         }
         let inner = self.environment.step(depth, each.at)?;
-        let (front, rest) = halves(members);
+        let (prefix, rest) = halves(members);
         self.token(b"(", each.at)?;
-        self.joined(each, form, front, inner)?;
+        self.joined(each, form, prefix, inner)?;
         self.token(operator, each.at)?;
         self.joined(each, form, rest, inner)?;
         self.joined_token(b")", each.at)
@@ -264,7 +268,7 @@ impl<'a> Writer<'a> {
         least: i64,
         members: &[i64],
         depth: u32,
-    ) -> Result<(), Stop> {
+    ) -> Result<(), ExpansionStop> {
         let count = count_of(members.len());
         if least <= 0 {
             return self.token(b"true", each.at);
@@ -273,13 +277,13 @@ impl<'a> Writer<'a> {
             return self.token(b"false", each.at);
         }
         if least == count {
-            return self.joined(each, Form::All, members, depth);
+            return self.joined(each, FormNode::All, members, depth);
         }
         let [first, others @ ..] = members else {
             return Ok(());
         };
         if least == 1 {
-            return self.joined(each, Form::Some, members, depth);
+            return self.joined(each, FormNode::Some, members, depth);
         }
         let inner = self.environment.step(depth, each.at)?;
         self.token(b"(", each.at)?;
@@ -295,11 +299,11 @@ impl<'a> Writer<'a> {
 
     // Writes a form.
     #[cycle(writing)]
-    fn each(&mut self, each: &'a Each, depth: u32) -> Result<(), Stop> {
+    fn each(&mut self, each: &'a Each, depth: u32) -> Result<(), ExpansionStop> {
         let least = self.environment.least(each, depth)?;
         let members = self.environment.range(&each.binder, depth)?;
         match each.form {
-            Form::AtLeast => self.at_least(each, least, members.as_slice(), depth),
+            FormNode::AtLeast => self.at_least(each, least, members.as_slice(), depth),
             form => self.joined(each, form, members.as_slice(), depth),
         }
     }

@@ -7,12 +7,15 @@ mod lines;
 mod places;
 mod sessions;
 
+use crate::expecting::expect_same;
 use notation::{NotationError, expand, expand_program, line_and_column};
 use std::alloc::{AllocError, Global};
 use std::process::Abort;
 
+const MEMORY: &str = "ample memory";
+
 // What a case shows, a text, and what is expected.
-type Case = (&'static str, &'static str, &'static str);
+type ExpansionCase = (&'static str, &'static str, &'static str);
 
 // A text without its mark, and the offset at which the mark is.
 fn unmarked(alloc: Global, marked: &[u8]) -> Result<(Vec<u8>, usize), AllocError> {
@@ -43,12 +46,12 @@ fn without_blanks(alloc: Global, text: &[u8]) -> Result<String, AllocError> {
 fn expanded(alloc: Global, text: &[u8]) -> Result<String, AllocError> {
     match expand_program(alloc, text) {
         Ok(expansion) => without_blanks(alloc, expansion.plain()),
-        Err(error) => told(alloc, error, text),
+        Err(error) => reported(alloc, error, text),
     }
 }
 
 // A fault with its line and column, in one line.
-fn told(alloc: Global, error: NotationError, text: &[u8]) -> Result<String, AllocError> {
+fn reported(alloc: Global, error: NotationError, text: &[u8]) -> Result<String, AllocError> {
     match error {
         NotationError::Memory => format!(in alloc; "memory"),
         NotationError::Bad(fault) => {
@@ -63,7 +66,7 @@ fn told(alloc: Global, error: NotationError, text: &[u8]) -> Result<String, Allo
 fn fault_of(alloc: Global, text: &[u8]) -> Result<String, AllocError> {
     match expand_program(alloc, text) {
         Ok(_) => format!(in alloc; "no fault"),
-        Err(error) => told(alloc, error, text),
+        Err(error) => reported(alloc, error, text),
     }
 }
 
@@ -71,28 +74,44 @@ fn fault_of(alloc: Global, text: &[u8]) -> Result<String, AllocError> {
 fn own_fault(alloc: Global, text: &[u8]) -> Result<String, AllocError> {
     match expand(alloc, text) {
         Ok(_) => format!(in alloc; "no fault"),
-        Err(error) => told(alloc, error, text),
+        Err(error) => reported(alloc, error, text),
     }
+}
+
+// Expects a text to expand to another, but for blanks.
+fn expect_expansion(rt: &impl Abort, alloc: Global, case: &ExpansionCase) {
+    let (name, text, want) = *case;
+    let found = expanded(alloc, text.as_bytes()).expect(rt, MEMORY);
+    let want = without_blanks(alloc, want.as_bytes()).expect(rt, MEMORY);
+    expect_same(rt, (name, found.as_str()), (name, want.as_str()));
 }
 
 // Each text of the table expands to what is expected.
-fn expect_expanded(rt: &impl Abort, alloc: Global, cases: &[Case]) -> Result<(), AllocError> {
-    for (name, text, want) in cases {
-        let found = expanded(alloc, text.as_bytes())?;
-        let want = without_blanks(alloc, want.as_bytes())?;
-        assert_eq!(rt; found.as_str(), want.as_str(), "{name}");
+fn expect_expanded(rt: &impl Abort, alloc: Global, cases: &[ExpansionCase]) {
+    for case in cases {
+        expect_expansion(rt, alloc, case);
     }
-    Ok(())
+}
+
+// What a fault of this kind is at the mark of a text, and the text without its mark.
+fn wanted_fault(alloc: Global, marked: &str, kind: &str) -> Result<(Vec<u8>, String), AllocError> {
+    let (text, at) = unmarked(alloc, marked.as_bytes())?;
+    let (line, column) = line_and_column(text.as_slice(), at);
+    let want = format!(in alloc; "{kind} in {line}:{column}")?;
+    Ok((text, want))
+}
+
+// Expects a text to have a first fault of this kind at its mark.
+fn expect_fault(rt: &impl Abort, alloc: Global, case: &ExpansionCase) {
+    let (name, marked, kind) = *case;
+    let (text, want) = wanted_fault(alloc, marked, kind).expect(rt, MEMORY);
+    let found = fault_of(alloc, text.as_slice()).expect(rt, MEMORY);
+    expect_same(rt, (name, found.as_str()), (name, want.as_str()));
 }
 
 // Each text of the table has a first fault of this kind at its mark.
-fn expect_faults(rt: &impl Abort, alloc: Global, cases: &[Case]) -> Result<(), AllocError> {
-    for (name, marked, want) in cases {
-        let (text, at) = unmarked(alloc, marked.as_bytes())?;
-        let (line, column) = line_and_column(text.as_slice(), at);
-        let found = fault_of(alloc, text.as_slice())?;
-        let want = format!(in alloc; "{want} in {line}:{column}")?;
-        assert_eq!(rt; found.as_str(), want.as_str(), "{name}");
+fn expect_faults(rt: &impl Abort, alloc: Global, cases: &[ExpansionCase]) {
+    for case in cases {
+        expect_fault(rt, alloc, case);
     }
-    Ok(())
 }

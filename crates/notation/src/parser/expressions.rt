@@ -2,26 +2,26 @@
 
 ghost use Rattle.std.specs.Prelude.{◌≡◌, ◌+◌, IfOk};
 
-use super::{Level, Parser, is_reserved};
-use crate::fault::{Expected, Problem, Stop};
+use super::{Level, ModelParser, is_reserved};
+use crate::fault::{ExpansionStop, Expected, Problem};
 use crate::scope::Binding;
-use crate::syntax::{Binder, Each, Expression, Form, Link, Reference, enclosed};
-use crate::token::{Kind, Mark};
+use crate::syntax::{Binder, Each, Expression, FormNode, Link, Reference, enclosed};
+use crate::token::{Mark, SourceTokenKind};
 use dbg_base::Direction;
 
 // The form that a word begins.
-fn form_of(word: &[u8]) -> Option<Form> {
+fn form_of(word: &[u8]) -> Option<FormNode> {
     if word == b"all".as_slice() {
-        return Some(Form::All);
+        return Some(FormNode::All);
     }
     if word == b"some".as_slice() {
-        return Some(Form::Some);
+        return Some(FormNode::Some);
     }
     if word == b"sum".as_slice() {
-        return Some(Form::Sum);
+        return Some(FormNode::Sum);
     }
     if word == b"at_least".as_slice() {
-        return Some(Form::AtLeast);
+        return Some(FormNode::AtLeast);
     }
     None
 }
@@ -38,11 +38,11 @@ fn direction_of(word: &[u8]) -> Option<Direction> {
 }
 
 // As many arguments are found as are wanted.
-fn check_arguments(wanted: usize, found: usize, at: usize) -> Result<(), Stop> {
+fn check_arguments(wanted: usize, found: usize, at: usize) -> Result<(), ExpansionStop> {
     if wanted == found {
         return Ok(());
     }
-    Err(Stop::Bad(Problem::Arguments { wanted, found }, at))
+    Err(ExpansionStop::Bad(Problem::Arguments { wanted, found }, at))
 }
 
 /// Whether a word begins a form: `all`, `some`, `sum` or `at_least`.
@@ -50,20 +50,20 @@ pub(super) fn is_form(word: &[u8]) -> bool {
     form_of(word).is_some()
 }
 
-impl<'a> Parser<'a> {
+impl<'a> ModelParser<'a> {
     // One bracket more is open, of so many that may be.
-    fn deeper(&self, depth: u32) -> Result<u32, Stop>
+    fn deeper(&self, depth: u32) -> Result<u32, ExpansionStop>
         ensures { IfOk result (λ inner. inner + 1 ≡ depth) }
     {
         if depth == 0 {
-            return Err(Stop::Bad(Problem::DeepNesting, self.at()));
+            return Err(ExpansionStop::Bad(Problem::DeepNesting, self.at()));
         }
         Ok(depth - 1)
     }
 
     /// Operands with operators of this precedence between them.
     #[cycle(expressions)]
-    pub(crate) fn chain(&mut self, level: Level, depth: u32) -> Result<Expression, Stop> {
+    pub(crate) fn chain(&mut self, level: Level, depth: u32) -> Result<Expression, ExpansionStop> {
         let at = self.at();
         let first = self.operand(level, depth)?;
         if self.operator(level).is_none() {
@@ -88,7 +88,7 @@ impl<'a> Parser<'a> {
 
     // An operand of an operator of this precedence.
     #[cycle(expressions)]
-    fn operand(&mut self, level: Level, depth: u32) -> Result<Expression, Stop> {
+    fn operand(&mut self, level: Level, depth: u32) -> Result<Expression, ExpansionStop> {
         match level {
             Level::Or => self.chain(Level::And, depth),
             Level::And => self.truth(depth),
@@ -99,7 +99,7 @@ impl<'a> Parser<'a> {
 
     // A `not` and its operand, or at most one comparison.
     #[cycle(expressions)]
-    fn truth(&mut self, depth: u32) -> Result<Expression, Stop> {
+    fn truth(&mut self, depth: u32) -> Result<Expression, ExpansionStop> {
         let at = self.at();
         if self.is_word(b"not") {
             let inner = self.deeper(depth)?;
@@ -115,7 +115,7 @@ impl<'a> Parser<'a> {
         self.pass();
         let operand = self.chain(Level::Sum, depth)?;
         if self.comparison().is_some() {
-            return Err(Stop::Bad(Problem::ComparisonChain, self.at()));
+            return Err(ExpansionStop::Bad(Problem::ComparisonChain, self.at()));
         }
         let mut links = Vec::new(self.alloc);
         links.push(Link {
@@ -128,7 +128,7 @@ impl<'a> Parser<'a> {
 
     // A minus and its operand, or an operand without a minus.
     #[cycle(expressions)]
-    fn signed(&mut self, depth: u32) -> Result<Expression, Stop> {
+    fn signed(&mut self, depth: u32) -> Result<Expression, ExpansionStop> {
         let at = self.at();
         if !self.is_mark(Mark::Minus) {
             return self.primary(depth);
@@ -141,15 +141,15 @@ impl<'a> Parser<'a> {
 
     /// A number, a word and what belongs to it, or an expression in parentheses.
     #[cycle(expressions)]
-    pub(crate) fn primary(&mut self, depth: u32) -> Result<Expression, Stop> {
+    pub(crate) fn primary(&mut self, depth: u32) -> Result<Expression, ExpansionStop> {
         let at = self.at();
         match self.token().kind {
-            Kind::Number(number) => {
+            SourceTokenKind::Number(number) => {
                 self.pass();
                 Ok(Expression::Number(at, number))
             }
-            Kind::Word => self.spoken(depth),
-            Kind::Mark(Mark::OpenParenthesis) => {
+            SourceTokenKind::Word => self.spoken(depth),
+            SourceTokenKind::Mark(Mark::OpenParenthesis) => {
                 let inner = self.deeper(depth)?;
                 self.pass();
                 let expression = self.chain(Level::Or, inner)?;
@@ -162,7 +162,7 @@ impl<'a> Parser<'a> {
 
     // What begins with a word: a truth value, a count of messages, a form, a definition with its arguments, or a name.
     #[cycle(expressions)]
-    fn spoken(&mut self, depth: u32) -> Result<Expression, Stop> {
+    fn spoken(&mut self, depth: u32) -> Result<Expression, ExpansionStop> {
         let at = self.at();
         let Some(word) = self.word() else {
             return Err(self.unexpected(Expected::Expression));
@@ -181,7 +181,7 @@ impl<'a> Parser<'a> {
         if is_reserved(word) {
             return Err(self.unexpected(Expected::Expression));
         }
-        if !self.has_mark_behind(1, Mark::OpenParenthesis) {
+        if !self.has_mark_after(1, Mark::OpenParenthesis) {
             let reference = self.reference(depth)?;
             return self.looked_up(reference, word);
         }
@@ -192,7 +192,11 @@ impl<'a> Parser<'a> {
     }
 
     // What a name without arguments stands for.
-    fn looked_up(&mut self, reference: Reference, word: &[u8]) -> Result<Expression, Stop> {
+    fn looked_up(
+        &mut self,
+        reference: Reference,
+        word: &[u8],
+    ) -> Result<Expression, ExpansionStop> {
         if !reference.indices.is_empty() {
             return Ok(Expression::Name(reference));
         }
@@ -211,7 +215,7 @@ impl<'a> Parser<'a> {
 
     /// A name with its indices.
     #[cycle(expressions)]
-    pub(crate) fn reference(&mut self, depth: u32) -> Result<Reference, Stop> {
+    pub(crate) fn reference(&mut self, depth: u32) -> Result<Reference, ExpansionStop> {
         let written = self.name()?;
         let mut indices = Vec::new(self.alloc);
         for _ in self.next..self.tokens.len() {
@@ -233,10 +237,10 @@ impl<'a> Parser<'a> {
 
     // A definition and its arguments.
     #[cycle(expressions)]
-    fn call(&mut self, depth: u32) -> Result<Expression, Stop> {
+    fn call(&mut self, depth: u32) -> Result<Expression, ExpansionStop> {
         let name = self.name()?;
         let Some(Binding::Definition(number, wanted)) = self.scope.meaning(name.name.bytes()) else {
-            return Err(Stop::Bad(Problem::NotADefinition, name.at));
+            return Err(ExpansionStop::Bad(Problem::NotADefinition, name.at));
         };
         let inner = self.deeper(depth)?;
         self.mark(Mark::OpenParenthesis)?;
@@ -256,13 +260,13 @@ impl<'a> Parser<'a> {
 
     // `all`, `some`, `sum` or `at_least`.
     #[cycle(expressions)]
-    fn each(&mut self, form: Form, depth: u32) -> Result<Expression, Stop> {
+    fn each(&mut self, form: FormNode, depth: u32) -> Result<Expression, ExpansionStop> {
         let at = self.at();
         let inner = self.deeper(depth)?;
         self.pass();
         self.mark(Mark::OpenParenthesis)?;
         let mut least = None;
-        if form == Form::AtLeast {
+        if form == FormNode::AtLeast {
             least = Some(self.chain(Level::Or, inner)?);
             self.mark(Mark::Comma)?;
         }
@@ -284,9 +288,9 @@ impl<'a> Parser<'a> {
         Ok(Expression::Each(Box::new(self.alloc, each)?))
     }
 
-    /// A member, its range, and the condition behind `where`.
+    /// A member, its range, and the condition after `where`.
     #[cycle(expressions)]
-    pub(crate) fn binder(&mut self, depth: u32) -> Result<Binder, Stop> {
+    pub(crate) fn binder(&mut self, depth: u32) -> Result<Binder, ExpansionStop> {
         let mut binder = self.ranged(depth)?;
         if self.is_word(b"where") {
             self.pass();
@@ -297,7 +301,7 @@ impl<'a> Parser<'a> {
 
     /// A member and its range.
     #[cycle(expressions)]
-    pub(crate) fn ranged(&mut self, depth: u32) -> Result<Binder, Stop> {
+    pub(crate) fn ranged(&mut self, depth: u32) -> Result<Binder, ExpansionStop> {
         let name = self.name()?;
         self.mark(Mark::Colon)?;
         let low = self.chain(Level::Sum, depth)?;

@@ -1,26 +1,26 @@
 //! Declarations and items.
 
-use super::Parser;
+use super::ModelParser;
 use super::expressions::is_form;
-use crate::fault::{Expected, Problem, Stop};
+use crate::fault::{ExpansionStop, Expected, Problem};
 use crate::limits::{NESTING, PARAMETERS, REPEATS};
-use crate::model::Model;
+use crate::model::ParsedModel;
 use crate::scope::Binding;
 use crate::syntax::{
-    Action, Assignment, Binder, Command, Constant, Declaration, Definition, Item, Label, Process,
-    Reference, Variable,
+    ActionNode, AssignmentNode, Binder, CommandNode, Constant, DeclarationNode, Definition,
+    ItemNode, Label, ProcessNode, Reference, VariableNode,
 };
-use crate::token::{Mark, Token};
+use crate::token::{Mark, SourceToken};
 use std::alloc::Global;
 
-impl<'a> Parser<'a> {
+impl<'a> ModelParser<'a> {
     // A name with its indices, outside an expression.
-    fn place_name(&mut self) -> Result<Reference, Stop> {
+    fn place_name(&mut self) -> Result<Reference, ExpansionStop> {
         self.reference(NESTING)
     }
 
     // `const`, a name and its value.
-    fn constant(&mut self) -> Result<Constant, Stop> {
+    fn constant(&mut self) -> Result<Constant, ExpansionStop> {
         self.pass();
         let name = self.name()?;
         self.mark(Mark::Equals)?;
@@ -33,19 +33,19 @@ impl<'a> Parser<'a> {
     }
 
     // One parameter.
-    fn parameter(&mut self) -> Result<(), Stop> {
+    fn parameter(&mut self) -> Result<(), ExpansionStop> {
         let name = self.name()?;
         let number = self.tables.parameters;
         self.tables.parameters = number.saturating_add(1);
         let bytes = self.bytes(name.token);
         if let Some(old) = self.scope.declare(bytes, Binding::Parameter(number))? {
-            return Err(Stop::Bad(Problem::NameTaken(old), name.at));
+            return Err(ExpansionStop::Bad(Problem::NameTaken(old), name.at));
         }
         Ok(())
     }
 
     // The parameters of a definition, in parentheses, if it has any. The answer is how many there are.
-    fn parameters(&mut self) -> Result<usize, Stop> {
+    fn parameters(&mut self) -> Result<usize, ExpansionStop> {
         if !self.is_mark(Mark::OpenParenthesis) {
             return Ok(0);
         }
@@ -58,15 +58,15 @@ impl<'a> Parser<'a> {
             }
             self.pass();
         }
-        Err(Stop::Bad(Problem::ManyParameters, self.at()))
+        Err(ExpansionStop::Bad(Problem::ManyParameters, self.at()))
     }
 
     // `let`, a name, its parameters and its expression.
-    fn definition(&mut self) -> Result<(), Stop> {
+    fn definition(&mut self) -> Result<(), ExpansionStop> {
         self.pass();
         let name = self.name()?;
         if is_form(name.name.bytes()) {
-            return Err(Stop::Bad(Problem::FormName, name.at));
+            return Err(ExpansionStop::Bad(Problem::FormName, name.at));
         }
         let mark = self.scope.mark();
         let first = self.tables.parameters;
@@ -83,7 +83,7 @@ impl<'a> Parser<'a> {
     }
 
     // The ranges of a family, each in brackets.
-    fn ranges(&mut self) -> Result<Vec<Binder>, Stop> {
+    fn ranges(&mut self) -> Result<Vec<Binder>, ExpansionStop> {
         let mut ranges = Vec::new(self.alloc);
         for _ in self.next..self.tokens.len() {
             if !self.is_mark(Mark::OpenBracket) {
@@ -98,7 +98,7 @@ impl<'a> Parser<'a> {
     }
 
     // A variable, or a family of variables.
-    fn variable(&mut self) -> Result<Variable, Stop> {
+    fn variable(&mut self) -> Result<VariableNode, ExpansionStop> {
         let at = self.at();
         self.pass();
         let name = self.name()?;
@@ -111,7 +111,7 @@ impl<'a> Parser<'a> {
         self.repeats = self.repeats.saturating_sub(1);
         self.scope.leave(mark);
         self.declare(&name, Binding::Variable)?;
-        Ok(Variable {
+        Ok(VariableNode {
             at,
             name_at: name.at,
             name: name.name,
@@ -121,38 +121,38 @@ impl<'a> Parser<'a> {
     }
 
     // An assignment.
-    fn assignment(&mut self) -> Result<Assignment, Stop> {
+    fn assignment(&mut self) -> Result<AssignmentNode, ExpansionStop> {
         if !self.is_name() {
             return Err(self.unexpected(Expected::Action));
         }
         let target = self.place_name()?;
         let at = self.mark(Mark::Becomes)?;
         let value = self.expression()?;
-        Ok(Assignment { target, at, value })
+        Ok(AssignmentNode { target, at, value })
     }
 
     // A send or a receive, if there is one.
-    fn action(&mut self) -> Result<Action, Stop> {
+    fn action(&mut self) -> Result<ActionNode, ExpansionStop> {
         let at = self.at();
         if self.is_word(b"send") {
             self.pass();
             let target = self.place_name()?;
             let value = self.expression()?;
-            return Ok(Action::Send(at, target, value));
+            return Ok(ActionNode::Send(at, target, value));
         }
         if self.is_word(b"recv") {
             self.pass();
             let source = self.place_name()?;
             let variable = self.place_name()?;
-            return Ok(Action::Receive(at, source, variable));
+            return Ok(ActionNode::Receive(at, source, variable));
         }
-        Ok(Action::Local)
+        Ok(ActionNode::Local)
     }
 
-    // The assignments of a command: behind commas, and the first one too where there is an action before it.
-    fn assignments(&mut self, action: &Action) -> Result<Vec<Assignment>, Stop> {
+    // The assignments of a command: after commas, and the first one too where there is an action before it.
+    fn assignments(&mut self, action: &ActionNode) -> Result<Vec<AssignmentNode>, ExpansionStop> {
         let mut assignments = Vec::new(self.alloc);
-        if matches!(action, Action::Local) {
+        if matches!(action, ActionNode::Local) {
             assignments.push(self.assignment()?)?;
         }
         for _ in self.next..self.tokens.len() {
@@ -166,7 +166,7 @@ impl<'a> Parser<'a> {
     }
 
     // A command, which may have a label.
-    fn command(&mut self, label: Option<Label>) -> Result<Command, Stop> {
+    fn command(&mut self, label: Option<Label>) -> Result<CommandNode, ExpansionStop> {
         let at = self.at();
         self.pass();
         let guard = self.expression()?;
@@ -174,7 +174,7 @@ impl<'a> Parser<'a> {
         let action = self.action()?;
         let assignments = self.assignments(&action)?;
         let end = self.mark(Mark::Semicolon)?;
-        Ok(Command {
+        Ok(CommandNode {
             label,
             at,
             guard,
@@ -186,8 +186,8 @@ impl<'a> Parser<'a> {
     }
 
     // A label, and its command.
-    fn labelled(&mut self) -> Result<Command, Stop> {
-        if !self.is_name() || !self.has_mark_behind(1, Mark::Colon) {
+    fn labelled(&mut self) -> Result<CommandNode, ExpansionStop> {
+        if !self.is_name() || !self.has_mark_after(1, Mark::Colon) {
             return Err(self.unexpected(Expected::Item));
         }
         let name = self.name()?;
@@ -203,9 +203,9 @@ impl<'a> Parser<'a> {
 
     // `for`, its member and its items, where so many `for` may still be open.
     #[cycle(items)]
-    fn repeat(&mut self, depth: u32) -> Result<Item, Stop> {
+    fn repeat(&mut self, depth: u32) -> Result<ItemNode, ExpansionStop> {
         if depth == 0 {
-            return Err(Stop::Bad(Problem::DeepNesting, self.at()));
+            return Err(ExpansionStop::Bad(Problem::DeepNesting, self.at()));
         }
         self.pass();
         let mark = self.scope.mark();
@@ -216,30 +216,30 @@ impl<'a> Parser<'a> {
         self.mark(Mark::CloseBrace)?;
         self.repeats = self.repeats.saturating_sub(1);
         self.scope.leave(mark);
-        Ok(Item::Repeat(binder, items))
+        Ok(ItemNode::Repeat(binder, items))
     }
 
     // An item that is no definition.
     #[cycle(items)]
-    fn item(&mut self, depth: u32) -> Result<Item, Stop> {
+    fn item(&mut self, depth: u32) -> Result<ItemNode, ExpansionStop> {
         if self.is_word(b"const") {
-            return Ok(Item::Constant(self.constant()?));
+            return Ok(ItemNode::Constant(self.constant()?));
         }
         if self.is_word(b"var") {
-            return Ok(Item::Variable(self.variable()?));
+            return Ok(ItemNode::Variable(self.variable()?));
         }
         if self.is_word(b"when") {
-            return Ok(Item::Command(self.command(None)?));
+            return Ok(ItemNode::Command(self.command(None)?));
         }
         if self.is_word(b"for") {
             return self.repeat(depth);
         }
-        Ok(Item::Command(self.labelled()?))
+        Ok(ItemNode::Command(self.labelled()?))
     }
 
     // All items up to a `}`.
     #[cycle(items)]
-    fn items(&mut self, depth: u32) -> Result<Vec<Item>, Stop> {
+    fn items(&mut self, depth: u32) -> Result<Vec<ItemNode>, ExpansionStop> {
         let mut items = Vec::new(self.alloc);
         for _ in self.next..self.tokens.len() {
             if self.is_mark(Mark::CloseBrace) {
@@ -255,7 +255,7 @@ impl<'a> Parser<'a> {
     }
 
     // A process, or a family of processes.
-    fn process(&mut self, number: usize) -> Result<Process, Stop> {
+    fn process(&mut self, number: usize) -> Result<ProcessNode, ExpansionStop> {
         let at = self.at();
         self.pass();
         let name = self.name()?;
@@ -267,7 +267,7 @@ impl<'a> Parser<'a> {
         let close = self.mark(Mark::CloseBrace)?;
         self.declaration = None;
         self.scope.leave(mark);
-        Ok(Process {
+        Ok(ProcessNode {
             at,
             name_at: name.at,
             name: name.name,
@@ -279,18 +279,18 @@ impl<'a> Parser<'a> {
     }
 
     // A declaration that is no definition; so many are before it.
-    fn declaration(&mut self, number: usize) -> Result<Declaration, Stop> {
+    fn declaration(&mut self, number: usize) -> Result<DeclarationNode, ExpansionStop> {
         if self.is_word(b"const") {
-            return Ok(Declaration::Constant(self.constant()?));
+            return Ok(DeclarationNode::Constant(self.constant()?));
         }
         if self.is_word(b"process") {
-            return Ok(Declaration::Process(self.process(number)?));
+            return Ok(DeclarationNode::Process(self.process(number)?));
         }
         Err(self.unexpected(Expected::Declaration))
     }
 
     // All declarations.
-    fn declarations(&mut self) -> Result<Vec<Declaration>, Stop> {
+    fn declarations(&mut self) -> Result<Vec<DeclarationNode>, ExpansionStop> {
         let mut declarations = Vec::new(self.alloc);
         for _ in self.next..self.tokens.len() {
             if self.is_at_end() {
@@ -308,11 +308,15 @@ impl<'a> Parser<'a> {
 }
 
 /// The model that these tokens of the text write.
-pub(crate) fn model(alloc: Global, text: &[u8], tokens: &[Token]) -> Result<Model, Stop> {
-    let mut parser = Parser::new(alloc, text, tokens, 0, 0);
+pub(crate) fn model(
+    alloc: Global,
+    text: &[u8],
+    tokens: &[SourceToken],
+) -> Result<ParsedModel, ExpansionStop> {
+    let mut parser = ModelParser::new(alloc, text, tokens, 0, 0);
     let declarations = parser.declarations()?;
-    let Parser { tables, .. } = parser;
-    Ok(Model {
+    let ModelParser { tables, .. } = parser;
+    Ok(ParsedModel {
         declarations,
         tables,
     })

@@ -1,10 +1,9 @@
 //! Texts, and the plain programs that they stand for: each production of the grammar, and each sentence of its meaning.
 
-use super::{Case, expect_expanded};
-use std::test::Fail;
+use super::{ExpansionCase, expect_expanded};
 
 // Comments, words, and the forms of items.
-const WRITTEN: &[Case] = &[
+const WRITTEN: &[ExpansionCase] = &[
     (
         "a plain program",
         "process a { var x = 0; when (x < 3) : x := (x + 1); }",
@@ -63,7 +62,7 @@ const WRITTEN: &[Case] = &[
 ];
 
 // Precedence, weakest first: or, and, not, comparisons, sums, products, minus.
-const PRECEDENCE: &[Case] = &[
+const PRECEDENCE: &[ExpansionCase] = &[
     (
         "`or` is weakest",
         "process a { var x = 0; when x = 1 or x = 2 and x = 3 : x := 1; }",
@@ -117,7 +116,7 @@ const PRECEDENCE: &[Case] = &[
 ];
 
 // What is computed.
-const CONSTANTS: &[Case] = &[
+const CONSTANTS: &[ExpansionCase] = &[
     (
         "a constant",
         "const n = 3; process a { var x = n; when x < n : x := x + n; }",
@@ -181,7 +180,7 @@ const CONSTANTS: &[Case] = &[
 ];
 
 // Families and repetitions.
-const FAMILIES: &[Case] = &[
+const FAMILIES: &[ExpansionCase] = &[
     (
         "a family of processes",
         "process a[i: 1..3] { var x = i; }",
@@ -251,7 +250,7 @@ const FAMILIES: &[Case] = &[
 ];
 
 // Definitions.
-const DEFINITIONS: &[Case] = &[
+const DEFINITIONS: &[ExpansionCase] = &[
     (
         "a definition without parameters",
         "let ready = x = 1; process a { var x = 0; when ready : x := 2; }",
@@ -300,7 +299,7 @@ const DEFINITIONS: &[Case] = &[
 ];
 
 // `all`, `some`, `sum`, `at_least`.
-const FORMS: &[Case] = &[
+const FORMS: &[ExpansionCase] = &[
     (
         "`all` is a balanced tree",
         "process a { var v[i: 1..5] = 0; when all(i: 1..5: v[i] = 1) : v[1] := 0; }",
@@ -355,7 +354,7 @@ const FORMS: &[Case] = &[
 ];
 
 // The worked example of the documentation.
-const WORKED: &[Case] = &[(
+const WORKED: &[ExpansionCase] = &[(
     "a ring of stations",
     "const n = 3;
 let next_of(i) = i % n + 1;
@@ -377,17 +376,12 @@ process station[i: 1..n] {
 )];
 
 #[test]
-fn texts_expand(rt: HostRuntime) -> Result<(), Fail> {
-    for cases in [
-        WRITTEN,
-        PRECEDENCE,
-        CONSTANTS,
-        FAMILIES,
-        DEFINITIONS,
-        FORMS,
-        WORKED,
-    ] {
-        expect_expanded(&rt, rt.alloc(), cases)?;
-    }
-    Ok(())
+fn texts_expand(rt: HostRuntime) {
+    expect_expanded(&rt, rt.alloc(), WRITTEN);
+    expect_expanded(&rt, rt.alloc(), PRECEDENCE);
+    expect_expanded(&rt, rt.alloc(), CONSTANTS);
+    expect_expanded(&rt, rt.alloc(), FAMILIES);
+    expect_expanded(&rt, rt.alloc(), DEFINITIONS);
+    expect_expanded(&rt, rt.alloc(), FORMS);
+    expect_expanded(&rt, rt.alloc(), WORKED);
 }

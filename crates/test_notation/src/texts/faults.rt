@@ -1,9 +1,8 @@
 //! Texts with a fault, and its place.
 
-use super::{Case, expect_faults};
-use std::test::Fail;
+use super::{ExpansionCase, expect_faults};
 
-const TOKENS: &[Case] = &[
+const TOKENS: &[ExpansionCase] = &[
     (
         "a byte that begins no token",
         "process a { var x = 1^.5; }",
@@ -22,7 +21,7 @@ const TOKENS: &[Case] = &[
     ),
 ];
 
-const GRAMMAR: &[Case] = &[
+const GRAMMAR: &[ExpansionCase] = &[
     (
         "neither a constant, a definition nor a process",
         "const n = 1;\n^var x = 0;",
@@ -121,7 +120,7 @@ const GRAMMAR: &[Case] = &[
     ),
 ];
 
-const NAMES: &[Case] = &[
+const NAMES: &[ExpansionCase] = &[
     ("a definition called `sum`", "let ^sum = 1;", "FormName"),
     (
         "a constant twice",
@@ -190,7 +189,7 @@ const NAMES: &[Case] = &[
     ),
 ];
 
-const VALUES: &[Case] = &[
+const VALUES: &[ExpansionCase] = &[
     (
         "a variable in an initial value",
         "process a { var x = 0; var y = ^x; }",
@@ -249,7 +248,7 @@ const VALUES: &[Case] = &[
     ),
 ];
 
-const PLAIN: &[Case] = &[
+const PLAIN: &[ExpansionCase] = &[
     (
         "a name in a definition is no member where it is used",
         "let f = ^i + 1; process a { var x = 0; for i: 7..7 { when true : x := f; } }",
@@ -306,7 +305,7 @@ const PLAIN: &[Case] = &[
         "Plain(Token)",
     ),
     (
-        "a variable behind a command",
+        "a variable after a command",
         "process a { var x = 0; when true : x := 1; ^var y = 0; }",
         "Plain(Grammar)",
     ),
@@ -314,9 +313,10 @@ const PLAIN: &[Case] = &[
 ];
 
 #[test]
-fn faults_are_at_their_places(rt: HostRuntime) -> Result<(), Fail> {
-    for cases in [TOKENS, GRAMMAR, NAMES, VALUES, PLAIN] {
-        expect_faults(&rt, rt.alloc(), cases)?;
-    }
-    Ok(())
+fn faults_are_at_their_places(rt: HostRuntime) {
+    expect_faults(&rt, rt.alloc(), TOKENS);
+    expect_faults(&rt, rt.alloc(), GRAMMAR);
+    expect_faults(&rt, rt.alloc(), NAMES);
+    expect_faults(&rt, rt.alloc(), VALUES);
+    expect_faults(&rt, rt.alloc(), PLAIN);
 }

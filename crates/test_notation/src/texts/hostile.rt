@@ -1,18 +1,19 @@
 //! Texts that ask for much: each is expanded or has a fault, after bounded work.
 
-use super::{expanded, fault_of, own_fault};
+use super::{MEMORY, expanded, fault_of, own_fault};
+use crate::expecting::expect_same;
 use std::alloc::{AllocError, Global};
-use std::test::Fail;
+use std::process::Abort;
 
 // So many times a part, between two others.
 fn repeated(
     alloc: Global,
-    front: &str,
+    prefix: &str,
     part: &str,
     count: u32,
     back: &str,
 ) -> Result<Vec<u8>, AllocError> {
-    let mut text = Vec::from_slice(alloc, front.as_bytes())?;
+    let mut text = Vec::from_slice(alloc, prefix.as_bytes())?;
     for _ in 0..count {
         text.extend_from_slice(part.as_bytes())?;
     }
@@ -20,7 +21,7 @@ fn repeated(
     Ok(text)
 }
 
-// What is before, what is repeated, how often, what is behind, and how the fault begins.
+// What is before, what is repeated, how often, what comes after it, and how the fault begins.
 const REPEATED: &[(&str, &str, u32, &str, &str)] = &[
     ("const n = ", "(", 1_048_000, "", "DeepNesting in 1:139"),
     (
@@ -84,14 +85,19 @@ const REPEATED: &[(&str, &str, u32, &str, &str)] = &[
     ),
 ];
 
+// Expects a fault that begins like this.
+fn expect_beginning(rt: &impl Abort, name: &str, found: &str, want: &str) {
+    let begins = found.starts_with(want);
+    expect_same(rt, (name, found, begins), (name, found, true));
+}
+
 #[test]
-fn much_is_bounded(rt: HostRuntime) -> Result<(), Fail> {
-    for (front, part, count, back, want) in REPEATED {
-        let text = repeated(rt.alloc(), front, part, *count, back)?;
-        let found = own_fault(rt.alloc(), text.as_slice())?;
-        assert!(rt; found.as_str().starts_with(want), "{front}{part}: {found}");
+fn much_is_bounded(rt: HostRuntime) {
+    for (prefix, part, count, back, want) in REPEATED {
+        let text = repeated(rt.alloc(), prefix, part, *count, back).expect(&rt, MEMORY);
+        let found = own_fault(rt.alloc(), text.as_slice()).expect(&rt, MEMORY);
+        expect_beginning(&rt, prefix, found.as_str(), want);
     }
-    Ok(())
 }
 
 // Definitions, each of the one before.
@@ -108,20 +114,19 @@ fn definitions(alloc: Global, count: u32, operation: &str) -> Result<Vec<u8>, Al
     Ok(text)
 }
 
+// What each of 10,000 definitions does with the one before.
+const OPERATIONS: &[&str] = &["", " + d0"];
+
 #[test]
-fn chains_of_definitions_are_bounded(rt: HostRuntime) -> Result<(), Fail> {
-    let short = definitions(rt.alloc(), 30, " + 1")?;
-    assert_eq!(rt;
-        fault_of(rt.alloc(), short.as_slice())?.as_str(),
-        "no fault"
-    );
-    let long = definitions(rt.alloc(), 10_000, "")?;
-    let found = fault_of(rt.alloc(), long.as_slice())?;
-    assert!(rt; found.as_str().starts_with("DeepUnfolding"));
-    let doubled = definitions(rt.alloc(), 10_000, " + d0")?;
-    let found = fault_of(rt.alloc(), doubled.as_slice())?;
-    assert!(rt; found.as_str().starts_with("DeepUnfolding"));
-    Ok(())
+fn chains_of_definitions_are_bounded(rt: HostRuntime) {
+    let short = definitions(rt.alloc(), 30, " + 1").expect(&rt, MEMORY);
+    let found = fault_of(rt.alloc(), short.as_slice()).expect(&rt, MEMORY);
+    expect_same(&rt, found.as_str(), "no fault");
+    for operation in OPERATIONS {
+        let text = definitions(rt.alloc(), 10_000, operation).expect(&rt, MEMORY);
+        let found = fault_of(rt.alloc(), text.as_slice()).expect(&rt, MEMORY);
+        expect_beginning(&rt, operation, found.as_str(), "DeepUnfolding");
+    }
 }
 
 // `for` in `for`, so many, each with a range of one member.
@@ -140,9 +145,8 @@ fn nested(alloc: Global, count: u32) -> Result<Vec<u8>, AllocError> {
 }
 
 #[test]
-fn nested_repetitions_expand(rt: HostRuntime) -> Result<(), Fail> {
-    let text = nested(rt.alloc(), 32)?;
-    let found = expanded(rt.alloc(), text.as_slice())?;
-    assert_eq!(rt; found.as_str(), "processa{varx=0;whentrue:x:=1;}");
-    Ok(())
+fn nested_repetitions_expand(rt: HostRuntime) {
+    let text = nested(rt.alloc(), 32).expect(&rt, MEMORY);
+    let found = expanded(rt.alloc(), text.as_slice()).expect(&rt, MEMORY);
+    expect_same(&rt, found.as_str(), "processa{varx=0;whentrue:x:=1;}");
 }

@@ -1,10 +1,10 @@
 //! Command lines, and the plain lines that they stand for.
 
-use super::told;
+use super::{MEMORY, reported};
+use crate::expecting::expect_same;
 use notation::{Expansion, expand};
 use std::alloc::{AllocError, Global};
 use std::process::Abort;
-use std::test::Fail;
 
 // The program of the lines.
 const MODEL: &str = "const quorum = 2;
@@ -25,9 +25,9 @@ process bob {
 }";
 
 // A line, and the plain lines that it stands for, with `|` between them.
-type Line = (&'static str, &'static str);
+type LineCase = (&'static str, &'static str);
 
-const PLAIN: &[Line] = &[
+const PLAIN: &[LineCase] = &[
     ("1 next bob", "1 next bob"),
     ("  1   next  bob  ", "  1   next  bob  "),
     ("", ""),
@@ -50,7 +50,7 @@ const PLAIN: &[Line] = &[
     ("> ok bob 1 # a reply", "> ok bob 1 # a reply"),
 ];
 
-const NAMES: &[Line] = &[
+const NAMES: &[LineCase] = &[
     ("next server[2]", "next server_2"),
     ("chan server[1] bob", "chan server_1 bob"),
     (
@@ -65,7 +65,7 @@ const NAMES: &[Line] = &[
     ("rollback server[1] 2", "rollback server_1 2"),
 ];
 
-const LABELS: &[Line] = &[
+const LABELS: &[LineCase] = &[
     ("step bob hear[2]", "step bob 2"),
     ("1 step server[2] hear[3]", "1 step server_2 1"),
     ("step server_2 win", "step server_2 2"),
@@ -75,7 +75,7 @@ const LABELS: &[Line] = &[
     ),
 ];
 
-const BREAKPOINTS: &[Line] = &[
+const BREAKPOINTS: &[LineCase] = &[
     (
         "break bad bob (reads = 2 and value < previous)",
         "break bad bob ((reads = 2) and (value < previous))",
@@ -122,7 +122,7 @@ const BREAKPOINTS: &[Line] = &[
     ),
 ];
 
-const REPEATED: &[Line] = &[
+const REPEATED: &[LineCase] = &[
     (
         "for k: 1..3 : next server[k]",
         "next server_1|next server_2|next server_3",
@@ -145,7 +145,7 @@ const REPEATED: &[Line] = &[
     ),
 ];
 
-const COMMENTS: &[Line] = &[
+const COMMENTS: &[LineCase] = &[
     ("next bob # go", "next bob"),
     ("next bob#", "next bob"),
     ("# nothing", ""),
@@ -155,7 +155,7 @@ const COMMENTS: &[Line] = &[
     ),
 ];
 
-const FAULTS: &[Line] = &[
+const FAULTS: &[LineCase] = &[
     ("next server[1 - 2]", "BelowZero in 1:13"),
     ("next server[1", "Expected(Mark(CloseBracket)) in 1:14"),
     ("next server[state]", "VariableComputed in 1:13"),
@@ -179,7 +179,7 @@ const FAULTS: &[Line] = &[
 // The lines that a line stands for, with `|` between them, or its fault.
 fn lines_of(alloc: Global, expansion: &Expansion, line: &str) -> Result<String, AllocError> {
     match expansion.expand_line(alloc, line.as_bytes()) {
-        Err(error) => told(alloc, error, line.as_bytes()),
+        Err(error) => reported(alloc, error, line.as_bytes()),
         Ok(plain) => {
             let mut all = Vec::new(alloc);
             for (number, line) in plain.lines().iter().enumerate() {
@@ -193,35 +193,26 @@ fn lines_of(alloc: Global, expansion: &Expansion, line: &str) -> Result<String, 
     }
 }
 
-fn expect_lines(
-    rt: &impl Abort,
-    alloc: Global,
-    expansion: &Expansion,
-    cases: &[Line],
-) -> Result<(), AllocError> {
+fn expect_lines(rt: &impl Abort, alloc: Global, expansion: &Expansion, cases: &[LineCase]) {
     for (line, want) in cases {
-        let found = lines_of(alloc, expansion, line)?;
-        assert_eq!(rt; found.as_str(), *want, "{line}");
+        let found = lines_of(alloc, expansion, line).expect(rt, MEMORY);
+        expect_same(rt, (*line, found.as_str()), (*line, *want));
     }
-    Ok(())
+}
+
+fn expect_all(rt: &impl Abort, alloc: Global, expansion: &Expansion) {
+    expect_lines(rt, alloc, expansion, PLAIN);
+    expect_lines(rt, alloc, expansion, NAMES);
+    expect_lines(rt, alloc, expansion, LABELS);
+    expect_lines(rt, alloc, expansion, BREAKPOINTS);
+    expect_lines(rt, alloc, expansion, REPEATED);
+    expect_lines(rt, alloc, expansion, COMMENTS);
+    expect_lines(rt, alloc, expansion, FAULTS);
 }
 
 #[test]
-fn lines_expand(rt: HostRuntime) -> Result<(), Fail> {
-    if let Ok(expansion) = expand(rt.alloc(), MODEL.as_bytes()) {
-        for cases in [
-            PLAIN,
-            NAMES,
-            LABELS,
-            BREAKPOINTS,
-            REPEATED,
-            COMMENTS,
-            FAULTS,
-        ] {
-            expect_lines(&rt, rt.alloc(), &expansion, cases)?;
-        }
-        return Ok(());
-    }
-    assert!(rt; false, "the model expands");
-    Ok(())
+fn lines_expand(rt: HostRuntime) {
+    let expansion = expand(rt.alloc(), MODEL.as_bytes());
+    let expansion = expansion.ok().expect(&rt, "the model expands");
+    expect_all(&rt, rt.alloc(), &expansion);
 }

@@ -1,10 +1,11 @@
 //! Where tokens come from, labels, and faults in words.
 
+use super::MEMORY;
+use crate::expecting::expect_same;
 use dbg_base::{Choice, Pid};
 use notation::{Expansion, NotationError, expand, expand_program, line_and_column, message};
 use std::alloc::{AllocError, Global};
 use std::process::Abort;
-use std::test::Fail;
 
 const MODEL: &str = "const n = 2;
 let f(v) = v + n;
@@ -45,18 +46,19 @@ fn line_of(expansion: &Expansion, pid: u32, choice: u32) -> usize {
     }
 }
 
+fn model(rt: &impl Abort, alloc: Global) -> Expansion {
+    let expansion = expand(alloc, MODEL.as_bytes());
+    expansion.ok().expect(rt, "the model expands")
+}
+
 #[test]
-fn commands_have_labels(rt: HostRuntime) -> Result<(), Fail> {
-    if let Ok(expansion) = expand(rt.alloc(), MODEL.as_bytes()) {
-        for (pid, choice, label, line) in LABELS {
-            let found = label_of(rt.alloc(), &expansion, *pid, *choice)?;
-            assert_eq!(rt; found.as_str(), *label);
-            assert_eq!(rt; line_of(&expansion, *pid, *choice), *line);
-        }
-        return Ok(());
+fn commands_have_labels(rt: HostRuntime) {
+    let expansion = model(&rt, rt.alloc());
+    for (pid, choice, label, line) in LABELS {
+        let found = label_of(rt.alloc(), &expansion, *pid, *choice).expect(&rt, MEMORY);
+        let found_line = line_of(&expansion, *pid, *choice);
+        expect_same(&rt, (found.as_str(), found_line), (*label, *line));
     }
-    assert!(rt; false, "the model expands");
-    Ok(())
 }
 
 // The numbers of tokens of the plain text of `MODEL`, and the line and the column from which they come:
@@ -84,18 +86,14 @@ const TOKENS: &[(usize, usize, usize)] = &[
 ];
 
 #[test]
-fn tokens_have_places(rt: HostRuntime) -> Result<(), Fail> {
-    if let Ok(expansion) = expand(rt.alloc(), MODEL.as_bytes()) {
-        for (token, line, column) in TOKENS {
-            let at = expansion.source_of(*token).unwrap_or(0);
-            let found = line_and_column(MODEL.as_bytes(), at);
-            assert_eq!(rt; found.0, *line, "token {token}");
-            assert_eq!(rt; found.1, *column, "token {token}");
-        }
-        return Ok(());
+fn tokens_have_places(rt: HostRuntime) {
+    let expansion = model(&rt, rt.alloc());
+    for (token, line, column) in TOKENS {
+        let at = expansion.source_of(*token).unwrap_or(0);
+        let (found_line, found_column) = line_and_column(MODEL.as_bytes(), at);
+        let found = [*token, found_line, found_column];
+        expect_same(&rt, found, [*token, *line, *column]);
     }
-    assert!(rt; false, "the model expands");
-    Ok(())
 }
 
 // Texts, and what a person reads about their fault.
@@ -129,16 +127,10 @@ fn message_of(alloc: Global, text: &[u8]) -> Result<String, AllocError> {
     String::from_utf8_lossy(alloc, all.as_slice())
 }
 
-fn expect_messages(rt: &impl Abort, alloc: Global) -> Result<(), AllocError> {
-    for (text, want) in MESSAGES {
-        let found = message_of(alloc, text.as_bytes())?;
-        assert_eq!(rt; found.as_str(), *want);
-    }
-    Ok(())
-}
-
 #[test]
-fn faults_are_told(rt: HostRuntime) -> Result<(), Fail> {
-    expect_messages(&rt, rt.alloc())?;
-    Ok(())
+fn faults_are_reported(rt: HostRuntime) {
+    for (text, want) in MESSAGES {
+        let found = message_of(rt.alloc(), text.as_bytes()).expect(&rt, MEMORY);
+        expect_same(&rt, found.as_str(), *want);
+    }
 }

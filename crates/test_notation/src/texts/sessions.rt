@@ -1,9 +1,9 @@
 //! Whole sessions.
 
-use super::told;
+use super::{MEMORY, reported};
+use crate::expecting::expect_same;
 use notation::expand_session;
 use std::alloc::{AllocError, Global};
-use std::test::Fail;
 
 // A session, and the plain session, or the fault.
 const SESSIONS: &[(&str, &str)] = &[
@@ -36,16 +36,15 @@ const SESSIONS: &[(&str, &str)] = &[
 
 fn session_of(alloc: Global, text: &str) -> Result<String, AllocError> {
     match expand_session(alloc, text.as_bytes()) {
-        Err(error) => told(alloc, error, text.as_bytes()),
+        Err(error) => reported(alloc, error, text.as_bytes()),
         Ok(plain) => { String::from_utf8_lossy(alloc, plain.as_slice()) }
     }
 }
 
 #[test]
-fn sessions_expand(rt: HostRuntime) -> Result<(), Fail> {
+fn sessions_expand(rt: HostRuntime) {
     for (text, want) in SESSIONS {
-        let found = session_of(rt.alloc(), text)?;
-        assert_eq!(rt; found.as_str(), *want);
+        let found = session_of(rt.alloc(), text).expect(&rt, MEMORY);
+        expect_same(&rt, found.as_str(), *want);
     }
-    Ok(())
 }

@@ -1,6 +1,6 @@
 use Rattle.std.proofs.Common.{◌+◌, ◌*◌}
 use Rattle.notation.specs.Levels.{rank}
-use Rattle.notation.proofs.parser.Parser.+expressions.Given as goal
+use Rattle.notation.proofs.parser.ModelParser.+expressions.Given as goal
 
 abbrev pub decreases-chain : goal.decreases-chain
 decreases-chain l = l.depth * 64 + rank l.level + 1
