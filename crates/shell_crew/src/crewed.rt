@@ -71,10 +71,13 @@ pub(crate) fn closing_end(closing: &Result<Closing, Mismatch>) -> Crewed
 }
 
 /// How the run ends after the last of its text, if that was written.
-pub(crate) fn ends<T: Copy>(told: Result<T, ServeFault>, end: Crewed) -> Result<Crewed, ServeFault>
-    ensures written { (old new : Seen) (text : List ℕ) → Writes old new told text → Writes old new result text }
+pub(crate) fn ends<T: Copy>(
+    reported: Result<T, ServeFault>,
+    end: Crewed,
+) -> Result<Crewed, ServeFault>
+    ensures written { (old new : Seen) (text : List ℕ) → Writes old new reported text → Writes old new result text }
     ensures end { IfOk result (λ ended. ended ≡ end) }
 {
-    told?;
+    reported?;
     Ok(end)
 }

@@ -9,11 +9,11 @@ ghost use Rattle.dbg_base.specs.Calls.{One, Next};
 ghost use Rattle.proc_lang.specs.Programs.{program_of};
 ghost use Rattle.dbg_desk.specs.Desks.{new_seats};
 ghost use Rattle.dbg_desk.specs.Openings.{IsOpeningOf};
-ghost use Rattle.shell_print.specs.Outcomes.{source_behind, sink_behind};
+ghost use Rattle.shell_print.specs.Outcomes.{source_after, sink_after};
 ghost use Rattle.shell_print.specs.declared.outcome.ServeFault.TheVariants.{Write};
 ghost use Rattle.shell_crew.specs.declared.crewed.Crewed.{Crewed};
 ghost use Rattle.shell_input.specs.ProgramTexts.{ReadsFew, ReadsProgram};
-ghost use Rattle.shell_input.specs.Written.{WritesSome, WritesFront};
+ghost use Rattle.shell_input.specs.Written.{WritesSome, WritesPrefix};
 ghost use Rattle.shell_crew.specs.Crewing.{IsNextMaker, AreCrew, IsClosing, CrewsProgram, CrewsText, CrewsInput};
 
 use crate::crewed::{Crewed, closing_end, ends, fits_turns, print_closing};
@@ -123,11 +123,11 @@ fn crew_program<R: Threads + Wait + Sync, C: Command, M: Fn(Pid) -> Result<C, Re
     requires some { 0 < length (program_of program) }
     ensures crewed { IfOk result (λ end. WritesSome (W.seen writer.old) (W.seen writer.new)
         (CrewsProgram (program_of program) turns end)) }
-    ensures stopped { IfErr result (λ fault. fault ≡ Write → (end : Crewed) × WritesFront (W.seen writer.old) (W.seen writer.new)
+    ensures stopped { IfErr result (λ fault. fault ≡ Write → (end : Crewed) × WritesPrefix (W.seen writer.old) (W.seen writer.new)
         (CrewsProgram (program_of program) turns end)) }
     ensures silent { IfErr result (λ fault. fault ≢ Write → Appended (W.seen writer.old) (W.seen writer.new) []) }
-    ensures reader { source_behind result ≡ Fine }
-    ensures writer { (W.seen writer.old).health ≡ Fine → (W.seen writer.new).health ≡ sink_behind result }
+    ensures reader { source_after result ≡ Fine }
+    ensures writer { (W.seen writer.old).health ≡ Fine → (W.seen writer.new).health ≡ sink_after result }
 {
     if !fits_turns(turns, program.processes()) {
         return ends(tell_too_many_turns(writer), Crewed::TooManyTurns);
@@ -154,10 +154,10 @@ fn crew_text<R: Threads + Wait + Sync, C: Command, M: Fn(Pid) -> Result<C, Refus
     requires makes { IsNextMaker (M.post make.now) C.IsFresh C.order }
     ensures crewed { IfOk result (λ end. WritesSome (W.seen writer.old) (W.seen writer.new) (CrewsText turns text.now end)) }
     ensures stopped { IfErr result (λ fault. fault ≡ Write
-        → (end : Crewed) × WritesFront (W.seen writer.old) (W.seen writer.new) (CrewsText turns text.now end)) }
+        → (end : Crewed) × WritesPrefix (W.seen writer.old) (W.seen writer.new) (CrewsText turns text.now end)) }
     ensures silent { IfErr result (λ fault. fault ≢ Write → Appended (W.seen writer.old) (W.seen writer.new) []) }
-    ensures reader { source_behind result ≡ Fine }
-    ensures writer { (W.seen writer.old).health ≡ Fine → (W.seen writer.new).health ≡ sink_behind result }
+    ensures reader { source_after result ≡ Fine }
+    ensures writer { (W.seen writer.old).health ≡ Fine → (W.seen writer.new).health ≡ sink_after result }
 {
     match parse_program(alloc, text) {
         Ok(program) => crew_program(rt, alloc, make, program, turns, writer),
@@ -186,12 +186,12 @@ pub fn run_crew<R: Threads + Wait + Sync, I: Source, W: Sink>(
         (λ input. WritesSome (W.seen writer.old) (W.seen writer.new) (CrewsInput turns input end))) }
     // If the writer fails, the output is a prefix of that.
     ensures stopped { IfErr result (λ fault. fault ≡ Write → IfSome (I.remaining reader.old)
-        (λ input. (end : Crewed) × WritesFront (W.seen writer.old) (W.seen writer.new) (CrewsInput turns input end))) }
+        (λ input. (end : Crewed) × WritesPrefix (W.seen writer.old) (W.seen writer.new) (CrewsInput turns input end))) }
     // After a fault of the reader, or out of memory, there is no output.
     ensures silent { IfErr result (λ fault. fault ≢ Write → Appended (W.seen writer.old) (W.seen writer.new) []) }
     // The result is a fault of the reader or of the writer exactly if it has failed. It failed once, and was not called again.
-    ensures reader { I.health reader.old ≡ Fine → I.health reader.new ≡ source_behind result }
-    ensures writer { (W.seen writer.old).health ≡ Fine → (W.seen writer.new).health ≡ sink_behind result }
+    ensures reader { I.health reader.old ≡ Fine → I.health reader.new ≡ source_after result }
+    ensures writer { (W.seen writer.old).health ≡ Fine → (W.seen writer.new).health ≡ sink_after result }
     // However the run ends, at most 1,048,577 bytes were read, and no more than the program text requires.
     ensures few { IfSome (I.remaining reader.old) (λ input. ReadsFew input (I.remaining reader.new)) }
     ensures program { IfSome (I.remaining reader.old) (λ input. ReadsProgram input (I.remaining reader.new)) }

@@ -6,7 +6,7 @@ use Rattle.shell_print.specs.declared.outcome.ServeFault.{ServeFault}
 use Rattle.shell_print.specs.declared.outcome.ServeFault.TheVariants.{Write}
 use Rattle.shell_input.specs.Spans.{MayBe, ReadsOn}
 use Rattle.shell_print.specs.Writing.{Writes}
-use Rattle.shell_input.specs.Written.{WritesSome, WritesFront}
+use Rattle.shell_input.specs.Written.{WritesSome, WritesPrefix}
 
 -- the result of a run, and its output
 abbrev pub Ending : Type 0 → Type 1
@@ -18,7 +18,7 @@ Done Form r old out = IfOk r (λ served. WritesSome old out (Form served))
 
 -- a prefix of one was written if the writer failed
 abbrev pub Cut : {A : Type 0} → Ending A → Result A ServeFault → Seen → Seen → Type 0
-Cut {A} Form r old out = IfErr r (λ fault. fault ≡ Write → (served : A) × WritesFront old out (Form served))
+Cut {A} Form r old out = IfErr r (λ fault. fault ≡ Write → (served : A) × WritesPrefix old out (Form served))
 
 -- the same for the reader's bytes, if they are known
 abbrev pub DoneKnown : {A : Type 0} → (List ℕ → Ending A) → Option (List ℕ) → Result A ServeFault → Seen → Seen → Type 0
@@ -26,7 +26,7 @@ DoneKnown Form known r old out = IfOk r (λ served. IfSome known (λ input. Writ
 
 abbrev pub CutKnown : {A : Type 0} → (List ℕ → Ending A) → Option (List ℕ) → Result A ServeFault → Seen → Seen → Type 0
 CutKnown {A} Form known r old out =
-    IfErr r (λ fault. fault ≡ Write → IfSome known (λ input. (served : A) × WritesFront old out (Form input served)))
+    IfErr r (λ fault. fault ≡ Write → IfSome known (λ input. (served : A) × WritesPrefix old out (Form input served)))
 
 -- one line was written
 module _ {A : Type 0} (Form : Ending A) (text : List ℕ) (end : A) (form : Form end text) where
@@ -62,33 +62,33 @@ module _ {A : Type 0} (Form Other : Ending A) (leads : (served : A) (out : List 
   pub cut_leads : (r : Result A ServeFault) (old out : Seen) → Cut Form r old out → Cut Other r old out
   cut_leads (Ok served) old out wrote = tt
   cut_leads (Err fault) old out wrote = λ is_write.
-      let told = wrote is_write in (told.0, (told.1.0, leads told.0 told.1.0 told.1.1, told.1.2))
+      let reported = wrote is_write in (reported.0, (reported.1.0, leads reported.0 reported.1.0 reported.1.1, reported.1.2))
 
 -- one line was written, or a text of another form; both imply this form for each possible input
 module _ {A : Type 0} (bytes : List ℕ) (ended : Bool) (Form : List ℕ → Ending A) where
   module _ (text : List ℕ) (end : A) (form : (input : List ℕ) → MayBe bytes ended input → Form input end text) where
-    pub told_done : (known : Option (List ℕ)) (r : Result A ServeFault) (old out : Seen) → IfSome known (MayBe bytes ended)
+    pub reported_done : (known : Option (List ℕ)) (r : Result A ServeFault) (old out : Seen) → IfSome known (MayBe bytes ended)
         → Writes old out r text → IfOk r (λ served. served ≡ end) → DoneKnown Form known r old out
-    told_done known r old out may wrote same =
+    reported_done known r old out may wrote same =
         done_known bytes ended Form known r old out may (λ input m. line_done (Form input) text end (form input m) r old out wrote same)
 
-    pub told_cut : (known : Option (List ℕ)) (r : Result A ServeFault) (old out : Seen) → IfSome known (MayBe bytes ended)
+    pub reported_cut : (known : Option (List ℕ)) (r : Result A ServeFault) (old out : Seen) → IfSome known (MayBe bytes ended)
         → Writes old out r text → CutKnown Form known r old out
-    told_cut known r old out may wrote =
+    reported_cut known r old out may wrote =
         cut_known bytes ended Form known r old out may (λ input m. line_cut (Form input) text end (form input m) r old out wrote)
 
-  module _ (Told : Ending A)
-      (leads : (input : List ℕ) → MayBe bytes ended input → (served : A) (out : List ℕ) → Told served out → Form input served out)
+  module _ (Reported : Ending A)
+      (leads : (input : List ℕ) → MayBe bytes ended input → (served : A) (out : List ℕ) → Reported served out → Form input served out)
     where
       pub leads_done : (known : Option (List ℕ)) (r : Result A ServeFault) (old out : Seen)
-          → IfSome known (MayBe bytes ended) → Done Told r old out → DoneKnown Form known r old out
+          → IfSome known (MayBe bytes ended) → Done Reported r old out → DoneKnown Form known r old out
       leads_done known r old out may wrote =
-          done_known bytes ended Form known r old out may (λ input m. done_leads Told (Form input) (leads input m) r old out wrote)
+          done_known bytes ended Form known r old out may (λ input m. done_leads Reported (Form input) (leads input m) r old out wrote)
 
       pub leads_cut : (known : Option (List ℕ)) (r : Result A ServeFault) (old out : Seen)
-          → IfSome known (MayBe bytes ended) → Cut Told r old out → CutKnown Form known r old out
+          → IfSome known (MayBe bytes ended) → Cut Reported r old out → CutKnown Form known r old out
       leads_cut known r old out may wrote =
-          cut_known bytes ended Form known r old out may (λ input m. cut_leads Told (Form input) (leads input m) r old out wrote)
+          cut_known bytes ended Form known r old out may (λ input m. cut_leads Reported (Form input) (leads input m) r old out wrote)
 
 -- the reader's bytes are those that were read followed by those that are left
 pub whole_is : (first bytes xs ys : List ℕ) → first ≡ [] → bytes ++ ys ≡ first ++ xs → xs ≡ bytes ++ ys

@@ -11,28 +11,28 @@ use Rattle.std.proofs.lemmas.List.Folds.{list_all-append, drop_split}
 use Rattle.std.proofs.lemmas.List.Sums.{prefix_len_stops, prefix_len-le-length}
 use Rattle.std.proofs.Math.Seq.{drop-cons, take-add}
 use Rattle.dbg_base.specs.declared.limits.TheConstants.{INPUT_BYTES}
-use Rattle.dbg_base.specs.Shell.{lines_of, with_front, lines_within, all_lines, last_line}
+use Rattle.dbg_base.specs.Shell.{lines_of, with_prefix, lines_within, all_lines, last_line}
 use Rattle.shell_input.specs.declared.framing.Next.{Next}
 use Rattle.shell_input.specs.declared.framing.Next.TheVariants.{Line, TooLong}
 use Rattle.shell_input.specs.Spans.{is_inside, is_unended, lines_from, Tells, TellsAny}
-use Rattle.proc_lang.proofs.PassingPrefixLemmas.{and_first, and_second, front_passes}
+use Rattle.proc_lang.proofs.PassingPrefixLemmas.{and_first, and_second, prefix_passes}
 
 -- the first line is what is before the first line end
 first_line_of : (w r : List ℕ) → is_unended w ≡ true
     → lines_of (w ++ 10 ∷ r) ≡ record { whole = w ∷ (lines_of r).whole; rest = (lines_of r).rest }
 first_line_of [] r h = refl
 first_line_of (b ∷ w) r h =
-    let front : not (eqb b 10) ≡ true = and_first (is_inside b) (is_unended w) h in
-    let inner : eqb b 10 ≡ false = not-true (eqb b 10) front in
-    ap (with_front b) (first_line_of w r (and_second (is_inside b) (is_unended w) h)) ∙ rw inner refl
+    let prefix : not (eqb b 10) ≡ true = and_first (is_inside b) (is_unended w) h in
+    let inner : eqb b 10 ≡ false = not-true (eqb b 10) prefix in
+    ap (with_prefix b) (first_line_of w r (and_second (is_inside b) (is_unended w) h)) ∙ rw inner refl
 
 -- without a line end there is no whole line
 pub no_line_of : (w : List ℕ) → is_unended w ≡ true → lines_of w ≡ record { whole = []; rest = w }
 no_line_of [] h = refl
 no_line_of (b ∷ w) h =
-    let front : not (eqb b 10) ≡ true = and_first (is_inside b) (is_unended w) h in
-    let inner : eqb b 10 ≡ false = not-true (eqb b 10) front in
-    ap (with_front b) (no_line_of w (and_second (is_inside b) (is_unended w) h)) ∙ rw inner refl
+    let prefix : not (eqb b 10) ≡ true = and_first (is_inside b) (is_unended w) h in
+    let inner : eqb b 10 ≡ false = not-true (eqb b 10) prefix in
+    ap (with_prefix b) (no_line_of w (and_second (is_inside b) (is_unended w) h)) ∙ rw inner refl
 
 take_line : (w r : List ℕ) (k : ℕ) → take (length w + 1 + k) (w ++ 10 ∷ r) ≡ w ++ 10 ∷ take k r
 take_line [] r k = rw (one-add k) refl
@@ -76,7 +76,7 @@ some_last_line (b ∷ bytes) some = refl
 any_input : (bytes : List ℕ) (ended : Bool) (at new : ℕ) (next : Next)
     → ((rest : List ℕ) → (ended ≡ true → rest ≡ []) → Tells (bytes ++ rest) bytes at new next)
     → TellsAny bytes ended at new next
-any_input bytes ended at new next told input may = subst (λ (t : List ℕ). Tells t bytes at new next) (sym may.1) (told may.0 may.2)
+any_input bytes ended at new next reported input may = subst (λ (t : List ℕ). Tells t bytes at new next) (sym may.1) (reported may.0 may.2)
 
 module _ (bytes : List ℕ) (at seen limit : ℕ) (begun : at ≤ seen) (read : seen ≤ limit) (held : limit ≤ length bytes)
     (within : limit ≤ INPUT_BYTES)
@@ -105,15 +105,15 @@ module _ (bytes : List ℕ) (at seen limit : ℕ) (begun : at ≤ seen) (read : 
       let n : ℕ = prefix_len is_inside part in
       let same : n ≡ limit - seen = omega (arith, ge, prefix_len-le-length is_inside part, part_length) in
       let end : seen + n ≡ limit = omega (arith, same) in
-      ap (λ (e : ℕ). is_unended (slice_range bytes at e)) (sym end) ∙ seen_on n (omega (arith, same)) (front_passes is_inside part)
+      ap (λ (e : ℕ). is_unended (slice_range bytes at e)) (sym end) ∙ seen_on n (omega (arith, same)) (prefix_passes is_inside part)
 
   pub run_within : prefix_len is_inside (slice_range bytes seen limit) ≤ limit - seen
   run_within = omega (arith, prefix_len-le-length is_inside (slice_range bytes seen limit), part_length)
 
   -- there is a line end where the run of other bytes ends
-  stands_there : (n : ℕ) → n ≡ prefix_len is_inside (slice_range bytes seen limit) → seen + n < limit
+  is_there : (n : ℕ) → n ≡ prefix_len is_inside (slice_range bytes seen limit) → seen + n < limit
       → drop (seen + n) bytes ≡ 10 ∷ drop (seen + n + 1) bytes
-  stands_there n e lt =
+  is_there n e lt =
       let part : List ℕ = slice_range bytes seen limit in
       let inside : prefix_len is_inside part < length part = omega (arith, part_length, e) in
       let stops : not (eqb (get_or part n 0) 10) ≡ false = ap (λ (m : ℕ). is_inside (get_or part m 0)) e
@@ -132,24 +132,24 @@ module _ (bytes : List ℕ) (at seen limit : ℕ) (begun : at ≤ seen) (read : 
       any_input bytes ended at (seen + n + 1) (Line (record { from = at; to = seen + n })) (λ rest h.
       let end : ℕ = seen + n in
       let line : List ℕ = slice_range bytes at end in
-      let behind : List ℕ = drop (end + 1) bytes in
+      let beyond : List ℕ = drop (end + 1) bytes in
       let run : is_unended line ≡ true = seen_on n (omega arith)
-      (ap (λ (m : ℕ). is_unended (take m (slice_range bytes seen limit))) e ∙ front_passes is_inside (slice_range bytes seen limit)) in
-      let cut : drop at (bytes ++ rest) ≡ line ++ 10 ∷ (behind ++ rest) =
+      (ap (λ (m : ℕ). is_unended (take m (slice_range bytes seen limit))) e ∙ prefix_passes is_inside (slice_range bytes seen limit)) in
+      let cut : drop at (bytes ++ rest) ≡ line ++ 10 ∷ (beyond ++ rest) =
       drop-append-le at bytes rest (omega arith)
-      ∙ ap (λ (t : List ℕ). t ++ rest) (drop_split bytes at end (omega arith) ∙ ap (λ (t : List ℕ). line ++ t) (stands_there n e lt))
-      ∙ append_assoc line (10 ∷ behind) rest in
-      let left : drop (end + 1) (bytes ++ rest) ≡ behind ++ rest = drop-append-le (end + 1) bytes rest (omega arith) in
+      ∙ ap (λ (t : List ℕ). t ++ rest) (drop_split bytes at end (omega arith) ∙ ap (λ (t : List ℕ). line ++ t) (is_there n e lt))
+      ∙ append_assoc line (10 ∷ beyond) rest in
+      let left : drop (end + 1) (bytes ++ rest) ≡ beyond ++ rest = drop-append-le (end + 1) bytes rest (omega arith) in
       let long : length line ≡ end - at = simp (length-take, length-drop) (omega arith) in
       let room : INPUT_BYTES - at ≡ length line + 1 + (INPUT_BYTES - (end + 1)) = omega (arith, long) in
       let taken : end + 1 - at ≡ length line + 1 + 0 = omega (arith, long) in (
-        ap (lines_within (INPUT_BYTES - at)) cut ∙ next_line_is line (behind ++ rest) (INPUT_BYTES - (end + 1)) (INPUT_BYTES - at) room run
+        ap (lines_within (INPUT_BYTES - at)) cut ∙ next_line_is line (beyond ++ rest) (INPUT_BYTES - (end + 1)) (INPUT_BYTES - at) room run
             ∙ ap (λ (t : List ℕ). line ∷ lines_within (INPUT_BYTES - (end + 1)) t) (sym left),
         refl,
         omega arith,
         omega arith,
         inl (ap (λ (n : ℕ). take n (drop at (bytes ++ rest))) taken ∙ ap (take (length line + 1 + 0)) cut
-            ∙ take_line line (behind ++ rest) 0),
+            ∙ take_line line (beyond ++ rest) 0),
       ))
 
 module _ (bytes : List ℕ) (at : ℕ) (begun : at ≤ length bytes) where
@@ -159,12 +159,12 @@ module _ (bytes : List ℕ) (at : ℕ) (begun : at ≤ length bytes) where
   too_long_found long le run ended =
       any_input bytes ended at at TooLong (λ rest h.
       let from : drop at (bytes ++ rest) ≡ drop at bytes ++ rest = drop-append-le at bytes rest begun in
-      let front : take (INPUT_BYTES - at) (drop at bytes ++ rest) ≡ take (INPUT_BYTES - at) (drop at bytes) = take-append-le
+      let prefix : take (INPUT_BYTES - at) (drop at bytes ++ rest) ≡ take (INPUT_BYTES - at) (drop at bytes) = take-append-le
       (INPUT_BYTES - at) (drop at bytes) rest (simp length-drop (omega arith)) in
       let more : INPUT_BYTES - at < length (drop at bytes ++ rest) = simp (length-append, length-drop) (omega arith) in
       let all : INPUT_BYTES < length (bytes ++ rest) = simp length-append (omega arith) in (
         ap (lines_within (INPUT_BYTES - at)) from
-            ∙ no_line_within (drop at bytes ++ rest) (INPUT_BYTES - at) more (ap is_unended front ∙ run),
+            ∙ no_line_within (drop at bytes ++ rest) (INPUT_BYTES - at) more (ap is_unended prefix ∙ run),
         grind (arith, nat_tests),
       ))
 
@@ -190,17 +190,17 @@ module _ (bytes : List ℕ) (at : ℕ) (begun : at ≤ length bytes) where
       (first ∙ ap (λ (lines : List (List ℕ)). line ∷ lines) (sym nothing), refl, omega arith, omega arith, inr nothing))
 
 -- the same line, with equal values
-pub line_told : (bytes others : List ℕ) (ended : Bool) (at from end to new place : ℕ) → others ≡ bytes → from ≡ at → to ≡ end → place ≡ new
+pub line_reported : (bytes others : List ℕ) (ended : Bool) (at from end to new place : ℕ) → others ≡ bytes → from ≡ at → to ≡ end → place ≡ new
     → TellsAny bytes ended at new (Line (record { from = at; to = end }))
     → TellsAny others ended at place (Line (record { from = from; to = to }))
-line_told bytes others ended at from end to new place e f t p told =
+line_reported bytes others ended at from end to new place e f t p reported =
     let P : List ℕ → ℕ → ℕ → ℕ → Type 0 = λ b i j k. TellsAny b ended at k (Line (record { from = i; to = j })) in
     subst (λ (b : List ℕ). P b from to place) (sym e) (subst (λ (i : ℕ). P bytes i to place) (sym f)
-    (subst (λ (j : ℕ). P bytes at j place) (sym t) (subst (λ (k : ℕ). P bytes at end k) (sym p) told)))
+    (subst (λ (j : ℕ). P bytes at j place) (sym t) (subst (λ (k : ℕ). P bytes at end k) (sym p) reported)))
 
 -- the same result, with equal values
-pub told_so : (bytes : List ℕ) (ended over : Bool) (at place new : ℕ) (next : Next) → over ≡ ended → at ≡ place
+pub reported_so : (bytes : List ℕ) (ended over : Bool) (at place new : ℕ) (next : Next) → over ≡ ended → at ≡ place
     → TellsAny bytes ended at new next
     → TellsAny bytes over place new next
-told_so bytes ended over at place new next same here told input may =
-    subst (λ (i : ℕ). Tells input bytes i new next) here (told input (may.0, may.1, λ e. may.2 (same ∙ e)))
+reported_so bytes ended over at place new next same here reported input may =
+    subst (λ (i : ℕ). Tells input bytes i new next) here (reported input (may.0, may.1, λ e. may.2 (same ∙ e)))

@@ -47,17 +47,17 @@ module _ (bytes : List ℕ) (ended : Bool) (begin new : ℕ) (end : TextEnd) (be
     where
       by : (to : TextEnd) → Splits input bytes 0 new to → (to ≡ ends.End → ended ≡ true) → IsTextAt bytes to text
           → alone_of input (parts_of (lines_from 0 input)) ≡ text
-      by (ends.Before span) told stopped found =
-          ap (alone_of input) told.0 ∙ ap Some (sym (text_from_start bytes (take span.from bytes) span.from refl)) ∙ sym (found told.1)
-      by ends.End told stopped found =
+      by (ends.Before span) reported stopped found =
+          ap (alone_of input) reported.0 ∙ ap Some (sym (text_from_start bytes (take span.from bytes) span.from refl)) ∙ sym (found reported.1)
+      by ends.End reported stopped found =
           let none : may.0 ≡ [] = may.2 (stopped refl) in
           let whole : input ≡ bytes = may.1 ∙ ap (λ (t : List ℕ). bytes ++ t) none ∙ append-nil bytes in
-          ap (alone_of input) told.0 ∙ ap (λ (t : Bool). cond t None (Some input)) told.1 ∙ ap Some whole ∙ sym found
-      by ends.TooLong told stopped found =
-          ap (alone_of input) told.0 ∙ ap (λ (t : Bool). cond t None (Some input)) told.1 ∙ sym found
+          ap (alone_of input) reported.0 ∙ ap (λ (t : Bool). cond t None (Some input)) reported.1 ∙ ap Some whole ∙ sym found
+      by ends.TooLong reported stopped found =
+          ap (alone_of input) reported.0 ∙ ap (λ (t : Bool). cond t None (Some input)) reported.1 ∙ sym found
 
   -- what holds for the text
-  pub told_alone : {A : Type 0} (Told : Option (List ℕ) → A → List ℕ → Type 0) (known : Option (List ℕ)) → text ≡ known
-      → (input : List ℕ) → MayBe bytes ended input → (end : A) (out : List ℕ) → Told known end out → Told (alone_text input) end out
-  told_alone {A} Told known is input may end out told =
-      subst (λ (t : Option (List ℕ)). Told t end out) (sym (alone_here input may ∙ is)) told
+  pub reported_alone : {A : Type 0} (Reported : Option (List ℕ) → A → List ℕ → Type 0) (known : Option (List ℕ)) → text ≡ known
+      → (input : List ℕ) → MayBe bytes ended input → (end : A) (out : List ℕ) → Reported known end out → Reported (alone_text input) end out
+  reported_alone {A} Reported known is input may end out reported =
+      subst (λ (t : Option (List ℕ)). Reported t end out) (sym (alone_here input may ∙ is)) reported

@@ -27,7 +27,7 @@ module _ {old : List ℕ} {was : Bool} {before : Option (List ℕ)} where
 pub needs_more : {first : List ℕ} {was : Bool} {known : Option (List ℕ)} {old : List ℕ} {over : Bool} {left : Option (List ℕ)} {new : List ℕ}
     {at : ℕ} → ReadsOn first was known old over left → IsUnderWay old over at → ReadsOnce old new → ReadsAsNeeded first was new at
 needs_more {old = old} {over = over} reads way once = inr (record {
-  front = old;
+  prefix = old;
   last = once.last;
   over = over;
   whole = once.whole;

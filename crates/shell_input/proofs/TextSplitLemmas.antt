@@ -33,9 +33,9 @@ pub record SoFar (whole : List ℕ) (from at : ℕ) : Type 0 where
   pub begun : from ≤ at
   pub split : parts_of (lines_from from whole) ≡ option_map (with_text (slice_range whole from at)) (parts_of (lines_from at whole))
 
-parts_behind : (line : List ℕ) (lines : List (List ℕ)) → is_end_line line ≡ false
+parts_after : (line : List ℕ) (lines : List (List ℕ)) → is_end_line line ≡ false
     → parts_of (line ∷ lines) ≡ option_map (line_before line) (parts_of lines)
-parts_behind line lines e = rw e refl
+parts_after line lines e = rw e refl
 
 parts_at : (line : List ℕ) (lines : List (List ℕ)) → is_end_line line ≡ true
     → parts_of (line ∷ lines) ≡ Some (record { program = []; commands = lines })
@@ -48,29 +48,29 @@ split_on : (whole line : List ℕ) (from at new : ℕ) → from ≤ at → at �
     ≡ option_map (with_text (slice_range whole from new)) (parts_of (lines_from new whole))
 split_on whole line from at new begun on other here (inl text) =
     ap (λ lines. option_map (with_text (slice_range whole from at)) (parts_of lines)) here
-    ∙ ap (option_map (with_text (slice_range whole from at))) (parts_behind line (lines_from new whole) other)
+    ∙ ap (option_map (with_text (slice_range whole from at))) (parts_after line (lines_from new whole) other)
     ∙ texts_join (slice_range whole from at) line (slice_range whole from new) (parts_of (lines_from new whole))
     (slice_on whole from at new begun on ∙ ap (λ (t : List ℕ). slice_range whole from at ++ t) text)
 split_on whole line from at new begun on other here (inr none) =
     ap (λ lines. option_map (with_text (slice_range whole from at)) (parts_of lines)) here
-    ∙ ap (option_map (with_text (slice_range whole from at))) (parts_behind line (lines_from new whole) other)
+    ∙ ap (option_map (with_text (slice_range whole from at))) (parts_after line (lines_from new whole) other)
     ∙ ap (λ lines. option_map (with_text (slice_range whole from at)) (option_map (line_before line) (parts_of lines))) none
     ∙ sym (ap (λ lines. option_map (with_text (slice_range whole from new)) (parts_of lines)) none)
 
 so_far_on : (whole bytes : List ℕ) (from at new : ℕ) (span : Span) → at < new → SoFar whole from at
     → Tells whole bytes at new (nexts.Line span)
     → is_end_line (slice_range bytes span.from span.to) ≡ false → SoFar whole from new
-so_far_on whole bytes from at new span on so_far told other =
+so_far_on whole bytes from at new span on so_far reported other =
     let begun : from ≤ at = so_far.begun in
     record {
       begun = omega arith;
-      split = so_far.split ∙ split_on whole (slice_range bytes span.from span.to) from at new begun (omega arith) other told.0 told.4;
+      split = so_far.split ∙ split_on whole (slice_range bytes span.from span.to) from at new begun (omega arith) other reported.0 reported.4;
     }
 
 -- the bytes that were read are a prefix of the input
-slice_of_front : (bytes rest : List ℕ) (from to : ℕ) → from ≤ to → to ≤ length bytes
+slice_of_prefix : (bytes rest : List ℕ) (from to : ℕ) → from ≤ to → to ≤ length bytes
     → slice_range (bytes ++ rest) from to ≡ slice_range bytes from to
-slice_of_front bytes rest from to le held =
+slice_of_prefix bytes rest from to le held =
     let here : drop from (bytes ++ rest) ≡ drop from bytes ++ rest = drop-append-le from bytes rest (omega arith) in
     let long : length (drop from bytes) ≡ length bytes - from = length-drop from bytes in
     ap (λ (t : List ℕ). take (to - from) t) here ∙ take-append-le (to - from) (drop from bytes) rest (omega arith)
@@ -78,16 +78,16 @@ slice_of_front bytes rest from to le held =
 split_at : (whole bytes rest : List ℕ) (from at new : ℕ) (span : Span) → whole ≡ bytes ++ rest → SoFar whole from at
     → Tells whole bytes at new (nexts.Line span)
     → is_end_line (slice_range bytes span.from span.to) ≡ true → Splits whole bytes from new (ends.Before span)
-split_at whole bytes rest from at new span all so_far told end =
+split_at whole bytes rest from at new span all so_far reported end =
     let begun : from ≤ at = so_far.begun in
-    let here : span.from ≡ at = told.1 in
-    let ordered : span.from ≤ span.to = told.2 in
-    let held : span.to ≤ length bytes = told.3 in
+    let here : span.from ≡ at = reported.1 in
+    let ordered : span.from ≤ span.to = reported.2 in
+    let held : span.to ≤ length bytes = reported.3 in
     let text : slice_range whole from at ≡ slice_range bytes from span.from =
-    ap (λ (t : List ℕ). slice_range t from at) all ∙ slice_of_front bytes rest from at begun (omega arith)
+    ap (λ (t : List ℕ). slice_range t from at) all ∙ slice_of_prefix bytes rest from at begun (omega arith)
     ∙ ap (λ (n : ℕ). slice_range bytes from n) (sym here) in
     let line : List ℕ = slice_range bytes span.from span.to in (
-      so_far.split ∙ ap (λ lines. option_map (with_text (slice_range whole from at)) (parts_of lines)) told.0
+      so_far.split ∙ ap (λ lines. option_map (with_text (slice_range whole from at)) (parts_of lines)) reported.0
           ∙ ap (option_map (with_text (slice_range whole from at))) (parts_at line (lines_from new whole) end)
           ∙ ap (λ (t : List ℕ). Some (record { program = t; commands = lines_from new whole }))
           (append-nil (slice_range whole from at) ∙ text),
@@ -98,10 +98,10 @@ no_parts : (whole : List ℕ) (from at : ℕ) → SoFar whole from at → lines_
 no_parts whole from at so_far none = so_far.split ∙ ap (λ lines. option_map (with_text (slice_range whole from at)) (parts_of lines)) none
 
 -- what holds for each possible input
-pub told_of : (bytes : List ℕ) (ended : Bool) (at new : ℕ) (next to : Next) → TellsAny bytes ended at new next → next ≡ to
+pub reported_of : (bytes : List ℕ) (ended : Bool) (at new : ℕ) (next to : Next) → TellsAny bytes ended at new next → next ≡ to
     → (input : List ℕ) → MayBe bytes ended input → Tells input bytes at new to
-told_of bytes ended at new next to told is input may =
-    subst (λ (n : Next). Tells input bytes at new n) is (told input may)
+reported_of bytes ended at new next to reported is input may =
+    subst (λ (n : Next). Tells input bytes at new n) is (reported input may)
 
 -- after a line the position is greater
 pub further_on : (from at new : ℕ) (next : Next) (span : Span) → AdvancesAt at new next → next ≡ nexts.Line span → from ≤ at → from ≤ new
@@ -113,7 +113,7 @@ further_on from at new next span on is begun =
 line_is : (input bytes line : List ℕ) (at new : ℕ) (span : Span) (end : Bool) → Tells input bytes at new (nexts.Line span)
     → (span.from ≤ span.to → span.to ≤ length bytes → line ≡ slice_range bytes span.from span.to) → is_end_line line ≡ end
     → is_end_line (slice_range bytes span.from span.to) ≡ end
-line_is input bytes line at new span end told seen test = ap is_end_line (sym (seen told.2 told.3)) ∙ test
+line_is input bytes line at new span end reported seen test = ap is_end_line (sym (seen reported.2 reported.3)) ∙ test
 
 -- the parts of each possible input
 abbrev pub SoFarAny : List ℕ → Bool → ℕ → ℕ → Type 0
@@ -121,29 +121,29 @@ SoFarAny bytes ended from at = (input : List ℕ) → MayBe bytes ended input �
 
 module _ (before : List ℕ) (was : Bool) (bytes : List ℕ) (ended : Bool) (from at new : ℕ) (next : Next)
     (so_far : SoFarAny before was from at)
-    (narrows : Narrows before was bytes ended) (told : TellsAny bytes ended at new next) where
+    (narrows : Narrows before was bytes ended) (reported : TellsAny bytes ended at new next) where
   module _ (line : List ℕ) (span : Span) (is : next ≡ nexts.Line span)
       (seen : span.from ≤ span.to → span.to ≤ length bytes → line ≡ slice_range bytes span.from span.to) where
     pub so_far_goes_on : AdvancesAt at new next → is_end_line line ≡ false → SoFarAny bytes ended from new
     so_far_goes_on on other input may =
-        let here : Tells input bytes at new (nexts.Line span) = told_of bytes ended at new next (nexts.Line span) told is input may in
+        let here : Tells input bytes at new (nexts.Line span) = reported_of bytes ended at new next (nexts.Line span) reported is input may in
         so_far_on input bytes from at new span (subst (λ (n : Next). AdvancesAt at new n) is on) (so_far input (narrows input may)) here
         (line_is input bytes line at new span false here seen other)
 
     pub splits_here : is_end_line line ≡ true → SplitsAny bytes ended from new (ends.Before span)
     splits_here end input may =
-        let here : Tells input bytes at new (nexts.Line span) = told_of bytes ended at new next (nexts.Line span) told is input may in
+        let here : Tells input bytes at new (nexts.Line span) = reported_of bytes ended at new next (nexts.Line span) reported is input may in
         split_at input bytes may.0 from at new span may.1 (so_far input (narrows input may)) here
         (line_is input bytes line at new span true here seen end)
 
   pub splits_nowhere : next ≡ nexts.End → SplitsAny bytes ended from new ends.End
   splits_nowhere is input may =
-      let here : Tells input bytes at new nexts.End = told_of bytes ended at new next nexts.End told is input may in
+      let here : Tells input bytes at new nexts.End = reported_of bytes ended at new next nexts.End reported is input may in
       (no_parts input from at (so_far input (narrows input may)) here.0, here.1)
 
   pub splits_too_late : next ≡ nexts.TooLong → SplitsAny bytes ended from new ends.TooLong
   splits_too_late is input may =
-      let here : Tells input bytes at new nexts.TooLong = told_of bytes ended at new next nexts.TooLong told is input may in
+      let here : Tells input bytes at new nexts.TooLong = reported_of bytes ended at new next nexts.TooLong reported is input may in
       (no_parts input from at (so_far input (narrows input may)) here.0, here.1)
 
 -- if nothing more can be read, the whole lines have no end line
@@ -162,9 +162,9 @@ pub reads_for_text : (first old : List ℕ) (was : Bool) (new : List ℕ) (from 
 reads_for_text first old was new from at text so_far (inl same) = subst (ReadsText first from) (sym same) text
 reads_for_text first old was new from at text so_far (inr read) =
     inr (
-      read.front,
+      read.prefix,
       read.last,
       read.whole,
       read.few,
-      splits_not_yet old was read.front read.over from at so_far read.narrows read.under_way,
+      splits_not_yet old was read.prefix read.over from at so_far read.narrows read.under_way,
     )

@@ -49,8 +49,8 @@ padding n =
     let long : length zeros ≡ suc n = length-replicate (suc n) 0 in
     (zeros, zeros_unended (suc n), omega (arith, long))
 
-front_unended : (n : ℕ) (bytes : List ℕ) → is_unended bytes ≡ true → is_unended (take n bytes) ≡ true
-front_unended n bytes h =
+prefix_unended : (n : ℕ) (bytes : List ℕ) → is_unended bytes ≡ true → is_unended (take n bytes) ≡ true
+prefix_unended n bytes h =
     and_first (is_unended (take n bytes)) (is_unended (drop n bytes))
     (sym (list_all-append is_inside (take n bytes) (drop n bytes)) ∙ ap is_unended (take-append-drop n bytes) ∙ h)
 
@@ -62,7 +62,7 @@ within_whole bytes more limit le long h =
     let all : limit ≡ length bytes + n = omega arith in
     rw test (ap (λ (k : ℕ). (lines_of (take k (bytes ++ more))).whole) all
     ∙ ap (λ (t : List ℕ). (lines_of t).whole) (take-append-add bytes more n)
-    ∙ adds_none bytes (take n more) (front_unended n more h))
+    ∙ adds_none bytes (take n more) (prefix_unended n more h))
 
 -- a possible input whose lines are the whole lines of these bytes, from each position in them on
 pub record GoesOn (bytes : List ℕ) (ended : Bool) : Type 0 where

@@ -17,13 +17,13 @@ ReadsFew input left = (bytes rest : List ℕ) × (left ≡ Some rest) × (input 
 abbrev pub ReadsText : List ℕ → ℕ → List ℕ → Type 0
 ReadsText old from new =
     (new ≡ old)
-    ⊎ ((front last : List ℕ) × (new ≡ front ++ last) × (length last ≤ CHUNK) × (parts_of (lines_of (drop from front)).whole ≡ None))
+    ⊎ ((prefix last : List ℕ) × (new ≡ prefix ++ last) × (length last ≤ CHUNK) × (parts_of (lines_of (drop from prefix)).whole ≡ None))
 
 -- Only the program text was read: before the last read no line ended the text, and the last read gave few bytes.
 abbrev pub ReadsProgram : List ℕ → Option (List ℕ) → Type 0
 ReadsProgram input left =
-    (front last rest : List ℕ) × (left ≡ Some rest) × (input ≡ front ++ last ++ rest) × (length last ≤ CHUNK)
-    × (parts_of (lines_of front).whole ≡ None)
+    (prefix last rest : List ℕ) × (left ≡ Some rest) × (input ≡ prefix ++ last ++ rest) × (length last ≤ CHUNK)
+    × (parts_of (lines_of prefix).whole ≡ None)
 
 -- the parts with a text before the program text
 abbrev pub with_text : List ℕ → Parts → Parts

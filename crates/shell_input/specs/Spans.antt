@@ -72,13 +72,13 @@ pub record ReadsOn (old : List ℕ) (was : Bool) (before : Option (List ℕ)) (n
 
 -- The last of these bytes came with one read: before it no line was complete from this position on.
 pub record LastRead (old : List ℕ) (was : Bool) (new : List ℕ) (at : ℕ) : Type 0 where
-  pub front : List ℕ
+  pub prefix : List ℕ
   pub last : List ℕ
   pub over : Bool
-  pub whole : new ≡ front ++ last
+  pub whole : new ≡ prefix ++ last
   pub few : length last ≤ CHUNK
-  pub under_way : IsUnderWay front over at
-  pub narrows : Narrows old was front over
+  pub under_way : IsUnderWay prefix over at
+  pub narrows : Narrows old was prefix over
 
 -- the reader is called only if no line is complete
 abbrev pub ReadsAsNeeded : List ℕ → Bool → List ℕ → ℕ → Type 0

@@ -8,7 +8,7 @@ ghost use Rattle.shell_input.specs.Spans.{IsUnderWay};
 ghost use Rattle.shell_input.specs.declared.framing.TheConstants.{ROOM};
 ghost use Rattle.shell_input.specs.declared.framing.Next.TheVariants.{End};
 ghost use Rattle.shell_io.specs.declared.health.Health.TheVariants.{Fine};
-ghost use Rattle.shell_print.specs.Outcomes.{source_behind};
+ghost use Rattle.shell_print.specs.Outcomes.{source_after};
 ghost use Rattle.shell_print.specs.declared.outcome.ServeFault.TheVariants.{Read};
 ghost use Rattle.dbg_base.specs.declared.limits.TheConstants.{INPUT_BYTES};
 
@@ -123,7 +123,7 @@ impl Input {
         ensures stopped { IfOk result (λ next. next ≡ End → self.new.ended ≡ true) }
         ensures tells { IfOk result (TellsAny self.new.bytes.items self.new.ended self.old.at self.new.at) }
         ensures fault { IfErr result (λ fault. fault ≡ Read) }
-        ensures reader { R.health reader.old ≡ Fine → R.health reader.new ≡ source_behind result }
+        ensures reader { R.health reader.old ≡ Fine → R.health reader.new ≡ source_after result }
         ensures under_way { OnErr result (IsUnderWay self.new.bytes.items self.new.ended self.old.at) }
         ensures needed { ReadsAsNeeded self.old.bytes.items self.old.ended self.new.bytes.items self.old.at }
     {
@@ -209,7 +209,7 @@ impl Input {
         ensures kept { OnErr result ((self.new.bytes ≡ self.old.bytes) × (self.new.ended ≡ self.old.ended)) }
         ensures once { ReadsOnce self.old.bytes.items self.new.bytes.items }
         ensures fault { IfErr result (λ fault. fault ≡ Read) }
-        ensures reader { R.health reader.old ≡ Fine → R.health reader.new ≡ source_behind result }
+        ensures reader { R.health reader.old ≡ Fine → R.health reader.new ≡ source_after result }
     {
         let mut chunk = [0u8; CHUNK];
         let room = (ROOM - self.bytes.len()).min(CHUNK);

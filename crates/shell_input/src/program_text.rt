@@ -8,7 +8,7 @@ ghost use Rattle.shell_input.specs.Spans.{EndsWith, ReadsOn};
 ghost use Rattle.shell_input.specs.ProgramTexts.{SplitsAny, ReadsText, IsTextAt};
 ghost use Rattle.shell_input.specs.declared.program_text.TextEnd.TheVariants.{End};
 ghost use Rattle.shell_io.specs.declared.health.Health.TheVariants.{Fine};
-ghost use Rattle.shell_print.specs.Outcomes.{source_behind};
+ghost use Rattle.shell_print.specs.Outcomes.{source_after};
 ghost use Rattle.shell_print.specs.declared.outcome.ServeFault.TheVariants.{Read};
 
 use crate::framing::{Input, Next, Span};
@@ -48,7 +48,7 @@ pub fn read_program_text<R: Source>(
     ensures few { OnErr result (length input.new.bytes.items ≤ INPUT_BYTES) }
     ensures needed { ReadsText input.old.bytes.items input.old.at input.new.bytes.items }
     ensures fault { IfErr result (λ fault. fault ≡ Read) }
-    ensures reader { R.health reader.old ≡ Fine → R.health reader.new ≡ source_behind result }
+    ensures reader { R.health reader.old ≡ Fine → R.health reader.new ≡ source_after result }
 {
     loop {
         match input.next_line(reader)? {

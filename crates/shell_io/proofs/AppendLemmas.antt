@@ -2,7 +2,7 @@
 use Rattle.std.proofs.Common.{◌≡◌, List, [], ℕ, ◌++◌, Result, Ok, ap, ◌∙◌}
 use Rattle.shell_io.specs.declared.health.Health.{Health}
 use Rattle.shell_io.specs.declared.health.Health.TheVariants.{Fine}
-use Rattle.shell_io.specs.Healths.{behind}
+use Rattle.shell_io.specs.Healths.{health_after}
 use Rattle.std.proofs.KnownBytes.{Appends-nil, Appends-trans}
 use Rattle.shell_io.specs.Seen.{Seen, Appended, CutShort}
 
@@ -22,5 +22,5 @@ cut_then a b c x y h k = record {
 }
 
 -- after a call that succeeded the device has not failed
-pub stays_fine : {A E : Type 0} {old new : Health} {r : Result A E} {x : A} → r ≡ Ok x → new ≡ behind old r → old ≡ Fine → new ≡ Fine
-stays_fine {old = old} {r = r} ended is fine = is ∙ ap (λ (h : Health). behind h r) fine ∙ ap (λ o. behind Fine o) ended
+pub stays_fine : {A E : Type 0} {old new : Health} {r : Result A E} {x : A} → r ≡ Ok x → new ≡ health_after old r → old ≡ Fine → new ≡ Fine
+stays_fine {old = old} {r = r} ended is fine = is ∙ ap (λ (h : Health). health_after h r) fine ∙ ap (λ o. health_after Fine o) ended

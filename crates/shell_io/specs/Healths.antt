@@ -4,8 +4,8 @@ use Rattle.shell_io.specs.declared.health.Health.{Health}
 use Rattle.shell_io.specs.declared.health.Health.TheVariants.{Fine, Failed, TriedAgain}
 
 -- the health after a call with this result
-abbrev pub behind : {A E : Type 0} → Health → Result A E → Health
-behind Fine (Ok value) = Fine
-behind Fine (Err error) = Failed
-behind Failed result = TriedAgain
-behind TriedAgain result = TriedAgain
+abbrev pub health_after : {A E : Type 0} → Health → Result A E → Health
+health_after Fine (Ok value) = Fine
+health_after Fine (Err error) = Failed
+health_after Failed result = TriedAgain
+health_after TriedAgain result = TriedAgain

@@ -10,16 +10,16 @@ last_byte last [] = last
 last_byte last (byte ∷ bytes) = last_byte byte bytes
 
 -- these bytes, which follow the byte `last`, with a line end if the last byte of all is not one
-abbrev pub closed_behind : ℕ → List ℕ → List ℕ
-closed_behind last bytes = bytes ++ (if last_byte last bytes == 10 then [] else 10 ∷ [])
+abbrev pub closed_after : ℕ → List ℕ → List ℕ
+closed_after last bytes = bytes ++ (if last_byte last bytes == 10 then [] else 10 ∷ [])
 
 -- these bytes, with a line end if there are any and they do not end with one
 abbrev pub with_line_end : Option (List ℕ) → Option (List ℕ)
-with_line_end known = option_map (closed_behind 10) known
+with_line_end known = option_map (closed_after 10) known
 
 -- what is left to read of a reader whose last line is ended
 abbrev pub closed_remaining : {R : Type 0} → (R → Option (List ℕ)) → ClosedLines R → Option (List ℕ)
-closed_remaining remaining lines = option_map (closed_behind lines.last) (remaining lines.reader)
+closed_remaining remaining lines = option_map (closed_after lines.last) (remaining lines.reader)
 
 -- all bytes of the first, as whole lines, and then those of the second
 abbrev pub inputs_in_order : Option (List ℕ) → Option (List ℕ) → Option (List ℕ)

@@ -47,7 +47,7 @@ impl<R: Read> Read for ClosedLines<R> {
 
 /// Both readers as one stream: all bytes of the first reader, a line end if they do not end with one, and then those of the second. It does
 /// not allocate.
-pub fn one_behind_the_other<R: Read, S: Read>(first: R, second: S) -> Chain<ClosedLines<R>, S>
+pub fn one_after_the_other<R: Read, S: Read>(first: R, second: S) -> Chain<ClosedLines<R>, S>
     ensures { chain_remaining (closed_remaining R.remaining) S.remaining result
         ≡ inputs_in_order (R.remaining first) (S.remaining second) }
 {

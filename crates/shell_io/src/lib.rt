@@ -6,7 +6,7 @@ mod health;
 mod noted;
 mod streams;
 
-pub use closed_lines::{ClosedLines, one_behind_the_other};
+pub use closed_lines::{ClosedLines, one_after_the_other};
 pub use health::Health;
 pub use noted::Noted;
 pub use streams::{Sink, Source};

@@ -4,7 +4,7 @@ ghost use Rattle.std.specs.Prelude.{◌≡◌, [], IfOk, OnOk};
 ghost use Rattle.std.specs.Io.{ReadsAtMost, WritesAtMost};
 ghost use Rattle.std.specs.Io.KnownBytes.{Keeps, ReadConsumes, WriteAppends};
 ghost use Rattle.shell_io.specs.declared.health.Health.TheVariants.{Fine};
-ghost use Rattle.shell_io.specs.Healths.{behind};
+ghost use Rattle.shell_io.specs.Healths.{health_after};
 ghost use Rattle.shell_io.specs.Seen.{seen_noted};
 
 use crate::health::Health;
@@ -56,7 +56,7 @@ impl<D> Noted<D> {
     pub fn go_on(&mut self) -> Result<()>
         ensures device { self.new.device ≡ self.old.device }
         ensures fine { OnOk result ((self.old.health ≡ Fine) × (self.new ≡ self.old)) }
-        ensures health { self.new.health ≡ behind self.old.health result }
+        ensures health { self.new.health ≡ health_after self.old.health result }
     {
         if self.health == Health::Fine {
             return Ok(());
@@ -69,7 +69,7 @@ impl<D> Noted<D> {
     fn note<T>(&mut self, outcome: &Result<T>)
         requires { self.old.health ≡ Fine }
         ensures device { self.new.device ≡ self.old.device }
-        ensures health { self.new.health ≡ behind Fine outcome.now }
+        ensures health { self.new.health ≡ health_after Fine outcome.now }
     {
         if outcome.is_err() {
             self.health = Health::Failed;
@@ -85,7 +85,7 @@ impl<R: Read> Source for Noted<R> {
     fn read(&mut self, bytes: &mut [u8]) -> Result<usize>
         ensures bound { ReadsAtMost result bytes.new }
         ensures bytes { ReadConsumes (R.remaining self.old.device) (R.remaining self.new.device) result bytes.new }
-        ensures health { self.new.health ≡ behind self.old.health result }
+        ensures health { self.new.health ≡ health_after self.old.health result }
     {
         self.go_on()?;
         let outcome = self.device.read(bytes);
@@ -101,7 +101,7 @@ impl<W: Write> Sink for Noted<W> {
         ensures bound { WritesAtMost result bytes.now }
         ensures bytes { WriteAppends (W.contents self.old.device) (W.contents self.new.device) result bytes.now }
         ensures takes { IfOk result (λ count. count ≡ 0 → bytes.now ≡ []) }
-        ensures health { self.new.health ≡ behind self.old.health result }
+        ensures health { self.new.health ≡ health_after self.old.health result }
     {
         self.go_on()?;
         let outcome = match self.device.write(bytes) {
@@ -114,7 +114,7 @@ impl<W: Write> Sink for Noted<W> {
 
     fn flush(&mut self) -> Result<()>
         ensures bytes { Keeps (W.contents self.old.device) (W.contents self.new.device) }
-        ensures health { self.new.health ≡ behind self.old.health result }
+        ensures health { self.new.health ≡ health_after self.old.health result }
     {
         self.go_on()?;
         let outcome = self.device.flush();

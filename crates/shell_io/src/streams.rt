@@ -4,7 +4,7 @@ ghost use Rattle.std.specs.Prelude.{◌≡◌, ℕ, List, [], Option, IfOk};
 ghost use Rattle.std.specs.Io.{ReadsAtMost, WritesAtMost};
 ghost use Rattle.std.specs.Io.KnownBytes.{Keeps, ReadConsumes, WriteAppends};
 ghost use Rattle.shell_io.specs.declared.health.Health.{Health};
-ghost use Rattle.shell_io.specs.Healths.{behind};
+ghost use Rattle.shell_io.specs.Healths.{health_after};
 ghost use Rattle.shell_io.specs.Seen.{Seen};
 
 use std::io::Result;
@@ -21,7 +21,7 @@ pub trait Source {
     fn read(&mut self, bytes: &mut [u8]) -> Result<usize>
         ensures bound { ReadsAtMost result bytes.new }
         ensures bytes { ReadConsumes (remaining self.old) (remaining self.new) result bytes.new }
-        ensures health { health self.new ≡ behind (health self.old) result };
+        ensures health { health self.new ≡ health_after (health self.old) result };
 }
 
 /// A sink for bytes.
@@ -33,10 +33,10 @@ pub trait Sink {
         ensures bound { WritesAtMost result bytes.now }
         ensures bytes { WriteAppends (seen self.old).contents (seen self.new).contents result bytes.now }
         ensures takes { IfOk result (λ count. count ≡ 0 → bytes.now ≡ []) }
-        ensures health { (seen self.new).health ≡ behind (seen self.old).health result };
+        ensures health { (seen self.new).health ≡ health_after (seen self.old).health result };
 
     /// Flushes what was written. An error is a failure of the sink.
     fn flush(&mut self) -> Result<()>
         ensures bytes { Keeps (seen self.old).contents (seen self.new).contents }
-        ensures health { (seen self.new).health ≡ behind (seen self.old).health result };
+        ensures health { (seen self.new).health ≡ health_after (seen self.old).health result };
 }

@@ -10,7 +10,7 @@ use Rattle.dbg_base.specs.declared.refusal.Refusal.{Refusal}
 use Rattle.dbg_base.specs.declared.refusal.Refusal.TheVariants.{BadLine, Memory}
 use Rattle.dbg_base.specs.Calls.{Plan, Order, One, Batch, IsBatch, plans_of, order_of, Give}
 use Rattle.dbg_base.specs.Trees.{Program}
-use Rattle.dbg_base.specs.CommandLines.{map_ok, before_first_word, Spot, Between, is_separator, spot_behind, sets_break, commands_from, commands_of}
+use Rattle.dbg_base.specs.CommandLines.{map_ok, before_first_word, Spot, Between, is_separator, spot_after, sets_break, commands_from, commands_of}
 use Rattle.dbg_base.specs.Requests.{AsksOne, command_in, AsksEach, is_shapeless, with_command, all_commands, batch_of, AsksBatch}
 use Rattle.shell_parse.specs.Lines.{has_shape, are_commands, MayBeBatch, IsMember, AreRead}
 use Rattle.shell_parse.proofs.CommandOutcomeLemmas.{some_each}
@@ -89,25 +89,25 @@ same_accepted : {X Y : Type 0} (f : X → Y) (y : Y) (result : Result X Refusal)
 same_accepted f y (Ok x) e = (x, refl, cc)
 same_accepted f y (Err other) e = cc
 
-abbrev behind : List Plan → Result (List Plan) Refusal → Result (List Plan) Refusal
-behind models others = map_ok (λ plans. models ++ plans) others
+abbrev after : List Plan → Result (List Plan) Refusal → Result (List Plan) Refusal
+after models others = map_ok (λ plans. models ++ plans) others
 
-behind_nothing : (others : Result (List Plan) Refusal) → others ≡ behind [] others
-behind_nothing (Ok plans) = refl
-behind_nothing (Err refusal) = refl
+after_nothing : (others : Result (List Plan) Refusal) → others ≡ after [] others
+after_nothing (Ok plans) = refl
+after_nothing (Err refusal) = refl
 
-behind_more : (models : List Plan) (m : Plan) (others : Result (List Plan) Refusal)
-    → behind models (with_command (Ok m) others) ≡ behind (models ++ m ∷ []) others
-behind_more models m (Ok plans) = ap (λ (all : List Plan). Ok all) (sym (append_assoc models (m ∷ []) plans))
-behind_more models m (Err refusal) = refl
+after_more : (models : List Plan) (m : Plan) (others : Result (List Plan) Refusal)
+    → after models (with_command (Ok m) others) ≡ after (models ++ m ∷ []) others
+after_more models m (Ok plans) = ap (λ (all : List Plan). Ok all) (sym (append_assoc models (m ∷ []) plans))
+after_more models m (Err refusal) = refl
 
 map_more : {X Y : Type 0} (f : X → Y) (made : List X) (x : X) → map f (made ++ x ∷ []) ≡ map f made ++ f x ∷ []
 map_more f [] x = refl
 map_more f (m ∷ made) x = ap (λ (rest : List _). f m ∷ rest) (map_more f made x)
 
-nothing_behind : (models : List Plan) → models ++ [] ≡ models
-nothing_behind [] = refl
-nothing_behind (m ∷ models) = ap (λ (rest : List Plan). m ∷ rest) (nothing_behind models)
+nothing_after : (models : List Plan) → models ++ [] ≡ models
+nothing_after [] = refl
+nothing_after (m ∷ models) = ap (λ (rest : List Plan). m ∷ rest) (nothing_after models)
 
 -- these plans of all these commands were read so far, and those commands are left
 pub record ReadSoFar (P : Program) (all left : List (List ℕ)) (made : List plan.Plan) : Type 0 where
@@ -115,14 +115,14 @@ pub record ReadSoFar (P : Program) (all left : List (List ℕ)) (made : List pla
   pub same : map order_of made ≡ map One models
   pub shaped : list_all (has_shape P) left ≡ true
   pub onward : (others : List (Result Plan Refusal)) → AsksEach P left others
-      → (results : List (Result Plan Refusal)) × AsksEach P all results × (all_commands results ≡ behind models (all_commands others))
+      → (results : List (Result Plan Refusal)) × AsksEach P all results × (all_commands results ≡ after models (all_commands others))
 
 pub none_read : (P : Program) (all : List (List ℕ)) → list_all (has_shape P) all ≡ true → ReadSoFar P all all []
 none_read P all shaped = record {
   models = [];
   same = refl;
   shaped = shaped;
-  onward = λ others each. (others, each, behind_nothing (all_commands others));
+  onward = λ others each. (others, each, after_nothing (all_commands others));
 }
 
 -- all were read
@@ -131,7 +131,7 @@ all_read P all made so_far =
     let found = so_far.onward [] refl in (
       found.0,
       found.1,
-      ap (λ (orders : List Order). Ok orders) (so_far.same ∙ ap (map One) (sym (nothing_behind so_far.models)))
+      ap (λ (orders : List Order). Ok orders) (so_far.same ∙ ap (map One) (sym (nothing_after so_far.models)))
           ∙ ap (map_ok (map One)) (sym found.2),
     )
 
@@ -163,8 +163,8 @@ module _ (P : Program) (all commands left : List (List ℕ)) (command : List ℕ
               found.0,
               found.1,
               found.2
-                  ∙ ap (λ (r : Result Plan Refusal). behind so_far.models (with_command r (all_commands others))) is.1
-                  ∙ behind_more so_far.models is.0 (all_commands others),
+                  ∙ ap (λ (r : Result Plan Refusal). after so_far.models (with_command r (all_commands others))) is.1
+                  ∙ after_more so_far.models is.0 (all_commands others),
             );
       }
 
@@ -183,7 +183,7 @@ module _ (P : Program) (all commands left : List (List ℕ)) (command : List ℕ
         found.0,
         found.1,
         sym (ap (map_ok (map One)) (found.2
-            ∙ ap (λ (r : Result Plan Refusal). behind so_far.models (with_command r (all_commands rest.0))) is)),
+            ∙ ap (λ (r : Result Plan Refusal). after so_far.models (with_command r (all_commands rest.0))) is)),
       )
 
 -- The call of a batch.
@@ -257,7 +257,7 @@ module _ (P : Program) (bytes : List ℕ) (few : are_commands P bytes ≡ true) 
   some_command grouped spot [] = omega arith
   some_command grouped spot (b ∷ rest) =
       some_of_two (is_separator spot b rest) _ _ (omega arith)
-      (first_word_some b (commands_from grouped (spot_behind grouped spot b) rest))
+      (first_word_some b (commands_from grouped (spot_after grouped spot b) rest))
 
   fits_batch : (t : Bool) → nat_le (length (commands_of bytes)) BATCH ≡ t → (list_all (has_shape P) (commands_of bytes) && t) ≡ true
       → length (commands_of bytes) ≤ BATCH

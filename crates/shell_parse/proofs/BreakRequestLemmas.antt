@@ -50,9 +50,9 @@ module _ (P : Program) (name : List ℕ) (read : Result (List conjunct.Conjunct)
   pub asks_break : (bytes word rest : List ℕ) → word ≡ next_word bytes → rest ≡ after_word bytes → name_word word ≡ Some name
       → has_parts (parts_in rest) ≡ true → ((parts : List Part) → parts_in rest ≡ Some parts → IsRead parts)
       → (result : Result call.Call Refusal) → result ≡ break_made name read → IsBreakParsed P bytes result
-  asks_break bytes word rest first behind named formed reads result is =
+  asks_break bytes word rest first after named formed reads result is =
       subst (IsBreakParsed P bytes) (sym is)
       (subst (λ (n : Option (List ℕ)). AsksBreak P n (parts_in (after_word bytes)) (map_ok call_of (break_made name read))
       ⊎ (break_made name read ≡ Err Memory)) (sym (ap name_word (sym first) ∙ named))
       (subst (λ (r : List ℕ). AsksBreak P (Some name) (parts_in r) (map_ok call_of (break_made name read))
-      ⊎ (break_made name read ≡ Err Memory)) behind (all_read (parts_in rest) formed reads)))
+      ⊎ (break_made name read ≡ Err Memory)) after (all_read (parts_in rest) formed reads)))

@@ -20,9 +20,9 @@ where_false A B true e b = cc
 where_false A B false e b = b
 
 module _ (P : Program) (bytes word rest : List ℕ) (result : Result call.Call Refusal) (first : next_word bytes ≡ word)
-    (behind : after_word bytes ≡ rest) where
+    (after : after_word bytes ≡ rest) where
   pub by_break : bytes_eq word (codes "break") ≡ true → IsBreakParsed P rest result → IsOneParsed P bytes result
-  by_break e parsed = made (subst (λ (r : List ℕ). IsBreakParsed P r result) (sym behind) parsed)
+  by_break e parsed = made (subst (λ (r : List ℕ). IsBreakParsed P r result) (sym after) parsed)
     where
       sets : sets_break bytes ≡ true
       sets = ap (λ (w : List ℕ). bytes_eq w (codes "break")) first ∙ e
@@ -37,5 +37,5 @@ module _ (P : Program) (bytes word rest : List ℕ) (result : Result call.Call R
       let none : sets_break bytes ≡ false = ap (λ (w : List ℕ). bytes_eq w (codes "break")) first ∙ e in
       let same : map_ok call_of result ≡ call_of_words P (next_word bytes) (words_of (after_word bytes)) =
       asks ∙ ap (λ (w : List ℕ). call_of_words P w (words_of rest)) (sym first)
-      ∙ ap (λ (r : List ℕ). call_of_words P (next_word bytes) (words_of r)) (sym behind) in
+      ∙ ap (λ (r : List ℕ). call_of_words P (next_word bytes) (words_of r)) (sym after) in
       inl (where_false _ _ (sets_break bytes) none same)

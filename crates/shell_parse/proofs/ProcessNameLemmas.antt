@@ -13,14 +13,14 @@ use Rattle.dbg_base.specs.Trees.{Program, names_of}
 place_within_by : (first k : ℕ) (name n : List ℕ) (names : List (List ℕ)) (t : Bool) → bytes_eq n name ≡ t
     → (place_from (first + 1) name names ≡ Some k → k < first + 1 + length names)
     → place_from first name (n ∷ names) ≡ Some k → k < first + suc (length names)
-place_within_by first k name n names true e behind here =
+place_within_by first k name n names true e after here =
     let found : Some first ≡ Some k = subst (λ (t : Bool). cond t (Some first) (place_from (first + 1) name names) ≡ Some k) e here in
     let same : first ≡ k = cc in
     omega (arith, same)
-place_within_by first k name n names false e behind here =
+place_within_by first k name n names false e after here =
     let found : place_from (first + 1) name names ≡ Some k =
     subst (λ (t : Bool). cond t (Some first) (place_from (first + 1) name names) ≡ Some k) e here in
-    omega (arith, behind found)
+    omega (arith, after found)
 
 place_within : (first k : ℕ) (name : List ℕ) (names : List (List ℕ)) → place_from first name names ≡ Some k → k < first + length names
 place_within first k name [] here = cc

@@ -77,15 +77,15 @@ has_parts (Some (part ∷ parts)) = true
 has_parts found = false
 
 -- one of these conjuncts is of the process
-abbrev pub stands_in : List conjunct.Conjunct → ℕ → Bool
-stands_in made p = list_any (λ c. c.pid.0 == p) made
+abbrev pub has_part : List conjunct.Conjunct → ℕ → Bool
+has_part made p = list_any (λ c. c.pid.0 == p) made
 
--- a text as a conjunct of this process, or why it is refused; `stands` tests whether a process has a part already
+-- a text as a conjunct of this process, or why it is refused; `has_part` tests whether a process has a part already
 abbrev pub ReadsNamed : Program → (ℕ → Bool) → Result ℕ Refusal → List ℕ → Result Conjunct Refusal → Type 0
-ReadsNamed P stands (Err refusal) text result = result ≡ Err refusal
-ReadsNamed P stands (Ok p) text result =
+ReadsNamed P has (Err refusal) text result = result ≡ Err refusal
+ReadsNamed P has (Ok p) text result =
     ((tree : Tree) × ReadsPredicate P p text tree
-    × MatchBool (stands p) (result ≡ Err BadPredicate) (result ≡ Ok (record { process = p; expression = tree })))
+    × MatchBool (has p) (result ≡ Err BadPredicate) (result ≡ Ok (record { process = p; expression = tree })))
     ⊎ ((fault : ProgFault) × IsPredicateFault P p text fault × (result ≡ Err BadPredicate))
 
 -- The shape of a command that may be in a batch: a name and parts, or words that are a command, whatever they name.

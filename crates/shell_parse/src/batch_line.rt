@@ -3,7 +3,7 @@
 ghost use Rattle.std.specs.Prelude.{◌≡◌, ◌⊎◌, ◌<◌, ◌+◌, ◌∷◌, [], Err, IfOk, IsTrue, MatchOption, drop, length, take};
 ghost use Rattle.std.specs.List.{list_all};
 ghost use Rattle.dbg_base.specs.declared.refusal.Refusal.TheVariants.{Memory};
-ghost use Rattle.dbg_base.specs.CommandLines.{map_ok, is_separator, parentheses_behind, spot_behind, sets_break, commands_of};
+ghost use Rattle.dbg_base.specs.CommandLines.{map_ok, is_separator, parentheses_after, spot_after, sets_break, commands_of};
 ghost use Rattle.proc_lang.specs.Programs.{program_of};
 ghost use Rattle.shell_parse.specs.Lines.{depth_of, spot_of, has_shape, are_commands, IsMember, AreRead, IsBatchParsed, IsCommandParsed, IsGivable};
 
@@ -24,9 +24,9 @@ enum Spot {
 }
 
 // The spot after a byte within so many open parentheses.
-fn parentheses_behind(depth: usize, byte: u8) -> Spot
+fn parentheses_after(depth: usize, byte: u8) -> Spot
     requires { depth < 9223372036854775808 }
-    ensures { spot_of result ≡ parentheses_behind depth byte }
+    ensures { spot_of result ≡ parentheses_after depth byte }
 {
     match byte {
         b'(' => Spot::InParentheses(depth + 1),
@@ -37,12 +37,12 @@ fn parentheses_behind(depth: usize, byte: u8) -> Spot
 }
 
 // The spot after a byte; in some commands parentheses group.
-fn spot_behind(grouped: bool, spot: Spot, byte: u8) -> Spot
+fn spot_after(grouped: bool, spot: Spot, byte: u8) -> Spot
     requires { depth_of (spot_of spot) < 9223372036854775808 }
-    ensures { spot_of result ≡ spot_behind grouped (spot_of spot) byte }
+    ensures { spot_of result ≡ spot_after grouped (spot_of spot) byte }
 {
     match spot {
-        Spot::InParentheses(depth) => parentheses_behind(depth, byte),
+        Spot::InParentheses(depth) => parentheses_after(depth, byte),
         _ if is_blank(byte) => Spot::Between,
         Spot::Between if grouped && byte == b'(' => Spot::InParentheses(1),
         _ => Spot::InWord,
@@ -75,7 +75,7 @@ fn separator(bytes: &[u8]) -> Option<usize>
         if is_separator(spot, *byte, &bytes[n + 1..]) {
             return Some(n);
         }
-        spot = spot_behind(grouped, spot, *byte);
+        spot = spot_after(grouped, spot, *byte);
     }
     None
 }
@@ -98,12 +98,12 @@ fn are_commands(program: &Program, bytes: &[u8]) -> bool
     let mut rest = bytes;
     let mut count = 0usize;
     loop {
-        let (command, behind) = next_command(rest);
+        let (command, after) = next_command(rest);
         count += 1;
         if count > BATCH || !has_shape(program, command) {
             return false;
         }
-        match behind {
+        match after {
             Some(others) => rest = others,
             None => return true,
         }
@@ -129,12 +129,12 @@ fn read_commands(alloc: Global, program: &Program, bytes: &[u8]) -> Result<Vec<P
     let mut plans = Vec::new(alloc);
     let mut rest = bytes;
     loop {
-        let (command, behind) = next_command(rest);
+        let (command, after) = next_command(rest);
         match read_command(alloc, program, command) {
             Ok(plan) => plans.push(plan)?,
             Err(refusal) => return Err(refusal),
         }
-        match behind {
+        match after {
             Some(others) => rest = others,
             None => return Ok(plans),
         }

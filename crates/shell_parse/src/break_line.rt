@@ -3,11 +3,11 @@
 ghost use Rattle.std.specs.Prelude.{◌≡◌, ◌⊎◌, ◌<◌, ◌&&◌, Err, IfOk, IfErr, List, MatchOption, Some, None, [], drop, is_some, length, map};
 ghost use Rattle.dbg_base.specs.declared.refusal.Refusal.TheVariants.{BadLine, Memory};
 ghost use Rattle.dbg_base.specs.Calls.{conjunct_of};
-ghost use Rattle.dbg_base.specs.CommandLines.{Part, closed_front, predicate_front, is_apart, with_part, parts_in, map_ok, named_process};
+ghost use Rattle.dbg_base.specs.CommandLines.{Part, closed_prefix, predicate_prefix, is_apart, with_part, parts_in, map_ok, named_process};
 ghost use Rattle.dbg_base.specs.CommandLines.{name_word, next_word, after_word};
 ghost use Rattle.dbg_base.specs.Requests.{ReadsParts};
 ghost use Rattle.proc_lang.specs.Programs.{program_of};
-ghost use Rattle.shell_parse.specs.Lines.{has_parts, stands_in, ReadsNamed, IsBreakParsed};
+ghost use Rattle.shell_parse.specs.Lines.{has_parts, has_part, ReadsNamed, IsBreakParsed};
 
 use crate::words::{after_blanks, is_blank, name_word, named_process, next_word, word_length};
 use dbg_base::{Call, Conjunct, Name, Pid, Plan, Refusal, Sequence};
@@ -16,7 +16,7 @@ use std::alloc::Global;
 
 // The number of bytes up to the parenthesis that closes all open ones, or of all bytes if none closes them.
 fn closed_length(bytes: &[u8]) -> usize
-    ensures { result ≡ length (closed_front 0 bytes.now) }
+    ensures { result ≡ length (closed_prefix 0 bytes.now) }
 {
     let mut rest = bytes;
     let mut depth = 0usize;
@@ -38,7 +38,7 @@ fn closed_length(bytes: &[u8]) -> usize
 
 // The length in bytes of the predicate text at the beginning.
 fn predicate_length(bytes: &[u8]) -> usize
-    ensures { result ≡ length (predicate_front bytes.now) }
+    ensures { result ≡ length (predicate_prefix bytes.now) }
 {
     let [first, ..] = bytes else {
         return 0;
@@ -51,8 +51,8 @@ fn predicate_length(bytes: &[u8]) -> usize
 
 // The predicate text at the beginning, and the bytes after it.
 fn next_predicate(bytes: &[u8]) -> (&[u8], &[u8])
-    ensures text { result.0.now ≡ predicate_front bytes.now }
-    ensures rest { result.1.now ≡ drop (length (predicate_front bytes.now)) bytes.now }
+    ensures text { result.0.now ≡ predicate_prefix bytes.now }
+    ensures rest { result.1.now ≡ drop (length (predicate_prefix bytes.now)) bytes.now }
 {
     bytes.split_at(predicate_length(bytes))
 }
@@ -95,7 +95,7 @@ fn are_parts(bytes: &[u8]) -> bool
     let mut rest = bytes;
     loop {
         match next_part(rest) {
-            Ok(Some((_, behind))) => rest = behind,
+            Ok(Some((_, after))) => rest = after,
             Ok(None) => return true,
             Err(_) => return false,
         }
@@ -107,7 +107,7 @@ fn has_parts(bytes: &[u8]) -> bool
     ensures { result ≡ has_parts (parts_in bytes.now) }
 {
     match next_part(bytes) {
-        Ok(Some((_, behind))) => are_parts(behind),
+        Ok(Some((_, after))) => are_parts(after),
         Ok(None) | Err(_) => false,
     }
 }
@@ -121,8 +121,8 @@ pub(crate) fn is_break(bytes: &[u8]) -> bool
 }
 
 // Whether one of these conjuncts is of the process.
-fn stands_in(made: &[Conjunct], pid: Pid) -> bool
-    ensures { result ≡ stands_in made.now pid.0 }
+fn has_part(made: &[Conjunct], pid: Pid) -> bool
+    ensures { result ≡ has_part made.now pid.0 }
 {
     made.iter().any(|conjunct| conjunct.pid == pid)
 }
@@ -135,7 +135,7 @@ fn read_part(
     name: Name,
     text: &[u8],
 ) -> Result<Conjunct, Refusal>
-    ensures { ReadsNamed (program_of program.now) (stands_in made.now) (named_process (program_of program.now) name) text.now
+    ensures { ReadsNamed (program_of program.now) (has_part made.now) (named_process (program_of program.now) name) text.now
         (map_ok conjunct_of result) ⊎ (result ≡ Err Memory) }
 {
     let pid = named_process(program, name)?;
@@ -144,7 +144,7 @@ fn read_part(
         Err(ProgError::Bad(_)) => return Err(Refusal::BadPredicate),
         Err(ProgError::Memory) => return Err(Refusal::Memory),
     };
-    if stands_in(made, pid) {
+    if has_part(made, pid) {
         return Err(Refusal::BadPredicate);
     }
     Ok(Conjunct { pid, expr })
@@ -159,12 +159,12 @@ fn read_parts(alloc: Global, program: &Program, bytes: &[u8]) -> Result<Sequence
     let mut rest = bytes;
     loop {
         match next_part(rest) {
-            Ok(Some(((name, text), behind))) => {
+            Ok(Some(((name, text), after))) => {
                 match read_part(alloc, program, made.as_slice(), name, text) {
                     Ok(conjunct) => made.push(conjunct)?,
                     Err(refusal) => return Err(refusal),
                 }
-                rest = behind;
+                rest = after;
             }
             Ok(None) => return Ok(Sequence::new(made)),
             Err(refusal) => return Err(refusal),

@@ -25,7 +25,7 @@ pub fn without_return(line: &[u8]) -> &[u8]
     ensures { result.now ≡ without_return line.now }
 {
     match line {
-        [front @ .., last] if *last == b'\r' => front,
+        [prefix @ .., last] if *last == b'\r' => prefix,
         _ => line,
     }
 }

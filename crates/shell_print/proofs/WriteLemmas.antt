@@ -11,13 +11,13 @@ use Rattle.std.proofs.lemmas.Option.{slice_get_read}
 use Rattle.shell_print.specs.declared.outcome.ServeFault.{ServeFault}
 use Rattle.shell_print.specs.declared.outcome.ServeFault.TheVariants.{Write}
 use Rattle.dbg_base.specs.Replies.{spaced}
-use Rattle.shell_print.specs.Writing.{AppendsFront, Writes, Progress, Puts, in_a_row}
+use Rattle.shell_print.specs.Writing.{AppendsPrefix, Writes, Progress, Puts, in_a_row}
 
-pub front_then : (a b c : Seen) (x y : List ℕ) → Appended a b x → AppendsFront b c y → AppendsFront a c (x ++ y)
-front_then a b c x y h k = (x ++ k.0, k.1, ap (λ t. x ++ t) k.2 ∙ sym (append_assoc x k.0 k.1), cut_then a b c x k.0 h k.3)
+pub prefix_then : (a b c : Seen) (x y : List ℕ) → Appended a b x → AppendsPrefix b c y → AppendsPrefix a c (x ++ y)
+prefix_then a b c x y h k = (x ++ k.0, k.1, ap (λ t. x ++ t) k.2 ∙ sym (append_assoc x k.0 k.1), cut_then a b c x k.0 h k.3)
 
-pub front_longer : (a b : Seen) (x y : List ℕ) → AppendsFront a b x → AppendsFront a b (x ++ y)
-front_longer a b x y h = (h.0, h.1 ++ y, ap (λ t. t ++ y) h.2 ∙ append_assoc h.0 h.1 y, h.3)
+pub prefix_longer : (a b : Seen) (x y : List ℕ) → AppendsPrefix a b x → AppendsPrefix a b (x ++ y)
+prefix_longer a b x y h = (h.0, h.1 ++ y, ap (λ t. t ++ y) h.2 ∙ append_assoc h.0 h.1 y, h.3)
 
 -- one text was written whole, and then another was written or not
 pub writes_then : {A B : Type 0} {u : A} {a b c : Seen} {r : Result B ServeFault} {x y : List ℕ} → Writes {A = A} a b (Ok u) x
@@ -25,14 +25,14 @@ pub writes_then : {A B : Type 0} {u : A} {a b c : Seen} {r : Result B ServeFault
 writes_then {a = a} {b = b} {c = c} {r = Ok v} {x = x} {y = y} h k = record
     { whole = appended_then a b c x y h.whole k.whole; part = tt; fault = tt }
 writes_then {a = a} {b = b} {c = c} {r = Err e} {x = x} {y = y} h k = record
-    { whole = tt; part = front_then a b c x y h.whole k.part; fault = k.fault }
+    { whole = tt; part = prefix_then a b c x y h.whole k.part; fault = k.fault }
 
 -- a text was not written whole, and nothing after it was
 pub stopped : {A B : Type 0} {e : ServeFault} {r : Result B ServeFault} {a b : Seen} {x : List ℕ} (y : List ℕ)
     → Writes {A = A} a b (Err e) x → IsErrAnd r (λ f. f ≡ e)
     → Writes a b r (x ++ y)
 stopped {r = Ok v} y h k = absurd k
-stopped {r = Err f} {a = a} {b = b} {x = x} y h k = record { whole = tt; part = front_longer a b x y h.part; fault = k ∙ h.fault }
+stopped {r = Err f} {a = a} {b = b} {x = x} y h k = record { whole = tt; part = prefix_longer a b x y h.part; fault = k ∙ h.fault }
 
 -- a text was written whole, and was flushed or not
 pub handed_on : {A B : Type 0} {u : A} {a b c : Seen} {w : Result A ServeFault} {r : Result B ServeFault} {x : List ℕ} → Writes a b w x
@@ -127,7 +127,7 @@ pub puts_unwritten : {A B : Type 0} {e : ServeFault} {r : Result B ServeFault} {
 puts_unwritten {r = Ok v} h same k = absurd k
 puts_unwritten {r = Err f} {a = a} {b = b} {kept = kept} {text = text} h same k = record {
   some = tt;
-  part = subst (AppendsFront a b) (same ∙ sym (append-nil kept)) h.part;
+  part = subst (AppendsPrefix a b) (same ∙ sym (append-nil kept)) h.part;
   fault = k ∙ h.fault;
 }
 
@@ -166,7 +166,7 @@ pub puts_stopped : {A B : Type 0} {e : ServeFault} {r : Result B ServeFault} {a 
 puts_stopped {r = Ok v} y h k = absurd k
 puts_stopped {r = Err f} {a = a} {b = b} {kept = kept} {x = x} y h k = record {
   some = tt;
-  part = subst (AppendsFront a b) (append_assoc kept x y) (front_longer a b (kept ++ x) y h.part);
+  part = subst (AppendsPrefix a b) (append_assoc kept x y) (prefix_longer a b (kept ++ x) y h.part);
   fault = k ∙ h.fault;
 }
 
@@ -211,11 +211,11 @@ pub row_stopped : {A B : Type 0} {e : ServeFault} {r : Result B ServeFault} (a b
     → Puts a kept c last r words
 row_stopped {r = Ok v} a b c kept words left last due x others p e h k = absurd k
 row_stopped {r = Err f} a b c kept words left last due x others p e h k =
-    let longer = front_longer b c (left ++ x) others h.part in
-    let front = front_then a b c p.done ((left ++ x) ++ others) p.appends longer in
+    let longer = prefix_longer b c (left ++ x) others h.part in
+    let prefix = prefix_then a b c p.done ((left ++ x) ++ others) p.appends longer in
     let whole : kept ++ words ≡ p.done ++ ((left ++ x) ++ others) =
     p.all ∙ ap (λ (t : List ℕ). p.done ++ (left ++ t)) e ∙ ap (λ (t : List ℕ). p.done ++ t) (sym (append_assoc left x others)) in
-    record { some = tt; part = (front.0, front.1, whole ∙ front.2, front.3); fault = k ∙ h.fault }
+    record { some = tt; part = (prefix.0, prefix.1, whole ∙ prefix.2, prefix.3); fault = k ∙ h.fault }
 
 -- all are put
 pub row_ends : {A : Type 0} {u : A} (a b : Seen) (kept words left due : List ℕ) → Progress a b (kept ++ words) (left ++ due) → due ≡ []

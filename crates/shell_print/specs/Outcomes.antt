@@ -16,15 +16,15 @@ status_of (Err Write) = 1
 status_of (Err Memory) = 4
 
 -- the source has failed, once, exactly if the result is its fault
-abbrev pub source_behind : {A : Type 0} → Result A ServeFault → Health
-source_behind (Ok value) = Fine
-source_behind (Err Read) = Failed
-source_behind (Err Write) = Fine
-source_behind (Err Memory) = Fine
+abbrev pub source_after : {A : Type 0} → Result A ServeFault → Health
+source_after (Ok value) = Fine
+source_after (Err Read) = Failed
+source_after (Err Write) = Fine
+source_after (Err Memory) = Fine
 
 -- the same for the sink
-abbrev pub sink_behind : {A : Type 0} → Result A ServeFault → Health
-sink_behind (Ok value) = Fine
-sink_behind (Err Read) = Fine
-sink_behind (Err Write) = Failed
-sink_behind (Err Memory) = Fine
+abbrev pub sink_after : {A : Type 0} → Result A ServeFault → Health
+sink_after (Ok value) = Fine
+sink_after (Err Read) = Fine
+sink_after (Err Write) = Failed
+sink_after (Err Memory) = Fine

@@ -4,18 +4,18 @@ use Rattle.std.specs.Fmt.{decimal, signed_decimal}
 use Rattle.dbg_base.specs.Trees.{process_of, names_of}
 use Rattle.dbg_base.specs.Replies.{pair_words, mark_word, head_text, halted_words, name_of}
 use Rattle.proc_lang.specs.Programs.{program_of}
-use Rattle.shell_print.specs.declared.parts.Term.{Term}
-use Rattle.shell_print.specs.declared.parts.Term.TheVariants as term
-use Rattle.shell_print.specs.declared.parts.Item.{Item}
-use Rattle.shell_print.specs.declared.parts.Item.TheVariants as item
-use Rattle.shell_print.specs.declared.parts.Words.{Words}
-use Rattle.shell_print.specs.declared.parts.Words.TheVariants as words
-use Rattle.shell_print.specs.declared.parts.Names.{Names}
-use Rattle.shell_print.specs.declared.parts.Names.TheVariants as names
-use Rattle.shell_print.specs.declared.parts.Amounts.{Amounts}
-use Rattle.shell_print.specs.declared.parts.Amounts.TheVariants as amounts
-use Rattle.shell_print.specs.declared.parts.Piece.{Piece}
-use Rattle.shell_print.specs.declared.parts.Piece.TheVariants as piece
+use Rattle.shell_print.specs.declared.pieces.Term.{Term}
+use Rattle.shell_print.specs.declared.pieces.Term.TheVariants as term
+use Rattle.shell_print.specs.declared.pieces.Item.{Item}
+use Rattle.shell_print.specs.declared.pieces.Item.TheVariants as item
+use Rattle.shell_print.specs.declared.pieces.Words.{Words}
+use Rattle.shell_print.specs.declared.pieces.Words.TheVariants as words
+use Rattle.shell_print.specs.declared.pieces.Names.{Names}
+use Rattle.shell_print.specs.declared.pieces.Names.TheVariants as names
+use Rattle.shell_print.specs.declared.pieces.Amounts.{Amounts}
+use Rattle.shell_print.specs.declared.pieces.Amounts.TheVariants as amounts
+use Rattle.shell_print.specs.declared.pieces.Piece.{Piece}
+use Rattle.shell_print.specs.declared.pieces.Piece.TheVariants as piece
 
 -- a fixed word
 abbrev pub term_text : Term → List ℕ

@@ -5,14 +5,14 @@ use Rattle.shell_print.specs.declared.outcome.ServeFault.{ServeFault}
 use Rattle.shell_print.specs.declared.outcome.ServeFault.TheVariants.{Write}
 
 -- a prefix of the text was appended, and then the sink failed
-abbrev pub AppendsFront : Seen → Seen → List ℕ → Type 0
-AppendsFront old new text = (front back : List ℕ) × (text ≡ front ++ back) × CutShort old new front
+abbrev pub AppendsPrefix : Seen → Seen → List ℕ → Type 0
+AppendsPrefix old new text = (prefix back : List ℕ) × (text ≡ prefix ++ back) × CutShort old new prefix
 
 -- At `Ok` the whole text was appended, and the sink has not failed. At `Err`, which is `Write`, a prefix of it was appended, and then the
 -- sink failed, once: it was not called again.
 pub record Writes {A : Type 0} (old new : Seen) (result : Result A ServeFault) (text : List ℕ) : Type 0 where
   pub whole : OnOk result (Appended old new text)
-  pub part : OnErr result (AppendsFront old new text)
+  pub part : OnErr result (AppendsPrefix old new text)
   pub fault : IfErr result (λ fault. fault ≡ Write)
 
 -- these bytes of the text were appended, and the rest is not written yet
@@ -26,7 +26,7 @@ pub record Progress (old new : Seen) (text rest : List ℕ) : Type 0 where
 pub record Puts {A : Type 0} (old : Seen) (kept : List ℕ) (new : Seen) (left : List ℕ) (result : Result A ServeFault) (words : List ℕ)
     : Type 0 where
   pub some : OnOk result (Progress old new (kept ++ words) left)
-  pub part : OnErr result (AppendsFront old new (kept ++ words))
+  pub part : OnErr result (AppendsPrefix old new (kept ++ words))
   pub fault : IfErr result (λ fault. fault ≡ Write)
 
 -- the results of f for each item, one after the other

@@ -4,6 +4,7 @@
 mod notices;
 mod outcome;
 mod parts;
+mod pieces;
 mod reply;
 mod text;
 

@@ -11,7 +11,8 @@ ghost use Rattle.dbg_base.specs.Replies.{joined};
 ghost use Rattle.shell_print.specs.declared.outcome.Served.TheVariants.{Done, Refused, TooLong};
 
 use crate::outcome::{ServeFault, Served};
-use crate::parts::{Item, Piece, Term, write_line};
+use crate::parts::write_line;
+use crate::pieces::{Item, Piece, Term};
 use dbg_base::Pid;
 use proc_lang::{ProgFault, Program};
 use shell_io::Sink;

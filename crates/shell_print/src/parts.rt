@@ -9,9 +9,10 @@ ghost use Rattle.dbg_base.specs.Shell.{as_line};
 ghost use Rattle.proc_lang.specs.Programs.{program_of};
 ghost use Rattle.shell_print.specs.Writing.{Writes, Puts, in_a_row};
 ghost use Rattle.shell_print.specs.declared.parts.TheConstants.{PAIR, LINE};
-ghost use Rattle.shell_print.specs.Pieces.{term_text, item_text, word_texts, names_in, amount_texts, piece_words};
+ghost use Rattle.shell_print.specs.Pieces.{item_text, word_texts, names_in, amount_texts, piece_words};
 
 use crate::outcome::ServeFault;
+use crate::pieces::{Amounts, Item, Names, Piece, Term, Words};
 use crate::text::Text;
 use dbg_base::{Head, Name, Pid};
 use itoa::Buffer;
@@ -22,93 +23,6 @@ use shell_io::Sink;
 const PAIR: usize = 80;
 // Room for a line. A longer line is written in pieces: what is composed is written when there is no room left for a pair.
 const LINE: usize = 256;
-
-/// A fixed word of a line.
-#[derive(Clone, Copy)]
-pub(crate) enum Term {
-    At,
-    Commands,
-    Halted,
-    No,
-    None,
-    Of,
-    Past,
-    Processes,
-    Yes,
-}
-
-impl Term {
-    fn text(self) -> &'static [u8]
-        ensures text { result.now ≡ term_text self }
-        ensures short { length result.now ≤ 40 }
-    {
-        match self {
-            Term::At => b"at",
-            Term::Commands => b"commands",
-            Term::Halted => b"halted",
-            Term::No => b"no",
-            Term::None => b"none",
-            Term::Of => b"of",
-            Term::Past => b"past",
-            Term::Processes => b"processes",
-            Term::Yes => b"yes",
-        }
-    }
-}
-
-/// The content of a word.
-#[derive(Clone, Copy)]
-pub(crate) enum Item<'a> {
-    Term(Term),
-    Name(&'a Name),
-    /// The name of a process.
-    Process(&'a Program, Pid),
-    Count(u32),
-    Size(usize),
-    Number(i64),
-}
-
-/// Words of one kind.
-#[derive(Clone, Copy)]
-pub(crate) enum Words<'a> {
-    Numbers(&'a [i64]),
-    /// Breakpoints, each with its mark.
-    Marks(&'a [(Name, bool)]),
-}
-
-/// Names of a program, in order.
-#[derive(Clone, Copy)]
-pub(crate) enum Names<'a> {
-    Processes(&'a Program),
-    /// The names of the variables of a process.
-    Variables(&'a Program, Pid),
-}
-
-/// The values for some names, in order.
-#[derive(Clone, Copy)]
-pub(crate) enum Amounts<'a> {
-    Counts(&'a [u32]),
-    Numbers(&'a [i64]),
-    /// Components of a frontier.
-    Heads(&'a [Head]),
-}
-
-/// A part of a line.
-#[derive(Clone, Copy)]
-pub(crate) enum Piece<'a> {
-    /// One word.
-    Item(Item<'a>),
-    /// Two counts.
-    Counts(u32, u32),
-    /// No word.
-    Nothing,
-    /// Each of these.
-    Words(Words<'a>),
-    /// Names, each with its value.
-    Pairs(Names<'a>, Amounts<'a>),
-    /// The breakpoint that halts the session, if any.
-    Halted(&'a Option<Name>),
-}
 
 /// Writes all of the bytes. After a failure it does not call the writer again.
 pub fn write_whole<W: Sink>(writer: &mut W, bytes: &[u8]) -> Result<(), ServeFault>

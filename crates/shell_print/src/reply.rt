@@ -16,7 +16,8 @@ ghost use Rattle.shell_print.specs.Questions.{question_of, FitsSaid};
 ghost use Rattle.shell_print.specs.Pieces.{item_text, names_in, amount_texts, piece_words};
 
 use crate::outcome::ServeFault;
-use crate::parts::{Amounts, Item, Names, Piece, Term, Words, write_line};
+use crate::parts::write_line;
+use crate::pieces::{Amounts, Item, Names, Piece, Term, Words};
 use dbg_base::{Answer, Call, Choice, Cut, Done, Name, Pid, Query, Refusal, Reply, Said};
 use proc_lang::Program;
 use shell_io::Sink;

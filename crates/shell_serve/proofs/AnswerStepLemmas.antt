@@ -71,16 +71,16 @@ module _ (P : Program) (line : List ℕ) where
       by_seat None is = seat_asks None is (Err BadLine) refl
       by_seat (Some seat) is = by_word seat is (bytes_eq (next_word rest) (codes "batch")) refl
 
-    by_front : (t : Bool) → nat_le (length (next_word within)) 0 ≡ t → Known
-    by_front true blank =
+    by_prefix : (t : Bool) → nat_le (length (next_word within)) 0 ≡ t → Known
+    by_prefix true blank =
         short_asks (Ok None) (subst (λ (t : Bool). MatchBool t (IsKnown (Ok None) (Ok None))
         (AsksBy P (seat_word (next_word within)) rest (Ok None))) (sym blank) refl)
-    by_front false some = by_seat some (seat_word (next_word within)) refl
+    by_prefix false some = by_seat some (seat_word (next_word within)) refl
 
   by_length : (t : Bool) → nat_lt LINE_BYTES (length line) ≡ t → Known
   by_length true long =
       (Err BadLine, inl (subst (λ (t : Bool). MatchBool t (IsKnown (Err BadLine) (Err BadLine)) (AsksWithin P within (Err BadLine))) (sym long) refl))
-  by_length false short = by_front short (nat_le (length (next_word within)) 0) refl
+  by_length false short = by_prefix short (nat_le (length (next_word within)) 0) refl
 
   known : Known
   known = by_length (nat_lt LINE_BYTES (length line)) refl
@@ -93,11 +93,11 @@ call_answer : (P : Program) (request : Request) (J : Journal) (t : Bool) → nat
     → Answer P (Ok (Some request)) J
 call_answer P request J true below few =
     let room : length J < CALLS = grind (arith, nat_tests) in
-    (as_line (reply_text P request.call (Refused Memory)), (Refused Memory, inl (room, inr (record { told = refl; left = refl })), refl))
+    (as_line (reply_text P request.call (Refused Memory)), (Refused Memory, inl (room, inr (record { reported = refl; left = refl })), refl))
 call_answer P request J false all few =
     let full : length J ≡ CALLS = grind (arith, nat_tests) in (
       as_line (reply_text P request.call (Refused JournalFull)),
-      (Refused JournalFull, inr (record { full = full; told = refl; left = refl }), refl),
+      (Refused JournalFull, inr (record { full = full; reported = refl; left = refl }), refl),
     )
 
 some_answer : (P : Program) (asked : Result (Option Request) Refusal) (J : Journal) → length J ≤ CALLS → Answer P asked J

@@ -23,12 +23,12 @@ module _ (M : Manner) (P : Program) (bytes : List ℕ) (J : Journal) where
       (text : List ℕ) → IsParsed P bytes (Ok (Some line)) → Makes P J line.seat (call_of line.call) said after
       → text ≡ reply_text P (call_of line.call) said → Writes {A = A} a b (Ok u) (as_line text) → WritesForm M.explains b r c
       → WritesReply M P bytes J a r c after
-  call_replied line said after a b c text parsed makes is wrote told = record {
+  call_replied line said after a b c text parsed makes is wrote reported = record {
     reply = as_line text;
-    told = told.text;
+    reported = reported.text;
     answers = (Ok (Some (requested line)), parsed, (said, makes, ap as_line is));
-    explains = told.form;
-    written = writes_then wrote told.written;
+    explains = reported.form;
+    written = writes_then wrote reported.written;
   }
 
   -- or the answer was not written in full
@@ -38,7 +38,7 @@ module _ (M : Manner) (P : Program) (bytes : List ℕ) (J : Journal) where
       → WritesReply M P bytes J a r b after
   call_stopped line said after a b text quiet parsed makes is wrote same = record {
     reply = as_line text;
-    told = [];
+    reported = [];
     answers = (Ok (Some (requested line)), parsed, (said, makes, ap as_line is));
     explains = quiet.explains;
     written = stopped [] wrote same;
@@ -48,7 +48,7 @@ module _ (M : Manner) (P : Program) (bytes : List ℕ) (J : Journal) where
   pub none_replied : {A : Type 0} {u : A} (a : Seen) → MayBeQuiet M → IsParsed P bytes (Ok None) → WritesReply {A = A} M P bytes J a (Ok u) a J
   none_replied a quiet parsed = record {
     reply = [];
-    told = [];
+    reported = [];
     answers = (Ok None, parsed, (refl, refl));
     explains = quiet.explains;
     written = record { whole = appended_none a; part = tt; fault = tt };
@@ -57,12 +57,12 @@ module _ (M : Manner) (P : Program) (bytes : List ℕ) (J : Journal) where
   -- the refusal of the line was written, and then an explanation or none
   pub refusal_replied : {A B : Type 0} {u : A} {r : Result B ServeFault} (refusal : Refusal) (a b c : Seen) → IsParsed P bytes (Err refusal)
       → Writes {A = A} a b (Ok u) (as_line (refusal_text P refusal)) → WritesForm M.explains b r c → WritesReply M P bytes J a r c J
-  refusal_replied refusal a b c parsed wrote told = record {
+  refusal_replied refusal a b c parsed wrote reported = record {
     reply = as_line (refusal_text P refusal);
-    told = told.text;
+    reported = reported.text;
     answers = (Err refusal, parsed, (refl, refl));
-    explains = told.form;
-    written = writes_then wrote told.written;
+    explains = reported.form;
+    written = writes_then wrote reported.written;
   }
 
   -- or it was not written in full
@@ -71,7 +71,7 @@ module _ (M : Manner) (P : Program) (bytes : List ℕ) (J : Journal) where
       → WritesReply M P bytes J a r b J
   refusal_stopped refusal a b quiet parsed wrote same = record {
     reply = as_line (refusal_text P refusal);
-    told = [];
+    reported = [];
     answers = (Err refusal, parsed, (refl, refl));
     explains = quiet.explains;
     written = stopped [] wrote same;

@@ -62,8 +62,8 @@ module _ (M : Manner) where
                 let split = program_here input may in
                 let program : Reads (slice_range bytes 0 span.from) P =
                 subst (λ (t : List ℕ). Reads t P) (text_from_start bytes text span.from (seen split.1)) reads in
-                let told = wrote input may in
-                (told.1.0, by_parts input _ served told.1.0 split.0 (inl (P, program, told.0, told.1.1)), told.1.2)
+                let reported = wrote input may in
+                (reported.1.0, by_parts input _ served reported.1.0 split.0 (inl (P, program, reported.0, reported.1.1)), reported.1.2)
 
         pub stops_program : (known : Option (List ℕ)) (r : Result Served ServeFault) (old out : Seen)
             → IfSome known (MayBe more over)
@@ -77,9 +77,9 @@ module _ (M : Manner) where
                 let split = program_here input may in
                 let program : Reads (slice_range bytes 0 span.from) P =
                 subst (λ (t : List ℕ). Reads t P) (text_from_start bytes text span.from (seen split.1)) reads in
-                let told = wrote is_write input may in
+                let reported = wrote is_write input may in
                 let served = end_by M (lines_from new input) input in
-                (served, (told.0, by_parts input _ served told.0 split.0 (inl (P, program, refl, told.1)), told.2))
+                (served, (reported.0, by_parts input _ served reported.0 split.0 (inl (P, program, refl, reported.1)), reported.2))
 
         -- the answers to the whole lines
         text_so_far : (old out : Seen) (broken : BreaksOn M P more over new old out)

@@ -26,9 +26,9 @@ all_heard : (lines : List (List ℕ)) → heard plain lines ≡ lines
 all_heard lines = heard_all plain lines (none_ends lines)
 
 -- the output for a line is its reply alone
-alone : (first reply told out : List ℕ) → first ≡ [] → told ≡ [] → out ≡ first ++ (reply ++ told) → out ≡ reply
-alone first reply told out none nothing is =
-    is ∙ ap (λ (t : List ℕ). t ++ (reply ++ told)) none ∙ ap (λ (t : List ℕ). reply ++ t) nothing ∙ append-nil reply
+alone : (first reply reported out : List ℕ) → first ≡ [] → reported ≡ [] → out ≡ first ++ (reply ++ reported) → out ≡ reply
+alone first reply reported out none nothing is =
+    is ∙ ap (λ (t : List ℕ). t ++ (reply ++ reported)) none ∙ ap (λ (t : List ℕ). reply ++ t) nothing ∙ append-nil reply
 
 says_reply : (P : Program) (line : List ℕ) (J : Journal) (out : List ℕ) (J' : Journal) → Says plain P line J out J' → AnswersLine P line J out J'
 says_reply P line J out J' says =
@@ -62,7 +62,7 @@ all_replies P lines input out says = (
 
 -- a text without an explanation
 text_alone : (due out : List ℕ) → IsExplained plain due out → out ≡ due
-text_alone due out told = told.2 ∙ ap (λ (t : List ℕ). due ++ t) told.1 ∙ append-nil due
+text_alone due out reported = reported.2 ∙ ap (λ (t : List ℕ). due ++ t) reported.1 ∙ append-nil due
 
 parts_served : (input : List ℕ) (parts : Option Parts) (served : Served) (out : List ℕ)
     → SessionParts plain input parts served out → EndsParts input parts served × TextOfParts input parts out
@@ -88,7 +88,7 @@ pub run_stopped : (known : Option (List ℕ)) (r : Result Served ServeFault) (ol
 run_stopped known (Ok served) old out wrote = tt
 run_stopped None (Err fault) old out wrote = λ is_write. tt
 run_stopped (Some input) (Err fault) old out wrote = λ is_write.
-    let told = wrote is_write in (told.0, (told.1.0, input_served input told.0 told.1.0 told.1.1, told.1.2))
+    let reported = wrote is_write in (reported.0, (reported.1.0, input_served input reported.0 reported.1.0 reported.1.1, reported.1.2))
 
 whole_replies : (parts : Option Parts) (out : List ℕ) → WholeParts plain parts out → AnswersParts parts out
 whole_replies None out says = says
@@ -101,5 +101,5 @@ pub run_broken : (known left : Option (List ℕ)) (r : Result Served ServeFault)
 run_broken known left (Ok served) old out wrote = tt
 run_broken None left (Err fault) old out wrote = λ is_read. tt
 run_broken (Some input) left (Err fault) old out wrote = λ is_read.
-    let told = wrote is_read in
-    (told.0, told.1, told.2, told.3, told.4, (told.5.0, whole_replies (parts_of (lines_of told.0).whole) told.5.0 told.5.1, told.5.2))
+    let reported = wrote is_read in
+    (reported.0, reported.1, reported.2, reported.3, reported.4, (reported.5.0, whole_replies (parts_of (lines_of reported.0).whole) reported.5.0 reported.5.1, reported.5.2))

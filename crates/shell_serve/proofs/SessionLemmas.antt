@@ -19,14 +19,14 @@ use Rattle.shell_print.specs.declared.outcome.ServeFault.TheVariants.{Read, Writ
 use Rattle.shell_print.specs.declared.outcome.Served.TheVariants.{Done, TooLong}
 use Rattle.shell_input.specs.Spans.{lines_from, Tells, TellsAny, MayBe, Narrows, IsUnderWay}
 use Rattle.shell_io.specs.declared.health.Health.TheVariants.{Fine, Failed}
-use Rattle.shell_print.specs.Outcomes.{source_behind, sink_behind}
-use Rattle.shell_print.specs.Writing.{AppendsFront, Writes}
+use Rattle.shell_print.specs.Outcomes.{source_after, sink_after}
+use Rattle.shell_print.specs.Writing.{AppendsPrefix, Writes}
 use Rattle.shell_serve.specs.Sessions.{Manner, MayBeQuiet, Replies, Says, IsExplained, WritesForm, WritesLine, WritesReply, SaysLines, heard, end_of, end_by, end_text_by, SaysAll, SaysOn, StopsOn, BreaksOn}
-use Rattle.shell_input.specs.Written.{WritesSome, WritesFront}
-use Rattle.shell_input.proofs.TextSplitLemmas.{told_of}
+use Rattle.shell_input.specs.Written.{WritesSome, WritesPrefix}
+use Rattle.shell_input.proofs.TextSplitLemmas.{reported_of}
 use Rattle.shell_input.proofs.UnfinishedInputLemmas.{goes_on, none_left}
 use Rattle.shell_serve.proofs.AnswerStepLemmas.{opens_legal, line_legal, some_line}
-use Rattle.shell_print.proofs.WriteLemmas.{front_then, front_longer, writes_then, stopped}
+use Rattle.shell_print.proofs.WriteLemmas.{prefix_then, prefix_longer, writes_then, stopped}
 
 -- Some lines were answered, none of which ends the session. Answers to the lines from here on complete the answers to all of them.
 pub record Answered (M : Manner) (P : Program) (whole : List ℕ) (from at : ℕ) (J : Journal) (old new : Seen) : Type 0
@@ -189,12 +189,12 @@ module _ (M : Manner) where
     -- the output for a line was not written in full
     answered_stops : (P : Program) (whole line : List ℕ) (from at new : ℕ) (J next : Journal) (a b c : Seen) (text : List ℕ)
         → Answered M P whole from at J a b → lines_from at whole ≡ line ∷ lines_from new whole → Says M P line J text next
-        → AppendsFront b c text → WritesFront a c (SaysAll M P (lines_from from whole) whole)
-    answered_stops P whole line from at new J next a b c text answered here says front =
-        let longer = front_longer a c (answered.text ++ text) (more.0 ++ end) (front_then a b c answered.text text answered.written front) in (
+        → AppendsPrefix b c text → WritesPrefix a c (SaysAll M P (lines_from from whole) whole)
+    answered_stops P whole line from at new J next a b c text answered here says prefix =
+        let longer = prefix_longer a c (answered.text ++ text) (more.0 ++ end) (prefix_then a b c answered.text text answered.written prefix) in (
           answered.text ++ (text ++ more.0) ++ end,
           (answered.text ++ (text ++ more.0), next, all, legal, refl),
-          subst (λ (t : List ℕ). AppendsFront a c t) (regrouped answered.text text more.0 end) longer,
+          subst (λ (t : List ℕ). AppendsPrefix a c t) (regrouped answered.text text more.0 end) longer,
         )
       where
         legal : IsLegal P next
@@ -215,7 +215,7 @@ module _ (M : Manner) where
     module _ (P : Program) (before : List ℕ) (was : Bool) (bytes : List ℕ) (ended : Bool) (from at new : ℕ) (next : Next) (J : Journal)
         (old mid : Seen)
         (answered : AnsweredAny M P before was from at J old mid) (narrows : Narrows before was bytes ended)
-        (told : TellsAny bytes ended at new next) where
+        (reported : TellsAny bytes ended at new next) where
       here_of : (input : List ℕ) → MayBe bytes ended input → Answered M P input from at J old mid
       here_of input may = answered input (narrows input may)
 
@@ -223,7 +223,7 @@ module _ (M : Manner) where
           (seen : span.from ≤ span.to → span.to ≤ length bytes → line ≡ slice_range bytes span.from span.to) where
         line_here : (input : List ℕ) → MayBe bytes ended input → lines_from at input ≡ line ∷ lines_from new input
         line_here input may =
-            let here : Tells input bytes at new (nexts.Line span) = told_of bytes ended at new next (nexts.Line span) told is input may in
+            let here : Tells input bytes at new (nexts.Line span) = reported_of bytes ended at new next (nexts.Line span) reported is input may in
             let same : line ≡ slice_range bytes span.from span.to = seen here.2 here.3 in
             here.0 ∙ ap (λ (l : List ℕ). l ∷ lines_from new input) (sym same)
 
@@ -249,7 +249,7 @@ module _ (M : Manner) where
 
       pub any_ends : next ≡ nexts.End → SaysOn M P bytes ended from Done old mid
       any_ends is input may =
-          let here : Tells input bytes at new nexts.End = told_of bytes ended at new next nexts.End told is input may in
+          let here : Tells input bytes at new nexts.End = reported_of bytes ended at new next nexts.End reported is input may in
           let no : is_too_long input ≡ false = here.1 in
           ends_well P input from at J old mid mid [] Done (here_of input may) here.0 (rw no refl) (rw no refl) (appended_none mid)
 
@@ -258,7 +258,7 @@ module _ (M : Manner) where
       any_is_too_long (Err fault) out is wrote same = tt
       any_is_too_long (Ok served) out is wrote same =
           λ input may.
-          let here : Tells input bytes at new nexts.TooLong = told_of bytes ended at new next nexts.TooLong told is input may in
+          let here : Tells input bytes at new nexts.TooLong = reported_of bytes ended at new next nexts.TooLong reported is input may in
           let long : is_too_long input ≡ true = here.1 in
           ends_well P input from at J old mid out too_long_text served (here_of input may) here.0 (same ∙ rw long refl) (rw long refl) wrote.whole
 
@@ -267,12 +267,12 @@ module _ (M : Manner) where
       any_is_cut (Ok served) out is wrote = tt
       any_is_cut (Err fault) out is wrote =
           λ is_write input may.
-          let here : Tells input bytes at new nexts.TooLong = told_of bytes ended at new next nexts.TooLong told is input may in
+          let here : Tells input bytes at new nexts.TooLong = reported_of bytes ended at new next nexts.TooLong reported is input may in
           let long : is_too_long input ≡ true = here.1 in
           let so_far : Answered M P input from at J old mid = here_of input may in (
             so_far.text ++ too_long_text,
             says_end P input from at J old mid too_long_text so_far here.0 (rw long refl),
-            front_then old mid out so_far.text too_long_text so_far.written wrote.part,
+            prefix_then old mid out so_far.text too_long_text so_far.written wrote.part,
           )
 
     -- if no more can be read, the whole lines were answered
@@ -341,8 +341,8 @@ explained_alone M quiet text = ([], quiet.explains, sym (append-nil text))
 -- a refusal of the program was written, and then an explanation or none
 pub refused_then : {A B : Type 0} {u : A} {r : Result B ServeFault} (M : Manner) (due : List ℕ) (a b c : Seen)
     → Writes {A = A} a b (Ok u) due → WritesForm M.explains b r c → WritesForm (IsExplained M due) a r c
-refused_then M due a b c wrote told =
-    record { text = due ++ told.text; form = (told.text, told.form, refl); written = writes_then wrote told.written }
+refused_then M due a b c wrote reported =
+    record { text = due ++ reported.text; form = (reported.text, reported.form, refl); written = writes_then wrote reported.written }
 
 -- or it was not written in full
 pub refused_not : {A B : Type 0} {e : ServeFault} {r : Result B ServeFault} (M : Manner) (due : List ℕ) (a b : Seen) → MayBeQuiet M
@@ -379,10 +379,10 @@ module _ (M : Manner) (P : Program) (line : List ℕ) (J : Journal) where
   -- a directive was answered
   pub directive_said : {A B : Type 0} {u : A} {r : Result B ServeFault} (a b c : Seen) → M.is_directive line ≡ true
       → WritesForm {A = A} (M.before line) a (Ok u) b → WritesForm M.explains b r c → WritesLine M P line J a r c J
-  directive_said a b c own first told = record {
-    text = first.text ++ ([] ++ told.text);
-    says = (first.text, [], told.text, first.form, rw own (refl, refl), told.form, refl);
-    written = writes_then first.written told.written;
+  directive_said a b c own first reported = record {
+    text = first.text ++ ([] ++ reported.text);
+    says = (first.text, [], reported.text, first.form, rw own (refl, refl), reported.form, refl);
+    written = writes_then first.written reported.written;
   }
 
   -- a command line was answered
@@ -390,11 +390,11 @@ module _ (M : Manner) (P : Program) (line : List ℕ) (J : Journal) where
       → M.is_directive line ≡ false → seated ≡ M.seated line → WritesForm {A = A} (M.before line) a (Ok u) b
       → WritesReply M P seated J b r c after → WritesLine M P line J a r c after
   command_said seated after a b c own is first answer = record {
-    text = first.text ++ (answer.reply ++ answer.told);
+    text = first.text ++ (answer.reply ++ answer.reported);
     says = (
       first.text,
       answer.reply,
-      answer.told,
+      answer.reported,
       first.form,
       rw own (subst (λ (l : List ℕ). AnswersLine P l J answer.reply after) is answer.answers),
       answer.explains,
@@ -404,14 +404,14 @@ module _ (M : Manner) (P : Program) (line : List ℕ) (J : Journal) where
   }
 
 -- a failure of the writer is reported
-pub sink_cut : {A : Type 0} {e : ServeFault} (r : Result A ServeFault) → IsErrAnd r (λ f. f ≡ e) → e ≡ Write → sink_behind r ≡ Failed
+pub sink_cut : {A : Type 0} {e : ServeFault} (r : Result A ServeFault) → IsErrAnd r (λ f. f ≡ e) → e ≡ Write → sink_after r ≡ Failed
 sink_cut (Ok v) same is = absurd same
-sink_cut {A = A} (Err f) same is = subst (λ (g : ServeFault). sink_behind {A = A} (Err g) ≡ Failed) (sym (same ∙ is)) refl
+sink_cut {A = A} (Err f) same is = subst (λ (g : ServeFault). sink_after {A = A} (Err g) ≡ Failed) (sym (same ∙ is)) refl
 
 -- and not one of the reader
-pub source_fine : {A : Type 0} {e : ServeFault} (r : Result A ServeFault) → IsErrAnd r (λ f. f ≡ e) → e ≡ Write → Fine ≡ source_behind r
+pub source_fine : {A : Type 0} {e : ServeFault} (r : Result A ServeFault) → IsErrAnd r (λ f. f ≡ e) → e ≡ Write → Fine ≡ source_after r
 source_fine (Ok v) same is = absurd same
-source_fine {A = A} (Err f) same is = subst (λ (g : ServeFault). Fine ≡ source_behind {A = A} (Err g)) (sym (same ∙ is)) refl
+source_fine {A = A} (Err f) same is = subst (λ (g : ServeFault). Fine ≡ source_after {A = A} (Err g)) (sym (same ∙ is)) refl
 
 -- a failure of the reader is not one of the writer
 pub never_write : {A : Type 0} {e : ServeFault} (X : Type 0) (r : Result A ServeFault) → IsErrAnd r (λ f. f ≡ e) → e ≡ Read

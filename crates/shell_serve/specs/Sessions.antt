@@ -15,11 +15,11 @@ use Rattle.shell_print.specs.declared.outcome.Served.{Served}
 use Rattle.shell_print.specs.declared.outcome.Served.TheVariants.{Done, Refused, TooLong}
 use Rattle.shell_print.specs.declared.outcome.ServeFault.{ServeFault}
 use Rattle.shell_print.specs.declared.outcome.ServeFault.TheVariants.{Memory, Read, Write}
-use Rattle.shell_print.specs.Outcomes.{source_behind, sink_behind}
+use Rattle.shell_print.specs.Outcomes.{source_after, sink_after}
 use Rattle.shell_print.specs.Writing.{Writes}
 use Rattle.shell_input.specs.Spans.{lines_from, MayBe, IsUnderWay}
 use Rattle.shell_input.specs.ProgramTexts.{ReadsFew, ReadsProgram}
-use Rattle.shell_input.specs.Written.{WritesSome, WritesFront}
+use Rattle.shell_input.specs.Written.{WritesSome, WritesPrefix}
 
 -- The manner in which a session answers its lines.
 pub record Manner : Type 1 where
@@ -47,11 +47,11 @@ Replies M P line J reply J' =
 -- the output for a line, from a journal to the journal after it
 abbrev pub Says : Manner → Program → List ℕ → Journal → List ℕ → Journal → Type 0
 Says M P line J out J' =
-    (first reply told : List ℕ) × M.before line first × Replies M P line J reply J' × M.explains told × (out ≡ first ++ (reply ++ told))
+    (first reply reported : List ℕ) × M.before line first × Replies M P line J reply J' × M.explains reported × (out ≡ first ++ (reply ++ reported))
 
 -- a text, and an explanation after it
 abbrev pub IsExplained : Manner → List ℕ → List ℕ → Type 0
-IsExplained M due out = (told : List ℕ) × M.explains told × (out ≡ due ++ told)
+IsExplained M due out = (reported : List ℕ) × M.explains reported × (out ≡ due ++ reported)
 
 -- A text of this form was written, or if the writer failed a prefix of it.
 pub record WritesForm {A : Type 0} (Form : List ℕ → Type 0) (old : Seen) (result : Result A ServeFault) (new : Seen) : Type 0 where
@@ -70,10 +70,10 @@ pub record WritesLine {A : Type 0} (M : Manner) (P : Program) (line : List ℕ) 
 pub record WritesReply {A : Type 0} (M : Manner) (P : Program) (line : List ℕ) (J : Journal) (old : Seen) (result : Result A ServeFault)
     (new : Seen) (after : Journal) : Type 0 where
   pub reply : List ℕ
-  pub told : List ℕ
+  pub reported : List ℕ
   pub answers : AnswersLine P line J reply after
-  pub explains : M.explains told
-  pub written : Writes old new result (reply ++ told)
+  pub explains : M.explains reported
+  pub written : Writes old new result (reply ++ reported)
 
 -- the output for these lines, one after the other
 abbrev pub SaysLines : Manner → Program → List (List ℕ) → Journal → List ℕ → Journal → Type 0
@@ -142,7 +142,7 @@ SaysOn M P bytes ended from served old new =
 -- The writer failed, for any input.
 abbrev pub StopsOn : Manner → Program → List ℕ → Bool → ℕ → Seen → Seen → Type 0
 StopsOn M P bytes ended from old new =
-    (input : List ℕ) → MayBe bytes ended input → WritesFront old new (SaysAll M P (lines_from from input) input)
+    (input : List ℕ) → MayBe bytes ended input → WritesPrefix old new (SaysAll M P (lines_from from input) input)
 
 -- The reader failed, and the whole lines from a position on were answered.
 pub record BreaksOn (M : Manner) (P : Program) (bytes : List ℕ) (ended : Bool) (from : ℕ) (old new : Seen) : Type 0
@@ -162,8 +162,8 @@ pub record AnswersOn (M : Manner) (P : Program) (bytes : List ℕ) (ended : Bool
 
 -- A failure of the reader or of the writer is reported exactly if there was one. There was only one then.
 pub record ReportsFaults (read_old read_new write_old write_new : Health) (result : Result Served ServeFault) : Type 0 where
-  pub reader : read_old ≡ Fine → read_new ≡ source_behind result
-  pub writer : write_old ≡ Fine → write_new ≡ sink_behind result
+  pub reader : read_old ≡ Fine → read_new ≡ source_after result
+  pub writer : write_old ≡ Fine → write_new ≡ sink_after result
 
 -- What a session does with a reader, whose bytes may be known, and a writer.
 pub record Plays (M : Manner) (known left : Option (List ℕ)) (old : Seen) (result : Result Served ServeFault) (new : Seen) : Type 0 where
@@ -171,7 +171,7 @@ pub record Plays (M : Manner) (known left : Option (List ℕ)) (old : Seen) (res
   pub served : IfOk result (λ served. IfSome known (λ input. WritesSome old new (SessionInput M input served)))
   -- If the writer failed, a prefix of that output was written.
   pub stopped : IfErr result (λ fault. fault ≡ Write → IfSome known
-      (λ input. (served : Served) × WritesFront old new (SessionInput M input served)))
+      (λ input. (served : Served) × WritesPrefix old new (SessionInput M input served)))
   -- If the reader failed, the output is due for the whole lines before the failure.
   pub broken : IfErr result (λ fault. fault ≡ Read → IfSome known (λ input. BreaksSession M input left old new))
   -- If memory ran out before the session began, nothing was written, and no line after the program was read.

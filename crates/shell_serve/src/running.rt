@@ -9,7 +9,7 @@ ghost use Rattle.dbg_base.specs.declared.limits.TheConstants.{SEATS};
 ghost use Rattle.dbg_desk.specs.Openings.{IsOpeningOf};
 ghost use Rattle.dbg_base.specs.Shell.{fault_text, no_end_line_text};
 ghost use Rattle.proc_lang.specs.Programs.{program_of};
-ghost use Rattle.shell_print.specs.Outcomes.{source_behind, sink_behind};
+ghost use Rattle.shell_print.specs.Outcomes.{source_after, sink_after};
 ghost use Rattle.shell_print.specs.declared.outcome.ServeFault.TheVariants.{Memory};
 ghost use Rattle.shell_print.specs.declared.outcome.Served.TheVariants.{Refused};
 ghost use Rattle.shell_input.specs.Spans.{EndsWith, ReadsOn};
@@ -239,8 +239,8 @@ pub fn play<T: Observer<R>, R: Source, W: Sink>(
     // The output and the result are due for the input, if the reader's bytes are known: in full, or as far as a failure allows.
     ensures plays { Plays T.manner (R.remaining reader.old) (R.remaining reader.new) (W.seen writer.old) result (W.seen writer.new) }
     // A failure of the reader or of the writer is reported exactly if there was one. There was only one then: nothing was tried again.
-    ensures reader { R.health reader.old ≡ Fine → R.health reader.new ≡ source_behind result }
-    ensures writer { (W.seen writer.old).health ≡ Fine → (W.seen writer.new).health ≡ sink_behind result }
+    ensures reader { R.health reader.old ≡ Fine → R.health reader.new ≡ source_after result }
+    ensures writer { (W.seen writer.old).health ≡ Fine → (W.seen writer.new).health ≡ sink_after result }
 {
     let make = |given: Givable| -> Result<Box<dyn Command>, Refusal>
         ensures makes { IfOk result (λ command. IsFresh command × (order command ≡ order_of given.plan)) }

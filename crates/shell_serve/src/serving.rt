@@ -3,12 +3,12 @@
 ghost use Rattle.std.specs.Prelude.{◌≡◌, [], IfOk, IfErr, IfSome};
 ghost use Rattle.shell_io.specs.declared.health.Health.TheVariants.{Fine};
 ghost use Rattle.shell_io.specs.Seen.{Appended};
-ghost use Rattle.shell_print.specs.Outcomes.{source_behind, sink_behind};
+ghost use Rattle.shell_print.specs.Outcomes.{source_after, sink_after};
 ghost use Rattle.shell_print.specs.declared.outcome.ServeFault.TheVariants.{Memory, Read, Write};
 ghost use Rattle.shell_print.specs.declared.outcome.Served.{Served};
 ghost use Rattle.shell_print.specs.declared.outcome.Served.TheVariants.{Refused};
 ghost use Rattle.shell_input.specs.ProgramTexts.{ReadsFew, ReadsProgram};
-ghost use Rattle.shell_input.specs.Written.{WritesSome, WritesFront};
+ghost use Rattle.shell_input.specs.Written.{WritesSome, WritesPrefix};
 ghost use Rattle.shell_serve.specs.Serving.{ServesInput, BreaksInput};
 
 use crate::running::play;
@@ -37,7 +37,7 @@ pub fn serve<R: Source, W: Sink>(
         (λ input. WritesSome (W.seen writer.old) (W.seen writer.new) (ServesInput input served))) }
     // If the writer fails, a prefix of that output was written.
     ensures stopped { IfErr result (λ fault. fault ≡ Write → IfSome (R.remaining reader.old)
-        (λ input. (served : Served) × WritesFront (W.seen writer.old) (W.seen writer.new) (ServesInput input served))) }
+        (λ input. (served : Served) × WritesPrefix (W.seen writer.old) (W.seen writer.new) (ServesInput input served))) }
     // If the reader fails, the replies to the whole lines before the failure were written.
     ensures broken { IfErr result (λ fault. fault ≡ Read → IfSome (R.remaining reader.old)
         (λ input. BreaksInput input (R.remaining reader.new) (W.seen writer.old) (W.seen writer.new))) }
@@ -49,8 +49,8 @@ pub fn serve<R: Source, W: Sink>(
     ensures refused { IfOk result (λ served. served ≡ Refused → IfSome (R.remaining reader.old)
         (λ input. ReadsProgram input (R.remaining reader.new))) }
     // A failure of the reader or of the writer is reported exactly if there was one. There was only one then: nothing was tried again.
-    ensures reader { R.health reader.old ≡ Fine → R.health reader.new ≡ source_behind result }
-    ensures writer { (W.seen writer.old).health ≡ Fine → (W.seen writer.new).health ≡ sink_behind result }
+    ensures reader { R.health reader.old ≡ Fine → R.health reader.new ≡ source_after result }
+    ensures writer { (W.seen writer.old).health ≡ Fine → (W.seen writer.new).health ≡ sink_after result }
     // However it ends, at most 1,048,577 bytes were read.
     ensures few { IfSome (R.remaining reader.old) (λ input. ReadsFew input (R.remaining reader.new)) }
 {

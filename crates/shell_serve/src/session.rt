@@ -5,7 +5,7 @@ ghost use Rattle.dbg_base.specs.Calls.{Give, order_of, call_of};
 ghost use Rattle.dbg_base.specs.Fits.{FitsCall};
 ghost use Rattle.dbg_base.specs.Journals.{Makes};
 ghost use Rattle.shell_parse.specs.Lines as lines;
-ghost use Rattle.dbg_command.specs.Tables.{IsGivable, said_of, told_of};
+ghost use Rattle.dbg_command.specs.Tables.{IsGivable, said_of, reported_of};
 ghost use Rattle.shell_serve.specs.Answering.{IsMaker};
 
 use dbg_base::limits::CALLS;
@@ -24,7 +24,7 @@ fn said_to_command(outcome: Result<Reply, Refusal>) -> Said
 }
 
 fn said_to_question(outcome: Result<Answer, Refusal>) -> Said
-    ensures { result ≡ told_of outcome }
+    ensures { result ≡ reported_of outcome }
 {
     match outcome {
         Ok(answer) => Said::Answered(answer),

@@ -28,17 +28,17 @@ returns-in-Err c = λ parts whole.
 
 pub returns-in-Err-read_part : goal.returns-in-Err-read_part
 returns-in-Err-read_part c =
-    let e : parts_in c.loop-name.rest.now ≡ with_part (c.in-Ok-Some.name, c.in-Ok-Some.text.now) (parts_in c.in-Ok-Some.behind.now) =
+    let e : parts_in c.loop-name.rest.now ≡ with_part (c.in-Ok-Some.name, c.in-Ok-Some.text.now) (parts_in c.in-Ok-Some.after.now) =
     search rules in
     refused_more (program_of c.args.program.now) c.args.bytes.now c.loop-name.rest.now c.loop-name.made.items c.loop-name.invariant
-    c.in-Ok-Some.name c.in-Ok-Some.text.now c.in-Ok-Some.behind.now c.as_slice.result.now c.as_slice.ensures.value e
+    c.in-Ok-Some.name c.in-Ok-Some.text.now c.in-Ok-Some.after.now c.as_slice.result.now c.as_slice.ensures.value e
     c.in-Err-read_part.refusal c.in-Err-read_part.ensures
 
 pub loop-name-preserved : goal.loop-name-preserved
 loop-name-preserved c =
-    let e : parts_in c.loop-name.rest.now ≡ with_part (c.in-Ok-Some.name, c.in-Ok-Some.text.now) (parts_in c.in-Ok-Some.behind.now) =
+    let e : parts_in c.loop-name.rest.now ≡ with_part (c.in-Ok-Some.name, c.in-Ok-Some.text.now) (parts_in c.in-Ok-Some.after.now) =
     search rules in
     let pushed : c.push.new.self.items ≡ c.loop-name.made.items ++ c.in-Ok.conjunct ∷ [] = search rules in
     read_more (program_of c.args.program.now) c.args.bytes.now c.loop-name.rest.now c.loop-name.made.items c.loop-name.invariant
-    c.in-Ok-Some.name c.in-Ok-Some.text.now c.in-Ok-Some.behind.now c.as_slice.result.now c.as_slice.ensures.value e
+    c.in-Ok-Some.name c.in-Ok-Some.text.now c.in-Ok-Some.after.now c.as_slice.result.now c.as_slice.ensures.value e
     c.in-Ok.conjunct c.push.new.self.items pushed c.in-Ok.ensures

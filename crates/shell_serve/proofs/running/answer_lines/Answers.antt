@@ -82,7 +82,7 @@ returns-in_err-goes_on-in-Line-clause-answers g c = record {
       c.in_ok-span.ensures.tells c.line-line.result.now c.in-Line.span _ _ c.in-Line.is c.line-line.ensures _ _
       (c.in_err-goes_on-in-Line.ensures.answers legal);
   broken =
-      let told = c.from_residual-in_err-goes_on-in-Line.ensures in
+      let reported = c.from_residual-in_err-goes_on-in-Line.ensures in
       let was = c.in_err-goes_on-in-Line.ensures.fault in
       let fault : IfErr c.from_residual-in_err-goes_on-in-Line.result (λ fault. fault ≡ Write) = search rules in
       where_other _ c.from_residual-in_err-goes_on-in-Line.result Read not_read fault;

@@ -10,7 +10,7 @@ use Rattle.shell_print.specs.declared.outcome.Served.TheVariants as outcomes
 use Rattle.shell_serve.specs.Sessions.{WritesForm, IsExplained, SessionInput}
 use Rattle.shell_input.proofs.UnfinishedInputLemmas.{where_fault}
 use Rattle.shell_input.proofs.ReadStepLemmas.{reads_then}
-use Rattle.shell_input.proofs.KnownInputLemmas.{known_may, told_done, told_cut}
+use Rattle.shell_input.proofs.KnownInputLemmas.{known_may, reported_done, reported_cut}
 use Rattle.shell_serve.proofs.InputSessionLemmas.{says_program, stops_program, breaks_program, fault_here, end_here, too_long_here, breaks_before}
 use Rattle.shell_serve.proofs.InputSessionLemmas.{refused_done, refused_cut, few_read, text_read}
 use Rattle.shell_serve.proofs.SessionLemmas.{explained_alone, where_served}
@@ -146,12 +146,12 @@ returns-in-End-clause-plays g c = record {
 pub returns-clause-plays : goal.returns-clause-plays
 returns-clause-plays g c = record {
   served =
-      told_done c.read_program_text.new.input.bytes.items c.read_program_text.new.input.ended (SessionInput g.T.Observer.manner) too_long_text outcomes.TooLong
+      reported_done c.read_program_text.new.input.bytes.items c.read_program_text.new.input.ended (SessionInput g.T.Observer.manner) too_long_text outcomes.TooLong
       (too_long_here g.T.Observer.manner c.read_program_text.new.input.bytes.items c.read_program_text.new.input.ended _ c.read_program_text.new.input.at _
       c.in_ok-input.ensures.at c.in_ok-span.ensures.splits (explained_alone g.T.Observer.manner c.requires.quiet too_long_text) c.in-TooLong.is)
       _ _ _ _ (known_may c.in_ok-input.ensures.bytes c.read_program_text.ensures.reads) c.tell_too_long.ensures.written c.tell_too_long.ensures.served;
   stopped =
-      told_cut c.read_program_text.new.input.bytes.items c.read_program_text.new.input.ended (SessionInput g.T.Observer.manner) too_long_text outcomes.TooLong
+      reported_cut c.read_program_text.new.input.bytes.items c.read_program_text.new.input.ended (SessionInput g.T.Observer.manner) too_long_text outcomes.TooLong
       (too_long_here g.T.Observer.manner c.read_program_text.new.input.bytes.items c.read_program_text.new.input.ended _ c.read_program_text.new.input.at _
       c.in_ok-input.ensures.at c.in_ok-span.ensures.splits (explained_alone g.T.Observer.manner c.requires.quiet too_long_text) c.in-TooLong.is)
       _ _ _ _ (known_may c.in_ok-input.ensures.bytes c.read_program_text.ensures.reads) c.tell_too_long.ensures.written;

@@ -1,6 +1,6 @@
 use Rattle.std.proofs.Common.{◌≡◌, ℕ, ap, ◌∙◌, subst}
 use Rattle.shell_input.specs.Spans.{IsUnderWay}
-use Rattle.shell_input.proofs.LineEnds.{told_so}
+use Rattle.shell_input.proofs.LineEnds.{reported_so}
 use Rattle.shell_input.proofs.ReadStepLemmas.{reads_then, reads_same, needs_more}
 use Rattle.shell_input.proofs.framing.Input.next_line.Goals as goal
 
@@ -9,7 +9,7 @@ returns-in-Some-clause-reads g c = reads_same c.loop-next.invariant.reads (ap (�
 
 pub returns-in-Some-clause-tells : goal.returns-in-Some-clause-tells
 returns-in-Some-clause-tells g c =
-    told_so _ _ _ _ _ c.ready.new.self.at c.in-Some.next c.ready.ensures.ended c.loop-next.invariant.at c.in-Some.ensures.tells
+    reported_so _ _ _ _ _ c.ready.new.self.at c.in-Some.next c.ready.ensures.ended c.loop-next.invariant.at c.in-Some.ensures.tells
 
 pub returns-in_err-read_more-clause-reads : goal.returns-in_err-read_more-clause-reads
 returns-in_err-read_more-clause-reads g c =

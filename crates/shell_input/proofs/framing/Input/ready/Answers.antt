@@ -2,7 +2,7 @@ use Rattle.std.proofs.Common.{◌≡◌, ℕ, ◌+◌, List, arith, ap, ◌∙�
 use Rattle.std.specs.Prelude.{slice_range}
 use Rattle.std.specs.List.{prefix_len}
 use Rattle.shell_input.specs.Spans.{is_inside}
-use Rattle.shell_input.proofs.LineEnds.{run_within, seen_all, line_found, line_told}
+use Rattle.shell_input.proofs.LineEnds.{run_within, seen_all, line_found, line_reported}
 use Rattle.shell_input.proofs.framing.Input.ready.Goals as goal
 
 pub overflow_add-end : goal.overflow_add-end
@@ -22,7 +22,7 @@ returns-then-end-limit-clause-tells c =
     let n = c.length_inside.result in
     let found = line_found s.bytes.items s.at s.seen c.min-limit.result (omega arith) (omega arith) (omega (arith, s.bytes.ok.0))
     (omega arith) s.unended n n_is c.if-end-limit.true s.ended in
-    line_told s.bytes.items c.take_line.new.self.bytes.items s.ended s.at c.take_line.result.from (s.seen + n) c.take_line.result.to
+    line_reported s.bytes.items c.take_line.new.self.bytes.items s.ended s.at c.take_line.result.from (s.seen + n) c.take_line.result.to
     (s.seen + n + 1) c.take_line.new.self.at
     (ap (λ v. v.items) c.take_line.ensures.bytes) c.take_line.ensures.from c.take_line.ensures.to c.take_line.ensures.at found
 

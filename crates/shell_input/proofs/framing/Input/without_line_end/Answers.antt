@@ -2,7 +2,7 @@ use Rattle.std.proofs.Common.{◌≡◌, ℕ, length, true, arith, ap, sym, ◌�
 use Rattle.std.specs.Prelude.{slice_range}
 use Rattle.dbg_base.specs.declared.limits.TheConstants.{INPUT_BYTES}
 use Rattle.shell_input.specs.Spans.{is_unended}
-use Rattle.shell_input.proofs.LineEnds.{too_long_found, last_found, line_told}
+use Rattle.shell_input.proofs.LineEnds.{too_long_found, last_found, line_reported}
 use Rattle.shell_input.proofs.framing.Input.without_line_end.Goals as goal
 
 pub returns-then-len-gt-INPUT_BYTES-clause-tells : goal.returns-then-len-gt-INPUT_BYTES-clause-tells
@@ -22,7 +22,7 @@ returns-clause-tells c =
     (λ (e : ℕ). is_unended (slice_range s.bytes.items s.at e)) (sym seen_is) ∙ s.unended in
     let found = last_found s.bytes.items s.at (omega (arith, s.bytes.ok.0)) (omega (arith, s.bytes.ok.0))
     (omega (arith, s.bytes.ok.0, c.if-self-len.false)) run s.ended c.if-not-self.false in
-    line_told s.bytes.items c.take_line.new.self.bytes.items s.ended s.at c.take_line.result.from (length s.bytes.items)
+    line_reported s.bytes.items c.take_line.new.self.bytes.items s.ended s.at c.take_line.result.from (length s.bytes.items)
     c.take_line.result.to (length s.bytes.items) c.take_line.new.self.at
     (ap (λ v. v.items) c.take_line.ensures.bytes) c.take_line.ensures.from (c.take_line.ensures.to ∙ whole)
     (c.take_line.ensures.at ∙ whole) found
