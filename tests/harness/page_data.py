@@ -7,10 +7,16 @@ import json
 from harness import Fault
 
 
+def decoded(text):
+    """A text of the data, which has each byte as a character."""
+    return text.encode("latin-1").decode("utf-8", "backslashreplace")
+
 
 def read_page(page):
     """The data of a page."""
-    return json.loads(page.partition("type=application/json>")[2].partition("</script>")[0])
+    data = json.loads(page.partition("type=application/json>")[2].partition("</script>")[0])
+    data["lines"] = [[decoded(part) if isinstance(part, str) else part for part in line] for line in data["lines"]]
+    return data
 
 
 def require(condition, *what):

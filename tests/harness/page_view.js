@@ -1,14 +1,14 @@
 // What the page of a session shows, once the next frame is drawn.
 new Promise(done => requestAnimationFrame(() => {
   const find = id => document.getElementById(id), all = (where, what) => [...where.querySelectorAll(what)].filter(item => !item.closest('.gone'));
-  const text = item => item ? item.textContent : '', drawing = find('drawing'), below = find('told'), focus = document.activeElement;
+  const text = item => item ? item.textContent : '', drawing = find('drawing'), below = find('details'), focus = document.activeElement;
   const svg = drawing.querySelector('svg');
   const view = {left: 0, top: 0, right: innerWidth, bottom: innerHeight};
   const inside = (item, whole) => {
     const one = item.getBoundingClientRect(), other = whole.getBoundingClientRect ? whole.getBoundingClientRect() : whole;
     return one.left >= other.left - 1 && one.top >= other.top - 1 && one.right <= other.right + 1 && one.bottom <= other.bottom + 1;
   };
-  const disc = item => item.querySelector('circle + circle, rect');
+  const disc = item => item.querySelector('ellipse + ellipse, rect');
   // Whether an item is visible from left to right: no name, and no other part of the page, covers it.
   const uncovered = item => {
     const box = (item.closest('svg') ? disc(item) : item).getBoundingClientRect();
@@ -18,9 +18,6 @@ new Promise(done => requestAnimationFrame(() => {
     });
   };
   const seen = item => inside(disc(item), svg) && uncovered(item);
-  // Whether all of an event or a name is visible, with the words at it.
-  const edge = Math.max(0, ...all(svg, '.names rect').map(rect => rect.getBoundingClientRect().right));
-  const whole = item => inside(item, svg) && (item.closest('.names') || item.getBoundingClientRect().left >= edge);
   const named = item => item.closest('svg') ? text(item.querySelector('title')) :
     item.parentNode === find('points') ? 'breakpoint ' + item.chooses.point : item.id || item.tagName;
   const ringed = item => {
@@ -28,21 +25,23 @@ new Promise(done => requestAnimationFrame(() => {
     const style = getComputedStyle(ring || item);
     return ring ? style.stroke !== 'none' && parseFloat(style.strokeWidth) > 3 : style.outlineStyle !== 'none' && parseFloat(style.outlineWidth) > 1;
   };
-  const parts = [document.querySelector('header'), ...all(document, 'header > *'), find('lines'), find('right'), ...find('right').children];
-  const wide = ['said', 'points', 'told'].map(find).filter(part => part.scrollWidth > part.clientWidth + 1);
+  const parts = [document.querySelector('header'), ...all(document, 'header > *'), find('lines'), find('right'), ...find('right').children]
+    .filter(part => getComputedStyle(part).display !== 'none');
+  const wide = ['said', 'points', 'details'].map(find).filter(part => part.scrollWidth > part.clientWidth + 1);
   const root = document.documentElement, chosenRow = document.querySelector('.row.chosen');
   const marks = all(svg, '.event.latest'), chosen = all(svg, '.event.chosen, .names .chosen');
   done({
     line: Number(find('slider').value), said: all(find('said'), 'code').map(text).filter(said => said), row: chosenRow && [...chosenRow.children].map(text),
     isRowSeen: Boolean(chosenRow) && inside(chosenRow, find('lines')),
-    heading: text(below.querySelector('h2')), notes: all(below, 'p').map(text),
+    heading: text(below.querySelector('h2')), headings: all(below, 'h2').map(text), title: document.title, hash: location.hash.slice(1), notes: all(below, 'p').map(text),
     tables: all(below, 'table').map(table => [text(table.caption), [...table.rows].map(row => [...row.cells].map(text))]),
     breakpoints: [...find('points').children].map(named), play: text(find('play')),
     isLatestSeen: marks.some(seen), isChosenSeen: chosen.some(seen),
     outside: [...parts.filter(part => !part.matches(':empty') && !inside(part, view)).map(part => part.id || part.tagName),
       ...wide.map(part => part.id + ' (in width)'), ...root.scrollWidth > innerWidth || root.scrollHeight > innerHeight ? ['the page'] : []],
     focus: named(focus), isFocusSeen: focus !== document.body && ringed(focus) && uncovered(focus),
-    stops: all(svg, '.event, .names g').filter(whole).map(named),
+    stop: all(svg, '[tabindex="0"]').map(named),
+    isProgramShown: getComputedStyle(find('program')).display !== 'none',
     places: all(svg, '.event').map(item => item.getAttribute('transform')).join(), ground: getComputedStyle(document.body).backgroundColor,
   });
 }))

@@ -11,7 +11,8 @@ LAST_LINES = 6  # of a session that reaches a limit, in its page
 # Files for `talk`. Each has a page of the same name.
 TALKS = ["directives", "lists", "directives_with_a_seat", "refusals", "more_refusals", "batches", "refused", "notation_session", "notation_fault",
          "advice_after_a_refused_undo", "advice_after_a_refused_arm", "advice_at_two_halts", "seats_and_long_lines",
-         "control_bytes", "control_bytes_in_program"]
+         "control_bytes", "control_bytes_in_program", "short_lines", "short_lines_in_notation", "break_lines", "refused_batches", "causes",
+         "one_process", "many_events"]
 
 # The name of a page, the arguments of the run, and its input.
 RUNS = [
@@ -26,6 +27,10 @@ RUNS = [
     ("expand_session", "expand notation.rdbg", ""),
     ("expand_fault", "expand notation_fault.rdbg", ""),
     ("expand_line_fault", "expand notation_line_fault.rdbg", ""),
+    ("expand_short_lines", "expand short_lines.rdbg", ""),
+    ("expand_short_lines_in_notation", "expand short_lines_expected_in_notation.rdbg", ""),
+    ("expand_short_line_fault", "expand short_lines_in_notation.rdbg", ""),
+    ("expand_too_many_lines", "expand -", "process c { }\n%%\nnext c 100000\nnext c 100000\n"),
     ("talk_in_notation_from_input", "talk", "process a[i: 1..2] { var x = i; leave: when x > 0 : x := x - 1; }\n%%\nstep a[2] leave\non\nstep a[1] leav\n"),
     ("check_notation", "check --explain notation.rdbg", ""),
     ("draw_notation", "draw notation.rdbg", "step station[1] pass\n"),
@@ -43,6 +48,12 @@ RUNS = [
     ("draw_without_halt", "draw --at-halt program.rdbg", "1 next a"),
     ("draw_in_60_characters", "draw --width 60 ../pictures/long_names.rdbg", ""),
     ("draw_notation_at", "draw --at 36 notation_session.rdbg", ""),
+    ("draw_last", "draw --last 3 ../pictures/long_names.rdbg", ""),
+    ("draw_last_as_svg", "draw --as svg --last 3 --theme light halts.rdbg", ""),
+    ("draw_last_as_mermaid", "draw --as mermaid --last 3 halts.rdbg", ""),
+    ("draw_dark", "draw --as svg --at-halt --theme dark halts.rdbg", ""),
+    ("test_short_lines", "test short_lines_expected.rdbg", ""),
+    ("test_fill_short_lines", "test --fill short_lines_expected.rdbg", ""),
     ("test_notation_passes", "test notation_expected.rdbg", ""),
     ("test_notation_fails", "test notation_unexpected.rdbg notation_fault.rdbg", ""),
     ("test_passes", "test expected.rdbg expected_between_comments.rdbg", ""),
@@ -54,6 +65,19 @@ RUNS = [
     ("test_fill_refused", "test --fill notation_fault.rdbg", ""),
     ("talk_coloured", "talk --color always lists.rdbg", ""),
     ("version", "--version", ""),
+    ("help_talk", "talk --help", ""),
+    ("help_check", "check --help", ""),
+    ("help_test", "test --help", ""),
+    ("help_draw", "draw --help", ""),
+    ("help_expand", "expand --help", ""),
+    ("draw_page_at_line", "draw --as html --at 3 halts.rdbg", ""),
+    ("draw_page_of_last_events", "draw --as html --last 3 halts.rdbg", ""),
+    ("draw_wide_svg", "draw --as svg --width 80 halts.rdbg", ""),
+    ("draw_dark_text", "draw --theme dark halts.rdbg", ""),
+    ("crew_without_turns", "crew --turns 0 program.rdbg", ""),
+    ("test_fill_two_files", "test --fill expected.rdbg unexpected.rdbg", ""),
+    ("check_definitions_too_deep", "check --explain",
+     "let f_0(x) = x;\n" + "".join(f"let f_{n + 1}(x) = f_{n}(x);\n" for n in range(520)) + "process a { var x = 0; when f_520(x) = 0 : x := 1; }\n"),
     ("test_nothing_expected", "test directives.rdbg", ""),
     ("test_missing_file", "test nothing.rdbg faults expected.rdbg", ""),
     ("test_endless_file", "test /dev/zero expected.rdbg", ""),
@@ -63,6 +87,7 @@ RUNS = [
 # Interactive sessions that reach a limit with their last line.
 LIMITS = [
     ("too_many_events", 20_001 * "next c\n"),
+    ("too_many_events_of_one_line", "next c 30000\n"),
     ("too_many_breakpoints", "".join(f"break b{number} c (n < 0)\n" for number in range(1, 66))),
     ("too_many_calls", 100_001 * "place c\n"),
 ]
@@ -80,6 +105,7 @@ def run(suite):
         check_page(suite, name, ["talk", f"{name}.rdbg"])
     for name, words, given in RUNS:
         check_page(suite, name, words.split(), given)
+    check_page(suite, "argument_not_utf_8", ["\udcff"])
     for example in sessions("examples"):
         check_page(suite, f"examples/{example.stem}", ["talk", example])
     for fault in sorted((CLI / "faults").glob("*.rdbg")):

@@ -21,7 +21,7 @@ SOURCE = re.compile(r"`((?:crates/)?[a-z_]+/(?:src|specs|proofs)/[\w/.]+\.(?:rt|
 # The list of the refusals in the help, and copies of it. Each is a file, the text before the list, and what an entry looks like.
 HELP_REFUSALS = ("crates/dbg_shell/src/usage.rt", "\nRefusals:", r"^ +(\d+) +(.+)$")
 OTHER_REFUSALS = [
-    ("crates/ui_explain/src/numbers.rt", "match number", r'^ +(\d+) =>\s+"(.+)",$'),
+    ("crates/ui_text/src/numbers.rt", "match number", r'^ +(\d+) =>\s+"(.+)",$'),
     ("dist/rdbg.1", "\n.Sh REFUSALS", r"^\.It (\d+)\n((?:[^.\n].*\n)+)"),
     ("docs/commands.md", "\n## Refusals", r"^\| (\d+) \| (.+) \|$"),
 ]
@@ -76,7 +76,7 @@ class Shown:
         return output, "" if ran.status == wanted else f"{' '.join(words)}: status {ran.status}, not {wanted}\n{begin}"
 
     def problem(self):
-        """What is wrong with the block, or an empty text: in the notation, and with the plain text that it stands for."""
+        """What is wrong with the block, or an empty text: in the notation, and with its plain text."""
         plain, problem = self.run("expand", "block.rdbg")
         (self.folder / "plain.rdbg").write_text(plain, encoding="utf-8")
         tried = [["test", "block.rdbg"], ["draw", "block.rdbg"], ["test", "plain.rdbg"]] if self.is_session else [["check", "--explain", "block.rdbg"]]

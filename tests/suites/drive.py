@@ -24,7 +24,7 @@ step station[1] enter
 """
 
 COUNTER = "process a { var x = 0; when (x < 3) : x := (x + 1); }"
-# What a file has, further arguments, the status, and what stands on standard error.
+# What a file has, further arguments, the status, and what is on standard error.
 EDGES = [
     ("a refused breakpoint", f"{COUNTER}\n%%\nbreak bad a (y = 1)\n", [], 1, "drive.py: break bad a (y = 1)\nno "),
     ("a refused model in the notation", "process a { var x = 0; go: when y = 1 : x := 1; }\n%%\nbreak bad a (x = 1)\n", [], 1, "program refused "),

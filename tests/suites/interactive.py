@@ -141,6 +141,34 @@ def program_file_problem(suite, file):
     return "" if status == 0 else f"status {status}"
 
 
+def repetition_problem(suite, file):
+    """Types a line that asks for more events than there are. It ends with the refusal, and then the prompt asks for the next line."""
+    terminal = Terminal(suite.program, "talk", file)
+    terminal.until(PROMPT)
+    terminal.type("next a 5\n")
+    shown = terminal.until("no 24\n")
+    terminal.until(f"\n{PROMPT}")
+    terminal.type("vars a\n")
+    terminal.until("vars a x=2")
+    terminal.type("quit\n")
+    _, status = terminal.ended()
+    return "" if status == 0 and shown.count("ok a 0\n") == 2 else f"status {status}, and the terminal shows {shown!r}"
+
+
+def width_problem(suite, width, *words):
+    """How wide a picture in a session is: the names of processes are cut at the width."""
+    program = "".join(f"process a_process_with_the_long_name_{n} {{ }}\n" for n in range(3))
+    terminal = Terminal(*words, **({"COLUMNS": str(width)} if words[0] == suite.program else {"RDBG_PROGRAM": str(suite.program)}))
+    for line in [*program.splitlines(), "%%"]:
+        terminal.until(PROMPT)
+        terminal.type(f"{line}\n")
+    terminal.until(PROMPT)
+    terminal.type("draw\nquit\n")
+    shown, status = terminal.ended()
+    drawn = max(len(line) for line in shown.splitlines() if line.startswith("  a_process"))
+    return "" if status == 0 and drawn <= width < drawn + 20 else f"status {status}, and the picture is {drawn} characters wide"
+
+
 def picture_problem(suite, file):
     """Draws a file. Nobody has to type anything."""
     shown, status = Terminal(suite.program, "draw", file).ended()
@@ -195,6 +223,9 @@ def run(suite):
         suite.attempt("a program that is typed", prompt_problem, suite)
         suite.attempt("an escape sequence, at a terminal", control_problem, suite, session)
         suite.attempt("a file without a line %%, at a terminal", program_file_problem, suite, program)
+        suite.attempt("a line that asks for several events, at a terminal", repetition_problem, suite, session)
+        suite.attempt("a picture in a session, as wide as COLUMNS says", width_problem, suite, 60, suite.program, "talk")
+        suite.attempt("a picture in a session, as wide as the terminal", width_problem, suite, SIZE[1], TOP / "dist" / "start", "talk", "--no-rlwrap")
         suite.attempt("a picture of a file, at a terminal", picture_problem, suite, session)
         suite.attempt("colours at a terminal", color_problem, suite, session, True, {"NO_COLOR": ""})
         suite.attempt("no colours with NO_COLOR", color_problem, suite, session, False, {})

@@ -28,7 +28,7 @@ def shown_reasons(session, name):
     lines = session.run([*session.calls.values(), question], "talk")
     asked = max(number for number, line in enumerate(lines) if line == question)
     reasons = itertools.takewhile(lambda line: line != "  what is left is the earliest state:", lines[asked + 2:])
-    return [line.strip() for line in reasons if not line.strip().startswith("not yet in ")]
+    return [line.strip() for line in reasons if not line.strip().startswith(("not yet in ", "the part of "))]
 
 
 def wrong_answers(wanted, shown):

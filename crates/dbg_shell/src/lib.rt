@@ -6,6 +6,7 @@
 
 mod checking;
 mod jobs;
+mod pictures;
 mod usage;
 
 pub use checking::check;

@@ -4,13 +4,13 @@ ghost use Rattle.std.specs.Prelude.{IfOk};
 ghost use Rattle.dbg_shell.specs.Jobs.{IsJob, IsWork, IsRequest};
 
 use crate::jobs::{Coloring, Job, Request, Work};
+use crate::pictures::{draw, named_picture};
 use clap::builder::ValueParser;
 use clap::error::ErrorKind;
 use clap::{Arg, ArgAction, ArgMatches, Command, Error};
 use dbg_base::limits::CALLS;
 use std::alloc::{AllocError, Global};
 use std::convert::AsStr;
-use ui_diagram::{Moment, Picture, PictureForm, WIDTH};
 
 static ABOUT: &str =
     "A debugger for processes that send each other messages: steps them, undoes events, halts at bad global states";
@@ -78,8 +78,8 @@ fn file<'a>(alloc: Global) -> Arg<'a> {
     Arg::new(alloc, "file").value_name("FILE")
 }
 
-// The subcommand of this name, which may have a file.
-fn with_file<'a>(
+/// The subcommand of this name, which may have a file.
+pub(crate) fn with_file<'a>(
     alloc: Global,
     name: &'a str,
     about: &'a str,
@@ -189,88 +189,6 @@ fn test<'a>(alloc: Global) -> Result<Command<'a>, AllocError> {
                     "Prints the session of one FILE with the replies that it has now, and compares nothing",
                 ),
         )
-}
-
-static PICTURES: [&str; 5] = ["text", "svg", "html", "shiviz", "mermaid"];
-
-fn draw<'a>(alloc: Global) -> Result<Command<'a>, AllocError> {
-    with_file(
-        alloc,
-        "draw",
-        "Plays a session, and draws its end, or another state; or, as html, a page to go through it",
-        "The program and the first lines; those of standard input follow",
-    )?
-    .arg(
-        Arg::new(alloc, "as")
-            .long("as")
-            .value_name("FORM")
-            .default_value("text")
-            .value_parser(ValueParser::Names(&PICTURES))
-            .help("The form of the picture"),
-    )?
-    .arg(
-        Arg::new(alloc, "at")
-            .long("at")
-            .value_name("LINE")
-            .value_parser(clap::value_parser!(u32).range(1..))
-            .conflicts_with("at-halt")?
-            .help("Draws the state after this line of the input, from 1, in place of the end"),
-    )?
-    .arg(
-        Arg::new(alloc, "at-halt")
-            .long("at-halt")
-            .action(ArgAction::SetTrue)
-            .help("Draws the state at the first halt, in place of the end"),
-    )?
-    .arg(
-        Arg::new(alloc, "width")
-            .long("width")
-            .value_name("N")
-            .value_parser(clap::value_parser!(u32).range(20..=1_000))
-            .help(
-                "How many characters wide a text picture is at most, from 20 to 1000, if not 120",
-            ),
-    )
-}
-
-// The form of this name.
-fn named_form(name: Option<&str>) -> PictureForm {
-    match name {
-        Some("svg") => PictureForm::Svg,
-        Some("html") => PictureForm::Html,
-        Some("shiviz") => PictureForm::Shiviz,
-        Some("mermaid") => PictureForm::Mermaid,
-        _ => PictureForm::Text,
-    }
-}
-
-// The state that the picture shows.
-fn named_moment(matches: &ArgMatches<'_>) -> Moment {
-    match matches.get_one::<u32>("at") {
-        Some(line) => Moment::Line(line),
-        None if matches.get_flag("at-halt") => Moment::Halt,
-        None => Moment::End,
-    }
-}
-
-// The picture that the arguments of `draw` ask for.
-fn named_picture(command: &mut Command<'_>, matches: &ArgMatches<'_>) -> Result<Picture, Error> {
-    let form = named_form(matches.get_str("as"));
-    let moment = named_moment(matches);
-    let width = matches.get_one::<u32>("width");
-    if form == PictureForm::Html && moment != Moment::End {
-        let why = "a page has all states: '--as html' cannot be used with '--at' or '--at-halt'";
-        return Err(command.error(ErrorKind::ArgumentConflict, why)?);
-    }
-    if form != PictureForm::Text && width.is_some() {
-        let why = "only a text picture has a width: '--width' cannot be used with another form";
-        return Err(command.error(ErrorKind::ArgumentConflict, why)?);
-    }
-    Ok(Picture {
-        form,
-        moment,
-        width: width.unwrap_or(WIDTH),
-    })
 }
 
 fn command<'a>(alloc: Global) -> Result<Command<'a>, AllocError> {

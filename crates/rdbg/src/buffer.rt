@@ -56,7 +56,7 @@ impl Buffer {
     }
 
     /// Drops the first bytes.
-    pub(crate) fn drop_front(&mut self, count: usize)
+    pub(crate) fn drop_prefix(&mut self, count: usize)
         requires { count ≤ length self.old }
         ensures { self.new ≡ drop count self.old }
     {

@@ -16,7 +16,7 @@ use dbg_shell::{Coloring, Job, Request, Work, asked, check, crew_status, run_cre
 use output::Output;
 use paint::{Look, Painted};
 use serving::run;
-use shell_io::{Noted, Sink, Source, one_behind_the_other};
+use shell_io::{Noted, Sink, Source, one_after_the_other};
 use std::alloc::Global;
 use std::fs::File;
 use std::io::{Error, IsTerminal, Read};
@@ -25,7 +25,7 @@ use std::sync::Wait;
 use std::thread::Threads;
 use std::{env, io};
 use typing::{Asks, FileInput, Typing, open};
-use ui_diagram::PictureForm;
+use ui_diagram::{PictureForm, WIDTH};
 use ui_repl::{
     SESSION_BYTES, Tested, converse, draw, draw_status, expand, explain, fill_session, test_session,
 };
@@ -59,6 +59,7 @@ fn job_from<R: Threads + Wait + Sync, I: Source, W: Sink>(
 fn work_from<R: Threads + Wait + Sync, I: Read + Typed + Drop, W: Sink, E: Sink>(
     rt: &R,
     alloc: Global,
+    width: usize,
     work: Work,
     input: I,
     writer: &mut W,
@@ -68,7 +69,7 @@ fn work_from<R: Threads + Wait + Sync, I: Read + Typed + Drop, W: Sink, E: Sink>
         Work::Job(job) => job_from(rt, alloc, job, &mut Noted::new(input), writer),
         Work::Explain => status(&explain(alloc, &mut Noted::new(input), writer)),
         Work::Expand => status(&expand(alloc, &mut Noted::new(input), writer, errors)),
-        Work::Talk(_) => status(&converse(alloc, input, writer)),
+        Work::Talk(_) => status(&converse(alloc, width, input, writer)),
         Work::Draw(picture) => draw_status(&draw(alloc, picture, input, writer, errors)),
     }
 }
@@ -99,7 +100,15 @@ fn work_with_file<R: Threads + Wait + Sync, W: Sink, E: Sink>(
     let is_typed = rt.stdin().is_terminal();
     if !reads_on(work, is_typed) {
         let input = FileInput::new(file);
-        return work_from(threads, rt.alloc(), work, input, writer, errors);
+        return work_from(
+            threads,
+            rt.alloc(),
+            picture_width(rt),
+            work,
+            input,
+            writer,
+            errors,
+        );
     }
     // At a terminal, the program ends with the file.
     let (file, asks) = if is_typed_session(work, is_typed) {
@@ -107,8 +116,16 @@ fn work_with_file<R: Threads + Wait + Sync, W: Sink, E: Sink>(
     } else {
         (FileInput::new(file), Asks::Nothing)
     };
-    let input = one_behind_the_other(file, Typing::new(rt, asks));
-    work_from(threads, rt.alloc(), work, input, writer, errors)
+    let input = one_after_the_other(file, Typing::new(rt, asks));
+    work_from(
+        threads,
+        rt.alloc(),
+        picture_width(rt),
+        work,
+        input,
+        writer,
+        errors,
+    )
 }
 
 // Reports that a file cannot be read, and returns the status of a usage error.
@@ -181,8 +198,28 @@ fn do_work<R: Threads + Wait + Sync, W: Sink, E: Sink>(
                 _ => Asks::Nothing,
             };
             let input = Typing::new(rt, asks);
-            work_from(threads, rt.alloc(), work, input, writer, errors)
+            work_from(
+                threads,
+                rt.alloc(),
+                picture_width(rt),
+                work,
+                input,
+                writer,
+                errors,
+            )
         }
+    }
+}
+
+// How many characters wide a picture of an interactive session is: as wide as the terminal, if COLUMNS says how wide that is, without the
+// two blanks before it.
+fn picture_width(rt: &HostRuntime) -> usize {
+    match env::var(rt, "COLUMNS") {
+        Ok(columns) => match columns.as_str().parse::<usize>() {
+            Ok(width) if 22 <= width && width <= 1_000 => width - 2,
+            _ => WIDTH as usize,
+        },
+        Err(_) => WIDTH as usize,
     }
 }
 

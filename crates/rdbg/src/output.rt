@@ -4,7 +4,7 @@ ghost use Rattle.std.specs.Prelude.{◌≡◌, [], OnOk, IfOk};
 ghost use Rattle.std.specs.Io.{WritesAtMost};
 ghost use Rattle.std.specs.Io.KnownBytes.{Keeps, WriteAppends};
 ghost use Rattle.shell_io.specs.declared.health.Health.TheVariants.{Fine};
-ghost use Rattle.shell_io.specs.Healths.{behind};
+ghost use Rattle.shell_io.specs.Healths.{health_after};
 ghost use Rattle.rdbg.specs.Outputs.{output_contents, output_seen};
 
 use crate::buffer::Buffer;
@@ -34,11 +34,11 @@ impl<W: Write> Output<W> {
         requires { self.old.inner.health ≡ Fine }
         ensures bytes { Keeps (output_contents W.contents self.old) (output_contents W.contents self.new) }
         ensures empty { OnOk result (self.new.buffer ≡ []) }
-        ensures health { self.new.inner.health ≡ behind Fine result }
+        ensures health { self.new.inner.health ≡ health_after Fine result }
     {
         while !self.buffer.bytes().is_empty() {
             let count = self.inner.write(self.buffer.bytes())?;
-            self.buffer.drop_front(count);
+            self.buffer.drop_prefix(count);
         }
         Ok(())
     }
@@ -52,7 +52,7 @@ impl<W: Write> Sink for Output<W> {
         ensures bound { WritesAtMost result bytes.now }
         ensures bytes { WriteAppends (output_contents W.contents self.old) (output_contents W.contents self.new) result bytes.now }
         ensures takes { IfOk result (λ count. count ≡ 0 → bytes.now ≡ []) }
-        ensures health { self.new.inner.health ≡ behind self.old.inner.health result }
+        ensures health { self.new.inner.health ≡ health_after self.old.inner.health result }
     {
         self.inner.go_on()?;
         if self.buffer.room() == 0 {
@@ -66,7 +66,7 @@ impl<W: Write> Sink for Output<W> {
     fn flush(&mut self) -> Result<()>
         ensures bytes { Keeps (output_contents W.contents self.old) (output_contents W.contents self.new) }
         ensures empty { OnOk result (self.new.buffer ≡ []) }
-        ensures health { self.new.inner.health ≡ behind self.old.inner.health result }
+        ensures health { self.new.inner.health ≡ health_after self.old.inner.health result }
     {
         self.inner.go_on()?;
         self.hand_on()?;

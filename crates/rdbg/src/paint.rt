@@ -59,7 +59,7 @@ fn find(bytes: &[u8], wanted: &[u8]) -> Option<usize> {
 // The bytes before and after a position.
 fn split(bytes: &[u8], at: usize) -> (&[u8], &[u8]) {
     match (bytes.get(..at), bytes.get(at..)) {
-        (Some(front), Some(rest)) => (front, rest),
+        (Some(prefix), Some(rest)) => (prefix, rest),
         _ => (bytes, &[]),
     }
 }
@@ -145,9 +145,9 @@ fn put_changes(text: &mut Vec<u8>, changes: &[u8]) -> Result<(), AllocError> {
         let Some(at) = find(rest, b"-> ") else {
             break;
         };
-        let (front, begun) = split(rest, at.saturating_add(3));
+        let (prefix, begun) = split(rest, at.saturating_add(3));
         let (value, others) = split(begun, value_length(begun));
-        text.extend_from_slice(front)?;
+        text.extend_from_slice(prefix)?;
         put(text, BOLD, value)?;
         rest = others;
     }
@@ -206,8 +206,8 @@ impl<W: Write> Painted<W> {
         } else if line.starts_with(b"  halted by ") {
             put(&mut text, BOLD, line)?;
         } else if let (true, Some(at)) = (line.starts_with(b"ok"), find(line, b"halted ")) {
-            let (front, halted) = split(line, at);
-            text.extend_from_slice(front)?;
+            let (prefix, halted) = split(line, at);
+            text.extend_from_slice(prefix)?;
             put(&mut text, INVERSE, halted)?;
         } else {
             text.extend_from_slice(line)?;

@@ -4,7 +4,7 @@ ghost use Rattle.std.specs.Prelude.{◌≡◌, Result, IfOk, IfSome};
 ghost use Rattle.shell_io.specs.declared.health.Health.TheVariants.{Fine};
 ghost use Rattle.shell_print.specs.declared.outcome.Served.{Served};
 ghost use Rattle.shell_print.specs.declared.outcome.ServeFault.{ServeFault};
-ghost use Rattle.shell_print.specs.Outcomes.{status_of, source_behind, sink_behind};
+ghost use Rattle.shell_print.specs.Outcomes.{status_of, source_after, sink_after};
 ghost use Rattle.shell_input.specs.Written.{WritesSome};
 ghost use Rattle.shell_serve.specs.Serving.{ServesInput};
 
@@ -17,8 +17,8 @@ pub(crate) fn run<R: Source, W: Sink>(alloc: Global, reader: &mut R, writer: &mu
     ensures { (outcome : Result Served ServeFault) × (result ≡ status_of outcome)
         × IfOk outcome (λ served. IfSome (R.remaining reader.old)
         (λ input. WritesSome (W.seen writer.old) (W.seen writer.new) (ServesInput input served)))
-        × (R.health reader.old ≡ Fine → R.health reader.new ≡ source_behind outcome)
-        × ((W.seen writer.old).health ≡ Fine → (W.seen writer.new).health ≡ sink_behind outcome) }
+        × (R.health reader.old ≡ Fine → R.health reader.new ≡ source_after outcome)
+        × ((W.seen writer.old).health ≡ Fine → (W.seen writer.new).health ≡ sink_after outcome) }
 {
     status(&serve(alloc, reader, writer))
 }

@@ -4,13 +4,8 @@ use std::fmt::Debug;
 use std::process::Abort;
 
 /// Expects the wanted value.
-pub fn expect_same<T: Debug + PartialEq + Drop>(rt: &impl Abort, told: T, want: T) {
-    assert_eq!(rt; told, want);
-}
-
-/// Expects the wanted value; a failure shows the name.
-pub fn expect_same_of<T: Debug + PartialEq + Drop>(rt: &impl Abort, name: &str, told: T, want: T) {
-    assert_eq!(rt; told, want, "{name}");
+pub fn expect_same<T: Debug + PartialEq + Drop>(rt: &impl Abort, reported: T, want: T) {
+    assert_eq!(rt; reported, want);
 }
 
 /// Expects that something holds.

@@ -11,9 +11,11 @@ mod faults;
 mod files;
 mod fits;
 mod full_journal;
+mod help;
 mod jobs;
 mod lines;
 mod many_breakpoints;
+mod pictures;
 mod programs;
 mod replies;
 mod rollback;
@@ -21,9 +23,11 @@ mod sessions;
 mod undo;
 mod views;
 
+use crate::expecting::{expect_same, expect_true};
 use dbg_shell::{Noted, check, serve, status};
 use proc_lang::{Program, parse_program};
-use std::alloc::{AllocError, Global};
+use std::alloc::Global;
+use std::io::{Read, Write};
 use std::process::Abort;
 
 // A process that sends, and one that receives.
@@ -39,30 +43,49 @@ process b {
 }
 ";
 
+const MEMORY: &str = "ample memory";
+
 fn two(rt: &impl Abort, alloc: Global) -> Program {
-    match parse_program(alloc, TWO.as_bytes()) {
-        Ok(program) => program,
-        Err(error) => panic!(rt; "{error:?}"),
+    parse_program(alloc, TWO.as_bytes()).expect(rt, "a program")
+}
+
+// Adds a text.
+fn add(rt: &impl Abort, all: &mut Vec<u8>, text: &str) {
+    all.extend_from_slice(text.as_bytes()).expect(rt, MEMORY);
+}
+
+// Adds a text so many times.
+fn repeat(rt: &impl Abort, all: &mut Vec<u8>, text: &str, count: u32) {
+    for _ in 0..count {
+        add(rt, all, text);
     }
 }
 
 // Two texts, one after the other.
-fn joined(alloc: Global, front: &str, back: &str) -> Result<Vec<u8>, AllocError> {
-    let mut all = Vec::from_slice(alloc, front.as_bytes())?;
-    all.extend_from_slice(back.as_bytes())?;
-    Ok(all)
+fn joined(rt: &impl Abort, alloc: Global, prefix: &str, back: &str) -> Vec<u8> {
+    let mut all = Vec::new(alloc);
+    add(rt, &mut all, prefix);
+    add(rt, &mut all, back);
+    all
+}
+
+// Checks the text of a reader, and returns the exit status.
+fn check_between<R: Read, W: Write>(alloc: Global, reader: &mut R, writer: &mut W) -> u8 {
+    let outcome = check(alloc, &mut Noted::new(reader), &mut Noted::new(writer));
+    status(&outcome)
+}
+
+// Serves the input of a reader, and returns the exit status.
+fn serve_between<R: Read, W: Write>(alloc: Global, reader: &mut R, writer: &mut W) -> u8 {
+    let outcome = serve(alloc, &mut Noted::new(reader), &mut Noted::new(writer));
+    status(&outcome)
 }
 
 // The output of `check` for a text, and the exit status.
 fn checked(alloc: Global, text: &[u8]) -> (Vec<u8>, u8) {
     let mut reader = text;
     let mut writer = Vec::new(alloc);
-    let outcome = check(
-        alloc,
-        &mut Noted::new(&mut reader),
-        &mut Noted::new(&mut writer),
-    );
-    let code = status(&outcome);
+    let code = check_between(alloc, &mut reader, &mut writer);
     (writer, code)
 }
 
@@ -70,12 +93,7 @@ fn checked(alloc: Global, text: &[u8]) -> (Vec<u8>, u8) {
 fn served(alloc: Global, input: &[u8]) -> (Vec<u8>, u8) {
     let mut reader = input;
     let mut writer = Vec::new(alloc);
-    let outcome = serve(
-        alloc,
-        &mut Noted::new(&mut reader),
-        &mut Noted::new(&mut writer),
-    );
-    let code = status(&outcome);
+    let code = serve_between(alloc, &mut reader, &mut writer);
     (writer, code)
 }
 
@@ -90,31 +108,43 @@ fn status_beside(text: &str) -> u8 {
     }
 }
 
+// Expects this output, and the exit status that belongs to it; a failure shows the name.
+fn expect_written(rt: &impl Abort, name: &str, written: &[u8], code: u8, want: &str) {
+    expect_same(
+        rt,
+        (name, written, code),
+        (name, want.as_bytes(), status_beside(want)),
+    );
+}
+
 // Expects this output of `check` for a text.
 fn expect_checked(rt: &impl Abort, alloc: Global, text: &[u8], want: &str) {
-    let (told, code) = checked(alloc, text);
-    assert_eq!(rt; told.as_slice(), want.as_bytes(), "at {want:?}");
-    assert_eq!(rt; code, status_beside(want), "at {want:?}");
+    let (written, code) = checked(alloc, text);
+    expect_written(rt, want, written.as_slice(), code, want);
+}
+
+// Expects this output of `serve` for an input; a failure shows the name.
+fn expect_served_of(rt: &impl Abort, alloc: Global, name: &str, input: &[u8], want: &str) {
+    let (replies, code) = served(alloc, input);
+    expect_written(rt, name, replies.as_slice(), code, want);
 }
 
 // Expects this output of `serve` for an input.
 fn expect_served(rt: &impl Abort, alloc: Global, input: &[u8], want: &str) {
-    let (replies, code) = served(alloc, input);
-    assert_eq!(rt; replies.as_slice(), want.as_bytes(), "at {want:?}");
-    assert_eq!(rt; code, status_beside(want), "at {want:?}");
+    expect_served_of(rt, alloc, want, input, want);
 }
 
 // Rows of a name, a program, the lines after it and the output for them.
-fn expect_rows(
-    rt: &impl Abort,
-    alloc: Global,
-    rows: &[(&str, &str, &str, &str)],
-) -> Result<(), AllocError> {
+fn expect_rows(rt: &impl Abort, alloc: Global, rows: &[(&str, &str, &str, &str)]) {
     for (name, program, lines, want) in rows {
-        let input = joined(alloc, program, lines)?;
-        let (replies, code) = served(alloc, input.as_slice());
-        assert_eq!(rt; replies.as_slice(), want.as_bytes(), "{name}");
-        assert_eq!(rt; code, status_beside(want), "{name}");
+        let input = joined(rt, alloc, program, lines);
+        expect_served_of(rt, alloc, name, input.as_slice(), want);
     }
-    Ok(())
+}
+
+// Expects so long an output of `serve`, with this exit status. A failure does not show it.
+fn expect_long(rt: &impl Abort, alloc: Global, input: &[u8], want: &[u8], status: u8) {
+    let (replies, code) = served(alloc, input);
+    expect_true(rt, replies.as_slice() == want);
+    expect_same(rt, code, status);
 }

@@ -10,13 +10,13 @@ use Rattle.event_log.specs.declared.timed.TimedEvent.{TimedEvent}
 use Rattle.event_log.specs.TimedEvents.{AreTimedEvents}
 
 -- texts, each with a comma before it
-abbrev pub behind_commas : List (List ℕ) → List ℕ
-behind_commas texts = flat_map (λ text. codes "," ++ text) texts
+abbrev pub after_commas : List (List ℕ) → List ℕ
+after_commas texts = flat_map (λ text. codes "," ++ text) texts
 
 -- texts, with a comma between each and the next
 abbrev pub listed : List (List ℕ) → List ℕ
 listed [] = []
-listed (text ∷ texts) = text ++ behind_commas texts
+listed (text ∷ texts) = text ++ after_commas texts
 
 -- the processes of which a clock counts at least one event, in the order of the program
 abbrev pub counted : Program → List ℕ → List ℕ

@@ -1,5 +1,7 @@
 //! What a picture of a session is to show, and how.
 
+use ui_timeline::Theme;
+
 /// How a session is drawn.
 #[derive(Clone, Copy, Debug, PartialEq, Eq)]
 pub enum PictureForm {
@@ -33,4 +35,8 @@ pub struct Picture {
     pub moment: Moment,
     /// How many characters wide a diagram of characters is.
     pub width: u32,
+    /// At most this many events are shown, the last ones.
+    pub last: u32,
+    /// The colours of a drawing.
+    pub theme: Theme,
 }

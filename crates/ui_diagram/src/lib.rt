@@ -10,4 +10,4 @@ mod text;
 pub use form::{Moment, Picture, PictureForm};
 pub use log::write_log;
 pub use mermaid::draw_mermaid;
-pub use text::{WIDTH, draw_text, draw_text_within};
+pub use text::{ALL_EVENTS, WIDTH, draw_text};

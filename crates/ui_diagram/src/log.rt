@@ -6,7 +6,7 @@ ghost use Rattle.dbg_base.specs.Replies.{name_of};
 ghost use Rattle.dbg_base.specs.SystemStates.{history_of};
 ghost use Rattle.proc_lang.specs.Programs.{program_of};
 ghost use Rattle.causal_world.specs.Scenes.{IsWorldOf};
-ghost use Rattle.ui_diagram.specs.Logs.{behind_commas, listed, counted, count_text, clock_text, entry_text, IsOneLine, IsLog};
+ghost use Rattle.ui_diagram.specs.Logs.{after_commas, listed, counted, count_text, clock_text, entry_text, IsOneLine, IsLog};
 
 use dbg_base::{Cut, Pid, Refusal};
 use dbg_command::SessionView;
@@ -14,7 +14,8 @@ use event_log::{TimedEvent, timed_events};
 use itoa::Buffer;
 use proc_lang::Program;
 use std::alloc::{AllocError, Global};
-use ui_explain::{Notes, Part, ProcessView};
+use ui_explain::ProcessView;
+use ui_text::{Notes, Part};
 use ui_timeline::{ShownEvent, event_of};
 
 // The processes of which a clock counts at least one event, in order.
@@ -60,7 +61,7 @@ fn put_others(
     pids: &[Pid],
 ) -> Result<(), AllocError>
     ensures { OnOk result (text.new.items ≡ text.old.items
-        ++ behind_commas (map (count_text (program_of program.now) clock.now) (map (λ pid. pid.0) pids.now))) }
+        ++ after_commas (map (count_text (program_of program.now) clock.now) (map (λ pid. pid.0) pids.now))) }
 {
     for pid in pids {
         text.push(b',')?;
@@ -123,7 +124,7 @@ fn put_entry(
 }
 
 // The text before the first line end.
-fn front_line(text: &[u8]) -> &[u8]
+fn prefix_line(text: &[u8]) -> &[u8]
     ensures { IsOneLine result.now }
 {
     match text.iter().position(|byte| *byte == b'\n') {
@@ -153,7 +154,7 @@ fn words_of(alloc: Global, view: SessionView<'_>, shown: ShownEvent) -> Result<V
     let mut notes = Notes::new(alloc);
     tell_event(&mut notes, view, shown)?;
     match notes.lines().first() {
-        Some(line) => Vec::from_slice(alloc, front_line(line.as_slice())),
+        Some(line) => Vec::from_slice(alloc, prefix_line(line.as_slice())),
         None => Ok(Vec::new(alloc)),
     }
 }

@@ -3,9 +3,11 @@
 use dbg_base::{Pid, Refusal};
 use dbg_command::SessionView;
 use std::alloc::{AllocError, Global};
-use ui_explain::{Notes, Part, ProcessView};
+use ui_explain::ProcessView;
+use ui_text::{Notes, Part};
 use ui_timeline::{
-    NamedCut, ShownEvent, Timeline, bytes_of, event_of, halting, named_cuts, put_setting, size,
+    NamedCut, ShownEvent, Timeline, bytes_of, event_of, halting, named_cuts, put_left_out,
+    put_setting, size,
 };
 
 // The most events that are shown. Issue trackers draw no diagram of more than 50,000 characters.
@@ -173,7 +175,7 @@ impl MermaidSheet<'_> {
     ) -> Result<(), AllocError> {
         let processes = self.view.program.processes();
         for cut in cuts {
-            if cut.is_front && size(&cut.cut, processes) == place {
+            if cut.is_prefix && size(&cut.cut, processes) == place {
                 self.say_wide_note(notes)?;
                 let name = Part::Name(cut.name);
                 let word = Part::Text(if cut.halts { " halts here: " } else { ": " });
@@ -192,22 +194,18 @@ impl MermaidSheet<'_> {
             return Ok(());
         }
         self.say_wide_note(notes)?;
-        let are = Part::Text(if count == 1 {
-            " earlier event is left out"
-        } else {
-            " earlier events are left out"
-        });
-        notes.add(&[Part::Count(count), are])
+        put_left_out(notes, count)
     }
 }
 
 /// Draws a session in its present state as a sequence diagram of Mermaid: its lines. An arrow is where its message was received, and a dashed
 /// one where a message was sent that is on its way. Notes say what the events set, and where the cuts of breakpoints are. Of a long history
-/// the end is shown.
+/// the end is shown, at most so many events.
 pub fn draw_mermaid(
     alloc: Global,
     notes: &mut Notes,
     view: SessionView<'_>,
+    last: usize,
 ) -> Result<(), Refusal> {
     let mut cuts = named_cuts(alloc, view)?;
     let timeline = Timeline::of(alloc, view.world, cuts.as_mut_slice())?;
@@ -222,11 +220,10 @@ pub fn draw_mermaid(
         notes.say(&[Part::Text("  %% "), Part::Bytes(bytes_of(&heading))])?;
     }
     sheet.say_participants(notes)?;
-    let events = timeline.events();
-    let first = events.len().saturating_sub(SHOWN);
+    let first = timeline.left_out(last.min(SHOWN));
     sheet.say_left_out(notes, first)?;
     let mut place = first;
-    for shown in events.get(first..).unwrap_or(&[]) {
+    for shown in timeline.last_events(first) {
         sheet.say_cuts(notes, place, cuts.as_slice())?;
         sheet.say_event(notes, *shown)?;
         place = place.saturating_add(1);

@@ -7,8 +7,10 @@ use crate::canvas::{Canvas, CanvasRow};
 use dbg_base::{Pid, Refusal};
 use dbg_command::SessionView;
 use std::alloc::{AllocError, Global};
-use ui_explain::{Notes, Part};
-use ui_timeline::{NamedCut, ShownEvent, Timeline, bytes_of, halting, named_cuts, size};
+use ui_text::{Notes, Part};
+use ui_timeline::{
+    NamedCut, ShownEvent, Timeline, bytes_of, halting, named_cuts, put_left_out, size,
+};
 use words::{TextScene, words};
 
 // The most events that are shown.
@@ -16,6 +18,9 @@ const SHOWN: usize = 60;
 
 /// How many characters wide a diagram is, if no other width is named.
 pub const WIDTH: u32 = 120;
+
+/// No limit on how many events a picture shows, but that of its form.
+pub const ALL_EVENTS: u32 = u32::MAX;
 
 /// A picture that is being made: what it shows, and its columns.
 #[derive(Clone, Copy)]
@@ -195,7 +200,7 @@ impl TextSheet<'_> {
         cuts: &[NamedCut],
     ) -> Result<(), AllocError> {
         for cut in cuts {
-            if cut.is_front && size(&cut.cut, self.scene.processes()) == place {
+            if cut.is_prefix && size(&cut.cut, self.scene.processes()) == place {
                 self.say_cut(notes, cut)?;
             }
         }
@@ -210,7 +215,7 @@ impl TextSheet<'_> {
         left: &[ShownEvent],
     ) -> Result<(), AllocError> {
         for cut in cuts {
-            if !cut.is_front {
+            if !cut.is_prefix {
                 self.say_first_part(notes, cut, left)?;
             }
         }
@@ -225,7 +230,7 @@ impl TextSheet<'_> {
         shown: ShownEvent,
     ) -> Result<(), AllocError> {
         for cut in cuts {
-            if !cut.is_front {
+            if !cut.is_prefix {
                 self.say_part(notes, cut, shown)?;
             }
         }
@@ -237,14 +242,9 @@ impl TextSheet<'_> {
         if left.is_empty() {
             return Ok(());
         }
-        notes.say(&[
-            Part::Text(".. "),
-            Part::Count(left.len()),
-            Part::Text(match left.len() {
-                1 => " earlier event is left out:",
-                _ => " earlier events are left out:",
-            }),
-        ])?;
+        notes.say(&[Part::Text(".. ")])?;
+        put_left_out(notes, left.len())?;
+        notes.add(&[Part::Text(":")])?;
         let mut word = " ";
         for p in 0..self.scene.processes() {
             let own = own_events(left, Pid(p));
@@ -278,24 +278,25 @@ impl TextSheet<'_> {
 
 /// Draws a session in its present state. Each process has a column with its events downward, each with its number, its command and what it
 /// set. There are arrows for the messages, also for those on their way, the redo lines in brackets, and lines across for the cuts of
-/// breakpoints. Of a long history the end is shown. The columns are as wide as they need to be, but for more than eight characters each at
-/// most so wide that all are within this width.
-pub fn draw_text_within(
+/// breakpoints. Of a long history the end is shown, at most so many events. The columns are as wide as they need to be, but for more than
+/// eight characters each at most so wide that all are within this width.
+pub fn draw_text(
     alloc: Global,
     notes: &mut Notes,
     view: SessionView<'_>,
     width: usize,
+    last: usize,
 ) -> Result<(), Refusal> {
     let mut cuts = named_cuts(alloc, view)?;
     let timeline = Timeline::of(alloc, view.world, cuts.as_mut_slice())?;
     let events = timeline.events();
-    let first = events.len().saturating_sub(SHOWN);
+    let first = timeline.left_out(last.min(SHOWN));
     let scene = TextScene {
         alloc,
         view,
         timeline: &timeline,
     };
-    let shown = events.get(first..).unwrap_or(&[]);
+    let shown = timeline.last_events(first);
     let canvas = scene.canvas(shown, cuts.as_slice(), width)?;
     let sheet = TextSheet {
         scene,
@@ -311,9 +312,4 @@ pub fn draw_text_within(
     sheet.say_all_waiting(notes)?;
     sheet.say_again(notes)?;
     Ok(sheet.say_lines(notes)?)
-}
-
-/// Draws a session as `draw_text_within` does, in 120 characters.
-pub fn draw_text(alloc: Global, notes: &mut Notes, view: SessionView<'_>) -> Result<(), Refusal> {
-    draw_text_within(alloc, notes, view, WIDTH as usize)
 }

@@ -5,7 +5,7 @@ use crate::sheet::SvgSheet;
 use crate::svg::{Point, end_text, escaped, put_ends, say_text};
 use dbg_base::Pid;
 use std::alloc::AllocError;
-use ui_explain::{Notes, Part};
+use ui_text::{Notes, Part};
 use ui_timeline::{ShownEvent, bytes_of};
 
 // From the middle of an event to its arrow.

@@ -5,7 +5,7 @@ use crate::sheet::SvgSheet;
 use crate::svg::{Point, end_text, escaped, put_ends, put_number, say_text};
 use dbg_base::Pid;
 use std::alloc::AllocError;
-use ui_explain::{Notes, Part};
+use ui_text::{Notes, Part};
 use ui_timeline::{NamedCut, bytes_of, size};
 
 // Where cuts begin and end, from the edges of the drawing.
@@ -45,7 +45,7 @@ impl SvgSheet<'_> {
             if other.place == cut.place {
                 break;
             }
-            if other.is_front && size(&other.cut, processes) == events {
+            if other.is_prefix && size(&other.cut, processes) == events {
                 before = before.saturating_add(1);
             }
         }
@@ -65,7 +65,7 @@ impl SvgSheet<'_> {
 
     // Appends the corners of a cut to the last line, from left to right.
     fn put_corners(&self, notes: &mut Notes, cut: &NamedCut) -> Result<(), AllocError> {
-        let across = if cut.is_front {
+        let across = if cut.is_prefix {
             Some(self.across(cut))
         } else {
             None
@@ -131,7 +131,7 @@ impl SvgSheet<'_> {
             if other.place == cut.place {
                 break;
             }
-            if !other.is_front && other.cut.count(last) == cut.cut.count(last) {
+            if !other.is_prefix && other.cut.count(last) == cut.cut.count(last) {
                 before = before.saturating_add(1);
             }
         }
@@ -140,7 +140,7 @@ impl SvgSheet<'_> {
 
     /// The name of a cut: above the line that goes across, or at the right end of the line.
     pub(crate) fn say_cut_name(&self, notes: &mut Notes, cut: &NamedCut) -> Result<(), AllocError> {
-        let at = if cut.is_front {
+        let at = if cut.is_prefix {
             Point {
                 x: self.layout.words(Pid(0)),
                 y: self.across(cut).saturating_sub(6),
@@ -194,7 +194,7 @@ impl SvgSheet<'_> {
     pub(crate) fn names_width(&self) -> i64 {
         let mut width = 0i64;
         for cut in self.scene.cuts {
-            if !cut.is_front {
+            if !cut.is_prefix {
                 width = width.max(width_of(cut.name.bytes().len()));
             }
         }
@@ -204,7 +204,11 @@ impl SvgSheet<'_> {
     /// The marks at the last events of a cut of the processes that the predicate names.
     pub(crate) fn say_deciding(&self, notes: &mut Notes, cut: &NamedCut) -> Result<(), AllocError> {
         for pid in &cut.pids {
-            let last = self.layout.event(self.scene, *pid, cut.cut.count(*pid));
+            let count = cut.cut.count(*pid);
+            if self.scene.left > 0 && !self.scene.timeline.is_shown(*pid, count, self.scene.left) {
+                continue;
+            }
+            let last = self.layout.event(self.scene, *pid, count);
             notes.say(&[Part::Text("  <circle")])?;
             put_cut_class(notes, "decides", cut)?;
             put_number(notes, "cx", last.x)?;

@@ -5,7 +5,7 @@ use crate::svg::{Point, end_text, escaped, say_circle, say_text};
 use dbg_base::Pid;
 use event_rows::{Event, Exchange};
 use std::alloc::AllocError;
-use ui_explain::{Notes, Part};
+use ui_text::{Notes, Part};
 use ui_timeline::{ShownEvent, bytes_of, event_of, exchange_of, halting, put_command, put_setting};
 
 // The radius of the mark of an event.

@@ -5,11 +5,11 @@ use crate::sheet::SvgSheet;
 use crate::svg::{Point, end_text, escaped, put_ends, put_number, say_text};
 use dbg_base::Pid;
 use std::alloc::AllocError;
-use ui_explain::{Notes, Part};
-use ui_timeline::{bytes_of, halting};
+use ui_text::{Notes, Part};
+use ui_timeline::{Theme, bytes_of, halting, put_left_out};
 
 // Each class has the prefix, so that a page may have several drawings, and a style of its own.
-static STYLE: &str = "  <style>
+static LIGHT: &str = "  <style>
     .rdbg-drawing text { font: 13px ui-monospace, monospace; fill: #1b1b1b; }
     .rdbg-drawing .rdbg-ground { fill: #ffffff; }
     .rdbg-drawing .rdbg-name, .rdbg-drawing .rdbg-heading { font-weight: bold; }
@@ -41,9 +41,10 @@ static STYLE: &str = "  <style>
     .rdbg-drawing .rdbg-halts { color: #c03030; }
     .rdbg-drawing .rdbg-cut.rdbg-halts { stroke-width: 3; }
     .rdbg-drawing .rdbg-decides.rdbg-halts { fill: currentColor; }
-    .rdbg-drawing text.rdbg-halts { fill: currentColor; font-weight: bold; }
-    @media (prefers-color-scheme: dark) {
-      .rdbg-drawing text { fill: #ececec; }
+    .rdbg-drawing text.rdbg-halts { fill: currentColor; font-weight: bold; }";
+
+// What is different on a dark ground.
+static DARK: &str = "      .rdbg-drawing text { fill: #ececec; }
       .rdbg-drawing .rdbg-ground { fill: #161616; }
       .rdbg-drawing .rdbg-line, .rdbg-drawing .rdbg-again { stroke: #8f8f8f; }
       .rdbg-drawing .rdbg-event { fill: #ececec; stroke: #ececec; }
@@ -56,9 +57,7 @@ static STYLE: &str = "  <style>
       .rdbg-drawing .rdbg-colour1 { color: #d2a8ff; }
       .rdbg-drawing .rdbg-colour2 { color: #56d4bc; }
       .rdbg-drawing .rdbg-colour3 { color: #b5d165; }
-      .rdbg-drawing .rdbg-halts { color: #ff7b72; }
-    }
-  </style>";
+      .rdbg-drawing .rdbg-halts { color: #ff7b72; }";
 
 // How many characters the longest of these lines has.
 fn most_characters(lines: &Notes) -> usize {
@@ -116,15 +115,20 @@ impl SvgSheet<'_> {
 
     // How the drawing is to be read.
     fn say_description(&self, notes: &mut Notes) -> Result<(), AllocError> {
-        let count = self.scene.timeline.events().len();
+        let count = self.scene.events().len();
         notes.say(&[
             Part::Text("  <desc>"),
             Part::Count(count),
             Part::Text(if count == 1 { " event" } else { " events" }),
-            Part::Text(
-                ", downward in an order in which they can have happened; arrows are messages, with their values; dashed arrows are on their way; dotted marks can be redone; lines across are the cuts of breakpoints</desc>",
-            ),
-        ])
+        ])?;
+        if self.scene.left > 0 {
+            notes.add(&[Part::Text(" (")])?;
+            put_left_out(notes, self.scene.left)?;
+            notes.add(&[Part::Text(")")])?;
+        }
+        notes.add(&[Part::Text(
+            ", downward in an order in which they can have happened; arrows are messages, with their values; dashed arrows are on their way; dotted marks can be redone; lines across are the cuts of breakpoints</desc>",
+        )])
     }
 
     // The head of an arrow, which has a name of its own in each drawing.
@@ -147,6 +151,21 @@ impl SvgSheet<'_> {
         ])
     }
 
+    // The colours.
+    fn say_style(&self, notes: &mut Notes) -> Result<(), AllocError> {
+        notes.say(&[Part::Text(LIGHT)])?;
+        match self.theme {
+            Theme::Auto => {
+                notes.say(&[Part::Text("    @media (prefers-color-scheme: dark) {")])?;
+                notes.say(&[Part::Text(DARK)])?;
+                notes.say(&[Part::Text("    }")])?;
+            }
+            Theme::Light => {}
+            Theme::Dark => notes.say(&[Part::Text(DARK)])?,
+        }
+        notes.say(&[Part::Text("  </style>")])
+    }
+
     /// The start of the drawing.
     pub(crate) fn say_head(&self, notes: &mut Notes) -> Result<(), AllocError> {
         let (width, height) = (self.width()?, self.height());
@@ -160,7 +179,7 @@ impl SvgSheet<'_> {
         notes.add(&[Part::Text(">")])?;
         self.say_title(notes)?;
         self.say_description(notes)?;
-        notes.say(&[Part::Text(STYLE)])?;
+        self.say_style(notes)?;
         self.say_marker(notes, "head", "M0 0L8 4L0 8z")?;
         self.say_marker(notes, "open", "M1 1L8 4L1 7")?;
         notes.say(&[Part::Text("  <rect class=\"rdbg-ground\" width=\"100%\" height=\"100%\"/>")])

@@ -4,8 +4,9 @@ use crate::sheet::Scene;
 use crate::svg::shortened;
 use dbg_base::Pid;
 use std::alloc::AllocError;
-use ui_explain::{Notes, Part, ProcessView};
-use ui_timeline::{NamedCut, ShownEvent, bytes_of, event_of, halting, size};
+use ui_explain::ProcessView;
+use ui_text::{Notes, Part};
+use ui_timeline::{NamedCut, ShownEvent, bytes_of, event_of, halting, put_left_out, size};
 
 // The most variables that are shown at an event.
 const WORDS: usize = 2;
@@ -76,7 +77,7 @@ impl<'a> Scene<'a> {
 
     /// Whether a message is on its way.
     pub(crate) fn is_waiting(&self) -> bool {
-        let mut events = self.timeline.events().iter();
+        let mut events = self.events().iter();
         events.any(|shown| match self.timeline.sent_by(self.view.world, *shown) {
             Some(sent) => sent.is_on_its_way,
             None => false,
@@ -171,6 +172,11 @@ impl Scene<'_> {
         }
         if self.most_again() > 0 {
             key.say(&[Part::Text("Dotted marks are events that can be redone.")])?;
+        }
+        if self.left > 0 {
+            key.say(&[])?;
+            put_left_out(&mut key, self.left)?;
+            key.add(&[Part::Text(".")])?;
         }
         Ok(key)
     }

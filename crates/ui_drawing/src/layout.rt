@@ -42,9 +42,11 @@ pub(crate) struct Layout {
     lines: Vec<i64>,
     ends: Vec<i64>,
     // How many events there are in each of the cuts that go across.
-    fronts: Vec<usize>,
+    prefixes: Vec<usize>,
     // The heights of the events, in their order.
     rows: Vec<i64>,
+    // How many events are left out before them.
+    left: usize,
     top: i64,
     bottom: i64,
 }
@@ -87,18 +89,19 @@ impl Layout {
             gutters: Vec::new(scene.alloc),
             lines: Vec::new(scene.alloc),
             ends: Vec::new(scene.alloc),
-            fronts: Vec::new(scene.alloc),
+            prefixes: Vec::new(scene.alloc),
             rows: Vec::new(scene.alloc),
+            left: scene.left,
             top,
             bottom: top,
         };
         layout.measure_names(scene)?;
-        for shown in scene.timeline.events() {
+        for shown in scene.events() {
             layout.measure_event(scene, *shown)?;
         }
         layout.measure_cuts(scene)?;
         layout.place_lines(scene.processes())?;
-        layout.place_rows(scene.timeline.events().len())?;
+        layout.place_rows(scene.events().len())?;
         Ok(layout)
     }
 
@@ -156,10 +159,11 @@ impl Layout {
     // The name of a cut that goes across is at the first process.
     fn measure_cuts(&mut self, scene: Scene<'_>) -> Result<(), AllocError> {
         for cut in scene.cuts {
-            if cut.is_front {
+            if cut.is_prefix {
                 let width = width_of(bytes_of(&cut.title(scene.alloc)?).len());
                 raise(self.ends.as_mut_slice(), 0, width.saturating_add(ASIDE));
-                self.fronts.push(size(&cut.cut, scene.processes()))?;
+                let events = size(&cut.cut, scene.processes());
+                self.prefixes.push(events.saturating_sub(self.left))?;
             }
         }
         Ok(())
@@ -168,7 +172,7 @@ impl Layout {
     // The height of the rows of the cuts that go across before the event at this position.
     fn across_rows(&self, place: usize) -> i64 {
         let mut height = 0i64;
-        for events in &self.fronts {
+        for events in &self.prefixes {
             if *events == place {
                 height = height.saturating_add(CUT_ROW);
             }
@@ -233,10 +237,18 @@ impl Layout {
 }
 
 impl Layout {
+    // The height of the event at this position. One that is left out is at the top.
+    fn row(&self, place: usize) -> i64 {
+        match place.checked_sub(self.left) {
+            Some(row) => at(self.rows.as_slice(), row),
+            None => self.top,
+        }
+    }
+
     /// The point of the n-th event of a process, or of its start if n is 0.
     pub(crate) fn event(&self, scene: Scene<'_>, pid: Pid, number: u32) -> Point {
         let y = match scene.timeline.row(pid, number) {
-            Some(row) => at(self.rows.as_slice(), row as usize),
+            Some(row) => self.row(row as usize),
             None => self.top,
         };
         Point {
@@ -248,7 +260,7 @@ impl Layout {
     /// The height of a cut that goes across, of which so many of the cuts before it go across at the same place.
     pub(crate) fn across(&self, events: usize, before: usize) -> i64 {
         let above = match events.checked_sub(1) {
-            Some(place) => at(self.rows.as_slice(), place),
+            Some(place) => self.row(place),
             None => self.top,
         };
         let rows = i64::try_from(before).unwrap_or(i64::MAX).saturating_add(1);

@@ -4,8 +4,8 @@ use crate::layout::Layout;
 use dbg_base::{Pid, Refusal};
 use dbg_command::SessionView;
 use std::alloc::{AllocError, Global};
-use ui_explain::{Notes, Part};
-use ui_timeline::{NamedCut, Timeline, event_of, named_cuts, size};
+use ui_text::{Notes, Part};
+use ui_timeline::{NamedCut, ShownEvent, Theme, Timeline, event_of, named_cuts, size};
 
 /// What a drawing shows.
 #[derive(Clone, Copy)]
@@ -14,6 +14,8 @@ pub(crate) struct Scene<'a> {
     pub(crate) view: SessionView<'a>,
     pub(crate) timeline: &'a Timeline,
     pub(crate) cuts: &'a [NamedCut],
+    /// How many events are left out, before those that are shown.
+    pub(crate) left: usize,
 }
 
 /// A drawing that is being made.
@@ -25,6 +27,7 @@ pub(crate) struct SvgSheet<'a> {
     pub(crate) key: &'a Notes,
     /// A number for the names in this drawing, so that a page may have several drawings.
     pub(crate) id: i64,
+    pub(crate) theme: Theme,
 }
 
 // The next number of a series that differs where what is added differs.
@@ -32,11 +35,16 @@ fn mixed(number: u32, added: u32) -> u32 {
     number.wrapping_mul(31).wrapping_add(added)
 }
 
-impl Scene<'_> {
+impl<'a> Scene<'a> {
+    /// The events that are shown.
+    pub(crate) fn events(&self) -> &'a [ShownEvent] {
+        self.timeline.last_events(self.left)
+    }
+
     // A number that is the same for the same events.
     fn events_number(&self) -> u32 {
         let mut number = self.processes();
-        for shown in self.timeline.events() {
+        for shown in self.events() {
             number = mixed(number, shown.pid.0);
             if let Some(event) = event_of(self.view.world, *shown) {
                 number = mixed(number, event.choice().0);
@@ -77,14 +85,14 @@ impl SvgSheet<'_> {
     }
 
     fn say_arrows(&self, notes: &mut Notes) -> Result<(), AllocError> {
-        for shown in self.scene.timeline.events() {
+        for shown in self.scene.events() {
             self.say_arrow(notes, *shown)?;
         }
         Ok(())
     }
 
     fn say_events(&self, notes: &mut Notes) -> Result<(), AllocError> {
-        for shown in self.scene.timeline.events() {
+        for shown in self.scene.events() {
             self.say_event(notes, *shown)?;
         }
         Ok(())
@@ -116,7 +124,7 @@ impl SvgSheet<'_> {
     }
 
     fn say_labels(&self, notes: &mut Notes) -> Result<(), AllocError> {
-        for shown in self.scene.timeline.events() {
+        for shown in self.scene.events() {
             self.say_arrow_label(notes, *shown)?;
             self.say_label(notes, *shown)?;
         }
@@ -139,11 +147,13 @@ impl SvgSheet<'_> {
     }
 }
 
-/// Draws a session in its present state, as `draw_text` does, as a drawing (SVG): its lines.
+/// Draws a session in its present state, as `draw_text` does, as a drawing (SVG): its lines. At most so many events are shown, the last ones.
 pub fn draw_drawing(
     alloc: Global,
     notes: &mut Notes,
     view: SessionView<'_>,
+    last: usize,
+    theme: Theme,
 ) -> Result<(), Refusal> {
     let mut cuts = named_cuts(alloc, view)?;
     let timeline = Timeline::of(alloc, view.world, cuts.as_mut_slice())?;
@@ -152,6 +162,7 @@ pub fn draw_drawing(
         view,
         timeline: &timeline,
         cuts: cuts.as_slice(),
+        left: timeline.left_out(last),
     };
     let heading = scene.heading()?;
     let key = scene.key()?;
@@ -162,6 +173,7 @@ pub fn draw_drawing(
         heading: &heading,
         key: &key,
         id: scene.id(),
+        theme,
     };
     sheet.say_head(notes)?;
     sheet.say_shapes(notes)?;

@@ -1,7 +1,7 @@
 //! The parts of an SVG: attributes, texts and shapes.
 
 use std::alloc::{AllocError, Global};
-use ui_explain::{Notes, Part};
+use ui_text::{Notes, Part};
 
 /// A point, in pixels from the left and from the top.
 #[derive(Clone, Copy)]

@@ -2,10 +2,10 @@
 
 use crate::batches::made_from;
 use crate::events::EventNews;
-use crate::notes::{Notes, Part};
 use crate::view::SourceView;
 use dbg_base::{Call, Done, Pid, Plan, Refusal, Reply};
 use std::alloc::{AllocError, Global};
+use ui_text::{Notes, Part};
 
 /// How many events each process had, how long its line was, and, before an undo, what its last event did.
 #[derive(Debug, Drop)]
@@ -139,13 +139,17 @@ impl SourceView<'_> {
         reply: &Reply,
     ) -> Result<(), Refusal> {
         self.tell_done(notes, before, call, &reply.done)?;
-        if let Some(name) = reply.halted {
-            self.tell_halt(notes, name)?;
-            return self.tell_continuing(alloc, notes, name);
+        if let Call::Give(Plan::Break(name, _)) = call {
+            if reply.halted != Some(*name) {
+                self.tell_breakpoint(alloc, notes, *name)?;
+            }
         }
-        match call {
-            Call::Give(Plan::Break(name, _)) => self.tell_breakpoint(alloc, notes, *name),
-            _ => Ok(()),
+        match reply.halted {
+            Some(name) => {
+                self.tell_halt(alloc, notes, name)?;
+                self.tell_continuing(alloc, notes, name)
+            }
+            None => Ok(()),
         }
     }
 }

@@ -1,11 +1,12 @@
 //! Explanations of the answers to queries.
 
 use crate::accepted::put_events;
-use crate::notes::{Notes, Part};
+use crate::breakpoints::part_of;
 use crate::view::SourceView;
 use dbg_base::{Call, Cause, Choice, Elimination, Head, Name, Pid, Query, Refusal};
 use least_cut::Detector;
 use std::alloc::{AllocError, Global};
+use ui_text::{Notes, Part};
 
 // What a search has ruled out of the states of one process.
 #[derive(Clone, Copy)]
@@ -141,8 +142,62 @@ impl SourceView<'_> {
         Ok(())
     }
 
-    /// Explains the answer to a query. For `why`, says how the search for the cut went, which parts do not hold yet, and which commands of
-    /// these processes can fire now. For `can`, says what prevents the undo.
+    // Says that the part of a process held too early, if it did: before what an event of another process depends on.
+    fn tell_cause(
+        &self,
+        notes: &mut Notes,
+        detector: &Detector,
+        pid: Pid,
+    ) -> Result<(), AllocError> {
+        let (Some(part), Some(needed)) = (
+            part_of(detector, self.session.program, pid),
+            ruled_out(detector.why(), pid).needed,
+        ) else {
+            return Ok(());
+        };
+        let Some(held) = self.last_held(pid, part, needed.events)? else {
+            return Ok(());
+        };
+        let scope = self.scope(pid);
+        notes.say(&[
+            Part::Text("the part of "),
+            scope.name(),
+            Part::Text(" held last after "),
+        ])?;
+        put_events(notes, held)?;
+        notes.add(&[
+            Part::Text(", but event "),
+            Part::Number(i64::from(needed.event)),
+            Part::Text(" of "),
+            scope.process(needed.by),
+        ])?;
+        notes.add(&[
+            Part::Text(" depends on event "),
+            Part::Number(i64::from(needed.events)),
+            Part::Text(" of "),
+            scope.name(),
+        ])
+    }
+
+    // Says the same of all processes that have too few events.
+    fn tell_causes(
+        &self,
+        alloc: Global,
+        notes: &mut Notes,
+        detector: &Detector,
+    ) -> Result<(), Refusal> {
+        let heads = detector.frontier(alloc)?;
+        for p in 0..self.session.program.processes() {
+            if let Some(Head::Past) = heads.items().get(p as usize) {
+                self.tell_cause(notes, detector, Pid(p))?;
+            }
+        }
+        Ok(())
+    }
+
+    /// Explains the answer to a query. For `why`, says how the search for the cut went, which parts do not hold yet, which commands of
+    /// these processes can fire now, and which parts held too early. For `breaks`, shows the predicates. For `can`, says what prevents the
+    /// undo.
     pub fn tell_answer(
         &self,
         alloc: Global,
@@ -152,6 +207,7 @@ impl SourceView<'_> {
         match call {
             Call::Ask(Query::Why(name)) => self.tell_search(alloc, notes, *name),
             Call::Ask(Query::CutOf(name)) => Ok(self.tell_cut_of(notes, *name)?),
+            Call::Ask(Query::Breaks) => self.tell_all_breakpoints(alloc, notes),
             Call::Ask(Query::Can(pid)) if pid.0 < self.session.program.processes() => {
                 match self.session.world.can_undo(*pid) {
                     Err(Refusal::Consequence(receiver)) => {
@@ -175,6 +231,7 @@ impl SourceView<'_> {
             notes.say(&[Part::Text("what is left is the earliest state:")])?;
             return Ok(self.tell_cut_state(notes, detector, cut)?);
         }
-        self.tell_past(alloc, notes, detector)
+        self.tell_past(alloc, notes, detector)?;
+        self.tell_causes(alloc, notes, detector)
     }
 }

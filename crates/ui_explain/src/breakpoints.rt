@@ -1,12 +1,12 @@
 //! The predicate of a breakpoint, and its cut.
 
 use crate::expressions::ProcessView;
-use crate::notes::{Notes, Part};
 use crate::view::SourceView;
 use dbg_base::{Cut, Expr, Head, Name, Pid, Refusal};
 use least_cut::Detector;
 use proc_lang::Program;
 use std::alloc::{AllocError, Global};
+use ui_text::{Notes, Part};
 
 // Appends the conjuncts of a breakpoint to the last line.
 fn put_conjuncts(
@@ -146,14 +146,63 @@ impl SourceView<'_> {
         }
     }
 
-    /// Says that a breakpoint halts the session, what its predicate is, and what the earliest global state is in which it holds.
-    pub(crate) fn tell_halt(&self, notes: &mut Notes, name: Name) -> Result<(), AllocError> {
+    /// Says that a breakpoint halts the session, what its predicate is, and what the earliest global state is in which it holds. Then shows
+    /// the events up to there.
+    pub(crate) fn tell_halt(
+        &self,
+        alloc: Global,
+        notes: &mut Notes,
+        name: Name,
+    ) -> Result<(), AllocError> {
         let Some((_, breakpoint)) = self.session.book.find(name) else {
             return Ok(());
         };
+        let detector = breakpoint.detector();
         notes.say(&[Part::Text("halted by "), Part::Name(name), Part::Text(": ")])?;
-        put_conjuncts(notes, self.session.program, breakpoint.detector())?;
+        put_conjuncts(notes, self.session.program, detector)?;
         notes.say(&[Part::Text("the earliest global state in which this holds:")])?;
-        self.tell_cut_of(notes, name)
+        match detector.cut() {
+            Some(cut) => {
+                self.tell_cut_state(notes, detector, cut)?;
+                self.tell_depths(alloc, notes, detector, cut)
+            }
+            None => Ok(()),
+        }
+    }
+
+    // Says what the predicate of a breakpoint is, and whether it has a cut.
+    fn tell_predicate_of(
+        &self,
+        notes: &mut Notes,
+        name: Name,
+        is_armed: bool,
+    ) -> Result<(), AllocError> {
+        let Some((_, breakpoint)) = self.session.book.find(name) else {
+            return Ok(());
+        };
+        let detector = breakpoint.detector();
+        notes.say(&[Part::Name(name), Part::Text(": ")])?;
+        put_conjuncts(notes, self.session.program, detector)?;
+        notes.add(&[
+            Part::Text(if is_armed { ", armed" } else { ", not armed" }),
+            Part::Text(if detector.cut().is_some() {
+                ", has a cut"
+            } else {
+                ", no cut yet"
+            }),
+        ])
+    }
+
+    /// Says of all breakpoints what their predicates are, and which of them have cuts.
+    pub(crate) fn tell_all_breakpoints(
+        &self,
+        alloc: Global,
+        notes: &mut Notes,
+    ) -> Result<(), Refusal> {
+        let marks = self.session.book.list(alloc)?;
+        for (name, is_armed) in marks.items() {
+            self.tell_predicate_of(notes, *name, *is_armed)?;
+        }
+        Ok(())
     }
 }

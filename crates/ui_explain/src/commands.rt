@@ -1,10 +1,9 @@
 //! Commands of a program, with their lines in its text.
 
 use crate::expressions::ProcessView;
-use crate::notes::{Notes, Part};
-use crate::source::ProgramText;
 use dbg_base::Choice;
 use std::alloc::{AllocError, Global};
+use ui_text::{Notes, Part, ProgramText};
 
 impl ProcessView<'_> {
     /// Appends a command to the last line: its label, its number, and the line of the text at which it begins.

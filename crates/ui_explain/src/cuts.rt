@@ -3,13 +3,13 @@
 use crate::accepted::put_events;
 use crate::breakpoints::part_of;
 use crate::events::{longest_name, sending};
-use crate::notes::{Notes, Part};
 use crate::view::SourceView;
 use dbg_base::{Cut, Expr, Pid};
 use event_rows::{Event, Exchange};
 use least_cut::Detector;
 use local_eval::{Env, guard};
 use std::alloc::AllocError;
+use ui_text::{Notes, Part};
 
 // At most this many events before a cut are searched for the one since which a part holds.
 const SEARCHED: u32 = 1_000;
@@ -24,17 +24,17 @@ const SINCE: usize = 26;
 
 // Where the columns of the lines about processes begin.
 #[derive(Clone, Copy)]
-struct Columns {
+struct CutColumns {
     events: usize,
     since: usize,
     values: usize,
 }
 
-impl Columns {
-    fn after(longest: usize) -> Columns {
+impl CutColumns {
+    fn after(longest: usize) -> CutColumns {
         let events = longest.max("on the way".len()).saturating_add(2);
         let since = events.saturating_add(EVENTS);
-        Columns {
+        CutColumns {
             events,
             since,
             values: since.saturating_add(SINCE),
@@ -95,6 +95,32 @@ impl SourceView<'_> {
         })
     }
 
+    /// After how many events of a process, fewer than these, its part held last. None if it did not hold in the last thousand states before.
+    pub(crate) fn last_held(
+        &self,
+        pid: Pid,
+        part: &Expr,
+        below: u32,
+    ) -> Result<Option<u32>, AllocError> {
+        let Some(last) = below.checked_sub(1) else {
+            return Ok(None);
+        };
+        let mut env = self.state_after(pid, last)?;
+        if matches!(guard(part, &env), Ok(true)) {
+            return Ok(Some(last));
+        }
+        for at in (last.saturating_sub(SEARCHED)..last).rev() {
+            self.session
+                .world
+                .rows()
+                .retreat(pid, at as usize, &mut env);
+            if matches!(guard(part, &env), Ok(true)) {
+                return Ok(Some(at));
+            }
+        }
+        Ok(None)
+    }
+
     // Appends since when the part of a process has held to the last line.
     fn put_since(
         &self,
@@ -121,7 +147,7 @@ impl SourceView<'_> {
         &self,
         notes: &mut Notes,
         detector: &Detector,
-        columns: Columns,
+        columns: CutColumns,
         pid: Pid,
         count: u32,
     ) -> Result<(), AllocError> {
@@ -155,7 +181,7 @@ impl SourceView<'_> {
     fn tell_crossing(
         &self,
         notes: &mut Notes,
-        columns: Columns,
+        columns: CutColumns,
         cut: &Cut,
         source: Pid,
         target: Pid,
@@ -203,7 +229,7 @@ impl SourceView<'_> {
         cut: &Cut,
     ) -> Result<(), AllocError> {
         let processes = self.session.program.processes();
-        let columns = Columns::after(longest_name(self.session.program));
+        let columns = CutColumns::after(longest_name(self.session.program));
         for p in 0..processes {
             self.tell_process_of_cut(notes, detector, columns, Pid(p), cut.count(Pid(p)))?;
         }

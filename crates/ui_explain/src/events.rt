@@ -1,13 +1,13 @@
 //! What an event did.
 
 use crate::expressions::ProcessView;
-use crate::notes::{Notes, Part};
 use crate::view::SourceView;
 use causal_world::World;
 use dbg_base::{Direction, Pid};
 use event_rows::{Event, Exchange, Setting};
 use proc_lang::Program;
 use std::alloc::AllocError;
+use ui_text::{Notes, Part};
 
 // The room of the columns of a line about an event, besides the names of processes: for the number of the event, for a message, its arrow
 // and the number of the event that sent it, and for the variables that were set.
@@ -54,16 +54,16 @@ pub(crate) fn receiving(world: &World, target: Pid, source: Pid, count: u32) -> 
 
 // Where the columns of a line about an event begin. A line whose text is longer than its column has the next one after two blanks.
 #[derive(Clone, Copy)]
-struct Columns {
+struct EventColumns {
     has_messages: bool,
     message: usize,
     settings: usize,
     command: usize,
 }
 
-impl Columns {
+impl EventColumns {
     // The columns for a program. One process alone has no messages.
-    fn of(program: &Program) -> Columns {
+    fn of(program: &Program) -> EventColumns {
         let longest = longest_name(program);
         let has_messages = program.processes() > 1;
         let message = longest.saturating_add(NUMBER);
@@ -72,7 +72,7 @@ impl Columns {
         } else {
             message
         };
-        Columns {
+        EventColumns {
             has_messages,
             message,
             settings,
@@ -239,7 +239,7 @@ impl SourceView<'_> {
             return Ok(());
         };
         let scope = self.scope(pid);
-        let columns = Columns::of(self.session.program);
+        let columns = EventColumns::of(self.session.program);
         let begin = if news == EventNews::MadeByBatch {
             "  "
         } else {

@@ -1,11 +1,11 @@
 //! Explanations of a session.
 
 use crate::directive::Directive;
-use crate::notes::Notes;
 use dbg_base::{Call, Refusal, Said};
 use dbg_command::SessionView;
 use proc_lang::Program;
 use std::alloc::{AllocError, Global};
+use ui_text::Notes;
 
 /// How a line is written before its reply.
 #[derive(Clone, Copy, Debug, PartialEq, Eq)]

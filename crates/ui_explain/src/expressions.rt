@@ -1,10 +1,10 @@
 //! Expressions and commands as text, and the names in them.
 
-use crate::notes::{Notes, Part};
 use dbg_base::{Direction, Expr, Name, Operator, Pid};
 use local_eval::Env;
 use proc_lang::{Action, Guarded, Program};
 use std::alloc::AllocError;
+use ui_text::{Notes, Part};
 
 /// A process of a program, for texts about its expressions.
 #[derive(Clone, Copy)]

@@ -1,79 +1,17 @@
 //! Why a command does not fire in the present state of its process.
 
 use crate::expressions::ProcessView;
-use crate::notes::{Notes, Part};
-use crate::source::ProgramText;
 use causal_world::World;
-use dbg_base::limits::{EVENTS, OPEN_PARENTHESES};
-use dbg_base::{Choice, Expr, Pid, Refusal};
-use local_eval::{Env, EvalError, effect, eval, guard};
+use dbg_base::limits::OPEN_PARENTHESES;
+use dbg_base::{Choice, Expr, Operator, Refusal};
+use local_eval::{Env, eval, guard};
 use proc_lang::{Action, Guarded};
 use std::alloc::{AllocError, Global};
+use ui_firing::{Hindrance, find_hindrance};
+use ui_text::{Notes, Part, ProgramText, meaning};
 
-// What prevents a command from firing.
-#[derive(Clone, Copy, PartialEq, Eq)]
-enum Hindrance {
-    Nothing,
-    GuardFalse,
-    GuardFaults,
-    /// No message from this process is on its way.
-    NoMessage(Pid),
-    /// An expression after the guard faults. The message is the one that the command would receive, if it receives.
-    Faults(Option<i64>),
-}
-
-// The first message on the way from one process to another.
-fn front(alloc: Global, world: &World, source: Pid, target: Pid) -> Result<Option<i64>, Refusal> {
-    let messages = world.channel(alloc, source, target)?;
-    Ok(messages.items().first().copied())
-}
-
-fn faults(
-    alloc: Global,
-    command: &Guarded,
-    env: &Env,
-    message: Option<i64>,
-) -> Result<bool, Refusal> {
-    match effect(alloc, command, env, message) {
-        Ok(_) => Ok(false),
-        Err(EvalError::Fault) => Ok(true),
-        Err(EvalError::Memory) => Err(Refusal::Memory),
-    }
-}
-
-fn hindrance_behind_guard(
-    alloc: Global,
-    world: &World,
-    pid: Pid,
-    command: &Guarded,
-    env: &Env,
-) -> Result<Hindrance, Refusal> {
-    let mut message = None;
-    if let Action::Receive { source, .. } = &command.action {
-        message = front(alloc, world, *source, pid)?;
-        if message.is_none() {
-            return Ok(Hindrance::NoMessage(*source));
-        }
-    }
-    if faults(alloc, command, env, message)? {
-        return Ok(Hindrance::Faults(message));
-    }
-    Ok(Hindrance::Nothing)
-}
-
-fn find_hindrance(
-    alloc: Global,
-    world: &World,
-    pid: Pid,
-    command: &Guarded,
-    env: &Env,
-) -> Result<Hindrance, Refusal> {
-    match guard(&command.guard, env) {
-        Err(_) => Ok(Hindrance::GuardFaults),
-        Ok(false) => Ok(Hindrance::GuardFalse),
-        Ok(true) => hindrance_behind_guard(alloc, world, pid, command, env),
-    }
-}
+// At most this many bytes of an expression are shown.
+const SHOWN: usize = 160;
 
 // The operand of an expression that faults in which its fault occurs.
 fn faulting_operand<'e>(expr: &'e Expr, env: &Env) -> Option<&'e Expr> {
@@ -99,32 +37,55 @@ fn faulting_part<'e>(expr: &'e Expr, env: &Env) -> Option<&'e Expr> {
     part
 }
 
+// The first part of a conjunction that is false, from the left. Of another expression, the expression itself.
+fn false_part<'e>(expr: &'e Expr, env: &Env) -> &'e Expr {
+    let mut part = expr;
+    // The deepest that expressions are nested.
+    for _ in 0..=OPEN_PARENTHESES {
+        match part {
+            Expr::Binary(Operator::And, left, right) => {
+                part = match guard(left, env) {
+                    Ok(true) => right,
+                    _ => left,
+                };
+            }
+            _ => break,
+        }
+    }
+    part
+}
+
 impl ProcessView<'_> {
-    // Appends an expression and the values of the names in it to the last line.
-    fn put_evaluated(
-        &self,
-        notes: &mut Notes,
-        env: &Env,
-        expr: &Expr,
-        is: &'static str,
-    ) -> Result<(), AllocError> {
-        self.put_expression(notes, expr)?;
-        notes.add(&[Part::Text(is)])?;
-        self.put_values(notes, env, expr)
+    // Appends an expression to the last line. Of a long one it is the beginning.
+    fn put_shortened(&self, notes: &mut Notes, expr: &Expr) -> Result<(), AllocError> {
+        let mut text = Notes::new(notes.alloc());
+        text.say(&[])?;
+        self.put_expression(&mut text, expr)?;
+        let Some(line) = text.lines().first() else {
+            return Ok(());
+        };
+        let whole = line.as_slice();
+        let shown = whole.get(..SHOWN).unwrap_or(whole);
+        notes.add(&[Part::Bytes(shown)])?;
+        if shown.len() < whole.len() {
+            notes.add(&[Part::Text(" ..")])?;
+        }
+        Ok(())
     }
 
     // Appends an expression that faults, the part of it that faults, and the values of the names in it to the last line.
     fn put_fault(&self, notes: &mut Notes, env: &Env, expr: &Expr) -> Result<(), AllocError> {
-        self.put_expression(notes, expr)?;
+        self.put_shortened(notes, expr)?;
         notes.add(&[Part::Text(" faults")])?;
         if let Some(part) = faulting_part(expr, env) {
             notes.add(&[Part::Text(" at ")])?;
-            self.put_expression(notes, part)?;
+            self.put_shortened(notes, part)?;
         }
         self.put_values(notes, env, expr)
     }
 
-    /// Appends an expression that does not hold, since it is false or faults, and the values of the names in it to the last line.
+    /// Appends an expression that does not hold, since it is false or faults, and the values of the names in it to the last line. Of a
+    /// conjunction it is the first part that is false.
     pub(crate) fn put_false(
         &self,
         notes: &mut Notes,
@@ -132,10 +93,12 @@ impl ProcessView<'_> {
         expr: &Expr,
     ) -> Result<(), AllocError> {
         if eval(expr, env).is_err() {
-            self.put_fault(notes, env, expr)
-        } else {
-            self.put_evaluated(notes, env, expr, " is false")
+            return self.put_fault(notes, env, expr);
         }
+        let part = false_part(expr, env);
+        self.put_shortened(notes, part)?;
+        notes.add(&[Part::Text(" is false")])?;
+        self.put_values(notes, env, part)
     }
 
     // Appends the first expression of a command that faults in this state to the last line.
@@ -159,17 +122,17 @@ impl ProcessView<'_> {
     }
 
     // The same, if the command receives this message.
-    fn put_faulting_behind(
+    fn put_faulting_after(
         &self,
         notes: &mut Notes,
         env: &Env,
         command: &Guarded,
         message: i64,
     ) -> Result<(), AllocError> {
-        let mut behind = env.copy()?;
+        let mut after = env.copy()?;
         if let Action::Receive { variable, .. } = &command.action {
-            if (*variable as usize) < behind.len() {
-                behind.set(*variable, message);
+            if (*variable as usize) < after.len() {
+                after.set(*variable, message);
             }
         }
         notes.add(&[
@@ -177,9 +140,10 @@ impl ProcessView<'_> {
             Part::Number(message),
             Part::Text(", "),
         ])?;
-        self.put_faulting(notes, &behind, command)
+        self.put_faulting(notes, &after, command)
     }
 
+    // Appends what prevents this command in this local state to the last line.
     fn put_hindrance(
         &self,
         notes: &mut Notes,
@@ -188,8 +152,10 @@ impl ProcessView<'_> {
         hindrance: Hindrance,
     ) -> Result<(), AllocError> {
         match hindrance {
-            Hindrance::Nothing => notes.add(&[Part::Text("it can fire")]),
-            Hindrance::GuardFalse => self.put_evaluated(notes, env, &command.guard, " is false"),
+            Hindrance::NoCommand | Hindrance::Full => {
+                notes.add(&[Part::Text(meaning(hindrance.refusal().number()))])
+            }
+            Hindrance::GuardFalse => self.put_false(notes, env, &command.guard),
             Hindrance::GuardFaults => self.put_fault(notes, env, &command.guard),
             Hindrance::NoMessage(source) => {
                 notes.add(&[
@@ -200,7 +166,7 @@ impl ProcessView<'_> {
             }
             Hindrance::Faults(None) => self.put_faulting(notes, env, command),
             Hindrance::Faults(Some(message)) => {
-                self.put_faulting_behind(notes, env, command, message)
+                self.put_faulting_after(notes, env, command, message)
             }
         }
     }
@@ -213,17 +179,18 @@ impl ProcessView<'_> {
         world: &World,
         choice: Choice,
     ) -> Result<(), Refusal> {
-        let (Some(command), Some(env)) = (
+        let Some(hindrance) = find_hindrance(alloc, self.program, world, self.pid, choice)? else {
+            return Ok(notes.add(&[Part::Text("it can fire")])?);
+        };
+        match (
             self.program.command(self.pid, choice),
             world.local_state(self.pid),
-        ) else {
-            return Ok(());
-        };
-        if world.place(self.pid) >= EVENTS {
-            return Ok(notes.add(&[Part::Text("the process has 20,000 events, the maximum")])?);
+        ) {
+            (Some(command), Some(env)) => {
+                Ok(self.put_hindrance(notes, env, command, hindrance)?)
+            }
+            _ => Ok(()),
         }
-        let hindrance = find_hindrance(alloc, world, self.pid, command, env)?;
-        Ok(self.put_hindrance(notes, env, command, hindrance)?)
     }
 
     /// Says why this command does not fire, or that it can fire.
@@ -262,15 +229,6 @@ impl ProcessView<'_> {
         world: &World,
         choice: Choice,
     ) -> Result<bool, Refusal> {
-        let (Some(command), Some(env)) = (
-            self.program.command(self.pid, choice),
-            world.local_state(self.pid),
-        ) else {
-            return Ok(false);
-        };
-        if world.place(self.pid) >= EVENTS {
-            return Ok(false);
-        }
-        Ok(find_hindrance(alloc, world, self.pid, command, env)? == Hindrance::Nothing)
+        Ok(find_hindrance(alloc, self.program, world, self.pid, choice)?.is_none())
     }
 }

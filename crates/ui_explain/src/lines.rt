@@ -1,14 +1,11 @@
 //! Why a command line is refused for its form, or for a name in it.
 
-use crate::faults::tell_mark;
-use crate::forms::{is_directive_word, tell_near_word, tell_word};
-use crate::notes::{Notes, Part};
-use crate::numbers::meaning;
 use crate::view::SourceView;
-use dbg_base::limits::{LINE_BYTES, PROCESSES, SEATS};
+use dbg_base::limits::{LINE_BYTES, SEATS};
 use dbg_base::{Name, Pid, Refusal};
-use proc_lang::{ProgError, ProgFault, Program, parse_predicate};
+use proc_lang::Program;
 use std::alloc::{AllocError, Global};
+use ui_text::{Notes, Part, is_directive_word, meaning, tell_near_word, tell_word};
 
 fn is_blank(byte: u8) -> bool {
     byte == b' ' || byte == b'\t' || byte == b'\r'
@@ -41,8 +38,8 @@ fn parenthesized_length(bytes: &[u8]) -> usize {
     bytes.len()
 }
 
-// The first expression, and the bytes after it.
-fn next_expression(bytes: &[u8]) -> (&[u8], &[u8]) {
+/// The first expression, and the bytes after it.
+pub(crate) fn next_expression(bytes: &[u8]) -> (&[u8], &[u8]) {
     let begun = bytes.trim_ascii_start();
     if begun.first() != Some(&b'(') {
         return next_word(begun);
@@ -68,74 +65,12 @@ fn is_seat(word: &[u8]) -> bool {
     1 <= number && number <= SEATS as usize
 }
 
-// The process of this name.
-fn process_named(program: &Program, word: &[u8]) -> Option<Pid> {
+/// The process of this name.
+pub(crate) fn process_named(program: &Program, word: &[u8]) -> Option<Pid> {
     program.find_process(Name::new(word)?)
 }
 
-// Explains a fault of a text, with a mark under its place.
-fn tell_marked(notes: &mut Notes, text: &[u8], fault: &ProgFault) -> Result<(), AllocError> {
-    notes.say(&[Part::Bytes(text)])?;
-    tell_mark(notes, text.get(..fault.at).unwrap_or(text), fault.kind)
-}
-
 impl SourceView<'_> {
-    // Says what is wrong with a predicate. True if something is wrong.
-    fn tell_predicate(
-        &self,
-        alloc: Global,
-        notes: &mut Notes,
-        pid: Pid,
-        text: &[u8],
-    ) -> Result<bool, Refusal> {
-        if pid.0 >= self.session.program.processes() {
-            return Ok(false);
-        }
-        match parse_predicate(alloc, self.session.program, pid, text) {
-            Ok(_) => Ok(false),
-            Err(ProgError::Bad(fault)) => {
-                tell_marked(notes, text, &fault)?;
-                Ok(true)
-            }
-            Err(ProgError::Memory) => Err(Refusal::Memory),
-        }
-    }
-
-    // Says what is wrong with the first wrong conjunct.
-    fn tell_conjuncts(
-        &self,
-        alloc: Global,
-        notes: &mut Notes,
-        parts: &[u8],
-    ) -> Result<(), Refusal> {
-        let mut rest = parts;
-        let mut has_part = [false; PROCESSES];
-        // A line has at most this many parts.
-        for _ in 0..512 {
-            let (word, behind) = next_word(rest);
-            let (text, others) = next_expression(behind);
-            let Some(pid) = process_named(self.session.program, word) else {
-                return Ok(());
-            };
-            if self.tell_predicate(alloc, notes, pid, text)? {
-                return Ok(());
-            }
-            if let Some(has) = has_part.get_mut(pid.0 as usize) {
-                if *has {
-                    return Ok(notes.say(&[
-                        Part::Bytes(word),
-                        Part::Text(
-                            " already has a part: combine both, as in `((x = 1) and (y = 2))`",
-                        ),
-                    ])?);
-                }
-                *has = true;
-            }
-            rest = others;
-        }
-        Ok(())
-    }
-
     // Says which word is not the name of a process.
     fn tell_unknown(
         &self,
@@ -170,6 +105,7 @@ impl SourceView<'_> {
         notes: &mut Notes,
         seat: &[u8],
         command: &[u8],
+        arguments: &[u8],
     ) -> Result<(), AllocError> {
         if !is_seat(seat) {
             return notes.say(&[
@@ -194,7 +130,10 @@ impl SourceView<'_> {
             )]);
         }
         if !tell_word(notes, command)? {
-            tell_near_word(notes, command)?;
+            return tell_near_word(notes, command);
+        }
+        if command == b"break".as_slice() {
+            return self.tell_wrong_break(notes, arguments);
         }
         Ok(())
     }
@@ -214,7 +153,7 @@ impl SourceView<'_> {
         let (seat, rest) = next_word(line);
         let (command, arguments) = next_word(rest);
         match refusal {
-            Refusal::BadLine => self.tell_form_of(notes, seat, command)?,
+            Refusal::BadLine => self.tell_form_of(notes, seat, command, arguments)?,
             Refusal::UnknownProcess if command != b"batch".as_slice() => self.tell_unknown(
                 notes, command, arguments,
             )?,

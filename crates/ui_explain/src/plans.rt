@@ -1,9 +1,9 @@
 //! Commands as text.
 
-use crate::notes::{Notes, Part};
 use crate::view::SourceView;
 use dbg_base::{Name, Pid, Plan};
 use std::alloc::AllocError;
+use ui_text::{Notes, Part};
 
 // Appends a command that names a breakpoint to the last line.
 fn put_of_breakpoint(notes: &mut Notes, word: &'static str, name: Name) -> Result<(), AllocError> {

@@ -2,49 +2,42 @@
 
 use crate::accepted::put_events;
 use crate::events::receiving;
-use crate::notes::{Notes, Part};
-use crate::numbers::meaning;
 use crate::view::SourceView;
 use dbg_base::{Call, Choice, Name, Pid, Plan, Query, Refusal};
 use event_rows::{Event, Exchange};
 use std::alloc::{AllocError, Global};
+use ui_text::{Notes, Part, meaning};
 
-// The process that a call names.
-fn process_of(call: &Call) -> Option<Pid> {
-    match call {
-        Call::Give(
-            Plan::Step(pid, _)
-            | Plan::Next(pid)
-            | Plan::Undo(pid)
-            | Plan::Redo(pid)
-            | Plan::Rollback(pid, _),
-        )
-        | Call::Ask(Query::Can(pid)) => Some(*pid),
+// The process that a command names.
+fn process_of(plan: &Plan) -> Option<Pid> {
+    match plan {
+        Plan::Step(pid, _)
+        | Plan::Next(pid)
+        | Plan::Undo(pid)
+        | Plan::Redo(pid)
+        | Plan::Rollback(pid, _) => Some(*pid),
         _ => None,
     }
 }
 
-// The breakpoint that a call names.
-fn breakpoint_of(call: &Call) -> Option<Name> {
-    match call {
-        Call::Give(
-            Plan::Goto(name)
-            | Plan::Break(name, _)
-            | Plan::Clear(name)
-            | Plan::Arm(name)
-            | Plan::Pass(name),
-        )
-        | Call::Ask(Query::CutOf(name) | Query::Why(name)) => Some(*name),
+// The breakpoint that a command names.
+fn breakpoint_of(plan: &Plan) -> Option<Name> {
+    match plan {
+        Plan::Goto(name)
+        | Plan::Break(name, _)
+        | Plan::Clear(name)
+        | Plan::Arm(name)
+        | Plan::Pass(name) => Some(*name),
         _ => None,
     }
 }
 
 impl SourceView<'_> {
-    // The command of the program that the call would make.
-    fn choice_of(&self, call: &Call) -> Option<Choice> {
-        match call {
-            Call::Give(Plan::Step(_, choice)) => Some(*choice),
-            Call::Give(Plan::Redo(pid)) => self
+    // The command of the program that would be made.
+    fn choice_of(&self, plan: &Plan) -> Option<Choice> {
+        match plan {
+            Plan::Step(_, choice) => Some(*choice),
+            Plan::Redo(pid) => self
                 .session
                 .world
                 .choice(*pid, self.session.world.place(*pid)),
@@ -112,7 +105,8 @@ impl SourceView<'_> {
         Ok(None)
     }
 
-    fn has_cut(&self, name: Name) -> bool {
+    /// Whether a breakpoint has a cut.
+    pub(crate) fn has_cut(&self, name: Name) -> bool {
         match self.session.book.find(name) {
             Some((_, breakpoint)) => breakpoint.detector().cut().is_some(),
             None => false,
@@ -169,7 +163,7 @@ impl SourceView<'_> {
         &self,
         alloc: Global,
         notes: &mut Notes,
-        call: &Call,
+        plan: &Plan,
         pid: Pid,
         refusal: &Refusal,
     ) -> Result<(), Refusal> {
@@ -177,7 +171,7 @@ impl SourceView<'_> {
         match refusal {
             Refusal::UnknownChoice => self.tell_commands(notes, pid)?,
             Refusal::GuardFalse | Refusal::Fault | Refusal::ChannelEmpty => {
-                if let Some(choice) = self.choice_of(call) {
+                if let Some(choice) = self.choice_of(plan) {
                     scope.tell_hindrance(alloc, notes, self.text, self.session.world, choice)?;
                 }
             }
@@ -224,6 +218,93 @@ impl SourceView<'_> {
         }
     }
 
+    /// Says why a command is refused in the present state, and what the person can do.
+    pub(crate) fn tell_reason(
+        &self,
+        alloc: Global,
+        notes: &mut Notes,
+        plan: &Plan,
+        refusal: &Refusal,
+    ) -> Result<(), Refusal> {
+        if let Some(pid) = process_of(plan) {
+            self.tell_of_process(alloc, notes, plan, pid, refusal)?;
+        }
+        if let Some(name) = breakpoint_of(plan) {
+            self.tell_of_breakpoint(alloc, notes, name, refusal)?;
+        }
+        Ok(())
+    }
+
+    // Says why a command is refused. Of a batch, says which of its commands is.
+    fn tell_of_plan(
+        &self,
+        alloc: Global,
+        notes: &mut Notes,
+        plan: &Plan,
+        refusal: &Refusal,
+    ) -> Result<(), Refusal> {
+        match refusal {
+            Refusal::InBatch { at, number } => match plan {
+                Plan::Batch(plans) => {
+                    self.tell_in_batch(alloc, notes, plans.as_slice(), *at, *number)
+                }
+                _ => Ok(()),
+            },
+            _ => self.tell_reason(alloc, notes, plan, refusal),
+        }
+    }
+
+    // Says why a question is refused.
+    fn tell_of_query(
+        &self,
+        alloc: Global,
+        notes: &mut Notes,
+        query: &Query,
+        refusal: &Refusal,
+    ) -> Result<(), Refusal> {
+        match query {
+            Query::CutOf(name) | Query::Why(name) => {
+                self.tell_of_breakpoint(alloc, notes, *name, refusal)
+            }
+            _ => Ok(()),
+        }
+    }
+
+    // Says what the person can do after a refusal that does not depend on the command.
+    fn tell_remedy(
+        &self,
+        alloc: Global,
+        notes: &mut Notes,
+        refusal: &Refusal,
+    ) -> Result<(), Refusal> {
+        match refusal {
+            Refusal::Halted(name) => {
+                self.tell_breakpoint(alloc, notes, *name)?;
+                self.tell_continuing(alloc, notes, *name)
+            }
+            Refusal::OtherSeat(seat) => {
+                let seat = Part::Number(i64::from(*seat));
+                Ok(notes.say(&[Part::Text("`"), seat, Part::Text(" back` takes it back")])?)
+            }
+            Refusal::NothingBack => Ok(notes.say(&[Part::Text(
+                "every accepted command is already taken back; queries and refused lines leave nothing to take back",
+            )])?),
+            Refusal::ProcessFull => Ok(notes.say(&[Part::Text(
+                "`undo`, `rollback` and `goto` make room for new events",
+            )])?),
+            Refusal::BreaksFull => {
+                Ok(notes.say(&[Part::Text("`clear B` removes one of them")])?)
+            }
+            Refusal::JournalFull => Ok(notes.say(&[Part::Text(
+                "a new session can begin with the lines that lead here, without those that were taken back",
+            )])?),
+            Refusal::Memory => Ok(notes.say(&[Part::Text(
+                "the session is as it was before the line; `clear` and `back` may free memory",
+            )])?),
+            _ => Ok(()),
+        }
+    }
+
     /// Says why a call is refused, and what the person can do.
     pub fn tell_refusal(
         &self,
@@ -233,47 +314,11 @@ impl SourceView<'_> {
         refusal: &Refusal,
     ) -> Result<(), Refusal> {
         notes.say(&[Part::Text(meaning(refusal.number()))])?;
-        match refusal {
-            Refusal::Halted(name) => {
-                self.tell_breakpoint(alloc, notes, *name)?;
-                self.tell_continuing(alloc, notes, *name)?;
-            }
-            Refusal::InBatch { at, number } => {
-                notes.say(&[
-                    Part::Text("command "),
-                    Part::Number(i64::from(*at)),
-                    Part::Text(" of the batch"),
-                ])?;
-                if let Call::Give(Plan::Batch(plans)) = call {
-                    self.put_plan_of_batch(notes, plans.as_slice(), *at)?;
-                }
-                notes.add(&[Part::Text(": "), Part::Text(meaning(*number))])?;
-            }
-            Refusal::OtherSeat(seat) => {
-                let seat = Part::Number(i64::from(*seat));
-                notes.say(&[Part::Text("`"), seat, Part::Text(" back` takes it back")])?;
-            }
-            Refusal::NothingBack => notes.say(&[Part::Text(
-                "every accepted command is already taken back; queries and refused lines leave nothing to take back",
-            )])?,
-            Refusal::ProcessFull => notes.say(&[Part::Text(
-                "`undo`, `rollback` and `goto` make room for new events",
-            )])?,
-            Refusal::BreaksFull => notes.say(&[Part::Text("`clear B` removes one of them")])?,
-            Refusal::JournalFull => notes.say(&[Part::Text(
-                "a new session can begin with the lines that lead here, without those that were taken back",
-            )])?,
-            Refusal::Memory => notes.say(&[Part::Text(
-                "the session is as it was before the line; `clear` and `back` may free memory",
-            )])?,
-            _ => {}
+        self.tell_remedy(alloc, notes, refusal)?;
+        match call {
+            Call::Give(plan) => self.tell_of_plan(alloc, notes, plan, refusal),
+            Call::Ask(query) => self.tell_of_query(alloc, notes, query, refusal),
+            Call::Back => Ok(()),
         }
-        if let Some(pid) = process_of(call) {
-            self.tell_of_process(alloc, notes, call, pid, refusal)?;
-        }
-        if let Some(name) = breakpoint_of(call) {
-            self.tell_of_breakpoint(alloc, notes, name, refusal)?;
-        }
-        Ok(())
     }
 }

@@ -2,10 +2,10 @@
 
 use crate::events::EventNews;
 use crate::expressions::direction_text;
-use crate::notes::{Notes, Part};
 use crate::view::SourceView;
 use dbg_base::{Choice, Direction, Name, Pid, Refusal};
 use std::alloc::{AllocError, Global};
+use ui_text::{Notes, Part};
 
 // Processes, from the first of these numbers up to the second, without it.
 type Processes = (u32, u32);

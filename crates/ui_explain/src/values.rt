@@ -1,10 +1,10 @@
 //! The values on which an expression depends.
 
 use crate::expressions::{ProcessView, direction_text};
-use crate::notes::{Notes, Part};
 use dbg_base::{Direction, Expr, Pid};
 use local_eval::Env;
 use std::alloc::AllocError;
+use ui_text::{Notes, Part};
 
 // A value of a process that an expression may name.
 #[derive(Clone, Copy, PartialEq, Eq)]

@@ -1,9 +1,9 @@
 //! What explanations are made from.
 
 use crate::expressions::ProcessView;
-use crate::source::ProgramText;
 use dbg_base::Pid;
 use dbg_command::SessionView;
+use ui_text::ProgramText;
 
 /// A session, and the text of its program.
 #[derive(Clone, Copy)]

@@ -3,9 +3,10 @@
 use dbg_base::{Refusal, Said};
 use dbg_command::SessionView;
 use std::alloc::{AllocError, Global};
-use ui_diagram::{Moment, Picture, PictureForm, draw_mermaid, draw_text_within, write_log};
+use ui_diagram::{Moment, Picture, PictureForm, draw_mermaid, draw_text, write_log};
 use ui_drawing::draw_drawing;
-use ui_explain::{Explainer, Notes};
+use ui_explain::Explainer;
+use ui_text::Notes;
 
 // Lines, each with a line end.
 fn with_line_ends(alloc: Global, lines: &[Vec<u8>]) -> Result<Vec<u8>, AllocError> {
@@ -20,10 +21,11 @@ fn with_line_ends(alloc: Global, lines: &[Vec<u8>]) -> Result<Vec<u8>, AllocErro
 // The picture that is wanted.
 fn picture_of(alloc: Global, wanted: Picture, view: SessionView<'_>) -> Result<Vec<u8>, Refusal> {
     let mut notes = Notes::new(alloc);
+    let last = wanted.last as usize;
     match wanted.form {
-        PictureForm::Text => draw_text_within(alloc, &mut notes, view, wanted.width as usize)?,
-        PictureForm::Svg => draw_drawing(alloc, &mut notes, view)?,
-        PictureForm::Mermaid => draw_mermaid(alloc, &mut notes, view)?,
+        PictureForm::Text => { draw_text(alloc, &mut notes, view, wanted.width as usize, last)? }
+        PictureForm::Svg => draw_drawing(alloc, &mut notes, view, last, wanted.theme)?,
+        PictureForm::Mermaid => draw_mermaid(alloc, &mut notes, view, last)?,
         PictureForm::Shiviz | PictureForm::Html => return write_log(alloc, view),
     }
     Ok(with_line_ends(alloc, notes.lines())?)

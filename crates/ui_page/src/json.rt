@@ -74,12 +74,13 @@ impl Json {
         }
     }
 
-    // A byte of a string. A byte that might end a script is written by its number.
+    // A byte of a string. A byte that is not ASCII, or might end a script, is written by its number: so the page is valid UTF-8 whatever the
+    // session has. The script of the page decodes the texts.
     fn byte(&mut self, byte: u8) -> Result<(), AllocError> {
         match byte {
             b'"' => self.put("\\\""),
             b'\\' => self.put("\\\\"),
-            0..=0x1f | b'<' | 0x7f => {
+            0..=0x1f | b'<' | 0x7f..=0xff => {
                 self.put("\\u00")?;
                 self.bytes.push(DIGITS[(byte / 16) as usize])?;
                 Ok(self.bytes.push(DIGITS[(byte % 16) as usize])?)

@@ -13,7 +13,8 @@ use dbg_command::SessionView;
 use lines::RecordedLines;
 use proc_lang::Program;
 use std::alloc::{AllocError, Global};
-use ui_explain::{Echo, Explainer, Notes, ProgramText};
+use ui_explain::{Echo, Explainer};
+use ui_text::{Notes, ProgramText};
 
 // The kind of a call, as far as a page needs it.
 #[derive(Clone, Copy)]
@@ -55,6 +56,7 @@ pub struct Recorder<'a> {
     alloc: Global,
     // The program as it was written, if it is not the one that is played.
     source: Option<&'a ProgramText>,
+    // The processes, and the text of the program.
     processes: Json,
     lines: RecordedLines,
     breakpoints: Breakpoints,
@@ -109,7 +111,7 @@ impl Json {
         self.put("]}")
     }
 
-    // The processes, with commas between them.
+    // The processes, with commas between them, and then the text of the program.
     fn processes(&mut self, program: &Program, text: &ProgramText) -> Result<(), AllocError> {
         for p in 0..program.processes() {
             if p > 0 {
@@ -117,7 +119,8 @@ impl Json {
             }
             self.process(program, text, Pid(p))?;
         }
-        Ok(())
+        self.put("],\n\"program\":")?;
+        self.string(text.text())
     }
 }
 
@@ -210,7 +213,7 @@ impl<'a> Recorder<'a> {
         let mut json = Json::new(self.alloc);
         json.put("{\"processes\":[")?;
         json.put_json(self.processes.bytes())?;
-        json.put("],\n\"lines\":[\n")?;
+        json.put(",\n\"lines\":[\n")?;
         self.lines.put_into(&mut json, replies)?;
         json.put("[]]}\n")?;
         Ok(json)
@@ -245,8 +248,8 @@ impl Explainer for Recorder<'_> {
 
     fn explain_call(&mut self, alloc: Global, view: SessionView<'_>, said: &Said) -> Notes {
         if let Said::Accepted(reply) = said {
-            let told = self.put_all(view, reply);
-            self.note(told);
+            let reported = self.put_all(view, reply);
+            self.note(reported);
         }
         self.before = None;
         self.lines.end();

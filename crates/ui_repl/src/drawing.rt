@@ -8,11 +8,12 @@ use shell_io::{Noted, Sink, Source};
 use shell_print::{ServeFault, Served, hand_on, status, tell_too_long, write_whole};
 use shell_serve::play;
 use std::alloc::Global;
+use std::cell::Cell;
 use std::io::Read;
 use ui_diagram::{Moment, Picture, PictureForm};
-use ui_explain::{Notes, Part};
 use ui_page::{Artist, Recorder, write_page};
 use ui_session::{Dialogue, Typed};
+use ui_text::{Notes, Part};
 
 /// How a drawing ended if nothing failed.
 #[derive(Clone, Copy, Debug, PartialEq, Eq)]
@@ -56,12 +57,13 @@ fn is_played(served: Served) -> bool {
 fn draw_page<R: Source + Typed, W: Sink, E: Sink>(
     alloc: Global,
     model: Option<&Model>,
+    is_stopped: &Cell<bool>,
     reader: &mut R,
     writer: &mut W,
     errors: &mut E,
 ) -> Result<Drawn, ServeFault> {
     let source = model.map(|model| model.source());
-    let mut dialogue = Dialogue::new(Recorder::new(alloc, source));
+    let mut dialogue = Dialogue::new(Recorder::new(alloc, source), is_stopped);
     let mut replies = Noted::new(Vec::new(alloc));
     let served = play(alloc, &mut dialogue, reader, &mut replies)?;
     let recorder = dialogue.explainer();
@@ -81,11 +83,12 @@ fn draw_page<R: Source + Typed, W: Sink, E: Sink>(
 fn draw_state<R: Source + Typed, W: Sink, E: Sink>(
     alloc: Global,
     picture: Picture,
+    is_stopped: &Cell<bool>,
     reader: &mut R,
     writer: &mut W,
     errors: &mut E,
 ) -> Result<Drawn, ServeFault> {
-    let mut dialogue = Dialogue::new(Artist::new(picture));
+    let mut dialogue = Dialogue::new(Artist::new(picture), is_stopped);
     let mut replies = Noted::new(Vec::new(alloc));
     let served = play(alloc, &mut dialogue, reader, &mut replies)?;
     let artist = dialogue.explainer();
@@ -109,19 +112,23 @@ fn draw_state<R: Source + Typed, W: Sink, E: Sink>(
     Ok(Drawn::Played(served))
 }
 
-// Plays a plain session, and draws it.
-fn draw_plain<R: Source + Typed, W: Sink, E: Sink>(
+// Plays the plain session of an input whose program text was read, and draws it.
+fn draw_from<R: Read + Typed + Drop, W: Sink, E: Sink>(
     alloc: Global,
     picture: Picture,
     model: Option<&Model>,
-    reader: &mut R,
+    beginning: &Beginning,
+    reader: R,
     writer: &mut W,
     errors: &mut E,
 ) -> Result<Drawn, ServeFault> {
+    let is_stopped = Cell::new(false);
+    let input = beginning.plain_session(alloc, model, &is_stopped, reader)?;
+    let mut reader = Noted::new(input);
     match picture.form {
-        PictureForm::Html => draw_page(alloc, model, reader, writer, errors),
+        PictureForm::Html => draw_page(alloc, model, &is_stopped, &mut reader, writer, errors),
         PictureForm::Text | PictureForm::Svg | PictureForm::Shiviz | PictureForm::Mermaid => {
-            draw_state(alloc, picture, reader, writer, errors)
+            draw_state(alloc, picture, &is_stopped, &mut reader, writer, errors)
         }
     }
 }
@@ -137,12 +144,18 @@ fn draw_session<R: Read + Typed + Drop, W: Sink, E: Sink>(
     let (beginning, reader) = Beginning::read(alloc, reader)?;
     match beginning.kind(alloc)? {
         ProgramKind::Plain => {
-            let mut reader = Noted::new(beginning.whole(reader));
-            draw_plain(alloc, picture, None, &mut reader, writer, errors)
+            draw_from(alloc, picture, None, &beginning, reader, writer, errors)
         }
         ProgramKind::Model(model) => {
-            let mut reader = Noted::new(beginning.expanded(alloc, &model, reader)?);
-            draw_plain(alloc, picture, Some(&model), &mut reader, writer, errors)
+            draw_from(
+                alloc,
+                picture,
+                Some(&model),
+                &beginning,
+                reader,
+                writer,
+                errors,
+            )
         }
         ProgramKind::Wrong(fault) => {
             let served = refuse(alloc, beginning.text(), &fault, errors)?;

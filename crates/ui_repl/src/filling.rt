@@ -2,7 +2,8 @@
 
 use crate::expanding::write_text;
 use crate::model::Model;
-use crate::playing::{PlayedSession, next_reply, replies_to, wanted};
+use crate::plain_lines::replies_to;
+use crate::playing::{PlayedSession, wanted};
 use shell_io::Sink;
 use shell_print::{ServeFault, Served};
 use std::alloc::{AllocError, Global};
@@ -13,21 +14,6 @@ fn put_line(text: &mut Vec<u8>, begin: &[u8], line: &[u8]) -> Result<(), AllocEr
     text.extend_from_slice(line)?;
     text.push(b'\n')?;
     Ok(())
-}
-
-// The last of so many replies, and the output after them. There is none if the session has ended.
-fn last_reply(page: &[u8], count: usize) -> (Option<&[u8]>, &[u8]) {
-    let mut rest = page;
-    let mut last = None;
-    for _ in 0..count {
-        if rest.is_empty() {
-            break;
-        }
-        let (reply, behind) = next_reply(rest);
-        last = Some(reply);
-        rest = behind;
-    }
-    (last, rest)
 }
 
 // The lines of a session, each command line with its reply after it. The replies are those of the output.
@@ -44,9 +30,9 @@ fn put_lines(
             continue;
         }
         put_line(text, b"", line)?;
-        let (reply, behind) = last_reply(rest, replies_to(alloc, model, line)?);
-        rest = behind;
-        if let Some(reply) = reply {
+        let replies = replies_to(alloc, model, line, rest)?;
+        rest = replies.rest;
+        if let Some(reply) = replies.last {
             put_line(text, b"> ", reply)?;
         }
     }

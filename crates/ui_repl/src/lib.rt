@@ -8,6 +8,7 @@ mod first_lines;
 mod history;
 mod model;
 mod model_faults;
+mod plain_lines;
 mod playing;
 mod running;
 mod sentences;

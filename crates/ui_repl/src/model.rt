@@ -1,13 +1,13 @@
 //! Programs in the model notation.
 
 use crate::model_faults::FaultPlace;
+use crate::plain_lines::GivenLine;
 use dbg_base::{Choice, Name, Pid};
 use notation::{Expansion, Fault, NotationError, Problem, expand_program};
 use proc_lang::{ProgError, Program, parse_program};
 use shell_print::ServeFault;
 use std::alloc::{AllocError, Global};
-use ui_explain::{Notes, Part, ProgramText};
-use ui_session::is_directive;
+use ui_text::{DeclaredAs, Notes, Part, ProgramText, find_declaration};
 
 /// A program in the model notation that was expanded, and its text.
 #[derive(Drop)]
@@ -73,16 +73,52 @@ impl Model {
         &self.source
     }
 
-    /// How many replies there are to a line of a session.
-    pub(crate) fn replies(&self, alloc: Global, line: &[u8]) -> Result<usize, AllocError> {
+    /// Appends the plain lines of a line of a session, or a blank line if it has none. A line that cannot be expanded stays as it is.
+    pub(crate) fn give_lines(
+        &self,
+        alloc: Global,
+        line: &[u8],
+        given: &mut Vec<GivenLine>,
+    ) -> Result<(), AllocError> {
         match self.expansion.expand_line(alloc, line) {
             Ok(plain) => {
-                let lines = plain.lines().iter();
-                Ok(lines.filter(|line| !is_directive(line.as_slice())).count())
+                for line in plain.lines() {
+                    given.push(GivenLine::of(alloc, line.as_slice())?)?;
+                }
+                if plain.lines().is_empty() {
+                    given.push(GivenLine::once(alloc, b"")?)?;
+                }
+                Ok(())
             }
-            Err(NotationError::Bad(_)) => Ok(1),
+            Err(NotationError::Bad(_fault)) => {
+                given.push(GivenLine::once(alloc, line)?)?;
+                Ok(())
+            }
             Err(NotationError::Memory) => Err(AllocError),
         }
+    }
+
+    /// Says that a word of a line is the name of a family of processes, if one is. Returns whether one is.
+    pub(crate) fn tell_family(&self, notes: &mut Notes, line: &[u8]) -> Result<bool, AllocError> {
+        for word in line.split(|byte| byte.is_ascii_whitespace()) {
+            let found = find_declaration(self.source.text(), word);
+            let is_family = found.is_some_and(|found| {
+                found.is_family && found.kind == DeclaredAs::Process
+            });
+            if is_family {
+                notes.say(&[
+                    Part::Text("`"),
+                    Part::Bytes(word),
+                    Part::Text(
+                        "` is a family of processes: an index in brackets chooses one, as in `",
+                    ),
+                    Part::Bytes(word),
+                    Part::Text("[1]`"),
+                ])?;
+                return Ok(true);
+            }
+        }
+        Ok(false)
     }
 
     /// Says why a line of a session cannot be expanded: the line with a mark under the place, what is wrong, and what was probably meant.

@@ -5,7 +5,7 @@ use notation::{Fault, Problem, likely, message};
 use shell_io::Sink;
 use shell_print::{ServeFault, Served, hand_on, tell_fault, write_whole};
 use std::alloc::{AllocError, Global};
-use ui_explain::{DeclaredAs, Notes, Part, find_declaration, foreign_correction, tell_correction};
+use ui_text::{DeclaredAs, Notes, Part, find_declaration, foreign_correction, tell_correction};
 
 // The kind of a fault, as the process language counts them.
 fn fault_kind(problem: Problem) -> FaultKind {

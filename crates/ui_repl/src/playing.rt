@@ -1,20 +1,19 @@
 //! Sessions that are played into memory.
 
-ghost use Rattle.std.specs.Prelude.{Some};
-
 use crate::model::{Model, ProgramKind};
 use crate::model_faults::refuse;
-use crate::running::talk;
+use crate::running::talk_from;
 use crate::session_input::Beginning;
 use dbg_base::limits::INPUT_BYTES;
-use shell_io::{Noted, Source};
+use shell_io::Noted;
 use shell_parse::{next_word, without_return};
 use shell_print::{ServeFault, Served};
-use std::alloc::{AllocError, Global};
+use std::alloc::Global;
 use std::io;
 use std::io::Read;
-use ui_explain::first_line;
-use ui_session::{Typed, is_directive};
+use ui_diagram::WIDTH;
+use ui_session::Typed;
+use ui_text::first_line;
 
 /// How many bytes of a session are read at most: one more than an input may have, which shows that it is too long.
 pub const SESSION_BYTES: u64 = 1_048_577;
@@ -28,8 +27,6 @@ struct SessionText<'a> {
 }
 
 impl Read for SessionText<'_> {
-    ghost remaining = { λ silent. Some silent.rest.now };
-
     fn read(&mut self, bytes: &mut [u8]) -> io::Result<usize> {
         self.rest.read(bytes)
     }
@@ -54,12 +51,12 @@ pub(crate) fn wanted(line: &[u8]) -> Option<&[u8]> {
 }
 
 /// Whether a line of output is one of an explanation.
-pub(crate) fn is_told(line: &[u8]) -> bool {
+pub(crate) fn is_reported(line: &[u8]) -> bool {
     matches!(line, [b' ', b' ', ..])
 }
 
-// The lines of a session after its program, each with its number.
-fn command_lines(session: &[u8]) -> (usize, &[u8]) {
+/// The lines of a session after its program, and the number of the first of them, from 1.
+pub(crate) fn command_lines(session: &[u8]) -> (usize, &[u8]) {
     let mut rest = session;
     let mut number = 1usize;
     for line in session.split(|byte| *byte == b'\n') {
@@ -72,40 +69,28 @@ fn command_lines(session: &[u8]) -> (usize, &[u8]) {
     (number, rest)
 }
 
-/// How many replies there are to a line.
-pub(crate) fn replies_to(
-    alloc: Global,
-    model: Option<&Model>,
-    line: &[u8],
-) -> Result<usize, AllocError> {
-    match model {
-        Some(model) => model.replies(alloc, line),
-        None if is_directive(line) => Ok(0),
-        None => Ok(1),
-    }
-}
-
 /// The first reply, and the output after it.
 pub(crate) fn next_reply(page: &[u8]) -> (&[u8], &[u8]) {
     let mut rest = page;
     for _ in 0..page.len() {
-        let (line, behind) = first_line(rest);
-        if !is_told(line) {
-            return (line, behind);
+        let (line, after) = first_line(rest);
+        if !is_reported(line) {
+            return (line, after);
         }
-        rest = behind;
+        rest = after;
     }
     (&[], &[])
 }
 
 // Plays a session whose reader and writer cannot fail.
-fn talk_alone<R: Source + Typed>(
+fn talk_alone(
     alloc: Global,
     model: Option<&Model>,
-    reader: &mut R,
+    beginning: &Beginning,
+    rest: SessionText<'_>,
     page: &mut Noted<Vec<u8>>,
 ) -> Result<Served, ServeFault> {
-    match talk(alloc, model, reader, page) {
+    match talk_from(alloc, model, WIDTH as usize, beginning, rest, page) {
         Ok(served) => Ok(served),
         Err(_) => Err(ServeFault::Memory),
     }
@@ -120,14 +105,8 @@ fn play_alone(
     page: &mut Noted<Vec<u8>>,
 ) -> Result<Served, ServeFault> {
     match kind {
-        ProgramKind::Plain => {
-            let mut reader = Noted::new(beginning.whole(rest));
-            talk_alone(alloc, None, &mut reader, page)
-        }
-        ProgramKind::Model(model) => {
-            let mut reader = Noted::new(beginning.expanded(alloc, model, rest)?);
-            talk_alone(alloc, Some(model), &mut reader, page)
-        }
+        ProgramKind::Plain => talk_alone(alloc, None, beginning, rest, page),
+        ProgramKind::Model(model) => talk_alone(alloc, Some(model), beginning, rest, page),
         ProgramKind::Wrong(fault) => refuse(alloc, beginning.text(), fault, page),
     }
 }

@@ -2,7 +2,7 @@
 
 ghost use Rattle.std.specs.Prelude.{◌≡◌};
 ghost use Rattle.shell_io.specs.declared.health.Health.TheVariants.{Fine};
-ghost use Rattle.shell_print.specs.Outcomes.{source_behind, sink_behind};
+ghost use Rattle.shell_print.specs.Outcomes.{source_after, sink_after};
 ghost use Rattle.shell_serve.specs.Sessions.{Plays};
 ghost use Rattle.ui_session.specs.Dialogues.{interactive};
 
@@ -16,6 +16,7 @@ use shell_io::{Noted, Sink, Source};
 use shell_print::{ServeFault, Served, tell_size, tell_too_long};
 use shell_serve::play;
 use std::alloc::Global;
+use std::cell::Cell;
 use std::io::Read;
 use ui_session::{Dialogue, Typed};
 
@@ -51,37 +52,58 @@ pub fn explain<R: Source, W: Sink>(
 /// has the reply that a run gives to it; without a seat it is one of seat 1. Directives (`help`, `on`, `state`, `line P`, `draw`, `quit`,
 /// comments) make no call. A line that was not typed is written before its reply. Lines after the reply, which begin with two blanks,
 /// explain what the command did, or why the line is refused and what the person can do. A text that is not a program is refused, with an
-/// explanation. If the input is made from a model, explanations speak of the text of the model.
+/// explanation. If the input is made from a model, explanations speak of the text of the model. After each command line the cell says
+/// whether the line was refused, or a breakpoint halted the session. Pictures are so many characters wide.
 pub fn talk<R: Source + Typed, W: Sink>(
     alloc: Global,
     model: Option<&Model>,
+    is_stopped: &Cell<bool>,
+    width: usize,
     reader: &mut R,
     writer: &mut W,
 ) -> Result<Served, ServeFault>
     ensures plays { Plays interactive (R.remaining reader.old) (R.remaining reader.new) (W.seen writer.old) result (W.seen writer.new) }
-    ensures reader { R.health reader.old ≡ Fine → R.health reader.new ≡ source_behind result }
-    ensures writer { (W.seen writer.old).health ≡ Fine → (W.seen writer.new).health ≡ sink_behind result }
+    ensures reader { R.health reader.old ≡ Fine → R.health reader.new ≡ source_after result }
+    ensures writer { (W.seen writer.old).health ≡ Fine → (W.seen writer.new).health ≡ sink_after result }
 {
-    let mut dialogue = Dialogue::new(Sentences::new(alloc, model)?);
+    let mut dialogue = Dialogue::new(Sentences::new(alloc, model, width)?, is_stopped);
     play(alloc, &mut dialogue, reader, writer)
 }
 
-/// An interactive session, as `talk` plays it, whose program and lines may be in the model notation: `talk` reads the plain session that
-/// they stand for.
+/// Plays the plain session of an input whose program text was read.
+pub(crate) fn talk_from<R: Read + Typed + Drop, W: Sink>(
+    alloc: Global,
+    model: Option<&Model>,
+    width: usize,
+    beginning: &Beginning,
+    reader: R,
+    writer: &mut W,
+) -> Result<Served, ServeFault> {
+    let is_stopped = Cell::new(false);
+    let input = beginning.plain_session(alloc, model, &is_stopped, reader)?;
+    talk(
+        alloc,
+        model,
+        &is_stopped,
+        width,
+        &mut Noted::new(input),
+        writer,
+    )
+}
+
+/// An interactive session, as `talk` plays it, whose program and lines may be in the model notation and whose lines may be short: `talk`
+/// reads the plain session. Pictures are so many characters wide.
 pub fn converse<R: Read + Typed + Drop, W: Sink>(
     alloc: Global,
+    width: usize,
     reader: R,
     writer: &mut W,
 ) -> Result<Served, ServeFault> {
     let (beginning, reader) = Beginning::read(alloc, reader)?;
     match beginning.kind(alloc)? {
-        ProgramKind::Plain => {
-            let input = beginning.whole(reader);
-            talk(alloc, None, &mut Noted::new(input), writer)
-        }
+        ProgramKind::Plain => talk_from(alloc, None, width, &beginning, reader, writer),
         ProgramKind::Model(model) => {
-            let input = beginning.expanded(alloc, &model, reader)?;
-            talk(alloc, Some(&model), &mut Noted::new(input), writer)
+            talk_from(alloc, Some(&model), width, &beginning, reader, writer)
         }
         ProgramKind::Wrong(fault) => refuse(alloc, beginning.text(), &fault, writer),
     }

@@ -6,11 +6,9 @@ use dbg_base::{Call, Name, Refusal, Said};
 use dbg_command::SessionView;
 use proc_lang::Program;
 use std::alloc::{AllocError, Global};
-use ui_diagram::draw_text;
-use ui_explain::{
-    Before, Directive, Echo, Explainer, Notes, Part, ProgramText, SourceView, tell_help,
-    tell_too_long,
-};
+use ui_diagram::{ALL_EVENTS, draw_text};
+use ui_explain::{Before, Directive, Echo, Explainer, SourceView};
+use ui_text::{Notes, Part, ProgramText, tell_help, tell_too_long};
 
 // A call that is about to be made, and what was known before it.
 #[derive(Drop)]
@@ -31,6 +29,8 @@ pub(crate) struct Sentences<'a> {
     line: Vec<u8>,
     last_kind: LineKind,
     history: History,
+    // How many characters wide a picture is.
+    width: usize,
 }
 
 // The kinds of lines, for the blank lines between them.
@@ -65,6 +65,7 @@ impl<'a> Sentences<'a> {
     pub(crate) fn new(
         alloc: Global,
         model: Option<&'a Model>,
+        width: usize,
     ) -> Result<Sentences<'a>, AllocError> {
         Ok(Sentences {
             model,
@@ -73,6 +74,7 @@ impl<'a> Sentences<'a> {
             line: Vec::new(alloc),
             last_kind: LineKind::None,
             history: History::new(alloc),
+            width,
         })
     }
 
@@ -94,6 +96,14 @@ impl<'a> Sentences<'a> {
     ) -> Result<bool, AllocError> {
         match self.model {
             Some(model) => model.tell_line_fault(alloc, notes, program, without_seat(line)),
+            None => Ok(false),
+        }
+    }
+
+    // Says that a line of a model names a family of processes without an index, if it does.
+    fn tell_family(&self, notes: &mut Notes, line: &[u8]) -> Result<bool, AllocError> {
+        match self.model {
+            Some(model) => model.tell_family(notes, line),
             None => Ok(false),
         }
     }
@@ -125,6 +135,9 @@ impl<'a> Sentences<'a> {
         refusal: &Refusal,
     ) -> Result<(), Refusal> {
         if self.tell_model_line(alloc, notes, view.program, line)? {
+            return Ok(());
+        }
+        if *refusal == Refusal::UnknownProcess && self.tell_family(notes, line)? {
             return Ok(());
         }
         self.source_view(view)
@@ -203,7 +216,9 @@ impl<'a> Sentences<'a> {
             Directive::List(name) => view.tell_list(alloc, notes, name),
             Directive::State(name) => view.tell_state(alloc, notes, name),
             Directive::Line(name) => Ok(view.tell_line(notes, name)?),
-            Directive::Draw => draw_text(alloc, notes, view.session),
+            Directive::Draw => {
+                draw_text(alloc, notes, view.session, self.width, ALL_EVENTS as usize)
+            }
             Directive::TooLong(word) => Ok(tell_too_long(notes, word)?),
         }
     }

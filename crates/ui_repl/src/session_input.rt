@@ -1,17 +1,17 @@
 //! The input of a session: a program, which may be in the model notation, and the lines after it.
 
 ghost use Rattle.std.specs.Prelude.{◌≤◌, length};
-ghost use Rattle.ui_repl.specs.Rests.{rest_remaining};
 
 use crate::model::{Model, ProgramKind, kind_of};
+use crate::plain_lines::{GivenLine, given_lines};
 use dbg_base::limits::LINE_BYTES;
-use notation::{Expansion, NotationError};
 use shell_input::{Input, TextEnd, read_program_text};
 use shell_io::Noted;
 use shell_print::ServeFault;
 use std::alloc::{AllocError, Global};
-use std::io::{Chain, Error, ErrorKind, Read};
-use std::{io, mem};
+use std::cell::Cell;
+use std::io;
+use std::io::{Error, ErrorKind, Read};
 use ui_session::Typed;
 
 // At most this many bytes are requested at once.
@@ -55,66 +55,62 @@ impl Beginning {
         }
     }
 
-    /// The whole input of a session whose program is plain, as it is: what was read, followed by this reader.
-    pub(crate) fn whole<R: Read>(&self, reader: R) -> Chain<&[u8], Rest<R>> {
-        let is_ended = self.input.ended;
-        self.input.bytes().chain(Rest { reader, is_ended })
+    // Where the lines begin that follow the program text, or the end of what was read if no line ends it.
+    fn lines_from(&self) -> usize {
+        match self.end {
+            TextEnd::Before(_) => self.input.at,
+            TextEnd::End | TextEnd::TooLong => self.input.bytes().len(),
+        }
     }
 
-    /// The whole input of a session whose program is a model, as a plain session. The program is replaced by the plain program, and each
-    /// line after it by the plain lines that it stands for. A line that cannot be expanded stays as it is.
-    pub(crate) fn expanded<'a, R: Read + Drop>(
+    // The program text up to the line that ends it, as it is, or the plain program of the model.
+    fn plain_program(&self, alloc: Global, model: Option<&Model>) -> Result<Vec<u8>, AllocError> {
+        match model {
+            Some(model) => {
+                let mut plain = Vec::from_slice(alloc, model.expansion().plain())?;
+                plain.extend_from_slice(b"%%\n")?;
+                Ok(plain)
+            }
+            None => {
+                let bytes = self.input.bytes();
+                Ok(Vec::from_slice(alloc, bytes.get(..self.lines_from()).unwrap_or(bytes))?)
+            }
+        }
+    }
+
+    /// The whole input of a session as a plain session: what was read, followed by this reader. If the program is a model, it is replaced by
+    /// the plain program. Each line after the program is replaced by its plain lines. The cell says whether the last
+    /// line was refused or halted the session, which ends a repetition.
+    pub(crate) fn plain_session<'a, R: Read + Drop>(
         &self,
         alloc: Global,
-        model: &'a Model,
+        model: Option<&'a Model>,
+        is_stopped: &'a Cell<bool>,
         reader: R,
-    ) -> Result<ExpandedInput<'a, R>, AllocError> {
-        let expansion = model.expansion();
-        let mut plain = Vec::from_slice(alloc, expansion.plain())?;
-        plain.extend_from_slice(b"%%\n")?;
-        let read = self.input.bytes().get(self.input.at..).unwrap_or(&[]);
-        Ok(ExpandedInput {
+    ) -> Result<PlainSession<'a, R>, AllocError> {
+        let read = self.input.bytes().get(self.lines_from()..).unwrap_or(&[]);
+        Ok(PlainSession {
             alloc,
-            expansion,
+            model,
+            is_stopped,
             reader,
             is_ended: self.input.ended,
             is_long: false,
             lines: Vec::from_slice(alloc, read)?,
-            plain,
+            next: Vec::new(alloc),
+            plain: self.plain_program(alloc, model)?,
             given: 0,
+            again: 0,
         })
     }
 }
 
-/// What a reader has left after a beginning. It is not called again if it has reached its end.
+/// A plain session, made of a session as it is read.
 #[derive(Drop)]
-pub(crate) struct Rest<R> {
-    reader: R,
-    is_ended: bool,
-}
-
-impl<R: Read> Read for Rest<R> {
-    ghost remaining = { rest_remaining R.remaining };
-
-    fn read(&mut self, bytes: &mut [u8]) -> io::Result<usize> {
-        if self.is_ended {
-            return Ok(0);
-        }
-        self.reader.read(bytes)
-    }
-}
-
-impl<R: Typed> Typed for Rest<R> {
-    fn is_typed(&self) -> bool {
-        self.reader.is_typed()
-    }
-}
-
-/// A plain session, made of a session in the notation as it is read.
-#[derive(Drop)]
-pub(crate) struct ExpandedInput<'a, R> {
+pub(crate) struct PlainSession<'a, R> {
     alloc: Global,
-    expansion: &'a Expansion,
+    model: Option<&'a Model>,
+    is_stopped: &'a Cell<bool>,
     reader: R,
     // Whether the reader has nothing left.
     is_ended: bool,
@@ -122,41 +118,29 @@ pub(crate) struct ExpandedInput<'a, R> {
     is_long: bool,
     // What was read and is not plain yet.
     lines: Vec<u8>,
-    // What is plain, and how much of it was returned.
+    // The plain lines that come next, the last of them first.
+    next: Vec<GivenLine>,
+    // What is plain, how much of it was returned, and how often it is to be returned again.
     plain: Vec<u8>,
     given: usize,
+    again: u32,
 }
 
-impl<R: Typed> Typed for ExpandedInput<'_, R> {
+impl<R: Typed> Typed for PlainSession<'_, R> {
     fn is_typed(&self) -> bool {
         self.reader.is_typed()
     }
 }
 
-// Whether a line is only a comment, which is shown as it is.
-fn is_comment(line: &[u8]) -> bool {
-    line.trim_ascii_start().first() == Some(&b'#')
-}
-
-// The plain lines that a line stands for, with line ends between them. A line that is too long to be expanded stays as it is.
-fn plain_lines(alloc: Global, expansion: &Expansion, line: &[u8]) -> Result<Vec<u8>, AllocError> {
-    if line.len() > LINE_BYTES || is_comment(line) {
-        return Ok(Vec::from_slice(alloc, line)?);
-    }
-    match expansion.expand_line(alloc, line) {
-        Ok(lines) => {
-            let mut plain = Vec::new(alloc);
-            for (number, line) in lines.lines().iter().enumerate() {
-                if number > 0 {
-                    plain.push(b'\n')?;
-                }
-                plain.extend_from_slice(line.as_slice())?;
-            }
-            Ok(plain)
+// Appends a line end to each line, but to the last one only if it has one, or is given more than once.
+fn end_lines(lines: &mut [GivenLine], is_ended: bool) -> Result<(), AllocError> {
+    let last = lines.len().saturating_sub(1);
+    for (number, line) in lines.iter_mut().enumerate() {
+        if number < last || is_ended || line.times > 1 {
+            line.text.push(b'\n')?;
         }
-        Err(NotationError::Bad(_)) => Ok(Vec::from_slice(alloc, line)?),
-        Err(NotationError::Memory) => Err(AllocError),
     }
+    Ok(())
 }
 
 // The bytes before a line end, or all of them if there is none, and the bytes after it.
@@ -167,7 +151,7 @@ fn split_at_line_end(bytes: &[u8], end: Option<usize>) -> (&[u8], &[u8]) {
     (line, bytes.get(next..).unwrap_or(&[]))
 }
 
-impl<R: Read> ExpandedInput<'_, R> {
+impl<R: Read> PlainSession<'_, R> {
     // Returns plain bytes that were not returned yet.
     fn give(&mut self, bytes: &mut [u8]) -> usize
         ensures { result ≤ length bytes.new }
@@ -181,22 +165,52 @@ impl<R: Read> ExpandedInput<'_, R> {
         count
     }
 
+    // Begins to return the next plain line, which no line was before. Returns whether there is one.
+    fn begin_next(&mut self) -> bool {
+        match self.next.pop() {
+            Some(line) => {
+                let GivenLine { text, times } = line;
+                self.plain = text;
+                self.given = 0;
+                self.again = times.saturating_sub(1);
+                self.is_stopped.set(false);
+                true
+            }
+            None => false,
+        }
+    }
+
+    // Begins to return the last plain line once more, if that is due. Returns whether it is.
+    fn begin_again(&mut self) -> bool {
+        if self.again == 0 || self.is_stopped.get() {
+            self.again = 0;
+            return false;
+        }
+        self.again = self.again.saturating_sub(1);
+        self.given = 0;
+        true
+    }
+
+    // The plain lines of these bytes. In the middle of a line that is too long, the bytes themselves.
+    fn plain_lines(&self, line: &[u8]) -> Result<Vec<GivenLine>, AllocError> {
+        if !self.is_long {
+            return given_lines(self.alloc, self.model, line);
+        }
+        let mut lines = Vec::new(self.alloc);
+        lines.push(GivenLine::once(self.alloc, line)?)?;
+        Ok(lines)
+    }
+
     // Makes the first bytes that were read plain: a line, or if there is no line end, all of them.
     fn make_plain(&mut self, end: Option<usize>) -> Result<(), AllocError> {
         let (line, rest) = split_at_line_end(self.lines.as_slice(), end);
         let rest = Vec::from_slice(self.alloc, rest)?;
-        let mut plain = if self.is_long {
-            Vec::from_slice(self.alloc, line)?
-        } else {
-            plain_lines(self.alloc, self.expansion, line)?
-        };
-        if end.is_some() {
-            plain.push(b'\n')?;
-        }
+        let mut next = self.plain_lines(line)?;
+        end_lines(next.as_mut_slice(), end.is_some())?;
+        next.reverse();
         self.is_long = end.is_none();
         self.lines = rest;
-        self.plain = plain;
-        self.given = 0;
+        self.next = next;
         Ok(())
     }
 
@@ -214,6 +228,9 @@ impl<R: Read> ExpandedInput<'_, R> {
 
     // Reads once, or makes bytes plain. Returns false at the end.
     fn advance(&mut self) -> io::Result<bool> {
+        if self.begin_again() || self.begin_next() {
+            return Ok(true);
+        }
         let end = self.lines.iter().position(|byte| *byte == b'\n');
         let is_full = self.is_ended || self.lines.len() > LINE_BYTES;
         if end.is_none() && !is_full {
@@ -230,7 +247,7 @@ impl<R: Read> ExpandedInput<'_, R> {
     }
 }
 
-impl<R: Read> Read for ExpandedInput<'_, R> {
+impl<R: Read> Read for PlainSession<'_, R> {
     fn read(&mut self, bytes: &mut [u8]) -> io::Result<usize> {
         for _ in 0..READS {
             let count = self.give(bytes);

@@ -1,13 +1,14 @@
 //! Sessions with expectations.
 
 use crate::expanding::write_text;
-use crate::playing::{PlayedSession, is_told, next_reply, replies_to, wanted};
+use crate::plain_lines::replies_to;
+use crate::playing::{PlayedSession, is_reported, next_reply, wanted};
 use itoa::Buffer;
 use shell_io::Sink;
 use shell_parse::{next_word, without_return};
 use shell_print::{ServeFault, Served};
 use std::alloc::{AllocError, Global};
-use ui_explain::first_line;
+use ui_text::first_line;
 
 /// The result of a session in which a line `> REPLY` gives the expected reply to the command line before it.
 #[derive(Clone, Copy, Debug, PartialEq, Eq)]
@@ -49,8 +50,8 @@ fn is_remark(line: &[u8]) -> bool {
     matches!(next_word(without_return(line)).0.first(), None | Some(b'#'))
 }
 
-// Compares the replies of a session with the output of the interactive session. The reply to a line of a model that stands for several
-// lines is the last one.
+// Compares the replies of a session with the output of the interactive session. The reply to a line that is short for several lines is the
+// last one.
 fn compare<'a>(alloc: Global, played: &PlayedSession<'a>) -> Result<Comparison<'a>, AllocError> {
     let (mut number, lines) = played.command_lines();
     let mut asked = None;
@@ -72,15 +73,17 @@ fn compare<'a>(alloc: Global, played: &PlayedSession<'a>) -> Result<Comparison<'
             asked = None;
         } else if !is_remark(line) {
             asked = None;
-            for _ in 0..replies_to(alloc, played.model(), line)? {
+            let given = replies_to(alloc, played.model(), line, rest)?;
+            rest = given.rest;
+            replies = replies.saturating_add(given.count);
+            if let Some(last) = given.last {
+                reply = last;
                 asked = Some(Difference {
                     number,
                     line,
                     wanted: &[],
-                    before: replies,
+                    before: replies.saturating_sub(1),
                 });
-                (reply, rest) = next_reply(rest);
-                replies = replies.saturating_add(1);
             }
         }
         number = number.saturating_add(1);
@@ -115,14 +118,14 @@ fn tell_difference(
     text.extend_from_slice(reply)?;
     text.extend_from_slice(b"\n")?;
     for _ in 0..rest.len() {
-        let (line, behind) = first_line(rest);
-        if !is_told(line) {
+        let (line, after) = first_line(rest);
+        if !is_reported(line) {
             break;
         }
         text.extend_from_slice(b"  ")?;
         text.extend_from_slice(line)?;
         text.extend_from_slice(b"\n")?;
-        rest = behind;
+        rest = after;
     }
     Ok(text)
 }

@@ -9,7 +9,7 @@ use Rattle.shell_io.proofs.AppendLemmas.{appended_none, appended_then}
 use Rattle.dbg_base.specs.Shell.{as_line}
 use Rattle.shell_print.specs.declared.outcome.ServeFault.{ServeFault}
 use Rattle.shell_print.specs.Writing.{Writes}
-use Rattle.shell_print.proofs.WriteLemmas.{front_then, stopped, writes_then}
+use Rattle.shell_print.proofs.WriteLemmas.{prefix_then, stopped, writes_then}
 use Rattle.shell_input.specs.Spans.{is_unended}
 use Rattle.shell_serve.specs.Sessions.{MayBeQuiet, WritesForm}
 use Rattle.ui_session.specs.Dialogues.{explanation_line, explanation_text, IsExplanation, IsEcho, IsGap, interactive}
@@ -59,7 +59,7 @@ explains_stops {r = Ok v} a b c line h one wrote same = absurd same
 explains_stops {r = Err f} a b c line h one wrote same = record {
   text = h.0 ++ explanation_line line;
   form = one_more h.0 line h.1 one;
-  written = record { whole = tt; part = front_then a b c h.0 (explanation_line line) h.2 wrote.part; fault = same ∙ wrote.fault };
+  written = record { whole = tt; part = prefix_then a b c h.0 (explanation_line line) h.2 wrote.part; fault = same ∙ wrote.fault };
 }
 
 -- no echo, or the line

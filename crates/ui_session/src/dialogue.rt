@@ -13,19 +13,36 @@ use shell_io::Sink;
 use shell_print::ServeFault;
 use shell_serve::Observer;
 use std::alloc::{AllocError, Global};
-use ui_explain::{Echo, Explainer, Notes};
+use std::cell::Cell;
+use ui_explain::{Echo, Explainer};
+use ui_text::Notes;
 
 /// The observer of an interactive session. It writes each line that was not typed, and an explanation after the reply. A directive has only
 /// an explanation. A command line without a seat is one of seat 1.
 #[derive(Drop)]
-pub struct Dialogue<T> {
+pub struct Dialogue<'a, T> {
     explainer: T,
+    // Whether the last command line was refused, or a breakpoint halted the session after it.
+    is_stopped: &'a Cell<bool>,
 }
 
-impl<T> Dialogue<T> {
-    /// A session with this explainer.
-    pub fn new(explainer: T) -> Dialogue<T> {
-        Dialogue { explainer }
+// Whether the answer refuses a call, or shows that a breakpoint halts the session.
+fn stops(said: &Said) -> bool {
+    match said {
+        Said::Refused(_) => true,
+        Said::Accepted(reply) => reply.halted.is_some(),
+        Said::Answered(_) => false,
+    }
+}
+
+impl<'a, T> Dialogue<'a, T> {
+    /// A session with this explainer. After each command line it notes in the cell whether the line was refused, or a breakpoint halted the
+    /// session.
+    pub fn new(explainer: T, is_stopped: &'a Cell<bool>) -> Dialogue<'a, T> {
+        Dialogue {
+            explainer,
+            is_stopped,
+        }
     }
 
     /// The explainer.
@@ -34,7 +51,7 @@ impl<T> Dialogue<T> {
     }
 }
 
-impl<T: Explainer, R: Typed> Observer<R> for Dialogue<T> {
+impl<T: Explainer, R: Typed> Observer<R> for Dialogue<'_, T> {
     ghost manner = { interactive };
 
     fn begin(&mut self, alloc: Global, program: &Program, text: &[u8]) -> Result<(), AllocError> {
@@ -88,6 +105,7 @@ impl<T: Explainer, R: Typed> Observer<R> for Dialogue<T> {
         said: &Said,
         writer: &mut W,
     ) -> Result<(), ServeFault> {
+        self.is_stopped.set(stops(said));
         explain(&self.explainer.explain_call(alloc, view, said), writer)
     }
 
@@ -99,6 +117,7 @@ impl<T: Explainer, R: Typed> Observer<R> for Dialogue<T> {
         refusal: &Refusal,
         writer: &mut W,
     ) -> Result<(), ServeFault> {
+        self.is_stopped.set(true);
         explain(
             &self.explainer.explain_refusal(alloc, view, line, refusal),
             writer,

@@ -7,7 +7,7 @@ use crate::written::explain;
 use shell_io::Sink;
 use shell_print::ServeFault;
 use std::alloc::Global;
-use ui_explain::{Notes, tell_no_end_line};
+use ui_text::{Notes, tell_no_end_line};
 
 /// Explains that no line ends the program.
 pub(crate) fn explain_no_end_line<W: Sink>(alloc: Global, writer: &mut W) -> Result<(), ServeFault>

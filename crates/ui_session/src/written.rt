@@ -8,7 +8,8 @@ ghost use Rattle.ui_session.specs.Dialogues.{IsExplanation, IsEcho, IsGap, expla
 
 use shell_io::Sink;
 use shell_print::{ServeFault, hand_on, write_whole};
-use ui_explain::{Echo, Notes};
+use ui_explain::Echo;
+use ui_text::Notes;
 
 fn is_unended(line: &[u8]) -> bool
     ensures { result ≡ is_unended line.now }

@@ -5,7 +5,8 @@ use dbg_base::{Cut, Name, Pid, Refusal};
 use dbg_command::SessionView;
 use proc_lang::Program;
 use std::alloc::{AllocError, Global};
-use ui_explain::{Notes, Part, ProcessView};
+use ui_explain::ProcessView;
+use ui_text::{Notes, Part};
 
 /// A cut that is shown, with its breakpoint.
 #[derive(Drop)]
@@ -17,7 +18,7 @@ pub struct NamedCut {
     /// Whether the breakpoint halts the session.
     pub halts: bool,
     /// Whether the events of the cut are listed before all others.
-    pub is_front: bool,
+    pub is_prefix: bool,
     /// The processes that the predicate names.
     pub pids: Vec<Pid>,
     /// The part of the predicate that each of them has, as `left (state = 2)`.
@@ -71,7 +72,7 @@ fn named_cut(
         place,
         cut: cut.copy()?,
         halts: view.book.halted() == Some(name),
-        is_front: false,
+        is_prefix: false,
         pids,
         parts,
     }))

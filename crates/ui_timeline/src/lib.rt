@@ -6,9 +6,11 @@ mod cuts;
 mod listing;
 mod messages;
 mod settings;
+mod theme;
 
 pub use commands::put_command;
 pub use cuts::{NamedCut, bytes_of, halting, named_cuts, size};
-pub use listing::{ShownEvent, Timeline, event_of};
+pub use listing::{ShownEvent, Timeline, event_of, put_left_out};
 pub use messages::{Received, Sent, exchange_of};
 pub use settings::put_setting;
+pub use theme::Theme;

@@ -45,8 +45,22 @@ pub(crate) struct Messages {
 }
 
 impl Messages {
-    /// No messages between so many processes.
-    pub(crate) fn new(alloc: Global, processes: u32) -> Result<Messages, AllocError> {
+    /// The messages that these events of so many processes sent and received, in order.
+    pub(crate) fn of(
+        alloc: Global,
+        world: &World,
+        processes: u32,
+        events: &[ShownEvent],
+    ) -> Result<Messages, AllocError> {
+        let mut messages = Messages::new(alloc, processes)?;
+        for shown in events {
+            messages.note(world, *shown)?;
+        }
+        Ok(messages)
+    }
+
+    // No messages between so many processes.
+    fn new(alloc: Global, processes: u32) -> Result<Messages, AllocError> {
         let mut lines = Vec::new(alloc);
         for _ in 0..processes.saturating_mul(processes) {
             lines.push(MessageLine {
@@ -65,8 +79,8 @@ impl Messages {
             .saturating_add(target.0) as usize
     }
 
-    /// Notes the message of an event. A message is noted when it is sent before it is when it is received.
-    pub(crate) fn note(&mut self, world: &World, shown: ShownEvent) -> Result<(), AllocError> {
+    // Notes the message of an event. A message is noted when it is sent before it is when it is received.
+    fn note(&mut self, world: &World, shown: ShownEvent) -> Result<(), AllocError> {
         match exchange_of(world, shown) {
             Exchange::Nothing => Ok(()),
             Exchange::Sent { target, .. } => {

@@ -2,7 +2,8 @@
 
 use event_rows::Setting;
 use std::alloc::AllocError;
-use ui_explain::{Notes, Part, ProcessView};
+use ui_explain::ProcessView;
+use ui_text::{Notes, Part};
 
 /// Appends a variable with its value before and after an event to the last line.
 pub fn put_setting(

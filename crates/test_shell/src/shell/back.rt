@@ -2,7 +2,6 @@
 
 use super::views::{expect_all_unchanged, expect_unchanged};
 use super::{TWO, expect_rows};
-use std::test::Fail;
 
 // A name, a program, the lines after it and the output for them.
 const ROWS: [(&str, &str, &str, &str); 5] = [
@@ -154,9 +153,8 @@ breaks
 ];
 
 #[test]
-fn commands_are_taken_back(rt: HostRuntime) -> Result<(), Fail> {
-    expect_rows(&rt, rt.alloc(), &ROWS)?;
-    Ok(())
+fn commands_are_taken_back(rt: HostRuntime) {
+    expect_rows(&rt, rt.alloc(), &ROWS);
 }
 
 // Each kind of command that makes or undoes events.
@@ -177,8 +175,8 @@ const EVENTS: [(&str, &str, &str); 13] = [
 ];
 
 #[test]
-fn events_are_as_before(rt: HostRuntime) -> Result<(), Fail> {
-    expect_all_unchanged(&rt, rt.alloc(), &EVENTS)
+fn events_are_as_before(rt: HostRuntime) {
+    expect_all_unchanged(&rt, rt.alloc(), &EVENTS);
 }
 
 // Each kind of command that changes the list of breakpoints, or the halt.
@@ -208,11 +206,11 @@ const BREAKPOINTS: [(&str, &str, &str); 10] = [
 ];
 
 #[test]
-fn breakpoints_and_the_halt_are_as_before(rt: HostRuntime) -> Result<(), Fail> {
-    expect_all_unchanged(&rt, rt.alloc(), &BREAKPOINTS)
+fn breakpoints_and_the_halt_are_as_before(rt: HostRuntime) {
+    expect_all_unchanged(&rt, rt.alloc(), &BREAKPOINTS);
 }
 
 #[test]
-fn a_seat_that_may_not_take_back_changes_nothing(rt: HostRuntime) -> Result<(), Fail> {
-    expect_unchanged(&rt, rt.alloc(), "", "2 back\n", "no 17 1\n")
+fn a_seat_that_may_not_take_back_changes_nothing(rt: HostRuntime) {
+    expect_unchanged(&rt, rt.alloc(), "", "2 back\n", "no 17 1\n");
 }

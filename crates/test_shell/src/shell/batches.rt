@@ -1,10 +1,9 @@
 //! Batches: commands that are given as one.
 
 use super::views::expect_all_unchanged;
-use super::{TWO, expect_rows, expect_served, joined};
-use std::alloc::{AllocError, Global};
+use super::{TWO, add, expect_rows, expect_served, joined, repeat};
+use std::alloc::Global;
 use std::process::Abort;
-use std::test::Fail;
 
 // A name, a program, the lines after it and the output for them.
 const ROWS: [(&str, &str, &str, &str); 5] = [
@@ -96,33 +95,27 @@ place a 1 of 1
 ];
 
 #[test]
-fn batches_are_answered(rt: HostRuntime) -> Result<(), Fail> {
-    expect_rows(&rt, rt.alloc(), &ROWS)?;
-    Ok(())
+fn batches_are_answered(rt: HostRuntime) {
+    expect_rows(&rt, rt.alloc(), &ROWS);
 }
 
 // The answer to a batch of so many commands, and what shows whether the batch was accepted.
-fn expect_batch(
-    rt: &impl Abort,
-    alloc: Global,
-    commands: usize,
-    want: &str,
-) -> Result<(), AllocError> {
-    let mut input = joined(alloc, TWO, "%%\n1 batch next a")?;
-    for _ in 1..commands {
-        input.extend_from_slice(b" ; rollback a 0")?;
-    }
-    input.extend_from_slice(b"\n1 place a\n")?;
+fn expect_batch(rt: &impl Abort, alloc: Global, commands: u32, want: &str) {
+    let mut input = joined(rt, alloc, TWO, "%%\n1 batch next a");
+    repeat(
+        rt,
+        &mut input,
+        " ; rollback a 0",
+        commands.saturating_sub(1),
+    );
+    add(rt, &mut input, "\n1 place a\n");
     expect_served(rt, alloc, input.as_slice(), want);
-    Ok(())
 }
 
 #[test]
-fn a_batch_has_at_most_32_commands(rt: HostRuntime) -> Result<(), Fail> {
-    let alloc = rt.alloc();
-    expect_batch(&rt, alloc, 32, "ok\nplace a 0 of 1\n")?;
-    expect_batch(&rt, alloc, 33, "no 22\nplace a 0 of 0\n")?;
-    Ok(())
+fn a_batch_has_at_most_32_commands(rt: HostRuntime) {
+    expect_batch(&rt, rt.alloc(), 32, "ok\nplace a 0 of 1\n");
+    expect_batch(&rt, rt.alloc(), 33, "no 22\nplace a 0 of 0\n");
 }
 
 const BATCHES: [(&str, &str, &str); 3] = [
@@ -144,8 +137,8 @@ const BATCHES: [(&str, &str, &str); 3] = [
 ];
 
 #[test]
-fn a_batch_is_taken_back_as_one(rt: HostRuntime) -> Result<(), Fail> {
-    expect_all_unchanged(&rt, rt.alloc(), &BATCHES)
+fn a_batch_is_taken_back_as_one(rt: HostRuntime) {
+    expect_all_unchanged(&rt, rt.alloc(), &BATCHES);
 }
 
 // Lines that are refused because of a command after others that would have changed something.
@@ -167,6 +160,6 @@ const REFUSED: [(&str, &str, &str); 6] = [
 ];
 
 #[test]
-fn a_refused_batch_changes_nothing(rt: HostRuntime) -> Result<(), Fail> {
-    expect_all_unchanged(&rt, rt.alloc(), &REFUSED)
+fn a_refused_batch_changes_nothing(rt: HostRuntime) {
+    expect_all_unchanged(&rt, rt.alloc(), &REFUSED);
 }

@@ -1,5 +1,5 @@
 use super::two;
-use crate::expecting::expect_same_of;
+use crate::expecting::expect_same;
 use dbg_base::{Call, Plan, Query, Refusal};
 use dbg_shell::{Line, parse_line};
 
@@ -75,11 +75,10 @@ const LINES: [(&str, Result<usize, Refusal>); 47] = [
 
 #[test]
 fn lines_set_breakpoints(rt: HostRuntime) {
-    let alloc = rt.alloc();
-    let program = two(&rt, alloc);
+    let program = two(&rt, rt.alloc());
     for (line, want) in &LINES {
-        let made = conjuncts_of(parse_line(alloc, &program, line.as_bytes()));
-        expect_same_of(&rt, line, made, *want);
+        let made = conjuncts_of(parse_line(rt.alloc(), &program, line.as_bytes()));
+        expect_same(&rt, (*line, made), (*line, *want));
     }
 }
 
@@ -140,10 +139,9 @@ const WORDS: [(&str, Result<Word, Refusal>); 21] = [
 
 #[test]
 fn lines_are_about_breakpoints(rt: HostRuntime) {
-    let alloc = rt.alloc();
-    let program = two(&rt, alloc);
+    let program = two(&rt, rt.alloc());
     for (line, want) in &WORDS {
-        let word = word_of(parse_line(alloc, &program, line.as_bytes()));
-        expect_same_of(&rt, line, word, *want);
+        let word = word_of(parse_line(rt.alloc(), &program, line.as_bytes()));
+        expect_same(&rt, (*line, word), (*line, *want));
     }
 }

@@ -1,7 +1,6 @@
 use super::sessions::{COUNTS, PAIR};
 use super::undo::THREE;
 use super::{TWO, expect_rows};
-use std::test::Fail;
 
 // A name, a program, the lines after it and the output for them.
 const ROWS: [(&str, &str, &str, &str); 11] = [
@@ -325,7 +324,6 @@ no 23
 ];
 
 #[test]
-fn sessions_halt_at_breakpoints(rt: HostRuntime) -> Result<(), Fail> {
-    expect_rows(&rt, rt.alloc(), &ROWS)?;
-    Ok(())
+fn sessions_halt_at_breakpoints(rt: HostRuntime) {
+    expect_rows(&rt, rt.alloc(), &ROWS);
 }

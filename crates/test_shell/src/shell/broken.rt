@@ -1,12 +1,12 @@
 //! Inputs that break off, and devices that are interrupted.
 
-use super::{TWO, joined, served};
+use super::{TWO, expect_served, joined, served};
+use crate::expecting::{expect_same, expect_true};
 use dbg_shell::{Health, Noted, check, serve, status};
 use std::alloc::Global;
 use std::io;
 use std::io::{Read, Write};
 use std::process::Abort;
-use std::test::Fail;
 
 const LINES: &str = "%%
 1 break k a (x = 1) b (n = 1)
@@ -45,42 +45,41 @@ fn first_lines(text: &[u8], count: usize) -> &[u8] {
     text
 }
 
-// Expects an answer to each whole line of a prefix of the input, and at most one line for the unfinished line, which the end of the input
-// ends.
-fn expect_front(rt: &impl Abort, alloc: Global, front: &[u8], begun: usize) {
-    let (told, code) = served(alloc, front);
-    if front.len() < begun {
-        assert_eq!(rt;
-            told.as_slice(),
-            b"program refused: no end line\n".as_slice()
-        );
-        assert_eq!(rt; code, 3);
+fn lines_in(text: &[u8]) -> usize {
+    text.iter().filter(|b| **b == b'\n').count()
+}
+
+// Expects an answer to each whole line, of which there are so many, and at most one more, for the unfinished line, which the end of the
+// input ends.
+fn expect_answers(rt: &impl Abort, written: &[u8], whole: usize) {
+    let replies = lines_in(written);
+    expect_true(rt, written.starts_with(first_lines(REPLIES, whole)));
+    expect_true(rt, replies == whole || replies == whole.saturating_add(1));
+}
+
+// Expects the output for a prefix of the input, whose command lines begin at an offset.
+fn expect_prefix(rt: &impl Abort, alloc: Global, prefix: &[u8], begun: usize) {
+    if prefix.len() < begun {
+        expect_served(rt, alloc, prefix, "program refused: no end line\n");
         return;
     }
-    let lines = front.get(begun..).unwrap_or(&[]);
-    let whole = lines
-        .iter()
-        .filter(|b| **b == b'\n')
-        .count()
-        .saturating_sub(1);
-    let replies = told.iter().filter(|b| **b == b'\n').count();
-    assert!(rt; told.starts_with(first_lines(REPLIES, whole)));
-    assert!(rt; replies == whole || replies == whole.saturating_add(1));
-    assert_eq!(rt; code, 0);
+    let (written, code) = served(alloc, prefix);
+    let lines = prefix.get(begun..).unwrap_or(&[]);
+    let whole = lines_in(lines).saturating_sub(1);
+    expect_answers(rt, written.as_slice(), whole);
+    expect_same(rt, code, 0);
 }
 
 #[test]
-fn an_input_may_break_off_anywhere(rt: HostRuntime) -> Result<(), Fail> {
-    let alloc = rt.alloc();
-    let input = joined(alloc, TWO, LINES)?;
+fn an_input_may_break_off_anywhere(rt: HostRuntime) {
+    let input = joined(&rt, rt.alloc(), TWO, LINES);
     let begun = TWO.len().saturating_add(2);
     for length in 0..input.len().saturating_add(1) {
-        let front = input.as_slice().get(..length).unwrap_or(&[]);
-        expect_front(&rt, alloc, front, begun);
+        let prefix = input.as_slice().get(..length).unwrap_or(&[]);
+        expect_prefix(&rt, rt.alloc(), prefix, begun);
     }
-    let (told, _) = served(alloc, input.as_slice());
-    assert_eq!(rt; told.as_slice(), REPLIES);
-    Ok(())
+    let (written, _) = served(rt.alloc(), input.as_slice());
+    expect_same(&rt, written.as_slice(), REPLIES);
 }
 
 // Returns a text, and then fails once with this error; what comes after could be read.
@@ -102,24 +101,28 @@ impl Read for Breaks<'_> {
     }
 }
 
+// Expects the whole line before this error to be answered, and the error to be reported.
+fn expect_break(rt: &impl Abort, alloc: Global, text: &[u8], kind: io::ErrorKind) {
+    let mut breaks = Breaks {
+        text,
+        kind,
+        reads: 0,
+    };
+    let mut written = Vec::new(alloc);
+    let mut reader = Noted::new(&mut breaks);
+    let outcome = serve(alloc, &mut reader, &mut Noted::new(&mut written));
+    let health = reader.health();
+    expect_same(rt, (status(&outcome), health), (1, Health::Failed));
+    expect_same(rt, written.as_slice(), b"ok a 0\n".as_slice());
+    expect_same(rt, breaks.reads, 2);
+}
+
 #[test]
-fn the_line_under_way_is_not_answered(rt: HostRuntime) -> Result<(), Fail> {
-    let alloc = rt.alloc();
-    let text = joined(alloc, TWO, "%%\n1 next a\n1 va")?;
+fn the_line_under_way_is_not_answered(rt: HostRuntime) {
+    let text = joined(&rt, rt.alloc(), TWO, "%%\n1 next a\n1 va");
     for kind in [io::ErrorKind::Other, io::ErrorKind::Interrupted] {
-        let mut reader = Noted::new(Breaks {
-            text: text.as_slice(),
-            kind,
-            reads: 0,
-        });
-        let mut writer = Noted::new(Vec::new(alloc));
-        let outcome = serve(alloc, &mut reader, &mut writer);
-        assert_eq!(rt; status(&outcome), 1);
-        assert_eq!(rt; writer.into_inner().as_slice(), b"ok a 0\n".as_slice());
-        assert_eq!(rt; reader.health(), Health::Failed);
-        assert_eq!(rt; reader.into_inner().reads, 2);
+        expect_break(&rt, rt.alloc(), text.as_slice(), kind);
     }
-    Ok(())
 }
 
 // Fails once with this error at its first write, and accepts all after it.
@@ -145,28 +148,34 @@ impl Write for Blocks {
     }
 }
 
+// Checks the program, with a writer that fails once; the exit status, and the health of the reader and of the writer.
+fn check_blocked(alloc: Global, blocks: &mut Blocks) -> (u8, Health, Health) {
+    let mut text = TWO.as_bytes();
+    let mut reader = Noted::new(&mut text);
+    let mut writer = Noted::new(blocks);
+    let outcome = check(alloc, &mut reader, &mut writer);
+    (status(&outcome), reader.health(), writer.health())
+}
+
+// Expects a first write that fails with this error to be reported, and no other write.
+fn expect_block(rt: &impl Abort, alloc: Global, kind: io::ErrorKind) {
+    let mut blocks = Blocks {
+        taken: Vec::new(alloc),
+        kind,
+        writes: 0,
+    };
+    let reported = check_blocked(alloc, &mut blocks);
+    expect_same(rt, reported, (1, Health::Fine, Health::Failed));
+    expect_same(rt, (blocks.writes, blocks.taken.len()), (1, 0));
+}
+
 #[test]
-fn a_write_that_is_interrupted_is_a_fault(rt: HostRuntime) -> Result<(), Fail> {
-    let alloc = rt.alloc();
+fn a_write_that_is_interrupted_is_a_fault(rt: HostRuntime) {
     for kind in [
         io::ErrorKind::Interrupted,
         io::ErrorKind::BrokenPipe,
         io::ErrorKind::Other,
     ] {
-        let mut text = TWO.as_bytes();
-        let mut reader = Noted::new(&mut text);
-        let mut writer = Noted::new(Blocks {
-            taken: Vec::new(alloc),
-            kind,
-            writes: 0,
-        });
-        let outcome = check(alloc, &mut reader, &mut writer);
-        assert_eq!(rt; status(&outcome), 1);
-        assert_eq!(rt; reader.health(), Health::Fine);
-        assert_eq!(rt; writer.health(), Health::Failed);
-        let blocks = writer.into_inner();
-        assert_eq!(rt; blocks.writes, 1);
-        assert!(rt; blocks.taken.is_empty());
+        expect_block(&rt, rt.alloc(), kind);
     }
-    Ok(())
 }

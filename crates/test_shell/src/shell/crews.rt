@@ -1,35 +1,33 @@
 //! Runs of workers. Each `next` is a call, accepted or refused, so there are as many calls as turns of all processes.
 
-use super::{TWO, joined};
+use super::{MEMORY, TWO, add, joined};
+use crate::expecting::{expect_same, expect_true};
 use dbg_shell::{Closing, Mismatch, Noted, crew_status, fits_turns, print_closing, run_crew};
 use std::alloc::{AllocError, Global};
 use std::io;
 use std::io::{Read, Write};
 use std::process::Abort;
 use std::sync::Wait;
-use std::test::Fail;
 use std::thread::Threads;
 
 // A process in addition to the two.
 const COUNTS: &str = "process c { var z = 0; when true : z := (z + 1); }\n";
 
-// The output for an input, and the exit status.
-fn crewed<R: Threads + Wait + Sync>(
+// Runs workers between a reader and a writer, and returns the exit status.
+fn crew_between<R: Threads + Wait + Sync, I: Read, O: Write>(
     rt: &R,
     alloc: Global,
     turns: u32,
-    input: &[u8],
-) -> (Vec<u8>, u8) {
-    let mut reader = input;
-    let mut writer = Vec::new(alloc);
-    let code = crew_status(&run_crew(
+    reader: &mut I,
+    writer: &mut O,
+) -> u8 {
+    crew_status(&run_crew(
         rt,
         alloc,
         turns,
-        &mut Noted::new(&mut reader),
-        &mut Noted::new(&mut writer),
-    ));
-    (writer, code)
+        &mut Noted::new(reader),
+        &mut Noted::new(writer),
+    ))
 }
 
 fn expect_crewed<R: Threads + Wait + Sync + Abort>(
@@ -40,69 +38,74 @@ fn expect_crewed<R: Threads + Wait + Sync + Abort>(
     want: &str,
     status: u8,
 ) {
-    let (told, code) = crewed(rt, alloc, turns, input);
-    assert_eq!(rt; told.as_slice(), want.as_bytes());
-    assert_eq!(rt; code, status, "at {want:?}");
+    let mut reader = input;
+    let mut writer = Vec::new(alloc);
+    let code = crew_between(rt, alloc, turns, &mut reader, &mut writer);
+    expect_same(rt, (writer.as_slice(), code), (want.as_bytes(), status));
 }
 
-fn three(alloc: Global) -> Result<Vec<u8>, AllocError> {
-    joined(alloc, TWO, COUNTS)
+fn three(rt: &impl Abort, alloc: Global) -> Vec<u8> {
+    joined(rt, alloc, TWO, COUNTS)
 }
 
 #[test]
-fn three_workers_settle(rt: HostRuntime) -> Result<(), Fail> {
-    let alloc = rt.alloc();
-    let mut input = three(alloc)?;
+fn three_workers_settle(rt: HostRuntime) {
+    let mut input = three(&rt, rt.alloc());
     let settled = "calls 300\njournal ok\n";
     // If no line ends the text, the end of the input does.
-    expect_crewed(&rt, alloc, 100, input.as_slice(), settled, 0);
+    expect_crewed(&rt, rt.alloc(), 100, input.as_slice(), settled, 0);
     // What comes after the line that ends it is not read.
-    input.extend_from_slice(b"%%\n1 next a\nno line of any form")?;
-    expect_crewed(&rt, alloc, 100, input.as_slice(), settled, 0);
-    expect_crewed(&rt, alloc, 1, input.as_slice(), "calls 3\njournal ok\n", 0);
-    Ok(())
+    add(&rt, &mut input, "%%\n1 next a\nno line of any form");
+    expect_crewed(&rt, rt.alloc(), 100, input.as_slice(), settled, 0);
+    let settled = "calls 3\njournal ok\n";
+    expect_crewed(&rt, rt.alloc(), 1, input.as_slice(), settled, 0);
 }
 
+// Turns, processes, and whether they are few enough.
+const TURNS: [(u32, u32, bool); 7] = [
+    (33_334, 3, false),
+    (33_333, 3, true),
+    (100_000, 1, true),
+    (100_001, 1, false),
+    (3_125, 32, true),
+    (u32::MAX, u32::MAX, false),
+    (0, 0, true),
+];
+
 #[test]
-fn there_are_no_more_turns_than_calls(rt: HostRuntime) -> Result<(), Fail> {
-    assert!(rt; !fits_turns(33_334, 3));
-    assert!(rt; fits_turns(33_333, 3));
-    assert!(rt; fits_turns(100_000, 1));
-    assert!(rt; !fits_turns(100_001, 1));
-    assert!(rt; fits_turns(3_125, 32));
-    assert!(rt; !fits_turns(u32::MAX, u32::MAX));
-    assert!(rt; fits_turns(0, 0));
-    let alloc = rt.alloc();
-    let input = three(alloc)?;
+fn there_are_no_more_turns_than_calls(rt: HostRuntime) {
+    for (turns, processes, fits) in &TURNS {
+        let found = (*turns, *processes, fits_turns(*turns, *processes));
+        expect_same(&rt, found, (*turns, *processes, *fits));
+    }
+    let input = three(&rt, rt.alloc());
     let many = "too many turns\n";
-    expect_crewed(&rt, alloc, 33_334, input.as_slice(), many, 2);
-    expect_crewed(&rt, alloc, 100_000, input.as_slice(), many, 2);
+    expect_crewed(&rt, rt.alloc(), 33_334, input.as_slice(), many, 2);
+    expect_crewed(&rt, rt.alloc(), 100_000, input.as_slice(), many, 2);
     // The program is read first.
     let refused = "program refused 1 at 8\n";
-    expect_crewed(&rt, alloc, 100_000, b"process A {}\n%%\n", refused, 3);
-    Ok(())
+    expect_crewed(&rt, rt.alloc(), 100_000, b"process A {}\n%%\n", refused, 3);
 }
 
+const REFUSED: [(&str, &str); 5] = [
+    ("process A {}\n%%\n", "program refused 1 at 8\n"),
+    ("process A {}", "program refused 1 at 8\n"),
+    (
+        "process a { when true : }\n%%\n",
+        "program refused 3 at 24\n",
+    ),
+    ("%%\n", "program refused 3 at 0\n"),
+    ("", "program refused 3 at 0\n"),
+];
+
 #[test]
-fn texts_that_are_refused_are_told_as_by_check(rt: HostRuntime) -> Result<(), Fail> {
-    let alloc = rt.alloc();
-    let rows: [(&[u8], &str); 5] = [
-        (b"process A {}\n%%\n", "program refused 1 at 8\n"),
-        (b"process A {}", "program refused 1 at 8\n"),
-        (
-            b"process a { when true : }\n%%\n",
-            "program refused 3 at 24\n",
-        ),
-        (b"%%\n", "program refused 3 at 0\n"),
-        (b"", "program refused 3 at 0\n"),
-    ];
-    for (input, want) in rows {
-        expect_crewed(&rt, alloc, 1, input, want, 3);
+fn texts_that_are_refused_are_reported_as_by_check(rt: HostRuntime) {
+    for (input, want) in &REFUSED {
+        expect_crewed(&rt, rt.alloc(), 1, input.as_bytes(), want, 3);
     }
-    let mut long = three(alloc)?;
-    long.resize(1_048_577, b' ')?;
-    expect_crewed(&rt, alloc, 1, long.as_slice(), "input too long\n", 1);
-    Ok(())
+    let mut long = three(&rt, rt.alloc());
+    long.resize(1_048_577, b' ').expect(&rt, MEMORY);
+    expect_crewed(&rt, rt.alloc(), 1, long.as_slice(), "input too long\n", 1);
 }
 
 // So many processes, each of which counts.
@@ -115,20 +118,20 @@ fn counters(alloc: Global, processes: u32) -> Result<Vec<u8>, AllocError> {
     Ok(text)
 }
 
+// How many processes there are, and the output for ten turns of each.
+const COUNTERS: [(u32, &str); 4] = [
+    (1, "calls 10\njournal ok\n"),
+    (16, "calls 160\njournal ok\n"),
+    (17, "calls 170\njournal ok\n"),
+    (32, "calls 320\njournal ok\n"),
+];
+
 #[test]
-fn sixteen_seats_serve_all_processes(rt: HostRuntime) -> Result<(), Fail> {
-    let alloc = rt.alloc();
-    let rows = [
-        (1, "calls 10\njournal ok\n"),
-        (16, "calls 160\njournal ok\n"),
-        (17, "calls 170\njournal ok\n"),
-        (32, "calls 320\njournal ok\n"),
-    ];
-    for (processes, want) in rows {
-        let input = counters(alloc, processes)?;
-        expect_crewed(&rt, alloc, 10, input.as_slice(), want, 0);
+fn sixteen_seats_serve_all_processes(rt: HostRuntime) {
+    for (processes, want) in &COUNTERS {
+        let input = counters(rt.alloc(), *processes).expect(&rt, MEMORY);
+        expect_crewed(&rt, rt.alloc(), 10, input.as_slice(), want, 0);
     }
-    Ok(())
 }
 
 // The program of examples/transfers.rdbg: two accounts, and a third process that counts by itself.
@@ -156,16 +159,20 @@ fn transfers_settle(rt: HostRuntime) {
     expect_crewed(&rt, rt.alloc(), 1_000, TRANSFERS.as_bytes(), settled, 0);
 }
 
+// Expects this output for the end of a run.
+fn expect_closing(rt: &impl Abort, alloc: Global, closing: &Result<Closing, Mismatch>, want: &str) {
+    let mut writer = Vec::new(alloc);
+    let outcome = print_closing(closing, &mut Noted::new(&mut writer));
+    expect_true(rt, outcome.is_ok());
+    expect_same(rt, writer.as_slice(), want.as_bytes());
+}
+
 #[test]
-fn a_journal_that_differs_is_told(rt: HostRuntime) -> Result<(), Fail> {
-    let alloc = rt.alloc();
-    let mut writer = Vec::new(alloc);
-    assert!(rt; print_closing(&Err(Mismatch { seat: 1 }), &mut Noted::new(&mut writer)).is_ok());
-    assert_eq!(rt; writer.as_slice(), b"journal differs\n".as_slice());
-    let mut writer = Vec::new(alloc);
-    assert!(rt; print_closing(&Ok(Closing { calls: 0 }), &mut Noted::new(&mut writer)).is_ok());
-    assert_eq!(rt; writer.as_slice(), b"calls 0\njournal ok\n".as_slice());
-    Ok(())
+fn a_journal_that_differs_is_reported(rt: HostRuntime) {
+    let differs = Err(Mismatch { seat: 1 });
+    expect_closing(&rt, rt.alloc(), &differs, "journal differs\n");
+    let settled = Ok(Closing { calls: 0 });
+    expect_closing(&rt, rt.alloc(), &settled, "calls 0\njournal ok\n");
 }
 
 // Fails at each read.
@@ -201,36 +208,37 @@ impl Write for Narrow {
     }
 }
 
-#[test]
-fn faults_of_the_streams_have_status_1(rt: HostRuntime) -> Result<(), Fail> {
-    let alloc = rt.alloc();
+// Expects exit status 1, and no output, where the input cannot be read.
+fn expect_unreadable<R: Threads + Wait + Sync + Abort>(rt: &R, alloc: Global) {
     let mut writer = Vec::new(alloc);
-    let outcome = run_crew(
-        &rt,
-        alloc,
-        1,
-        &mut Noted::new(&mut Unreadable),
-        &mut Noted::new(&mut writer),
-    );
-    assert_eq!(rt; crew_status(&outcome), 1);
-    assert!(rt; writer.is_empty());
-    let input = three(alloc)?;
+    let code = crew_between(rt, alloc, 1, &mut Unreadable, &mut writer);
+    expect_same(rt, (code, writer.len()), (1, 0));
+}
+
+// Expects exit status 1, and so many bytes of the output, where no more can be written.
+fn expect_narrow<R: Threads + Wait + Sync + Abort>(
+    rt: &R,
+    alloc: Global,
+    input: &[u8],
+    left: usize,
+    want: &[u8],
+) {
+    let mut writer = Narrow {
+        taken: Vec::new(alloc),
+        left,
+    };
+    let mut reader = input;
+    let code = crew_between(rt, alloc, 1, &mut reader, &mut writer);
+    expect_same(rt, (code, writer.taken.as_slice()), (1, want));
+}
+
+#[test]
+fn faults_of_the_streams_have_status_1(rt: HostRuntime) {
+    expect_unreadable(&rt, rt.alloc());
+    let input = three(&rt, rt.alloc());
     let text = b"calls 3\njournal ok\n";
     for left in 0..text.len() {
-        let mut writer = Narrow {
-            taken: Vec::new(alloc),
-            left,
-        };
-        let mut reader = input.as_slice();
-        let outcome = run_crew(
-            &rt,
-            alloc,
-            1,
-            &mut Noted::new(&mut reader),
-            &mut Noted::new(&mut writer),
-        );
-        assert_eq!(rt; crew_status(&outcome), 1);
-        assert_eq!(rt; writer.taken.as_slice(), text.get(..left).unwrap_or(&[]));
+        let want = text.get(..left).unwrap_or(&[]);
+        expect_narrow(&rt, rt.alloc(), input.as_slice(), left, want);
     }
-    Ok(())
 }

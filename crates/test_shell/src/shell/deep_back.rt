@@ -1,12 +1,12 @@
 //! Many commands of three seats, all taken back.
 
-use super::served;
 use super::views::RELAY;
+use super::{MEMORY, served};
 use crate::expecting::expect_same;
 use std::alloc::{AllocError, Global};
 use std::fmt::Write;
-use std::io::BufRead;
-use std::test::Fail;
+use std::process::Abort;
+use std::str;
 
 const ROUNDS: u32 = 50;
 
@@ -105,11 +105,18 @@ const ROUND_BACK: &str = "2 back
 1 breaks
 ";
 
-const OPENING: [(&str, &str); 4] = [
-    ("1 place a\n", "place a 0 of 0"),
-    ("1 place b\n", "place b 0 of 0"),
-    ("1 place c\n", "place c 0 of 0"),
-    ("1 back\n", "no 16"),
+// Queries when no command is left, and one more line that takes back.
+const OPENING: &str = "1 place a
+1 place b
+1 place c
+1 back
+";
+
+const OPENED: [&str; 4] = [
+    "place a 0 of 0",
+    "place b 0 of 0",
+    "place c 0 of 0",
+    "no 16",
 ];
 
 // All rounds, the way back, and the queries when no command is left.
@@ -121,37 +128,60 @@ fn make_input(alloc: Global) -> Result<String, AllocError> {
     for _ in 0..ROUNDS {
         input.push_str(ROUND_BACK)?;
     }
-    for (line, _) in &OPENING {
-        input.push_str(line)?;
-    }
+    input.push_str(OPENING)?;
     Ok(input)
 }
 
-#[test]
-fn a_thousand_commands_are_taken_back(rt: HostRuntime) -> Result<(), Fail> {
-    let alloc = rt.alloc();
-    let input = make_input(alloc)?;
-    let (replies, code) = served(alloc, input.as_str().as_bytes());
-    expect_same(&rt, code, 0);
-    let lines: Vec<String> = replies.as_slice().lines(alloc).try_collect(alloc)?;
-    expect_same(&rt, lines.len(), 4_004);
-    let mut forth = lines.iter();
-    let mut back = lines.iter().rev();
-    for (_, want) in OPENING.iter().rev() {
-        let told = back.next().ok_or("no last line")?;
-        expect_same(&rt, told.as_str(), *want);
+// A line of the output; an empty text if it has not so many.
+fn line<'a>(lines: &[&'a str], at: usize) -> &'a str {
+    lines.get(at).copied().unwrap_or("")
+}
+
+// A line of the output, counted from its last one.
+fn line_back<'a>(lines: &[&'a str], at: usize) -> &'a str {
+    line(lines, lines.len().wrapping_sub(1).wrapping_sub(at))
+}
+
+// The reply to the line that takes back a command, by the reply to the command before it.
+fn reply_to_back(before: &str) -> &'static str {
+    if before.ends_with(" halted k") {
+        "ok halted k"
+    } else {
+        "ok"
     }
-    let mut was_halted = false;
+}
+
+// Expects a command to be accepted, and to be taken back, after which the same is shown as before it. A command has two lines: an answer
+// and a reply. Four lines are after the way back.
+fn expect_back(rt: &impl Abort, lines: &[&str], command: usize) {
+    let at = command.saturating_mul(2);
+    let at_back = at.saturating_add(4);
+    let reply = line(lines, at.saturating_add(1));
+    let before = line(lines, at.wrapping_sub(1));
+    let found = (
+        reply.starts_with("ok"),
+        line_back(lines, at_back),
+        line_back(lines, at_back.saturating_add(1)),
+    );
+    let want = (true, line(lines, at), reply_to_back(before));
+    expect_same(rt, (command, reply, found), (command, reply, want));
+}
+
+// Expects all commands to be taken back, and then nothing to be left.
+fn expect_all_back(rt: &impl Abort, lines: &[&str]) {
+    expect_same(rt, lines.len(), 4_004);
+    expect_same(rt, lines.get(4_000..), Some(OPENED.as_slice()));
     for command in 0..COMMANDS {
-        let shown = forth.next().ok_or("no answer")?;
-        let reply = forth.next().ok_or("no reply")?;
-        let shown_again = back.next().ok_or("no second answer")?;
-        let taken_back = back.next().ok_or("no second reply")?;
-        assert!(rt; reply.starts_with("ok"), "{command}: {reply}");
-        let want = if was_halted { "ok halted k" } else { "ok" };
-        assert_eq!(rt; taken_back.as_str(), want, "{command}: {reply}");
-        assert_eq!(rt; shown_again.as_str(), shown.as_str(), "{command}: {reply}");
-        was_halted = reply.ends_with(" halted k");
+        expect_back(rt, lines, command);
     }
-    Ok(())
+}
+
+#[test]
+fn a_thousand_commands_are_taken_back(rt: HostRuntime) {
+    let input = make_input(rt.alloc()).expect(&rt, MEMORY);
+    let (replies, code) = served(rt.alloc(), input.as_str().as_bytes());
+    expect_same(&rt, code, 0);
+    let text = str::from_utf8(replies.as_slice()).expect(&rt, "a text");
+    let lines: Vec<&str> = text.lines().collect(rt.alloc()).expect(&rt, MEMORY);
+    expect_all_back(&rt, lines.as_slice());
 }

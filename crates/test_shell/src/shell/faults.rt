@@ -1,15 +1,16 @@
-use super::{TWO, joined, served};
+use super::{TWO, check_between, joined, serve_between, served};
 use crate::expecting::{expect_same, expect_true};
-use dbg_shell::{Noted, check, serve, status};
 use std::alloc::Global;
 use std::cell::Cell;
 use std::io::{Read, Write};
-use std::test::Fail;
+use std::process::Abort;
 use std::{io, str};
 
 const LINES: &str = "%%\n1 next a\n1 vars a\n1 next b\n\n1 next d\n1 vars b";
 
 const REPLIES: &[u8] = b"ok a 0\nvars a x=1\nok b 0\nno 1\nvars b y=1 n=1\n";
+
+const SIZE: &[u8] = b"ok 2 processes 3 commands\n";
 
 fn fault() -> io::Error {
     io::Error::from(io::ErrorKind::Other)
@@ -34,68 +35,39 @@ impl Read for Pieces<'_> {
     }
 }
 
-#[test]
-fn pieces_make_no_difference(rt: HostRuntime) -> Result<(), Fail> {
-    let alloc = rt.alloc();
-    let input = joined(alloc, TWO, LINES)?;
-    for size in 1..70 {
-        let mut reader = Pieces {
-            text: input.as_slice(),
-            size,
-            left: 1_000,
-        };
-        let mut writer = Vec::new(alloc);
-        let outcome = serve(
-            alloc,
-            &mut Noted::new(&mut reader),
-            &mut Noted::new(&mut writer),
-        );
-        expect_same(&rt, status(&outcome), 0);
-        assert_eq!(rt; writer.as_slice(), REPLIES, "{size}");
-        reader.text = TWO.as_bytes();
-        let mut writer = Vec::new(alloc);
-        let outcome = check(
-            alloc,
-            &mut Noted::new(&mut reader),
-            &mut Noted::new(&mut writer),
-        );
-        expect_same(&rt, status(&outcome), 0);
-        expect_same(
-            &rt,
-            writer.as_slice(),
-            b"ok 2 processes 3 commands\n".as_slice(),
-        );
-    }
-    Ok(())
+// Expects the output of `serve` for pieces of this size.
+fn expect_pieces(rt: &impl Abort, alloc: Global, input: &[u8], size: usize) {
+    let mut reader = Pieces {
+        text: input,
+        size,
+        left: 1_000,
+    };
+    let mut writer = Vec::new(alloc);
+    let code = serve_between(alloc, &mut reader, &mut writer);
+    expect_same(rt, (size, code), (size, 0));
+    expect_same(rt, writer.as_slice(), REPLIES);
+}
+
+// The same of `check`.
+fn expect_checked_pieces(rt: &impl Abort, alloc: Global, size: usize) {
+    let mut reader = Pieces {
+        text: TWO.as_bytes(),
+        size,
+        left: 1_000,
+    };
+    let mut writer = Vec::new(alloc);
+    let code = check_between(alloc, &mut reader, &mut writer);
+    expect_same(rt, (size, code), (size, 0));
+    expect_same(rt, writer.as_slice(), SIZE);
 }
 
 #[test]
-fn a_reader_fails_at_any_read(rt: HostRuntime) -> Result<(), Fail> {
-    let alloc = rt.alloc();
-    let input = joined(alloc, TWO, LINES)?;
-    for reads in 0..input.len() {
-        let mut reader = Pieces {
-            text: input.as_slice(),
-            size: 1,
-            left: reads,
-        };
-        let mut writer = Vec::new(alloc);
-        let outcome = serve(
-            alloc,
-            &mut Noted::new(&mut reader),
-            &mut Noted::new(&mut writer),
-        );
-        expect_same(&rt, status(&outcome), 1);
-        assert!(rt; REPLIES.starts_with(writer.as_slice()), "{reads}");
-        let lines = input.as_slice().get(..reads).unwrap_or(&[]);
-        let (whole, _) = served(alloc, whole_lines(lines));
-        if reads > 185 {
-            assert_eq!(rt; writer.as_slice(), whole.as_slice(), "{reads}");
-        } else {
-            assert!(rt; writer.is_empty(), "{reads}");
-        }
+fn pieces_make_no_difference(rt: HostRuntime) {
+    let input = joined(&rt, rt.alloc(), TWO, LINES);
+    for size in 1..70 {
+        expect_pieces(&rt, rt.alloc(), input.as_slice(), size);
+        expect_checked_pieces(&rt, rt.alloc(), size);
     }
-    Ok(())
 }
 
 // The bytes up to the last line end.
@@ -106,23 +78,47 @@ fn whole_lines(bytes: &[u8]) -> &[u8] {
     }
 }
 
+// Expects the output where the reader fails after so many bytes: nothing within the program, and otherwise the answers to the whole lines.
+fn expect_read(rt: &impl Abort, alloc: Global, input: &[u8], reads: usize) {
+    let mut reader = Pieces {
+        text: input,
+        size: 1,
+        left: reads,
+    };
+    let mut writer = Vec::new(alloc);
+    let code = serve_between(alloc, &mut reader, &mut writer);
+    expect_same(rt, (reads, code), (reads, 1));
+    expect_true(rt, REPLIES.starts_with(writer.as_slice()));
+    let lines = whole_lines(input.get(..reads).unwrap_or(&[]));
+    let (whole, _) = served(alloc, lines);
+    let want = if reads > 185 { whole.as_slice() } else { &[] };
+    expect_same(rt, (reads, writer.as_slice()), (reads, want));
+}
+
+#[test]
+fn a_reader_fails_at_any_read(rt: HostRuntime) {
+    let input = joined(&rt, rt.alloc(), TWO, LINES);
+    for reads in 0..input.len() {
+        expect_read(&rt, rt.alloc(), input.as_slice(), reads);
+    }
+}
+
+// Expects nothing to be written where a check fails after so many bytes.
+fn expect_unread(rt: &impl Abort, alloc: Global, reads: usize) {
+    let mut reader = Pieces {
+        text: TWO.as_bytes(),
+        size: 1,
+        left: reads,
+    };
+    let mut writer = Vec::new(alloc);
+    let code = check_between(alloc, &mut reader, &mut writer);
+    expect_same(rt, (reads, code, writer.len()), (reads, 1, 0));
+}
+
 #[test]
 fn a_check_that_cannot_read_writes_nothing(rt: HostRuntime) {
-    let alloc = rt.alloc();
     for reads in 0..TWO.len() {
-        let mut reader = Pieces {
-            text: TWO.as_bytes(),
-            size: 1,
-            left: reads,
-        };
-        let mut writer = Vec::new(alloc);
-        let outcome = check(
-            alloc,
-            &mut Noted::new(&mut reader),
-            &mut Noted::new(&mut writer),
-        );
-        expect_same(&rt, status(&outcome), 1);
-        expect_true(&rt, writer.is_empty());
+        expect_unread(&rt, rt.alloc(), reads);
     }
 }
 
@@ -163,47 +159,44 @@ fn make_stops(alloc: Global, size: usize, left: usize, is_quiet: bool) -> Stops 
     }
 }
 
-#[test]
-fn a_writer_fails_at_any_write(rt: HostRuntime) -> Result<(), Fail> {
-    let alloc = rt.alloc();
-    let input = joined(alloc, TWO, LINES)?;
-    for is_quiet in [false, true] {
-        for left in 0..REPLIES.len() {
-            let mut reader = input.as_slice();
-            let mut writer = make_stops(alloc, 1, left, is_quiet);
-            let outcome = serve(
-                alloc,
-                &mut Noted::new(&mut reader),
-                &mut Noted::new(&mut writer),
-            );
-            expect_same(&rt, status(&outcome), 1);
-            expect_same(
-                &rt,
-                writer.taken.as_slice(),
-                REPLIES.get(..left).unwrap_or(&[]),
-            );
-            expect_same(&rt, writer.calls, left.saturating_add(1));
-        }
-    }
-    Ok(())
+// Expects so many bytes of the output where no more can be written, and one write after them.
+fn expect_stop(rt: &impl Abort, alloc: Global, input: &[u8], left: usize, is_quiet: bool) {
+    let mut reader = input;
+    let mut writer = make_stops(alloc, 1, left, is_quiet);
+    let code = serve_between(alloc, &mut reader, &mut writer);
+    let calls = left.saturating_add(1);
+    expect_same(rt, (code, writer.calls), (1, calls));
+    let want = REPLIES.get(..left).unwrap_or(&[]);
+    expect_same(rt, writer.taken.as_slice(), want);
 }
 
 #[test]
-fn a_writer_takes_what_it_likes(rt: HostRuntime) -> Result<(), Fail> {
-    let alloc = rt.alloc();
-    let input = joined(alloc, TWO, LINES)?;
-    for size in 1..20 {
-        let mut reader = input.as_slice();
-        let mut writer = make_stops(alloc, size, 1_000, false);
-        let outcome = serve(
-            alloc,
-            &mut Noted::new(&mut reader),
-            &mut Noted::new(&mut writer),
-        );
-        expect_same(&rt, status(&outcome), 0);
-        expect_same(&rt, writer.taken.as_slice(), REPLIES);
+fn a_writer_fails_at_any_write(rt: HostRuntime) {
+    let input = joined(&rt, rt.alloc(), TWO, LINES);
+    for left in 0..REPLIES.len() {
+        expect_stop(&rt, rt.alloc(), input.as_slice(), left, false);
+        expect_stop(&rt, rt.alloc(), input.as_slice(), left, true);
     }
-    Ok(())
+}
+
+// Expects the output where the writer accepts at most so many bytes at a time.
+fn expect_taken(rt: &impl Abort, alloc: Global, input: &[u8], size: usize) {
+    let mut reader = input;
+    let mut writer = make_stops(alloc, size, 1_000, false);
+    let code = serve_between(alloc, &mut reader, &mut writer);
+    expect_same(
+        rt,
+        (size, code, writer.taken.as_slice()),
+        (size, 0, REPLIES),
+    );
+}
+
+#[test]
+fn a_writer_takes_what_it_likes(rt: HostRuntime) {
+    let input = joined(&rt, rt.alloc(), TWO, LINES);
+    for size in 1..20 {
+        expect_taken(&rt, rt.alloc(), input.as_slice(), size);
+    }
 }
 
 // Accepts all, and fails at the `left`-th flush.
@@ -228,26 +221,24 @@ impl Write for Clogs {
     }
 }
 
+// Expects one line more than there were flushes before the one that fails.
+fn expect_clog(rt: &impl Abort, alloc: Global, input: &[u8], left: usize) {
+    let mut reader = input;
+    let mut writer = Clogs {
+        taken: Vec::new(alloc),
+        left,
+    };
+    let code = serve_between(alloc, &mut reader, &mut writer);
+    let lines = writer.taken.iter().filter(|b| **b == b'\n').count();
+    expect_same(rt, (code, lines), (1, left.saturating_add(1)));
+}
+
 #[test]
-fn a_writer_fails_at_any_flush(rt: HostRuntime) -> Result<(), Fail> {
-    let alloc = rt.alloc();
-    let input = joined(alloc, TWO, LINES)?;
+fn a_writer_fails_at_any_flush(rt: HostRuntime) {
+    let input = joined(&rt, rt.alloc(), TWO, LINES);
     for left in 0..5 {
-        let mut reader = input.as_slice();
-        let mut writer = Clogs {
-            taken: Vec::new(alloc),
-            left,
-        };
-        let outcome = serve(
-            alloc,
-            &mut Noted::new(&mut reader),
-            &mut Noted::new(&mut writer),
-        );
-        expect_same(&rt, status(&outcome), 1);
-        let lines = writer.taken.iter().filter(|b| **b == b'\n').count();
-        expect_same(&rt, lines, left.saturating_add(1));
+        expect_clog(&rt, rt.alloc(), input.as_slice(), left);
     }
-    Ok(())
 }
 
 // What a reader and a writer share.
@@ -301,38 +292,32 @@ impl Write for Watched<'_> {
     }
 }
 
-#[test]
-fn a_reply_comes_before_the_next_line_is_read(rt: HostRuntime) -> Result<(), Fail> {
-    let alloc = rt.alloc();
-    let program = joined(alloc, TWO, "%%\n")?;
-    let text = str::from_utf8(program.as_slice()).unwrap_or("");
-    let pieces = [
-        text,
-        "1 next a\n",
-        "1 vars a\n",
-        "1 next d\n",
-        "1 jump\n",
-        "17\n",
-    ];
+// The lines after a program, one for each read.
+const PIECES: [&str; 5] = ["1 next a\n", "1 vars a\n", "1 next d\n", "1 jump\n", "17\n"];
+
+// Expects each reply to be flushed before the next piece is read.
+fn expect_flushed(rt: &impl Abort, alloc: Global, pieces: &[&str]) {
     let log = IoLog {
         pending: Cell::new(0),
         flushes: Cell::new(0),
     };
     let mut reader = Watching {
         log: &log,
-        pieces: pieces.as_slice(),
+        pieces,
         reads: 0,
         is_late: false,
     };
     let mut writer = Watched { log: &log };
-    let outcome = serve(
-        alloc,
-        &mut Noted::new(&mut reader),
-        &mut Noted::new(&mut writer),
-    );
-    expect_same(&rt, status(&outcome), 0);
-    expect_same(&rt, reader.reads, 7);
-    expect_true(&rt, !reader.is_late);
-    expect_same(&rt, log.flushes.get(), 5);
-    Ok(())
+    let code = serve_between(alloc, &mut reader, &mut writer);
+    let found = (code, reader.reads, reader.is_late, log.flushes.get());
+    expect_same(rt, found, (0, 7, false, 5));
+}
+
+#[test]
+fn a_reply_comes_before_the_next_line_is_read(rt: HostRuntime) {
+    let program = joined(&rt, rt.alloc(), TWO, "%%\n");
+    let text = str::from_utf8(program.as_slice()).expect(&rt, "a text");
+    let [first, second, third, fourth, fifth] = PIECES;
+    let pieces = [text, first, second, third, fourth, fifth];
+    expect_flushed(&rt, rt.alloc(), &pieces);
 }

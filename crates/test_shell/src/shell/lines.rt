@@ -1,9 +1,10 @@
-use super::two;
-use crate::expecting::{expect_same, expect_same_of};
+use super::{add, repeat, two};
+use crate::expecting::expect_same;
 use dbg_base::{Call, Plan, Query, Refusal};
 use dbg_shell::{Line, parse_line};
-use std::alloc::{AllocError, Global};
-use std::test::Fail;
+use proc_lang::Program;
+use std::alloc::Global;
+use std::process::Abort;
 
 // What a line asks for, with processes as plain numbers.
 #[derive(Clone, Copy, Debug, PartialEq, Eq)]
@@ -40,7 +41,7 @@ fn asked_of(call: &Call) -> Asked {
 }
 
 // The seat, and what it asks for.
-fn told(parsed: Result<Option<Line>, Refusal>) -> Result<Option<(u32, Asked)>, Refusal> {
+fn reported(parsed: Result<Option<Line>, Refusal>) -> Result<Option<(u32, Asked)>, Refusal> {
     match parsed? {
         None => Ok(None),
         Some(line) => Ok(Some((line.seat, asked_of(&line.call)))),
@@ -124,69 +125,60 @@ const LINES: [(&str, Result<Option<(u32, Asked)>, Refusal>); 68] = [
     ("1 undo d", Err(Refusal::UnknownProcess)),
 ];
 
+// Expects what a line asks for.
+fn expect_asked(
+    rt: &impl Abort,
+    alloc: Global,
+    program: &Program,
+    line: &[u8],
+    want: Result<Option<(u32, Asked)>, Refusal>,
+) {
+    let parsed = reported(parse_line(alloc, program, line));
+    expect_same(rt, (line, parsed), (line, want));
+}
+
 #[test]
 fn lines_become_calls(rt: HostRuntime) {
-    let alloc = rt.alloc();
-    let program = two(&rt, alloc);
+    let program = two(&rt, rt.alloc());
     for (line, want) in &LINES {
-        let parsed = told(parse_line(alloc, &program, line.as_bytes()));
-        expect_same_of(&rt, line, parsed, *want);
+        expect_asked(&rt, rt.alloc(), &program, line.as_bytes(), *want);
     }
 }
+
+// Reserved words as names, and names of 32 and 33 bytes.
+const NAMES: [(&str, Refusal); 3] = [
+    ("1 next process", Refusal::UnknownProcess),
+    (
+        "1 vars abcdefghijklmnopqrstuvwxyz_01234",
+        Refusal::UnknownProcess,
+    ),
+    ("1 vars abcdefghijklmnopqrstuvwxyz_012345", Refusal::BadLine),
+];
 
 #[test]
 fn names_may_be_reserved_words_and_have_32_bytes(rt: HostRuntime) {
-    let alloc = rt.alloc();
-    let program = two(&rt, alloc);
-    let unknown = ["1 next process", "1 vars abcdefghijklmnopqrstuvwxyz_01234"];
-    for line in &unknown {
-        let parsed = told(parse_line(alloc, &program, line.as_bytes()));
-        expect_same_of(&rt, line, parsed, Err(Refusal::UnknownProcess));
+    let program = two(&rt, rt.alloc());
+    for (line, refusal) in &NAMES {
+        expect_asked(&rt, rt.alloc(), &program, line.as_bytes(), Err(*refusal));
     }
-    let long = told(parse_line(alloc, &program, b"1 vars abcdefghijklmnopqrstuvwxyz_012345"));
-    expect_same(&rt, long, Err(Refusal::BadLine));
 }
 
-// A line of blanks with this text after them.
-fn padded(alloc: Global, blanks: usize, text: &str) -> Result<Vec<u8>, AllocError> {
-    let mut line = vec![in alloc; b' '; blanks]?;
-    line.extend_from_slice(text.as_bytes())?;
-    Ok(line)
-}
+// How many blanks are before a text, the text, and what the line asks for.
+const PADDED: [(u32, &str, Result<Option<(u32, Asked)>, Refusal>); 5] = [
+    (1_016, "1 next a", Ok(Some((1, Asked::Next(0))))),
+    (1_017, "1 next a", Err(Refusal::BadLine)),
+    (1_016, "1 next a\r", Err(Refusal::BadLine)),
+    (1_024, "", Ok(None)),
+    (1_025, "", Err(Refusal::BadLine)),
+];
 
 #[test]
-fn a_line_has_at_most_1024_bytes(rt: HostRuntime) -> Result<(), Fail> {
-    let alloc = rt.alloc();
-    let program = two(&rt, alloc);
-    let most = padded(alloc, 1_016, "1 next a")?;
-    expect_same(
-        &rt,
-        told(parse_line(alloc, &program, most.as_slice())),
-        Ok(Some((1, Asked::Next(0)))),
-    );
-    let more = padded(alloc, 1_017, "1 next a")?;
-    expect_same(
-        &rt,
-        told(parse_line(alloc, &program, more.as_slice())),
-        Err(Refusal::BadLine),
-    );
-    let carriage = padded(alloc, 1_016, "1 next a\r")?;
-    expect_same(
-        &rt,
-        told(parse_line(alloc, &program, carriage.as_slice())),
-        Err(Refusal::BadLine),
-    );
-    let blank = padded(alloc, 1_024, "")?;
-    expect_same(
-        &rt,
-        told(parse_line(alloc, &program, blank.as_slice())),
-        Ok(None),
-    );
-    let long_blank = padded(alloc, 1_025, "")?;
-    expect_same(
-        &rt,
-        told(parse_line(alloc, &program, long_blank.as_slice())),
-        Err(Refusal::BadLine),
-    );
-    Ok(())
+fn a_line_has_at_most_1024_bytes(rt: HostRuntime) {
+    let program = two(&rt, rt.alloc());
+    for (blanks, text, want) in &PADDED {
+        let mut line = Vec::new(rt.alloc());
+        repeat(&rt, &mut line, " ", *blanks);
+        add(&rt, &mut line, text);
+        expect_asked(&rt, rt.alloc(), &program, line.as_slice(), *want);
+    }
 }

@@ -1,5 +1,4 @@
 use super::{TWO, expect_rows};
-use std::test::Fail;
 
 // The 65th is refused, until one is cleared.
 const MANY: (&str, &str, &str, &str) = (
@@ -145,7 +144,6 @@ ok
 );
 
 #[test]
-fn there_are_at_most_64_breakpoints(rt: HostRuntime) -> Result<(), Fail> {
-    expect_rows(&rt, rt.alloc(), &[MANY])?;
-    Ok(())
+fn there_are_at_most_64_breakpoints(rt: HostRuntime) {
+    expect_rows(&rt, rt.alloc(), &[MANY]);
 }

@@ -1,6 +1,6 @@
-use super::{TWO, expect_checked, joined};
-use std::alloc::{AllocError, Global};
-use std::test::Fail;
+use super::{MEMORY, TWO, add, expect_checked, joined};
+use std::alloc::Global;
+use std::process::Abort;
 
 // Each text is followed by a line end and a line `%%`.
 pub(super) const REFUSED: [(&str, &str); 14] = [
@@ -51,13 +51,11 @@ pub(super) const REFUSED: [(&str, &str); 14] = [
 ];
 
 #[test]
-fn programs_are_refused(rt: HostRuntime) -> Result<(), Fail> {
-    let alloc = rt.alloc();
+fn programs_are_refused(rt: HostRuntime) {
     for (text, want) in &REFUSED {
-        let input = joined(alloc, text, "\n%%\n")?;
-        expect_checked(&rt, alloc, input.as_slice(), want);
+        let input = joined(&rt, rt.alloc(), text, "\n%%\n");
+        expect_checked(&rt, rt.alloc(), input.as_slice(), want);
     }
-    Ok(())
 }
 
 #[test]
@@ -68,13 +66,16 @@ fn a_program_without_a_process_is_refused(rt: HostRuntime) {
 const ENDS: [&str; 6] = ["", "%%\n", "%%", "%%\r\n", "%%\r", "%%\n%% \nprocess\n"];
 
 #[test]
-fn a_text_ends_with_its_line_or_the_input(rt: HostRuntime) -> Result<(), Fail> {
-    let alloc = rt.alloc();
+fn a_text_ends_with_its_line_or_the_input(rt: HostRuntime) {
     for end in &ENDS {
-        let input = joined(alloc, TWO, end)?;
-        expect_checked(&rt, alloc, input.as_slice(), "ok 2 processes 3 commands\n");
+        let input = joined(&rt, rt.alloc(), TWO, end);
+        expect_checked(
+            &rt,
+            rt.alloc(),
+            input.as_slice(),
+            "ok 2 processes 3 commands\n",
+        );
     }
-    Ok(())
 }
 
 #[test]
@@ -88,23 +89,26 @@ fn counts_are_plural(rt: HostRuntime) {
 }
 
 // A program with blank lines after it, so many bytes in total, and an end.
-fn long(alloc: Global, bytes: usize, end: &str) -> Result<Vec<u8>, AllocError> {
-    let mut all = Vec::from_slice(alloc, b"process a { }")?;
-    all.resize(bytes, b'\n')?;
-    all.extend_from_slice(end.as_bytes())?;
-    Ok(all)
+fn long(rt: &impl Abort, alloc: Global, bytes: usize, end: &str) -> Vec<u8> {
+    let mut all = Vec::new(alloc);
+    add(rt, &mut all, "process a { }");
+    all.resize(bytes, b'\n').expect(rt, MEMORY);
+    add(rt, &mut all, end);
+    all
 }
 
+// How many bytes a text has before its end, the end, and the output.
+const LENGTHS: [(usize, &str, &str); 4] = [
+    (1_048_573, "%%\nrest", "ok 1 processes 0 commands\n"),
+    (1_048_576, "", "ok 1 processes 0 commands\n"),
+    (1_048_574, "%%\n", "input too long\n"),
+    (1_048_577, "", "input too long\n"),
+];
+
 #[test]
-fn a_text_ends_within_the_input_that_may_be(rt: HostRuntime) -> Result<(), Fail> {
-    let alloc = rt.alloc();
-    let most = long(alloc, 1_048_573, "%%\nrest")?;
-    expect_checked(&rt, alloc, most.as_slice(), "ok 1 processes 0 commands\n");
-    let whole = long(alloc, 1_048_576, "")?;
-    expect_checked(&rt, alloc, whole.as_slice(), "ok 1 processes 0 commands\n");
-    let late = long(alloc, 1_048_574, "%%\n")?;
-    expect_checked(&rt, alloc, late.as_slice(), "input too long\n");
-    let more = long(alloc, 1_048_577, "")?;
-    expect_checked(&rt, alloc, more.as_slice(), "input too long\n");
-    Ok(())
+fn a_text_ends_within_the_input_that_may_be(rt: HostRuntime) {
+    for (bytes, end, want) in &LENGTHS {
+        let text = long(&rt, rt.alloc(), *bytes, end);
+        expect_checked(&rt, rt.alloc(), text.as_slice(), want);
+    }
 }

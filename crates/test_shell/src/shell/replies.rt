@@ -1,12 +1,13 @@
 use super::fits::fits_call;
-use super::two;
+use super::{MEMORY, two};
+use crate::expecting::expect_same;
 use dbg_base::{
     Answer, Call, Choice, Cut, Done, Head, Name, Pid, Plan, Query, Refusal, Reply, Said, Sequence,
 };
 use dbg_shell::{Noted, print_reply};
-use std::alloc::{AllocError, Global};
+use proc_lang::Program;
+use std::alloc::Global;
 use std::process::Abort;
-use std::test::Fail;
 
 fn name(rt: &impl Abort, text: &str) -> Name {
     Name::new(text.as_bytes()).expect(rt, "a name")
@@ -16,77 +17,69 @@ fn accepted(done: Done, halted: Option<Name>) -> Said {
     Said::Accepted(Reply { done, halted })
 }
 
-fn cut(alloc: Global, counts: &[u32]) -> Result<Cut, AllocError> {
-    Ok(Cut::new(Vec::from_slice(alloc, counts)?))
+fn cut(rt: &impl Abort, alloc: Global, counts: &[u32]) -> Cut {
+    Cut::new(Vec::from_slice(alloc, counts).expect(rt, MEMORY))
+}
+
+fn sequence<T: Copy>(rt: &impl Abort, alloc: Global, items: &[T]) -> Sequence<T> {
+    Sequence::new(Vec::from_slice(alloc, items).expect(rt, MEMORY))
+}
+
+// Expects the text of an answer, which fits its call.
+fn expect_text(
+    rt: &impl Abort,
+    alloc: Global,
+    program: &Program,
+    call: &Call,
+    said: &Said,
+    want: &str,
+) {
+    assert!(rt; fits_call(program, call, said), "at {want:?}");
+    let mut writer = Vec::new(alloc);
+    let outcome = print_reply(program, call, said, &mut Noted::new(&mut writer));
+    expect_same(
+        rt,
+        (writer.as_slice(), outcome.is_ok()),
+        (want.as_bytes(), true),
+    );
 }
 
 fn expect(rt: &impl Abort, alloc: Global, call: Call, said: Said, want: &str) {
     let program = two(rt, alloc);
-    let mut writer = Vec::new(alloc);
-    assert!(rt; fits_call(&program, &call, &said), "at {want:?}");
-    let outcome = print_reply(&program, &call, &said, &mut Noted::new(&mut writer));
-    assert!(rt; outcome.is_ok(), "at {want:?}");
-    assert_eq!(rt; writer.as_slice(), want.as_bytes(), "at {want:?}");
+    expect_text(rt, alloc, &program, &call, &said, want);
+}
+
+fn expect_given(rt: &impl Abort, alloc: Global, plan: Plan, said: Said, want: &str) {
+    expect(rt, alloc, Call::Give(plan), said, want);
 }
 
 #[test]
-fn commands_are_answered(rt: HostRuntime) -> Result<(), Fail> {
+fn commands_are_answered(rt: HostRuntime) {
     let alloc = rt.alloc();
     let k = name(&rt, "k");
     let played = accepted(Done::Played(Pid(0), Choice(3)), None);
-    expect(
-        &rt,
-        alloc,
-        Call::Give(Plan::Next(Pid(0))),
-        played,
-        "ok a 3\n",
-    );
+    expect_given(&rt, alloc, Plan::Next(Pid(0)), played, "ok a 3\n");
     let halted = accepted(Done::Played(Pid(1), Choice(0)), Some(k));
-    expect(
-        &rt,
-        alloc,
-        Call::Give(Plan::Next(Pid(1))),
-        halted,
-        "ok b 0 halted k\n",
-    );
+    expect_given(&rt, alloc, Plan::Next(Pid(1)), halted, "ok b 0 halted k\n");
     let undone = accepted(Done::Undone(Pid(1), Choice(63)), None);
-    expect(
-        &rt,
-        alloc,
-        Call::Give(Plan::Undo(Pid(1))),
-        undone,
-        "ok b 63\n",
-    );
-    let places = accepted(Done::Places(cut(alloc, &[0, 10_000])?), None);
-    expect(
-        &rt,
-        alloc,
-        Call::Give(Plan::Goto(k)),
-        places,
-        "ok a=0 b=10000\n",
-    );
-    let places = accepted(Done::Places(cut(alloc, &[1, 1])?), Some(k));
-    expect(
-        &rt,
-        alloc,
-        Call::Give(Plan::Goto(k)),
-        places,
-        "ok a=1 b=1 halted k\n",
-    );
+    expect_given(&rt, alloc, Plan::Undo(Pid(1)), undone, "ok b 63\n");
+    let halted = accepted(Done::Plain, Some(k));
+    expect_given(&rt, alloc, Plan::Arm(k), halted, "ok halted k\n");
     expect(&rt, alloc, Call::Back, accepted(Done::Plain, None), "ok\n");
-    expect(
-        &rt,
-        alloc,
-        Call::Give(Plan::Arm(k)),
-        accepted(Done::Plain, Some(k)),
-        "ok halted k\n",
-    );
-    Ok(())
+}
+
+#[test]
+fn a_goto_is_answered(rt: HostRuntime) {
+    let alloc = rt.alloc();
+    let k = name(&rt, "k");
+    let places = accepted(Done::Places(cut(&rt, alloc, &[0, 10_000])), None);
+    expect_given(&rt, alloc, Plan::Goto(k), places, "ok a=0 b=10000\n");
+    let places = accepted(Done::Places(cut(&rt, alloc, &[1, 1])), Some(k));
+    expect_given(&rt, alloc, Plan::Goto(k), places, "ok a=1 b=1 halted k\n");
 }
 
 #[test]
 fn refusals_are_numbers(rt: HostRuntime) {
-    let alloc = rt.alloc();
     let k = name(&rt, "k_1");
     let refusals = [
         (Refusal::UnknownProcess, "no 1\n"),
@@ -116,7 +109,7 @@ fn refusals_are_numbers(rt: HostRuntime) {
         (Refusal::InBatch { at: 32, number: 9 }, "no 25 32 9\n"),
     ];
     for (refusal, want) in &refusals {
-        expect(&rt, alloc, Call::Back, Said::Refused(*refusal), want);
+        expect(&rt, rt.alloc(), Call::Back, Said::Refused(*refusal), want);
     }
 }
 
@@ -125,81 +118,59 @@ fn ask(rt: &impl Abort, alloc: Global, query: Query, answer: Answer, want: &str)
 }
 
 #[test]
-fn queries_of_processes_are_answered(rt: HostRuntime) -> Result<(), Fail> {
+fn queries_of_values_are_answered(rt: HostRuntime) {
     let alloc = rt.alloc();
-    let values = Sequence::new(vec![in alloc; -9_223_372_036_854_775_807i64 - 1, 2]?);
-    ask(
-        &rt,
-        alloc,
-        Query::Vars(Pid(1)),
-        Answer::Values(values),
-        "vars b y=-9223372036854775808 n=2\n",
-    );
+    let values = Answer::Values(sequence(&rt, alloc, &[i64::MIN, 2]));
+    let want = "vars b y=-9223372036854775808 n=2\n";
+    ask(&rt, alloc, Query::Vars(Pid(1)), values, want);
     let chan = Query::Chan(Pid(0), Pid(1));
-    let messages = Sequence::new(vec![in alloc; 1i64, -2]?);
-    ask(
-        &rt,
-        alloc,
-        chan,
-        Answer::Messages(messages),
-        "chan a b 1 -2\n",
-    );
-    let none = Sequence::new(Vec::new(alloc));
-    ask(&rt, alloc, chan, Answer::Messages(none), "chan a b\n");
-    let clock = Answer::Counts(cut(alloc, &[1, 0])?);
-    ask(&rt, alloc, Query::Clock(Pid(1)), clock, "clock b a=1 b=0\n");
-    let place = Answer::PlaceOf { at: 1, line: 3 };
-    ask(&rt, alloc, Query::Place(Pid(0)), place, "place a 1 of 3\n");
-    let can = Query::Can(Pid(0));
-    ask(&rt, alloc, can, Answer::CanUndo(Ok(())), "can a yes\n");
-    ask(
-        &rt,
-        alloc,
-        can,
-        Answer::CanUndo(Err(Refusal::NothingToUndo)),
-        "can a no 6\n",
-    );
-    ask(
-        &rt,
-        alloc,
-        can,
-        Answer::CanUndo(Err(Refusal::Consequence(Pid(1)))),
-        "can a no 7 b\n",
-    );
-    Ok(())
+    let messages = Answer::Messages(sequence(&rt, alloc, &[1i64, -2]));
+    ask(&rt, alloc, chan, messages, "chan a b 1 -2\n");
+    let chan = Query::Chan(Pid(0), Pid(1));
+    let none = Answer::Messages(sequence(&rt, alloc, &[]));
+    ask(&rt, alloc, chan, none, "chan a b\n");
 }
 
 #[test]
-fn queries_of_breakpoints_are_answered(rt: HostRuntime) -> Result<(), Fail> {
+fn queries_of_places_are_answered(rt: HostRuntime) {
+    let alloc = rt.alloc();
+    let clock = Answer::Counts(cut(&rt, alloc, &[1, 0]));
+    ask(&rt, alloc, Query::Clock(Pid(1)), clock, "clock b a=1 b=0\n");
+    let place = Answer::PlaceOf { at: 1, line: 3 };
+    ask(&rt, alloc, Query::Place(Pid(0)), place, "place a 1 of 3\n");
+}
+
+fn expect_can(rt: &impl Abort, alloc: Global, can: Result<(), Refusal>, want: &str) {
+    ask(rt, alloc, Query::Can(Pid(0)), Answer::CanUndo(can), want);
+}
+
+#[test]
+fn queries_of_what_can_be_undone_are_answered(rt: HostRuntime) {
+    expect_can(&rt, rt.alloc(), Ok(()), "can a yes\n");
+    let nothing = Err(Refusal::NothingToUndo);
+    expect_can(&rt, rt.alloc(), nothing, "can a no 6\n");
+    let consequence = Err(Refusal::Consequence(Pid(1)));
+    expect_can(&rt, rt.alloc(), consequence, "can a no 7 b\n");
+}
+
+#[test]
+fn queries_of_cuts_are_answered(rt: HostRuntime) {
     let alloc = rt.alloc();
     let k = name(&rt, "k");
-    let m = name(&rt, "m");
-    let found = Answer::CutIs(Some(cut(alloc, &[1, 1])?));
+    let found = Answer::CutIs(Some(cut(&rt, alloc, &[1, 1])));
     ask(&rt, alloc, Query::CutOf(k), found, "cut k a=1 b=1\n");
-    ask(
-        &rt,
-        alloc,
-        Query::CutOf(k),
-        Answer::CutIs(None),
-        "cut k none\n",
-    );
-    let heads = Sequence::new(vec![in alloc; Head::At(1), Head::Past]?);
-    ask(
-        &rt,
-        alloc,
-        Query::Why(k),
-        Answer::Frontier(heads),
-        "why k a=1 b=past\n",
-    );
-    let marks = Sequence::new(vec![in alloc; (k, true), (m, false)]?);
-    ask(
-        &rt,
-        alloc,
-        Query::Breaks,
-        Answer::Marks(marks),
-        "breaks k on m off\n",
-    );
-    let none = Sequence::new(Vec::new(alloc));
-    ask(&rt, alloc, Query::Breaks, Answer::Marks(none), "breaks\n");
-    Ok(())
+    let none = Answer::CutIs(None);
+    ask(&rt, alloc, Query::CutOf(k), none, "cut k none\n");
+    let heads = Answer::Frontier(sequence(&rt, alloc, &[Head::At(1), Head::Past]));
+    ask(&rt, alloc, Query::Why(k), heads, "why k a=1 b=past\n");
+}
+
+#[test]
+fn queries_of_breakpoints_are_answered(rt: HostRuntime) {
+    let alloc = rt.alloc();
+    let marked = [(name(&rt, "k"), true), (name(&rt, "m"), false)];
+    let marks = Answer::Marks(sequence(&rt, alloc, &marked));
+    ask(&rt, alloc, Query::Breaks, marks, "breaks k on m off\n");
+    let none = Answer::Marks(sequence(&rt, alloc, &[]));
+    ask(&rt, alloc, Query::Breaks, none, "breaks\n");
 }

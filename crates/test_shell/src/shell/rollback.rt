@@ -1,8 +1,6 @@
 use super::sessions::PAIR;
 use super::undo::THREE;
-use super::{TWO, expect_rows, joined, served};
-use crate::expecting::{expect_same, expect_true};
-use std::test::Fail;
+use super::{TWO, add, expect_long, expect_rows, joined, repeat};
 
 // A process that sends, one that forwards, and one that receives.
 const CHAIN: &str = "process a { var x = 0; when true : send b 1; }
@@ -193,13 +191,13 @@ can a no 7 b
         "ok a 0\nok b 0\nok b 1\nok a=0 b=0\nplace b 0 of 2\nno 5\nok a 0\nok b 0\nok b 1\nno 8\nvars b y=1 n=0\n",
     ),
     (
-        "a redo behind it takes the message that is there",
+        "a redo after it takes the message that is there",
         PAIR,
         "%%\n1 step s 0\n1 step r 0\n1 rollback s 0\n1 step s 1\n1 redo r\n1 vars r\n1 clock r\n",
         "ok s 0\nok r 0\nok s=0 r=0\nok s 1\nok r 0\nvars r v=7\nclock r s=1 r=1\n",
     ),
     (
-        "a choice that stays behind, and is cut off",
+        "a choice that is left, and is cut off",
         TWO,
         "%%\n1 next a\n1 next b\n1 step b 1\n1 rollback b 1\n1 rollback a 0\n1 next a\n1 next b\n1 place b\n1 redo b\n",
         "ok a 0\nok b 0\nok b 1\nok a=1 b=1\nok a=0 b=0\nok a 0\nok b 0\nplace b 1 of 1\nno 8\n",
@@ -225,9 +223,8 @@ can a no 7 b
 ];
 
 #[test]
-fn work_is_rolled_back(rt: HostRuntime) -> Result<(), Fail> {
-    expect_rows(&rt, rt.alloc(), &ROWS)?;
-    Ok(())
+fn work_is_rolled_back(rt: HostRuntime) {
+    expect_rows(&rt, rt.alloc(), &ROWS);
 }
 
 // Of the events of each process, the odd ones of `a` send, and the even ones of `b`. Event 4999 of `a` is the last in the causal past of
@@ -255,18 +252,13 @@ place b 0 of 5000
 ";
 
 #[test]
-fn a_long_history_is_rolled_back(rt: HostRuntime) -> Result<(), Fail> {
-    let alloc = rt.alloc();
-    let mut input = joined(alloc, TURNS, "%%\n")?;
-    let mut want = Vec::new(alloc);
-    for _ in 0..2_500 {
-        input.extend_from_slice(b"1 next a\n1 next b\n1 next b\n1 next a\n")?;
-        want.extend_from_slice(b"ok a 0\nok b 1\nok b 0\nok a 1\n")?;
-    }
-    input.extend_from_slice(ENDS.as_bytes())?;
-    want.extend_from_slice(ENDED.as_bytes())?;
-    let (replies, code) = served(alloc, input.as_slice());
-    expect_true(&rt, replies.as_slice() == want.as_slice());
-    expect_same(&rt, code, 0);
-    Ok(())
+fn a_long_history_is_rolled_back(rt: HostRuntime) {
+    let mut input = joined(&rt, rt.alloc(), TURNS, "%%\n");
+    let round = "1 next a\n1 next b\n1 next b\n1 next a\n";
+    repeat(&rt, &mut input, round, 2_500);
+    add(&rt, &mut input, ENDS);
+    let mut want = Vec::new(rt.alloc());
+    repeat(&rt, &mut want, "ok a 0\nok b 1\nok b 0\nok a 1\n", 2_500);
+    add(&rt, &mut want, ENDED);
+    expect_long(&rt, rt.alloc(), input.as_slice(), want.as_slice(), 0);
 }

@@ -1,8 +1,8 @@
 use super::programs::REFUSED;
-use super::{TWO, expect_rows, expect_served, joined, served};
-use crate::expecting::{expect_same, expect_true};
-use std::alloc::{AllocError, Global};
-use std::test::Fail;
+use super::{MEMORY, TWO, add, expect_long, expect_rows, expect_served, joined, repeat};
+use crate::expecting::expect_same;
+use std::alloc::Global;
+use std::process::Abort;
 
 pub(super) const NUMBER: &str =
     "process a { var x = 1; when true : x := (x + 9223372036854775807); }\n";
@@ -174,9 +174,8 @@ const SESSIONS: [(&str, &str, &str, &str); 22] = [
 ];
 
 #[test]
-fn sessions_are_answered(rt: HostRuntime) -> Result<(), Fail> {
-    expect_rows(&rt, rt.alloc(), &SESSIONS)?;
-    Ok(())
+fn sessions_are_answered(rt: HostRuntime) {
+    expect_rows(&rt, rt.alloc(), &SESSIONS);
 }
 
 #[test]
@@ -190,102 +189,98 @@ fn a_text_without_an_end_line_is_refused(rt: HostRuntime) {
 }
 
 #[test]
-fn a_refused_program_ends_it(rt: HostRuntime) -> Result<(), Fail> {
-    let alloc = rt.alloc();
+fn a_refused_program_ends_it(rt: HostRuntime) {
     for (text, want) in &REFUSED {
-        let input = joined(alloc, text, "\n%%\n1 next a\n")?;
-        expect_served(&rt, alloc, input.as_slice(), want);
+        let input = joined(&rt, rt.alloc(), text, "\n%%\n1 next a\n");
+        expect_served(&rt, rt.alloc(), input.as_slice(), want);
     }
-    Ok(())
 }
 
 // Appends the text, with blanks after it and a line end, so many bytes in total.
-fn push_line(all: &mut Vec<u8>, text: &str, bytes: usize) -> Result<(), AllocError> {
+fn push_line(rt: &impl Abort, all: &mut Vec<u8>, text: &str, bytes: usize) {
     let end = all.len().saturating_add(bytes).saturating_sub(1);
-    all.extend_from_slice(text.as_bytes())?;
-    all.resize(end, b' ')?;
-    all.push(b'\n')?;
-    Ok(())
+    add(rt, all, text);
+    all.resize(end, b' ').expect(rt, MEMORY);
+    add(rt, all, "\n");
 }
 
-// The program and so many lines of 1,000 bytes.
-fn many_lines(alloc: Global, lines: usize) -> Result<Vec<u8>, AllocError> {
-    let mut all = joined(alloc, TWO, "%%\n")?;
-    for _ in 0..lines {
-        push_line(&mut all, "1 vars a", 1_000)?;
+// The program, 1,048 lines of 1,000 bytes, and one of so many.
+fn many_lines(rt: &impl Abort, alloc: Global, last: usize) -> Vec<u8> {
+    let mut all = joined(rt, alloc, TWO, "%%\n");
+    for _ in 0..1_048u32 {
+        push_line(rt, &mut all, "1 vars a", 1_000);
     }
-    Ok(all)
+    push_line(rt, &mut all, "1 vars a", last);
+    all
 }
 
 // So many replies, and a text after them.
-fn many_replies(alloc: Global, lines: usize, last: &str) -> Result<Vec<u8>, AllocError> {
+fn many_replies(rt: &impl Abort, alloc: Global, lines: u32, last: &str) -> Vec<u8> {
     let mut all = Vec::new(alloc);
-    for _ in 0..lines {
-        all.extend_from_slice(b"vars a x=0\n")?;
-    }
-    all.extend_from_slice(last.as_bytes())?;
-    Ok(all)
+    repeat(rt, &mut all, "vars a x=0\n", lines);
+    add(rt, &mut all, last);
+    all
 }
 
 #[test]
-fn input_may_be_too_long(rt: HostRuntime) -> Result<(), Fail> {
-    let alloc = rt.alloc();
-    let mut input = many_lines(alloc, 1_048)?;
-    push_line(&mut input, "1 vars a", 391)?;
+fn input_may_be_too_long(rt: HostRuntime) {
+    let input = many_lines(&rt, rt.alloc(), 391);
     expect_same(&rt, input.len(), 1_048_577);
-    let (replies, code) = served(alloc, input.as_slice());
-    let want = many_replies(alloc, 1_048, "input too long\n")?;
-    expect_true(&rt, replies.as_slice() == want.as_slice());
-    expect_same(&rt, code, 1);
-    Ok(())
+    let want = many_replies(&rt, rt.alloc(), 1_048, "input too long\n");
+    expect_long(&rt, rt.alloc(), input.as_slice(), want.as_slice(), 1);
 }
 
 #[test]
-fn input_may_be_as_long(rt: HostRuntime) -> Result<(), Fail> {
-    let alloc = rt.alloc();
-    let mut input = many_lines(alloc, 1_048)?;
-    push_line(&mut input, "1 vars a", 390)?;
+fn input_may_be_as_long(rt: HostRuntime) {
+    let input = many_lines(&rt, rt.alloc(), 390);
     expect_same(&rt, input.len(), 1_048_576);
-    let (replies, code) = served(alloc, input.as_slice());
-    let want = many_replies(alloc, 1_049, "")?;
-    expect_true(&rt, replies.as_slice() == want.as_slice());
-    expect_same(&rt, code, 0);
-    Ok(())
+    let want = many_replies(&rt, rt.alloc(), 1_049, "");
+    expect_long(&rt, rt.alloc(), input.as_slice(), want.as_slice(), 0);
 }
 
-#[test]
-fn a_text_may_be_too_long(rt: HostRuntime) -> Result<(), Fail> {
-    let alloc = rt.alloc();
-    let mut input = Vec::from_slice(alloc, b"process a { }")?;
-    input.resize(1_048_574, b'\n')?;
-    input.extend_from_slice(b"%%\n1 vars a\n")?;
-    expect_served(&rt, alloc, input.as_slice(), "input too long\n");
-    Ok(())
-}
+// A text, filled up with line ends to so many bytes, the lines after it, and the output.
+const FILLED: [(&str, usize, &str, &str); 2] = [
+    (
+        "process a { }",
+        1_048_574,
+        "%%\n1 vars a\n",
+        "input too long\n",
+    ),
+    // A refused program comes before an input that is too long.
+    (
+        "process A {}\n%%\n",
+        1_048_600,
+        "",
+        "program refused 1 at 8\n",
+    ),
+];
 
 #[test]
-fn a_refused_program_comes_before_long_input(rt: HostRuntime) -> Result<(), Fail> {
-    let alloc = rt.alloc();
-    let mut input = Vec::from_slice(alloc, b"process A {}\n%%\n")?;
-    input.resize(1_048_600, b'\n')?;
-    expect_served(&rt, alloc, input.as_slice(), "program refused 1 at 8\n");
-    Ok(())
+fn a_text_may_be_too_long(rt: HostRuntime) {
+    for (text, bytes, lines, want) in &FILLED {
+        let mut input = Vec::new(rt.alloc());
+        add(&rt, &mut input, text);
+        input.resize(*bytes, b'\n').expect(&rt, MEMORY);
+        add(&rt, &mut input, lines);
+        expect_served(&rt, rt.alloc(), input.as_slice(), want);
+    }
 }
 
+// Lines, and how many bytes each has.
+const LINES: [(&str, usize); 5] = [
+    ("1 next a", 1_026),
+    ("1 next a", 1_025),
+    ("", 1_026),
+    ("", 1_025),
+    ("1 vars a", 9),
+];
+
 #[test]
-fn a_line_may_be_too_long(rt: HostRuntime) -> Result<(), Fail> {
-    let alloc = rt.alloc();
-    let mut input = joined(alloc, TWO, "%%\n")?;
-    push_line(&mut input, "1 next a", 1_026)?;
-    push_line(&mut input, "1 next a", 1_025)?;
-    push_line(&mut input, "", 1_026)?;
-    push_line(&mut input, "", 1_025)?;
-    push_line(&mut input, "1 vars a", 9)?;
-    expect_served(
-        &rt,
-        alloc,
-        input.as_slice(),
-        "no 22\nok a 0\nno 22\nvars a x=1\n",
-    );
-    Ok(())
+fn a_line_may_be_too_long(rt: HostRuntime) {
+    let mut input = joined(&rt, rt.alloc(), TWO, "%%\n");
+    for (line, bytes) in &LINES {
+        push_line(&rt, &mut input, line, *bytes);
+    }
+    let want = "no 22\nok a 0\nno 22\nvars a x=1\n";
+    expect_served(&rt, rt.alloc(), input.as_slice(), want);
 }

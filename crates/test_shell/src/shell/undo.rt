@@ -1,7 +1,6 @@
 use super::sessions::{COUNTS, LEAST, NUMBER, PAIR, SWAP};
-use super::{TWO, expect_rows, joined, served};
-use crate::expecting::{expect_same, expect_same_of, expect_true};
-use std::test::Fail;
+use super::{TWO, add, expect_long, expect_rows, joined, repeat, served};
+use crate::expecting::expect_same;
 
 // The two processes of `TWO`, and one that has nothing to do with them.
 pub(super) const THREE: &str = "process a {
@@ -66,7 +65,7 @@ can a no 6
 ",
     ),
     (
-        "an undone receive gives its message to the front",
+        "an undone receive gives its message back as the next one",
         TWO,
         "%%\n1 next a\n1 next a\n1 next b\n1 undo b\n1 chan a b\n1 redo b\n1 undo a\n1 vars b\n1 undo a\n1 undo b\n1 redo a\n1 chan a b\n",
         "ok a 0\nok a 0\nok b 0\nok b 0\nchan a b 1 2\nok b 0\nok a 0\nvars b y=1 n=1\nno 7 b\nok b 0\nok a 0\nchan a b 1 2\n",
@@ -180,9 +179,8 @@ ok b 0
 ];
 
 #[test]
-fn work_is_undone_along_causality(rt: HostRuntime) -> Result<(), Fail> {
-    expect_rows(&rt, rt.alloc(), &ROWS)?;
-    Ok(())
+fn work_is_undone_along_causality(rt: HostRuntime) {
+    expect_rows(&rt, rt.alloc(), &ROWS);
 }
 
 // Queries after `a` has sent, `b` has received and `c` has worked alone, and the answers.
@@ -220,43 +218,42 @@ can b yes
 can c yes
 ";
 
+// The three events in two orders, and the replies.
+const ORDERS: [(&str, &str); 2] = [
+    (
+        "%%\n1 next a\n1 next c\n1 next b\n",
+        "ok a 0\nok c 0\nok b 0\n",
+    ),
+    (
+        "%%\n1 next c\n1 next a\n1 next b\n",
+        "ok c 0\nok a 0\nok b 0\n",
+    ),
+];
+
 #[test]
-fn concurrent_work_is_the_same_in_either_order(rt: HostRuntime) -> Result<(), Fail> {
-    let alloc = rt.alloc();
-    let orders = [
-        (
-            "%%\n1 next a\n1 next c\n1 next b\n",
-            "ok a 0\nok c 0\nok b 0\n",
-        ),
-        (
-            "%%\n1 next c\n1 next a\n1 next b\n",
-            "ok c 0\nok a 0\nok b 0\n",
-        ),
-    ];
-    for (lines, told) in &orders {
-        let mut input = joined(alloc, THREE, lines)?;
-        input.extend_from_slice(QUESTIONS.as_bytes())?;
-        let want = joined(alloc, told, ANSWERS)?;
-        let (replies, code) = served(alloc, input.as_slice());
-        expect_same_of(&rt, lines, replies.as_slice(), want.as_slice());
-        expect_same_of(&rt, lines, code, 0);
+fn concurrent_work_is_the_same_in_either_order(rt: HostRuntime) {
+    for (lines, reported) in &ORDERS {
+        let mut input = joined(&rt, rt.alloc(), THREE, lines);
+        add(&rt, &mut input, QUESTIONS);
+        let want = joined(&rt, rt.alloc(), reported, ANSWERS);
+        let (replies, code) = served(rt.alloc(), input.as_slice());
+        expect_same(
+            &rt,
+            (*lines, replies.as_slice(), code),
+            (*lines, want.as_slice(), 0),
+        );
     }
-    Ok(())
 }
 
 #[test]
-fn a_process_has_at_most_20000_events(rt: HostRuntime) -> Result<(), Fail> {
-    let alloc = rt.alloc();
-    let mut input = joined(alloc, COUNTER, "%%\n")?;
-    let mut want = Vec::new(alloc);
-    for _ in 0..20_000 {
-        input.extend_from_slice(b"1 next c\n")?;
-        want.extend_from_slice(b"ok c 0\n")?;
-    }
-    input.extend_from_slice(b"1 next c\n1 step c 0\n1 undo c\n1 redo c\n1 next c\n1 vars c\n")?;
-    want.extend_from_slice(b"no 18\nno 18\nok c 0\nok c 0\nno 18\nvars c z=20000\n")?;
-    let (replies, code) = served(alloc, input.as_slice());
-    expect_true(&rt, replies.as_slice() == want.as_slice());
-    expect_same(&rt, code, 0);
-    Ok(())
+fn a_process_has_at_most_20000_events(rt: HostRuntime) {
+    let mut input = joined(&rt, rt.alloc(), COUNTER, "%%\n");
+    repeat(&rt, &mut input, "1 next c\n", 20_000);
+    let lines = "1 next c\n1 step c 0\n1 undo c\n1 redo c\n1 next c\n1 vars c\n";
+    add(&rt, &mut input, lines);
+    let mut want = Vec::new(rt.alloc());
+    repeat(&rt, &mut want, "ok c 0\n", 20_000);
+    let replies = "no 18\nno 18\nok c 0\nok c 0\nno 18\nvars c z=20000\n";
+    add(&rt, &mut want, replies);
+    expect_long(&rt, rt.alloc(), input.as_slice(), want.as_slice(), 0);
 }

@@ -1,11 +1,10 @@
 //! All that a session shows, before and after some lines.
 
-use super::{joined, served};
-use crate::expecting::{expect_same, expect_same_of, expect_true_of};
-use std::alloc::{AllocError, Global};
+use super::{add, joined, served};
+use crate::expecting::expect_same;
+use std::alloc::Global;
 use std::process::Abort;
 use std::str;
-use std::test::Fail;
 
 // A process that sends, one that forwards, and one that receives.
 pub(super) const RELAY: &str = "process a {
@@ -157,12 +156,26 @@ const MARK: &str = "1 look\n";
 const MARKED: &str = "no 22\n";
 
 // The texts, one after the other.
-fn all_of(alloc: Global, texts: &[&str]) -> Result<Vec<u8>, AllocError> {
+fn all_of(rt: &impl Abort, alloc: Global, texts: &[&str]) -> Vec<u8> {
     let mut all = Vec::new(alloc);
     for text in texts {
-        all.extend_from_slice(text.as_bytes())?;
+        add(rt, &mut all, text);
     }
-    Ok(all)
+    all
+}
+
+// The text before the first mark, and the rest after it.
+fn cut_at_mark<'a>(rt: &impl Abort, text: &'a str) -> (&'a str, &'a str) {
+    text.split_once(MARKED).expect(rt, "a mark")
+}
+
+// Expects the output to begin with that of the setup, the reported output between two views, and these to be the same.
+fn expect_parts(rt: &impl Abort, text: &str, lines: &str, want: &str) {
+    let (begun, rest) = cut_at_mark(rt, text);
+    let (before, rest) = cut_at_mark(rt, rest);
+    let (reported, after) = cut_at_mark(rt, rest);
+    let found = (begun.starts_with(SET_UP), reported, after);
+    expect_same(rt, (lines, found), (lines, (true, want, before)));
 }
 
 // Expects this output for lines after the setup, and that the session shows the same before and after them.
@@ -172,52 +185,29 @@ pub(super) fn expect_unchanged(
     further_setup: &str,
     lines: &str,
     want: &str,
-) -> Result<(), Fail> {
-    let input = all_of(
-        alloc,
-        &[
-            RELAY,
-            SETUP,
-            further_setup,
-            MARK,
-            VIEW,
-            MARK,
-            lines,
-            MARK,
-            VIEW,
-        ],
-    )?;
+) {
+    let setup = [RELAY, SETUP, further_setup, MARK, VIEW, MARK];
+    let mut input = all_of(rt, alloc, &setup);
+    for text in [lines, MARK, VIEW] {
+        add(rt, &mut input, text);
+    }
     let (replies, code) = served(alloc, input.as_slice());
-    let text = str::from_utf8(replies.as_slice())?;
-    let (begun, rest) = text.split_once(MARKED).ok_or("no view")?;
-    let (before, rest) = rest.split_once(MARKED).ok_or("no command")?;
-    let (told, after) = rest.split_once(MARKED).ok_or("no second view")?;
-    expect_true_of(rt, lines, begun.starts_with(SET_UP));
-    expect_same_of(rt, lines, told, want);
-    expect_same_of(rt, lines, after, before);
-    expect_same_of(rt, lines, code, 0);
-    Ok(())
+    let text = str::from_utf8(replies.as_slice()).expect(rt, "a text");
+    expect_parts(rt, text, lines, want);
+    expect_same(rt, code, 0);
 }
 
 // Expects it for rows of a further setup, lines and their output.
-pub(super) fn expect_all_unchanged(
-    rt: &impl Abort,
-    alloc: Global,
-    rows: &[(&str, &str, &str)],
-) -> Result<(), Fail> {
+pub(super) fn expect_all_unchanged(rt: &impl Abort, alloc: Global, rows: &[(&str, &str, &str)]) {
     for (further_setup, lines, want) in rows {
-        expect_unchanged(rt, alloc, further_setup, lines, want)?;
+        expect_unchanged(rt, alloc, further_setup, lines, want);
     }
-    Ok(())
 }
 
 #[test]
-fn the_setup_is_shown(rt: HostRuntime) -> Result<(), Fail> {
-    let alloc = rt.alloc();
-    let input = all_of(alloc, &[RELAY, SETUP, VIEW])?;
-    let want = joined(alloc, SET_UP, SHOWN)?;
-    let (replies, code) = served(alloc, input.as_slice());
-    expect_same(&rt, replies.as_slice(), want.as_slice());
-    expect_same(&rt, code, 0);
-    Ok(())
+fn the_setup_is_shown(rt: HostRuntime) {
+    let input = all_of(&rt, rt.alloc(), &[RELAY, SETUP, VIEW]);
+    let want = joined(&rt, rt.alloc(), SET_UP, SHOWN);
+    let (replies, code) = served(rt.alloc(), input.as_slice());
+    expect_same(&rt, (replies.as_slice(), code), (want.as_slice(), 0));
 }

@@ -4,7 +4,7 @@ use super::words::TextScene;
 use crate::canvas::Canvas;
 use dbg_base::{Pid, Refusal};
 use std::alloc::AllocError;
-use ui_explain::Notes;
+use ui_text::Notes;
 use ui_timeline::{NamedCut, ShownEvent, bytes_of};
 
 // What an arrow has besides its words: the line, its head, and a sign on each side.
@@ -74,7 +74,7 @@ impl TextScene<'_> {
     fn measure_part(&self, needs: &mut Needs, cut: &NamedCut) {
         let name = cut.name.bytes().len().saturating_add(3);
         for p in 0..self.processes() {
-            if !cut.is_front {
+            if !cut.is_prefix {
                 needs.add(Pid(p), name);
             }
         }
@@ -111,7 +111,7 @@ impl TextScene<'_> {
     fn across_width(&self, cuts: &[NamedCut]) -> Result<usize, AllocError> {
         let mut width = 0usize;
         for cut in cuts {
-            if cut.is_front {
+            if cut.is_prefix {
                 let title = cut.title(self.alloc)?;
                 width = width.max(bytes_of(&title).len().saturating_add(6));
             }

@@ -4,7 +4,8 @@ use dbg_base::{Pid, Refusal};
 use dbg_command::SessionView;
 use event_rows::Setting;
 use std::alloc::{AllocError, Global};
-use ui_explain::{Notes, Part, ProcessView};
+use ui_explain::ProcessView;
+use ui_text::{Notes, Part};
 use ui_timeline::{Received, ShownEvent, Timeline, bytes_of, event_of};
 
 /// What a diagram shows.

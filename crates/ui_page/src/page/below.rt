@@ -24,24 +24,25 @@ function exchanged(event) {
   if (way === 'r') return ['received ' + value + ' from ' + name + ', its message ' + n + ', sent by ', end ? link(other, end.n) : name];
   return ['sent ' + value + ' to ' + name + ', message ' + n + ', ', ...end ? ['received by ', link(other, end.n)] : ['on its way']];
 }
-function tellEvent({p, n}) {
+function eventDetails({p, n}) {
   const {name, variables, commands} = processes[p], event = n === 0 ? at(state.lines[p].done, 0) : eventAt(p, n);
   if (!event) return [node('h2', name + ' has no event ' + n + ' here')];
-  const isMade = n <= shown.events[p].length, told = [node('h2', summary(p, n))];
+  const isMade = n <= shown.events[p].length, details = [node('h2', summary(p, n))];
   if (n > 0) {
-    const [line, text] = commands[event.k] || ['?', ''];
-    told.push(node('p', ['command ' + event.k + ' in line ' + line + ': ', node('code', text)]));
+    const [line] = commands[event.k] || ['?'];
+    details.push(node('p', ['command ' + event.k + ' in line ' + line + ': ', node('code', commandText(p, event.k))]));
   }
-  if (!isMade) return event.sets.length > 0 || event.exchange ? [...told, node('p', 'as it was made before: ' + deeds(event))] : told;
-  if (event.exchange) told.push(node('p', exchanged(event)));
+  if (!isMade) return event.sets.length > 0 || event.exchange ? [...details, node('p', 'as it was made before: ' + deeds(event))] : details;
+  if (event.exchange) details.push(node('p', exchanged(event)));
   const values = valuesAt(event), sets = new Map(event.sets.map(([name, old]) => [name, old]));
   const local = variables.map(([name]) => [name, values.get(name), ...sets.has(name) ? ['was ' + sets.get(name)] : []]);
   const clock = clockAt(event).map((own, q) => [processes[q].name, String(own)]);
-  const counts = processes.map((other, q) => [other.name, ...[shown.channel(p, q).sent, shown.channel(q, p).got].map(list => firstWhere(list, other => other.n > n))]);
+  const upTo = list => firstWhere(list, other => other.n > n);
+  const counts = processes.map((other, q) => [other.name, upTo(shown.channel(p, q).sent), upTo(shown.channel(q, p).got)]);
   const messages = counts.filter(([, sent, got]) => sent + got > 0).map(([name, sent, got]) => [name, 'sent ' + sent, 'got ' + got]);
-  told.push(node('div', [table('variables after it', local), table('its clock', clock), ...messages.length > 0 ? [table('messages up to it', messages)] : []],
-    {class: 'parts'}));
-  return told;
+  const upToIt = messages.length > 0 ? [table('messages up to it', messages)] : [];
+  details.push(node('div', [table('variables after it', local), table('its clock', clock), ...upToIt], {class: 'parts'}));
+  return details;
 }
 function counted(n) { return n + (n === 1 ? ' event' : ' events'); }
 // Why the candidate of a process advanced.
@@ -50,32 +51,10 @@ function reason({p, to, by, event}) {
   if (by === undefined) return name + (to === 1 ? ' at its start' : ' after ' + counted(to - 1)) + ': its part is false';
   return name + ' needs ' + counted(to) + ': event ' + event + ' of ' + processes[by].name + ' depends on that';
 }
-// The last eliminations of a search, with those of the current line in bold.
-const TOLD = 200;
-function tellSearch(name, last) {
-  const old = states[Math.max(0, place - 1)].points.find(point => point.name === name), items = [];
-  const kept = old ? common(old.search, last) : last.n;
-  for (let step = last; step.n > 0 && items.length < TOLD; step = step.before) {
-    items.push(node('li', step.n > kept ? node('b', reason(step)) : reason(step), {value: step.n}));
-  }
-  const more = last.n - items.length, heading = last.n === 0 ? 'no state was ruled out' : last.n === 1 ? 'the state that was ruled out' :
-    'the states that were ruled out, step by step' + (more > 0 ? ' (the last ' + items.length + ' of ' + last.n + ' steps)' : '');
-  return node('div', [node('p', heading, {class: 'caption'}), node('ol', items.reverse())], {class: 'search'});
-}
-function tellPoint(name) {
-  const point = points.find(point => point.name === name), told = [node('h2', 'breakpoint ' + name)];
-  if (!point) return [...told, node('p', 'not set here')];
-  const {cut, frontier, armed, parts, search} = point, countsOf = (caption, list) => {
-    const made = table(caption, list.map((n, p) => [processes[p].name, n < 0 ? 'past' : String(n)]));
-    made.className = 'counts';
-    return made;
-  };
-  told.push(node('p', (armed ? 'armed' : 'not armed') + (state.halting === name ? ', halts the session' : cut ? ', has a cut' : ', has no cut')));
-  told.push(node('div', [table('predicate', parts.map(([p, text]) => [processes[p].name, text])),
-    cut ? countsOf('cut: events of', cut) : '', countsOf('frontier: events of', frontier), tellSearch(name, search)], {class: 'parts'}));
-  return told;
-}
-function tellState() {
+const HELP = 'Arrow keys, Page Up, Page Down, Home and End go through the lines, h and H through the halts, and / searches. A click chooses an ' +
+  'event, a name or a breakpoint; so does Enter, after Tab and arrow keys have reached it. Shift with an arrow key continues from it; Escape ends ' +
+  'the choice. f fits the drawing to the window, + and - change its size, and p shows the program.';
+function stateDetails() {
   const rows = state.lines.map(({done}, p) => {
     const values = [...valuesAt(done)].map(([name, value]) => name + '=' + value).join(' '), again = later[p].events.length;
     return [processes[p].name, counted(done.n) + (again ? ', ' + again + ' to redo' : ''), values];
@@ -84,16 +63,25 @@ function tellState() {
     const values = sent.slice(got.length, got.length + 50).map(event => event.exchange[2]).join(' ');
     return [processes[from].name + ' to ' + processes[to].name, values + (sent.length > got.length + 50 ? ' ..' : '')];
   });
-  return [node('h2', 'all processes'), node('div', [table('', rows), ...ways.length ? [table('on their way', ways)] : []], {class: 'parts'}),
-    node('p', 'Arrow keys, Page Up, Page Down, Home and End go through the lines. Tab and Enter, or a click, choose an event, a name or a ' +
-      'breakpoint; Shift with an arrow key continues from it; Escape ends the choice.')];
+  const halting = points.find(({name}) => name === state.halting);
+  return [...halting ? cutDetails(halting) : [], node('h2', 'all processes'),
+    node('div', [table('', rows), ...ways.length ? [table('on their way', ways)] : []], {class: 'parts'}), node('p', HELP, {class: 'help'})];
 }
-function tell() {
-  const told = find('told'), hadFocus = told.contains(document.activeElement) && told !== document.activeElement;
-  told.replaceChildren(...!chosen ? tellState() : chosen.point !== undefined ? tellPoint(chosen.point) : tellEvent(chosen));
-  if (hadFocus) told.focus();
+// Replaces those parts that have changed, so that a selection of text in the others stays.
+function update(parent, parts) {
+  const holder = node('div', parts), wanted = [...holder.childNodes];
+  while (parent.childNodes.length > wanted.length) parent.lastChild.remove();
+  wanted.forEach((part, i) => {
+    const old = parent.childNodes[i];
+    if (!old) parent.append(part); else if (!old.isEqualNode(part)) old.replaceWith(part);
+  });
 }
-function tellPoints() {
+function showDetails() {
+  const details = find('details'), hadFocus = details.contains(document.activeElement) && details !== document.activeElement;
+  update(details, !chosen ? stateDetails() : chosen.point !== undefined ? pointDetails(chosen.point) : eventDetails(chosen));
+  if (hadFocus && !details.contains(document.activeElement)) details.focus();
+}
+function showPoints() {
   const area = find('points');
   while (area.children.length > points.length) {
     if (area.lastChild === document.activeElement) listArea.focus();
@@ -102,7 +90,8 @@ function tellPoints() {
   points.forEach(({name, armed, cut}, i) => {
     const button = area.children[i] || area.appendChild(node('button', ''));
     const isHalting = state.halting === name;
-    button.textContent = name + ': ' + (!cut ? 'no cut' : count > 8 ? 'cut' : 'cut ' + cut.join(' ')) + (armed ? '' : ', not armed') + (isHalting ? ', halts' : '');
+    const parts = [!cut ? 'no cut' : count > 8 ? 'cut' : 'cut ' + cut.join(' '), ...armed ? [] : ['not armed'], ...isHalting ? ['halts'] : []];
+    setText(button, name + ': ' + parts.join(', '));
     button.chooses = {point: name};
     set(button, {class: colours.get(name) + (isHalting ? ' halting' : ''), 'aria-pressed': Boolean(chosen && chosen.point === name)});
   });

@@ -1,184 +1,155 @@
 //! The script: the drawing.
 
 pub(super) static PAINTING: &str = r#"
-// The drawing: the size of the window, the width of the names, the width of an event, the height of a process.
-const svg = area.querySelector('svg'), TOP = 30, margin = Math.min(180, 24 + 7.3 * Math.max(...processes.map(({name}) => name.length)));
-let wide = 0, high = 0, width = 72, height = 0;
-function measure() {
-  wide = area.clientWidth;
-  high = area.clientHeight;
-  height = Math.max(49, Math.min(92, (high - TOP - 6) / count));
-  const deepest = Math.max(...later.map(({events}, p) => events.length > 0 ? events[events.length - 1].depth : state.lines[p].done.depth));
-  across.resize(Math.max(wide, margin + (deepest + 1.2) * width));
-  down.resize(Math.max(high, TOP + height * count));
+// The name of an event, and what it did.
+function summary(p, n) {
+  const what = n === 0 ? 'start' : n <= shown.events[p].length ? 'event ' + n : 'to redo: event ' + n;
+  return what + ' of ' + processes[p].name;
 }
-// Scrolls the drawing so that event n of process p is visible, with room for the events after it. For a chosen event, scrolls only as far
-// as needed.
-function reveal(p, n, isChosen) {
-  const right = (depthAt(p, n) - .4) * width, top = p * height, least = isChosen ? 4 : 30, most = wide - margin - 80;
-  if (n > 0 && (right < across.offset + least || right > across.offset + most)) {
-    across.offset = right - (!isChosen ? .6 * (wide - margin) : right < across.offset + least ? 30 : most);
-  }
-  if (top < down.offset || TOP + top + height > down.offset + high) down.offset = top - (high - height) / 2;
+function deeds(event) {
+  const [way, other, value] = event.exchange || [], message = way === 's' ? 'sent ' + value + ' to ' : 'received ' + value + ' from ';
+  const sets = event.sets.map(([name, , value]) => name + '=' + value);
+  return ['command ' + event.k, ...sets, ...way ? [message + processes[other].name] : []].join(', ');
 }
-function shape(tag, parent, attributes = {}) {
-  const made = document.createElementNS('http://www.w3.org/2000/svg', tag);
-  for (const name in attributes) made.setAttribute(name, attributes[name]);
-  return parent.appendChild(made);
-}
-function set(element, attributes) {
-  for (const name in attributes) if (element.getAttribute(name) !== String(attributes[name])) element.setAttribute(name, attributes[name]);
-}
-function short(text, most) { return text.length <= most ? text : most < 4 ? text.slice(0, most) : text.slice(0, most - 2) + '..'; }
-shape('desc', svg, {id: 'described'}).textContent = 'Each process is a line from left to right, with its events in the order in which it makes ' +
-  'them. Arrows are messages. Events that can be redone are pale. The cut of a breakpoint is a line across the processes.';
-svg.setAttribute('aria-describedby', 'described');
-
-// Elements that stay as long as the things that they show, in the order in which they are named. Each is a group of these tags.
-class Layer {
-  constructor(name) {
-    this.group = shape('g', svg, {class: name});
-    this.kept = new Map();
-  }
-  begin(fades) {
-    this.fades = fades;
-    this.used = new Set();
-    this.cursor = this.group.firstChild;
-  }
-  item(key, kind, tags, chooses) {
-    let item = this.kept.get(key);
-    this.used.add(key);
-    if (!item) {
-      item = shape('g', this.group);
-      for (const tag of tags) shape(tag, item);
-      if (tags.includes('title')) set(item, {tabindex: 0, role: 'button'});
-      item.chooses = chooses;
-      item.isNew = this.fades;
-      if (this.fades) requestAnimationFrame(() => requestAnimationFrame(() => {
-        item.isNew = false;
-        item.classList.remove('new');
-      }));
-      this.kept.set(key, item);
-    }
-    set(item, {class: kind + (item.isNew ? ' new' : '')});
-    while (this.cursor && this.cursor.isGone) this.cursor = this.cursor.nextSibling;
-    if (this.cursor === item) this.cursor = item.nextSibling; else this.group.insertBefore(item, this.cursor);
-    return item.children;
-  }
-  end() {
-    for (const [key, item] of this.kept) {
-      if (this.used.has(key)) continue;
-      this.kept.delete(key);
-      item.isGone = true;
-      if (item === document.activeElement) area.focus();
-      item.removeAttribute('tabindex');
-      item.classList.add('gone');
-      if (this.fades) setTimeout(() => item.remove(), 260); else item.remove();
-    }
-  }
-}
-const [rails, arrows, marks, cuts, names] = ['rails', 'arrows', 'marks', 'cuts', 'names'].map(name => new Layer(name));
-
 // The changes of an event, in so many characters: a name is cut before its value is.
 function settings(event, most) {
   const [first, ...rest] = event.sets.filter(([, old, value]) => old !== value).map(([name, , value]) => [name, '=' + value]);
-  if (!first || most < 5) return '';
+  if (!first || most < 4) return '';
   const whole = [first, ...rest].map(parts => parts.join('')).join(' ');
   if (whole.length <= most) return whole;
   const [name, value] = first, more = rest.length > 0 ? ' ..' : '';
   return short(name, Math.max(1, most - value.length - more.length)) + short(value, most - 1) + more;
 }
-// The name of an event, and what it did.
-function summary(p, n) { return (n === 0 ? 'start' : n <= shown.events[p].length ? 'event ' + n : 'to redo: event ' + n) + ' of ' + processes[p].name; }
-function deeds(event) {
-  const [way, other, value] = event.exchange || [], message = way === 's' ? 'sent ' + value + ' to ' : 'received ' + value + ' from ';
-  return ['command ' + event.k, ...event.sets.map(([name, , value]) => name + '=' + value), ...way ? [message + processes[other].name] : []].join(', ');
+
+// What is visible: the drawing begins at `base`, in groups that are moved, so that scrolling changes few elements.
+function visiblePart() {
+  const left = across.offset, top = down.offset, base = left - left % 2048;
+  return {
+    left, top, seen: left - base, low: left / width - 1, most: (left + wide - margin) / width + 1,
+    x: depth => margin + 12 + Math.max(0, depth - .4) * width - base, y: p => TOP + (rowOf[p] + .45) * height,
+  };
+}
+function isRowSeen({top, y}, p) { return rowOf[p] >= 0 && y(p) > top - height && y(p) < top + high + height; }
+// Whether an event there is visible with its ring. If it is not, it cannot have the focus, because a browser scrolls to the element that has it.
+function isWithin({seen, top}, x, y) {
+  return x - seen > margin + 12 && x - seen < wide - Math.max(15, width / 2) && y - top > 24 && y - top < high - 16;
+}
+
+function paintNames(part) {
+  const {top, y} = part;
+  processes.forEach(({name}, p) => {
+    if (!isRowSeen(part, p)) return;
+    set(rails.item(p, 'line', ['line'])[0], {x1: 0, x2: wide, y1: y(p), y2: y(p)});
+    const [ground, text, title] = names.item(p, chosen && chosen.p === p && chosen.n === 0 ? 'chosen' : '', ['rect', 'text', 'title'], {p, n: 0});
+    set(ground, {y: y(p) - .45 * height, width: margin, height: height + 1});
+    set(text, {x: 8, y: y(p) + 4});
+    ground.parentNode.isWithin = y(p) - top > .45 * height - 1 && y(p) - top < high - .55 * height + 1;
+    setText(text, short(name, Math.floor((margin - 20) / 7.3)));
+    nameItem(title, summary(p, 0));
+  });
+}
+
+// Where a message that is on its way ends: at the recipient's line, after its events. Of many messages, the later ones end further to the right.
+function flightDepth(to, event, place) { return Math.max(event.depth, state.lines[to].done.depth) + .8 + .12 * Math.min(20, place); }
+function paintArrow(part, {from, to, got}, n, event, kind) {
+  const {x, y} = part, end = got[n], value = event.exchange[2];
+  const x1 = x(event.depth), y1 = y(from), x2 = x(end ? end.depth : flightDepth(to, event, n - got.length)), y2 = y(to);
+  const length = Math.hypot(x2 - x1, y2 - y1), ux = (x2 - x1) / length, uy = (y2 - y1) / length, gap = end ? radius + 2 : 1;
+  const tx = x2 - gap * ux, ty = y2 - gap * uy, along = Math.abs(rowOf[to] - rowOf[from]) > 1 ? .3 : .46;
+  const side = (back, off) => (tx - back * ux - off * uy) + ',' + (ty - back * uy + off * ux);
+  const [line, head, text, title] = arrows.item([from, to, n].join(), kind, ['line', 'path', 'text', 'title']);
+  set(line, {x1: x1 + radius * ux, y1: y1 + radius * uy, x2: end ? tx - 5 * ux : tx, y2: end ? ty - 5 * uy : ty});
+  set(head, {d: 'M' + side(8, 4) + ' L' + tx + ',' + ty + ' L' + side(8, -4) + (end ? ' Z' : '')});
+  set(text, {x: x1 + along * (x2 - x1), y: y1 + along * (y2 - y1) + 4});
+  setText(text, short(value, Math.floor(Math.max(length / 2, width) / 7)));
+  nameItem(title, 'message ' + value + ' from event ' + event.n + ' of ' + processes[from].name + ' to ' +
+    (end ? 'event ' + end.n + ' of ' + processes[to].name : processes[to].name + ', on its way'));
+}
+function paintChannel(part, channel, cut) {
+  const {from, to, sent, got} = channel, {low, most} = part;
+  // In a channel the messages that touch the window follow one another.
+  const begin = firstWhere(got, event => event.depth >= low), end = firstWhere(sent, event => event.depth > most);
+  for (let n = begin, passing = 0; n < end; n++) {
+    const event = sent[n], last = got[n], depth = last ? last.depth : flightDepth(to, event, n - got.length);
+    if (event.depth < low && depth > most && ++passing > 20) continue;
+    const crosses = cut && isInside(cut, event) && !(last && isInside(cut, last));
+    paintArrow(part, channel, n, event, 'arrow' + (last ? '' : ' flying') + (crosses ? ' crossing ' + colours.get(cut.name) : ''));
+  }
+}
+
+// The kinds of an event's mark. `cut` is the cut that is shown as a state.
+function markKinds(p, n, isMade, latestOf, cut) {
+  const isLast = cut && cut.cut[p] === n && cut.parts.some(([q]) => q === p);
+  return 'event' + (isMade ? '' : ' later') + (latestOf[p] === n ? ' latest' : '') + (chosen && chosen.p === p && chosen.n === n ? ' chosen' : '') +
+    (cut && isMade && !isInside(cut, {p, n}) ? ' beyond' : '') + (isLast ? ' holding ' + colours.get(cut.name) : '');
+}
+function paintMark(part, event, {p, n, depth, room, kinds}) {
+  const {x, y} = part, digits = String(n).length, forDigits = radius < 8 ? 0 : 2.9 * digits + 2.5;
+  const half = Math.max(radius, Math.min(forDigits, width * .48));
+  const [ring, disc, number, sets, title] = marks.item(p + ',' + n, kinds, ['ellipse', 'ellipse', 'text', 'text', 'title'], {p, n});
+  set(ring, {rx: half + 4.5, ry: radius + 4.5, class: 'ring'});
+  set(disc, {rx: half, ry: radius});
+  set(number, {y: 3.5, class: 'number'});
+  const isAbove = event.exchange && rowOf[event.exchange[1]] > rowOf[p];
+  set(sets, {x: -radius, y: isAbove ? -radius - 5 : radius + 14, class: 'sets'});
+  set(ring.parentNode, {transform: 'translate(' + x(depth) + ' ' + y(p) + ')'});
+  ring.parentNode.isWithin = isWithin(part, x(depth), y(p));
+  setText(number, half * 2 >= 5.8 * digits && radius >= 8 ? n : '');
+  setText(sets, height < 34 ? '' : settings(event, Math.min(60, Math.floor((room * width - 4) / 6.7))));
+  nameItem(title, summary(p, n) + ': ' + deeds(event));
+}
+// The labels of events have the room up to the next event.
+function paintRow(part, p, latestOf, cut) {
+  const made = shown.events[p], again = later[p].events, {low, most} = part;
+  function mark(event, n, depth) {
+    const room = n < sizeOf(p) ? depthAt(p, n + 1) - depth : 60;
+    paintMark(part, event, {p, n, depth, room, kinds: markKinds(p, n, n <= made.length, latestOf, cut)});
+  }
+  for (let i = firstWhere(made, event => event.depth >= low); i < made.length && made[i].depth <= most; i++) mark(made[i], i + 1, made[i].depth);
+  for (let i = firstWhere(again, ({depth}) => depth >= low); i < again.length && again[i].depth <= most; i++) {
+    mark(again[i].event, made.length + i + 1, again[i].depth);
+  }
+}
+
+function cutName({name, cut}) {
+  return 'cut of ' + name + ': ' + cut.map((n, p) => processes[p].name + ' ' + n).join(', ') + (state.halting === name ? ', halts the session' : '');
+}
+function paintCut(part, point, i, isTinted) {
+  const {seen, top, x, y} = part, {name, cut} = point, near = value => Math.max(-3000, Math.min(wide + 5000, value));
+  const offset = 4 * (i % 5), gap = Math.min(radius + 4.5 + offset, width / 2), drawn = cut.map((n, p) => [n, p]).filter(([, p]) => rowOf[p] >= 0);
+  const places = drawn.map(([n, p]) => [near(x(depthAt(p, n)) + (n === 0 ? Math.min(offset, width / 2) : gap)), y(p)]);
+  if (places.length === 0 || !isTinted && places.every(([x]) => x < seen + margin) || places.every(([x]) => x > seen + wide)) return;
+  const kind = 'cut ' + colours.get(name) + (state.halting === name ? ' halting' : '') + (chosen && chosen.point === name ? ' chosen' : '');
+  const [tint, line, title] = cuts.item(name, kind, ['path', 'path', 'title'], {point: name}), first = places[0][0];
+  const path = [[first, top], ...places.flatMap(([x, y]) => [[x, y - .45 * height], [x, y + .55 * height]])].map(place => place.join()).join(' L');
+  const bottom = places[places.length - 1][1] + .55 * height;
+  set(tint, {class: 'tint', d: isTinted ? 'M' + path + ' L-3000,' + bottom + ' L-3000,' + top + ' Z' : ''});
+  set(line, {d: 'M' + path});
+  nameItem(title, cutName(point));
+  const [text] = labels.item(name, kind, ['text'], {point: name});
+  set(text.parentNode, {'aria-hidden': true});
+  set(text, {x: Math.max(margin + 4, Math.min(wide - 8 * name.length - 8, first + 5 - seen)), y: 12 + 14 * (i % 2)});
+  setText(text, short(name, 20));
 }
 
 let drawnAt = '';
+function describeDrawing() {
+  const after = place === 0 ? 'at the start' : 'after line ' + place;
+  return 'Space-time diagram ' + after + ': ' + processes.map(({name}, p) => name + ' ' + counted(state.lines[p].done.n)).join(', ');
+}
 function paint(fades) {
-  const left = across.offset, top = down.offset, low = left / width - 1, most = (left + wide - margin) / width + 1;
-  // The drawing begins at `base`, in groups that are moved, so that scrolling changes few elements.
-  const base = left - left % 2048, seen = left - base;
-  const x = depth => margin + 12 + Math.max(0, depth - .4) * width - base, y = p => TOP + (p + .45) * height;
-  for (const {group} of [arrows, marks, cuts]) set(group, {transform: 'translate(' + -seen + ' ' + -top + ')'});
-  for (const {group} of [rails, names]) set(group, {transform: 'translate(0 ' + -top + ')'});
-  const isChosen = (p, n) => chosen !== null && chosen.p === p && chosen.n === n, isSeen = p => y(p) > top - height && y(p) < top + high + height;
-  // Whether an event there is visible with its ring. If it is not, Tab skips it, because a browser scrolls to the element with the focus.
-  const isWithin = (x, y) => x > margin + 12 && x < wide - Math.max(15, width / 2) && y > 24 && y < high - 25;
-  const numbers = latest(place), now = [left, top, wide, high, width].join();
-  fades = fades && now === drawnAt;
+  const part = visiblePart(), {left, top, seen} = part, latestOf = latest(place), cut = shownCut();
+  const now = [left, top, wide, high, width, height].join(), isFading = fades && now === drawnAt;
   drawnAt = now;
-  set(svg, {width: wide, height: high, 'aria-label': 'Space-time diagram ' + (place === 0 ? 'at the start' : 'after line ' + place) + ': ' +
-    processes.map(({name}, p) => name + ' ' + counted(state.lines[p].done.n)).join(', ')});
-  for (const layer of [rails, arrows, marks, cuts, names]) layer.begin(fades);
-
-  processes.forEach(({name}, p) => {
-    if (!isSeen(p)) return;
-    set(rails.item(p, 'line', ['line'])[0], {x1: 0, x2: wide, y1: y(p), y2: y(p)});
-    const [ground, text, title] = names.item(p, isChosen(p, 0) ? 'chosen' : '', ['rect', 'text', 'title'], {p, n: 0});
-    set(ground, {y: y(p) - .45 * height, width: margin, height: height + 1});
-    set(text, {x: 8, y: y(p) + 4});
-    set(ground.parentNode, {tabindex: y(p) - top > .45 * height - 1 && y(p) - top < high - .55 * height + 1 ? 0 : -1});
-    text.textContent = short(name, 21);
-    title.textContent = summary(p, 0);
-  });
-
-  for (const {from, to, sent, got} of shown.channels.values()) {
-    // In a channel the messages that touch the window follow one another.
-    const begin = firstWhere(got, event => event.depth >= low), end = firstWhere(sent, event => event.depth > most);
-    const sign = Math.sign(to - from);
-    for (let n = begin, passing = 0; n < end; n++) {
-      const event = sent[n], end = got[n], value = event.exchange[2];
-      if (event.depth < low && (!end || end.depth > most) && (!end || ++passing > 20)) continue;
-      const x1 = x(event.depth), y1 = y(from), x2 = end ? x(end.depth) : x1 + .55 * width, y2 = end ? y(to) : y1 + sign * .46 * height;
-      const length = Math.hypot(x2 - x1, y2 - y1), ux = (x2 - x1) / length, uy = (y2 - y1) / length, gap = end ? 10 : 0;
-      const tx = x2 - gap * ux, ty = y2 - gap * uy;
-      const [line, head, text] = arrows.item([from, to, n].join(), end ? 'arrow' : 'arrow flying', ['line', 'path', 'text']);
-      const part = !end ? .6 : Math.abs(to - from) > 1 ? .3 : .46;
-      const side = (along, off) => (tx - along * ux - off * uy) + ',' + (ty - along * uy + off * ux);
-      set(line, {x1: x1 + 9 * ux, y1: y1 + 9 * uy, x2: tx - gap * ux / 2, y2: ty - gap * uy / 2});
-      set(head, {d: 'M' + side(8, 4) + ' L' + tx + ',' + ty + ' L' + side(8, -4) + (end ? ' Z' : '')});
-      set(text, {x: x1 + part * (x2 - x1), y: y1 + part * (y2 - y1) + 4});
-      text.textContent = width < 28 ? '' : short(value, 9);
-    }
-  }
-
-  processes.forEach((process, p) => {
-    if (!isSeen(p)) return;
-    const made = shown.events[p], again = later[p].events;
-    function mark(event, n, depth, kind) {
-      const kinds = 'event' + kind + (numbers[p] === n ? ' latest' : '') + (isChosen(p, n) ? ' chosen' : '');
-      const [ring, disc, number, sets, title] = marks.item(p + ',' + n, kinds, ['circle', 'circle', 'text', 'text', 'title'], {p, n});
-      set(ring, {r: 13, class: 'ring'});
-      set(disc, {r: 8.5});
-      set(number, {y: 3.5, class: 'number'});
-      set(sets, {y: event.exchange && event.exchange[1] > p ? -14 : 23, class: 'sets'});
-      set(ring.parentNode, {transform: 'translate(' + x(depth) + ' ' + y(p) + ')', tabindex: isWithin(x(depth) - seen, y(p) - top) ? 0 : -1});
-      number.textContent = event.k;
-      sets.textContent = settings(event, Math.floor(width / 6.7));
-      title.textContent = summary(p, n) + ': ' + deeds(event);
-    }
-    for (let i = firstWhere(made, event => event.depth >= low); i < made.length && made[i].depth <= most; i++) mark(made[i], i + 1, made[i].depth, '');
-    for (let i = firstWhere(again, ({depth}) => depth >= low); i < again.length && again[i].depth <= most; i++) {
-      mark(again[i].event, made.length + i + 1, again[i].depth, ' later');
-    }
-  });
-
-  points.forEach(({name, cut}, i) => {
-    if (!cut) return;
-    const near = value => Math.max(-3000, Math.min(wide + 5000, value)), offset = 4 * (i % 5), gap = Math.min(13 + offset, width / 2);
-    const places = cut.map((n, p) => [near(x(depthAt(p, n)) + (n === 0 ? Math.min(offset, width / 2) : gap)), y(p)]);
-    if (places.every(([x]) => x < seen + margin) || places.every(([x]) => x > seen + wide)) return;
-    const [line, text] = cuts.item(name, 'cut ' + colours.get(name) + (state.halting === name ? ' halting' : '') + (chosen && chosen.point === name ? ' chosen' : ''),
-      ['path', 'text'], {point: name});
-    const first = places[0][0];
-    const path = [[first, top], ...places.flatMap(([x, y]) => [[x, y - .45 * height], [x, y + .55 * height]])];
-    set(line, {d: 'M' + path.map(place => place.join()).join(' L')});
-    set(text, {x: seen + Math.max(margin + 4, Math.min(wide - 8 * name.length - 8, first + 5 - seen)), y: top + 12 + 14 * (i % 2)});
-    text.textContent = short(name, 20);
-  });
-  for (const layer of [rails, arrows, marks, cuts, names]) layer.end();
-  if (svg.contains(document.activeElement) && document.activeElement.tabIndex < 0) area.focus();
+  for (const {group} of [cuts, arrows, marks]) set(group, {transform: 'translate(' + -seen + ' ' + -top + ')'});
+  for (const {group} of [rails, names]) set(group, {transform: 'translate(0 ' + -top + ')'});
+  set(svg, {width: wide, height: high, viewBox: '0 0 ' + wide + ' ' + high, 'aria-label': describeDrawing()});
+  for (const layer of LAYERS) layer.begin(isFading);
+  paintNames(part);
+  points.forEach((point, i) => point.cut && paintCut(part, point, i, point === cut));
+  for (const channel of shown.channels.values()) if (rowOf[channel.from] >= 0 && rowOf[channel.to] >= 0) paintChannel(part, channel, cut);
+  for (let p = 0; p < count; p++) if (isRowSeen(part, p)) paintRow(part, p, latestOf, cut);
+  for (const layer of LAYERS) layer.end();
+  placeStop();
 }
 "#;

@@ -20,6 +20,7 @@ class Scroll {
     this.whole = 0;
   }
   resize(whole) {
+    if (whole === this.whole) return;
     this.whole = whole;
     this.ground.style[this.size] = Math.min(whole, 8e6) + 'px';
   }
@@ -41,7 +42,29 @@ const halts = lines.flatMap(([, reply], at) => / halted \w+$/.test(reply) ? [at 
 let place = halts.length > 0 ? halts[0] : lines.length, chosen = null, playing = 0;
 const shown = new Rows(), later = processes.map(() => ({line: null, events: []}));
 const colours = new Map();
-let points = [];
+let points = [], shownLine = -1;
+
+// What is hidden, and the row of each process that is drawn.
+const hidden = {processes: new Set(), points: new Set(), isQuestions: false};
+let rowOf = processes.map((process, p) => p), rowCount = count;
+function placeRows() {
+  rowCount = 0;
+  rowOf = processes.map((process, p) => hidden.processes.has(p) ? -1 : rowCount++);
+}
+// The process of the next drawn row, downward or upward; undefined if there is none.
+function nextRow(p, step) {
+  for (let q = p + step; q >= 0 && q < count; q += step) if (rowOf[q] >= 0) return q;
+}
+// A line that only asks has a reply that neither accepts nor refuses a command.
+function isQuestion(n) { return n > 0 && !/^(ok|no)\b|^$/.test(lines[n - 1][1]); }
+// The numbers of the lines in the list, and where line n, or the listed one before it, is in the list.
+let listed = [];
+function listLines() {
+  listed = [];
+  for (let n = 0; n <= lines.length; n++) if (!hidden.isQuestions || !isQuestion(n)) listed.push(n);
+}
+function listPlace(n) { return firstWhere(listed, line => line > n) - 1; }
+listLines();
 
 function sizeOf(p) { return p === undefined ? -1 : shown.events[p].length + later[p].events.length; }
 function eventAt(p, n) {
@@ -60,7 +83,7 @@ function found(point) {
 // Shows the state of the place.
 function follow() {
   state = states[place];
-  points = state.points.map(found);
+  points = state.points.filter(({name}) => !hidden.points.has(name)).map(found);
   state.lines.forEach((line, p) => {
     if (later[p].line === line) return;
     shown.reach(p, line.done);

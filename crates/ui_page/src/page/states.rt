@@ -1,19 +1,6 @@
 //! The script: the events, and the state after each line.
 
 pub(super) static STATES: &str = r#"
-'use strict';
-(() => {
-const find = id => document.getElementById(id);
-let session;
-try {
-  session = JSON.parse(find('session').textContent);
-} catch (fault) {
-  find('said').textContent = 'The data of the session are incomplete: ' + fault.message;
-  return;
-}
-const processes = session.processes, count = processes.length;
-const lines = session.lines.filter(line => line.length > 0);
-
 // Events and states. They never change, and they share common parts, so that the state of each line can be kept.
 
 // The item before the first event of process p, or before a choice that was not made yet.

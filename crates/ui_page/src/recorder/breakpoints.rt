@@ -8,7 +8,8 @@ use dbg_base::{Cause, Elimination, Expr, Name, Pid, Refusal};
 use dbg_command::SessionView;
 use proc_lang::Program;
 use std::alloc::{AllocError, Global};
-use ui_explain::{Notes, ProcessView};
+use ui_explain::ProcessView;
+use ui_text::Notes;
 
 // What the page was last given about a breakpoint: its mark, the eliminations of its search that are still valid, and how many of them the
 // page has.
@@ -36,7 +37,7 @@ pub(super) enum BreakpointChange {
 #[derive(Drop)]
 pub(super) struct Breakpoints {
     alloc: Global,
-    told: Vec<ShownBreakpoint>,
+    reported: Vec<ShownBreakpoint>,
     places: Vec<u32>,
     halted: Option<Name>,
 }
@@ -149,23 +150,26 @@ impl Breakpoints {
     pub(super) fn new(alloc: Global) -> Breakpoints {
         Breakpoints {
             alloc,
-            told: Vec::new(alloc),
+            reported: Vec::new(alloc),
             places: Vec::new(alloc),
             halted: None,
         }
     }
 
     // Whether the page already has these breakpoints and marks.
-    fn are_told(&self, marks: &[(Name, bool)]) -> bool {
-        marks.len() == self.told.len()
-            && marks.iter().zip(&self.told).all(|(mark, told)| mark.0 == told.name
-                && mark.1 == told.is_armed)
+    fn are_reported(&self, marks: &[(Name, bool)]) -> bool {
+        marks.len() == self.reported.len()
+            && marks.iter().zip(&self.reported).all(|(mark, reported)| mark.0 == reported.name
+                && mark.1 == reported.is_armed)
     }
 
     // Removes and returns what the page was last given about a breakpoint.
     fn take(&mut self, name: Name) -> Option<ShownBreakpoint> {
-        let at = self.told.iter().position(|told| told.name == name)?;
-        Some(self.told.swap_remove(at))
+        let at = self
+            .reported
+            .iter()
+            .position(|reported| reported.name == name)?;
+        Some(self.reported.swap_remove(at))
     }
 
     // Writes a breakpoint's name and mark, and its conjuncts if the breakpoint is new.
@@ -179,8 +183,11 @@ impl Breakpoints {
         json.put("[")?;
         json.string(name.bytes())?;
         json.put(if is_armed { ",1" } else { ",0" })?;
-        let told = match self.take(name) {
-            Some(told) => ShownBreakpoint { is_armed, ..told },
+        let reported = match self.take(name) {
+            Some(reported) => ShownBreakpoint {
+                is_armed,
+                ..reported
+            },
             None => {
                 json.conjuncts(self.alloc, program, breakpoint)?;
                 ShownBreakpoint {
@@ -192,7 +199,7 @@ impl Breakpoints {
             }
         };
         json.put("]")?;
-        Ok(told)
+        Ok(reported)
     }
 
     // Writes which breakpoints there are, with their marks.
@@ -203,17 +210,17 @@ impl Breakpoints {
         book: &Book,
         marks: &[(Name, bool)],
     ) -> Result<(), AllocError> {
-        let mut told = Vec::new(self.alloc);
+        let mut reported = Vec::new(self.alloc);
         json.put(",[\"m\",[")?;
         let mut between = "";
         for mark in marks {
             if let Some((_, breakpoint)) = book.find(mark.0) {
                 json.put(between)?;
-                told.push(self.put_mark(json, program, *mark, breakpoint)?)?;
+                reported.push(self.put_mark(json, program, *mark, breakpoint)?)?;
                 between = ",";
             }
         }
-        self.told = told;
+        self.reported = reported;
         json.put("]]")
     }
 
@@ -223,8 +230,8 @@ impl Breakpoints {
         match self.places.get_mut(pid.0 as usize) {
             Some(noted) => {
                 if place < *noted {
-                    for told in &mut self.told {
-                        told.trail.drop_to(pid, place);
+                    for reported in &mut self.reported {
+                        reported.trail.drop_to(pid, place);
                     }
                 }
                 *noted = place;
@@ -249,10 +256,10 @@ impl Breakpoints {
         change: BreakpointChange,
     ) -> Result<(), AllocError> {
         let mut between = ",[\"c\",[";
-        for (at, told) in self.told.iter_mut().enumerate() {
-            if let Some((_, breakpoint)) = book.find(told.name) {
+        for (at, reported) in self.reported.iter_mut().enumerate() {
+            if let Some((_, breakpoint)) = book.find(reported.name) {
                 let steps = breakpoint.detector().why();
-                if told.put_search(json, between, at, steps, change)? {
+                if reported.put_search(json, between, at, steps, change)? {
                     between = ",";
                 }
             }
@@ -281,11 +288,11 @@ impl Breakpoints {
         let book = view.book;
         self.note_places(view.program, view.world)?;
         let marks = book.list(self.alloc)?;
-        let are_new = change == BreakpointChange::Replaced && !self.told.is_empty();
+        let are_new = change == BreakpointChange::Replaced && !self.reported.is_empty();
         if are_new {
-            self.told.clear();
+            self.reported.clear();
         }
-        if are_new || !self.are_told(marks.items()) {
+        if are_new || !self.are_reported(marks.items()) {
             self.put_marks(json, view.program, book, marks.items())?;
         }
         self.put_searches(json, book, change)?;

@@ -3,7 +3,7 @@
 use crate::json::Json;
 use shell_parse::without_return;
 use std::alloc::{AllocError, Global};
-use ui_explain::first_line;
+use ui_text::first_line;
 
 // The ends of a line's text and of its operations, in the texts of all lines, and whether it has a reply.
 #[derive(Clone, Copy)]

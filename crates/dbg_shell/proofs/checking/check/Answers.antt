@@ -3,8 +3,8 @@ use Rattle.std.specs.Option.{option_map}
 use Rattle.dbg_base.specs.Shell.{too_long_text}
 use Rattle.shell_print.specs.declared.outcome.Served.TheVariants as outcomes
 use Rattle.dbg_shell.specs.Checking.{ChecksText, ChecksAlone, ChecksInput}
-use Rattle.shell_input.proofs.KnownInputLemmas.{known_may, told_done, told_cut, leads_done, leads_cut}
-use Rattle.shell_input.proofs.ProgramTextLemmas.{nothing_read, told_alone}
+use Rattle.shell_input.proofs.KnownInputLemmas.{known_may, reported_done, reported_cut, leads_done, leads_cut}
+use Rattle.shell_input.proofs.ProgramTextLemmas.{nothing_read, reported_alone}
 use Rattle.dbg_shell.proofs.checking.check.Goals as goal
 
 pub returns-in_err-input-clause-program : goal.returns-in_err-input-clause-program
@@ -13,21 +13,21 @@ returns-in_err-input-clause-program g c = nothing_read (g.R.Source.remaining c.a
 pub returns-in-Some-clause-checked : goal.returns-in-Some-clause-checked
 returns-in-Some-clause-checked g c =
     leads_done c.read_program_text.new.input.bytes.items c.read_program_text.new.input.ended ChecksInput (ChecksText c.in-Some.text.now)
-    (told_alone _ _ _ c.read_program_text.new.input.at _ c.in_ok-input.ensures.at c.in_ok-end.ensures.splits c.in_ok-end.ensures.stopped _
+    (reported_alone _ _ _ c.read_program_text.new.input.at _ c.in_ok-input.ensures.at c.in_ok-end.ensures.splits c.in_ok-end.ensures.stopped _
     c.text_alone.ensures ChecksAlone (Some c.in-Some.text.now) (ap (option_map (λ text. text.now)) c.in-Some.is)) _ _ _ _
     (known_may c.in_ok-input.ensures.bytes c.read_program_text.ensures.reads) c.check_text.ensures.checked
 
 pub returns-in-Some-clause-stopped : goal.returns-in-Some-clause-stopped
 returns-in-Some-clause-stopped g c =
     leads_cut c.read_program_text.new.input.bytes.items c.read_program_text.new.input.ended ChecksInput (ChecksText c.in-Some.text.now)
-    (told_alone _ _ _ c.read_program_text.new.input.at _ c.in_ok-input.ensures.at c.in_ok-end.ensures.splits c.in_ok-end.ensures.stopped _
+    (reported_alone _ _ _ c.read_program_text.new.input.at _ c.in_ok-input.ensures.at c.in_ok-end.ensures.splits c.in_ok-end.ensures.stopped _
     c.text_alone.ensures ChecksAlone (Some c.in-Some.text.now) (ap (option_map (λ text. text.now)) c.in-Some.is)) _ _ _ _
     (known_may c.in_ok-input.ensures.bytes c.read_program_text.ensures.reads) c.check_text.ensures.stopped
 
 pub returns-clause-checked : goal.returns-clause-checked
 returns-clause-checked g c =
-    told_done c.read_program_text.new.input.bytes.items c.read_program_text.new.input.ended ChecksInput too_long_text outcomes.TooLong
-    (λ input may. told_alone _ _ _ c.read_program_text.new.input.at _ c.in_ok-input.ensures.at c.in_ok-end.ensures.splits
+    reported_done c.read_program_text.new.input.bytes.items c.read_program_text.new.input.ended ChecksInput too_long_text outcomes.TooLong
+    (λ input may. reported_alone _ _ _ c.read_program_text.new.input.at _ c.in_ok-input.ensures.at c.in_ok-end.ensures.splits
     c.in_ok-end.ensures.stopped _ c.text_alone.ensures ChecksAlone None (ap (option_map (λ text. text.now)) c.in-None.is) input may
     outcomes.TooLong too_long_text (refl, refl)) _ _ _ _
     (known_may c.in_ok-input.ensures.bytes c.read_program_text.ensures.reads) c.tell_too_long.ensures.written
@@ -35,8 +35,8 @@ returns-clause-checked g c =
 
 pub returns-clause-stopped : goal.returns-clause-stopped
 returns-clause-stopped g c =
-    told_cut c.read_program_text.new.input.bytes.items c.read_program_text.new.input.ended ChecksInput too_long_text outcomes.TooLong
-    (λ input may. told_alone _ _ _ c.read_program_text.new.input.at _ c.in_ok-input.ensures.at c.in_ok-end.ensures.splits
+    reported_cut c.read_program_text.new.input.bytes.items c.read_program_text.new.input.ended ChecksInput too_long_text outcomes.TooLong
+    (λ input may. reported_alone _ _ _ c.read_program_text.new.input.at _ c.in_ok-input.ensures.at c.in_ok-end.ensures.splits
     c.in_ok-end.ensures.stopped _ c.text_alone.ensures ChecksAlone None (ap (option_map (λ text. text.now)) c.in-None.is) input may
     outcomes.TooLong too_long_text (refl, refl)) _ _ _ _
     (known_may c.in_ok-input.ensures.bytes c.read_program_text.ensures.reads) c.tell_too_long.ensures.written

@@ -1,0 +1,138 @@
+//! The arguments of `draw`.
+
+use crate::usage::with_file;
+use clap::builder::ValueParser;
+use clap::error::ErrorKind;
+use clap::{Arg, ArgAction, ArgMatches, Command, Error};
+use std::alloc::{AllocError, Global};
+use ui_diagram::{ALL_EVENTS, Moment, Picture, PictureForm, WIDTH};
+use ui_timeline::Theme;
+
+static PICTURES: [&str; 5] = ["text", "svg", "html", "shiviz", "mermaid"];
+
+static THEMES: [&str; 3] = ["auto", "light", "dark"];
+
+/// The subcommand `draw`.
+pub(crate) fn draw<'a>(alloc: Global) -> Result<Command<'a>, AllocError> {
+    with_file(
+        alloc,
+        "draw",
+        "Plays a session, and draws its end, or another state; or, as html, a page to go through it",
+        "The program and the first lines; those of standard input follow",
+    )?
+    .arg(
+        Arg::new(alloc, "as")
+            .long("as")
+            .value_name("FORM")
+            .default_value("text")
+            .value_parser(ValueParser::Names(&PICTURES))
+            .help("The form of the picture"),
+    )?
+    .arg(
+        Arg::new(alloc, "at")
+            .long("at")
+            .value_name("LINE")
+            .value_parser(clap::value_parser!(u32).range(1..))
+            .conflicts_with("at-halt")?
+            .help("Draws the state after this line of the input, from 1, in place of the end"),
+    )?
+    .arg(
+        Arg::new(alloc, "at-halt")
+            .long("at-halt")
+            .action(ArgAction::SetTrue)
+            .help("Draws the state at the first halt, in place of the end"),
+    )?
+    .arg(
+        Arg::new(alloc, "width")
+            .long("width")
+            .value_name("N")
+            .value_parser(clap::value_parser!(u32).range(20..=1_000))
+            .help(
+                "How many characters wide a text picture is at most, from 20 to 1000, if not 120",
+            ),
+    )?
+    .arg(
+        Arg::new(alloc, "last")
+            .long("last")
+            .value_name("N")
+            .value_parser(clap::value_parser!(u32).range(1..))
+            .help("Draws at most the last N events"),
+    )?
+    .arg(
+        Arg::new(alloc, "theme")
+            .long("theme")
+            .value_name("COLOURS")
+            .value_parser(ValueParser::Names(&THEMES))
+            .help(
+                "The colours of an svg picture: those that a reader prefers, light ones or dark ones",
+            ),
+    )
+}
+
+// The form of this name.
+fn named_form(name: Option<&str>) -> PictureForm {
+    match name {
+        Some("svg") => PictureForm::Svg,
+        Some("html") => PictureForm::Html,
+        Some("shiviz") => PictureForm::Shiviz,
+        Some("mermaid") => PictureForm::Mermaid,
+        _ => PictureForm::Text,
+    }
+}
+
+// The state that the picture shows.
+fn named_moment(matches: &ArgMatches<'_>) -> Moment {
+    match matches.get_one::<u32>("at") {
+        Some(line) => Moment::Line(line),
+        None if matches.get_flag("at-halt") => Moment::Halt,
+        None => Moment::End,
+    }
+}
+
+// The colours of this name.
+fn named_theme(name: Option<&str>) -> Theme {
+    match name {
+        Some("light") => Theme::Light,
+        Some("dark") => Theme::Dark,
+        _ => Theme::Auto,
+    }
+}
+
+// Why these arguments of `draw` cannot be used together, if they cannot.
+fn conflict(matches: &ArgMatches<'_>, form: PictureForm, moment: Moment) -> Option<&'static str> {
+    if form == PictureForm::Html && moment != Moment::End {
+        return Some("a page has all states: '--as html' cannot be used with '--at' or '--at-halt'");
+    }
+    if form != PictureForm::Text && matches.get_one::<u32>("width").is_some() {
+        return Some("only a text picture has a width: '--width' cannot be used with another form");
+    }
+    let has_all_events = matches!(form, PictureForm::Html | PictureForm::Shiviz);
+    if has_all_events && matches.get_one::<u32>("last").is_some() {
+        return Some(
+            "a page and a log have all events: '--last' cannot be used with '--as html' or '--as shiviz'",
+        );
+    }
+    if form != PictureForm::Svg && matches.get_str("theme").is_some() {
+        return Some("only an svg picture has a theme: '--theme' cannot be used with another form");
+    }
+    None
+}
+
+/// The picture that the arguments of `draw` ask for.
+pub(crate) fn named_picture(
+    command: &mut Command<'_>,
+    matches: &ArgMatches<'_>,
+) -> Result<Picture, Error> {
+    let form = named_form(matches.get_str("as"));
+    let moment = named_moment(matches);
+    if let Some(why) = conflict(matches, form, moment) {
+        return Err(command.error(ErrorKind::ArgumentConflict, why)?);
+    }
+    Ok(Picture {
+        form,
+        moment,
+        width: matches.get_one::<u32>("width").unwrap_or(WIDTH),
+        last: matches.get_one::<u32>("last").unwrap_or(ALL_EVENTS),
+        theme: named_theme(matches.get_str("theme")),
+    })
+}

@@ -1,0 +1,109 @@
+//! Why a command of a batch is refused.
+
+use crate::view::SourceView;
+use dbg_base::{Plan, Refusal};
+use std::alloc::{AllocError, Global};
+use ui_text::{Notes, Part, meaning};
+
+// The refusal of this number, if it names no process, no breakpoint and no seat.
+fn refusal_of(number: u32) -> Option<Refusal> {
+    match number {
+        2 => Some(Refusal::UnknownChoice),
+        3 => Some(Refusal::GuardFalse),
+        4 => Some(Refusal::Fault),
+        5 => Some(Refusal::ChannelEmpty),
+        6 => Some(Refusal::NothingToUndo),
+        8 => Some(Refusal::NothingToRedo),
+        10 => Some(Refusal::BadPlace),
+        11 => Some(Refusal::BreakTaken),
+        12 => Some(Refusal::UnknownBreak),
+        13 => Some(Refusal::NoCut),
+        14 => Some(Refusal::NotArmed),
+        15 => Some(Refusal::AlreadyArmed),
+        24 => Some(Refusal::NoneEnabled),
+        _ => None,
+    }
+}
+
+impl SourceView<'_> {
+    // Says which event prevents an undo.
+    fn tell_prevented(&self, notes: &mut Notes, plan: &Plan) -> Result<(), AllocError> {
+        let Plan::Undo(pid) = plan else {
+            return Ok(());
+        };
+        match self.session.world.can_undo(*pid) {
+            Err(Refusal::Consequence(receiver)) => self.tell_consequence(notes, *pid, receiver),
+            _ => Ok(()),
+        }
+    }
+
+    // Says which breakpoint halts the session.
+    fn tell_halted_batch(&self, alloc: Global, notes: &mut Notes) -> Result<(), Refusal> {
+        match self.session.book.halted() {
+            Some(name) => {
+                self.tell_breakpoint(alloc, notes, name)?;
+                self.tell_continuing(alloc, notes, name)
+            }
+            None => Ok(()),
+        }
+    }
+
+    // Says why the first command of a batch is refused, which is given in the present state.
+    fn tell_first(
+        &self,
+        alloc: Global,
+        notes: &mut Notes,
+        plan: &Plan,
+        number: u32,
+    ) -> Result<(), Refusal> {
+        if number == 7 {
+            return Ok(self.tell_prevented(notes, plan)?);
+        }
+        if number == 9 {
+            return self.tell_halted_batch(alloc, notes);
+        }
+        match refusal_of(number) {
+            Some(refusal) => self.tell_reason(alloc, notes, plan, &refusal),
+            None => Ok(()),
+        }
+    }
+
+    // Says which breakpoints may have halted the session in the middle of a batch: those that are armed and have no cut now.
+    fn tell_halting(&self, alloc: Global, notes: &mut Notes) -> Result<(), Refusal> {
+        let marks = self.session.book.list(alloc)?;
+        let mut word = "after the commands before it, a breakpoint halts the session: ";
+        notes.say(&[])?;
+        for (name, is_armed) in marks.items() {
+            if *is_armed && !self.has_cut(*name) {
+                notes.add(&[Part::Text(word), Part::Name(*name)])?;
+                word = " or ";
+            }
+        }
+        Ok(())
+    }
+
+    /// Says which command of a batch is refused, and why.
+    pub(crate) fn tell_in_batch(
+        &self,
+        alloc: Global,
+        notes: &mut Notes,
+        plans: &[Plan],
+        at: u32,
+        number: u32,
+    ) -> Result<(), Refusal> {
+        notes.say(&[
+            Part::Text("command "),
+            Part::Number(i64::from(at)),
+            Part::Text(" of the batch"),
+        ])?;
+        self.put_plan_of_batch(notes, plans, at)?;
+        notes.add(&[Part::Text(": "), Part::Text(meaning(number))])?;
+        match plans.first() {
+            Some(plan) if at == 1 => self.tell_first(alloc, notes, plan, number),
+            _ if number == 9 => self.tell_halting(alloc, notes),
+            _ => Ok(notes.say(&[Part::Text(
+                "the commands before it were accepted, and are undone: of a batch all commands are made, or none",
+            )])?),
+        }
+    }
+}

@@ -1,0 +1,8 @@
+//! What prevents a command from firing.
+#![tactic(auto)]
+
+mod finding;
+mod hindrance;
+
+pub use finding::find_hindrance;
+pub use hindrance::Hindrance;

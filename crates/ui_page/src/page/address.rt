@@ -1,0 +1,102 @@
+//! The script: the address and the title of what is shown, and copies of it.
+
+pub(super) static ADDRESS: &str = r#"
+// The address ends in the number of the line. After a colon, the chosen breakpoint follows, or the chosen process and the number of its event.
+function addressEnd() {
+  const {point, p, n} = chosen || {};
+  return '#' + place + (!chosen ? '' : point !== undefined ? ':' + point : ':' + processes[p].name + ':' + n);
+}
+// Shows what the end of an address names, and otherwise where the session halts first. What was shown before no longer becomes the address.
+function openAt(end) {
+  clearTimeout(addressWaits);
+  const [line, name, n] = end.slice(1).split(':'), p = processes.findIndex(process => process.name === name);
+  if (/^\d+$/.test(line)) place = Math.min(lines.length, Number(line));
+  if (/^\d+$/.test(n) && p >= 0) chosen = {p, n: Number(n)};
+  else chosen = name && n === undefined ? {point: name} : null;
+  show({isMoved: true, isChosen: chosen !== null});
+}
+// The file's name, from the address of the page, without its ending; or else the names of the processes.
+function sessionName() {
+  let file = location.pathname.split('/').pop();
+  try {
+    file = decodeURIComponent(file);
+  } catch {
+    // The name is shown as it is.
+  }
+  return readable(file).replace(/\.html?$/, '') || processes.map(({name}) => name).join(', ');
+}
+function shownTitle() {
+  const line = place === 0 ? 'start' : 'line ' + place;
+  return [sessionName(), line, ...state.halting ? ['halted ' + state.halting] : []].join(', ');
+}
+// The address follows a moment later, because browsers limit how often it may change.
+let addressWaits = 0;
+function noteAddress() {
+  document.title = shownTitle();
+  clearTimeout(addressWaits);
+  addressWaits = setTimeout(writeAddress, 250);
+}
+function writeAddress() {
+  if (location.hash === addressEnd()) return;
+  try {
+    history.replaceState(null, '', addressEnd());
+  } catch {
+    // The browser lets this page have no address of its own.
+  }
+}
+addEventListener('hashchange', event => openAt(new URL(event.newURL).hash));
+
+// Shows for a moment, in place of a button's text, that it has done its work.
+function confirmIn(button, text) {
+  const before = button.textContent;
+  button.textContent = text;
+  setTimeout(() => button.textContent = before, 1200);
+}
+function copySelected(text) {
+  const field = document.body.appendChild(node('textarea', text, {class: 'outside'}));
+  field.select();
+  const isCopied = document.execCommand('copy');
+  field.remove();
+  return isCopied;
+}
+async function copyLink() {
+  const link = location.href.replace(/#.*/, '') + addressEnd(), button = find('copy');
+  writeAddress();
+  let isCopied = true;
+  try {
+    await navigator.clipboard.writeText(link);
+  } catch {
+    isCopied = copySelected(link);
+    button.focus();
+  }
+  confirmIn(button, isCopied ? 'copied' : 'not copied');
+}
+
+// The drawing as it is, as a file of its own: each shape with the look that it has here.
+const LOOKS = ['fill', 'fill-opacity', 'stroke', 'stroke-width', 'stroke-dasharray', 'stroke-linejoin', 'opacity', 'color', 'font-family',
+  'font-size', 'font-weight', 'text-anchor', 'paint-order'];
+function copyLooks(from, to) {
+  const looks = getComputedStyle(from), copies = [...to.children];
+  for (const name of LOOKS) to.style.setProperty(name, looks.getPropertyValue(name));
+  for (const name of ['tabindex', 'role', 'class', 'aria-describedby']) to.removeAttribute(name);
+  [...from.children].forEach((child, i) => copyLooks(child, copies[i]));
+  if (from.matches('.gone, desc')) to.remove();
+}
+function drawingFile() {
+  const copy = svg.cloneNode(true), ground = document.createElementNS(SVG, 'rect');
+  copyLooks(svg, copy);
+  set(copy, {xmlns: SVG, role: 'img'});
+  set(ground, {width: wide, height: high, fill: getComputedStyle(document.body).backgroundColor});
+  const title = document.createElementNS(SVG, 'title');
+  title.textContent = shownTitle();
+  copy.prepend(title, ground);
+  return new XMLSerializer().serializeToString(copy);
+}
+function save() {
+  const link = node('a', '', {download: sessionName().replace(/[^\w.-]+/g, '_') + '-line-' + place + '.svg'});
+  link.href = URL.createObjectURL(new Blob([drawingFile()], {type: 'image/svg+xml'}));
+  link.click();
+  setTimeout(() => URL.revokeObjectURL(link.href), 10000);
+  confirmIn(find('save'), 'saved');
+}
+"#;

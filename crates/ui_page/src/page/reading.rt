@@ -1,0 +1,41 @@
+//! The script: reads the session, and its texts.
+
+pub(super) static READING: &str = r#"
+'use strict';
+(() => {
+const find = id => document.getElementById(id);
+let session;
+try {
+  session = JSON.parse(find('session').textContent);
+} catch (fault) {
+  find('said').textContent = 'The data of the session are incomplete: ' + fault.message;
+  return;
+}
+
+// Texts. The data have each byte of a text as one character. Valid UTF-8 becomes its characters, and any other byte is shown as \x
+// and two digits. Control characters, and those that change the direction of a text, are shown by their numbers.
+const SEQUENCES = new RegExp('[\\xc2-\\xdf][\\x80-\\xbf]|\\xe0[\\xa0-\\xbf][\\x80-\\xbf]|\\xed[\\x80-\\x9f][\\x80-\\xbf]|' +
+  '[\\xe1-\\xec\\xee\\xef][\\x80-\\xbf]{2}|\\xf0[\\x90-\\xbf][\\x80-\\xbf]{2}|[\\xf1-\\xf3][\\x80-\\xbf]{3}|\\xf4[\\x80-\\x8f][\\x80-\\xbf]{2}|' +
+  '[\\x80-\\xff]', 'g');
+const INVISIBLE = new RegExp('[\\0-\\x08\\x0b-\\x1f\\x7f-\\x9f\\xad\\u061c\\u180e\\u200b-\\u200f\\u2028-\\u202f\\u2060-\\u206f\\ufeff' +
+  '\\ufff9-\\ufffb]', 'g');
+const UNUSUAL = new RegExp('[^\\t\\n -~]');
+function numbered(sign) {
+  const code = sign.charCodeAt(0).toString(16);
+  return code.length > 2 ? '\\u{' + code + '}' : '\\x' + code.padStart(2, '0');
+}
+function sequence(bytes) {
+  return bytes.length === 1 ? numbered(bytes) : decodeURIComponent(bytes.replace(/./gs, byte => '%' + byte.charCodeAt(0).toString(16)));
+}
+function readable(text) {
+  return UNUSUAL.test(text) ? text.replace(SEQUENCES, sequence).replace(INVISIBLE, numbered) : text;
+}
+
+const processes = session.processes, count = processes.length;
+const lines = session.lines.filter(line => line.length > 0);
+for (const line of lines) {
+  line[0] = readable(line[0]);
+  line[1] = readable(line[1]);
+}
+for (const {commands} of processes) for (const command of commands) command[1] = readable(command[1]);
+"#;

@@ -1,0 +1,227 @@
+//! The places of the commands of a program in its text.
+
+use dbg_base::{Choice, Pid};
+use std::alloc::{AllocError, Global};
+
+/// A line of a text: its number, from 1, and its bytes, without blanks at its ends.
+#[derive(Clone, Copy, Debug)]
+pub struct TextLine {
+    pub number: usize,
+    from: usize,
+    to: usize,
+}
+
+// The offset at which a command begins, its line, and its label. A command without a label has an empty one.
+#[derive(Debug, Drop)]
+struct CommandPlace {
+    at: usize,
+    line: TextLine,
+    label: Vec<u8>,
+}
+
+// The longest text of a command that is shown, in bytes.
+const SHOWN: usize = 160;
+
+/// A program's text, as it was written, with the place of each command.
+#[derive(Debug, Drop)]
+pub struct ProgramText {
+    text: Vec<u8>,
+    // The offset at which each line begins.
+    starts: Vec<usize>,
+    // For each process its commands, in order.
+    commands: Vec<Vec<CommandPlace>>,
+}
+
+/// Whether a word may have this byte.
+pub fn is_word_byte(byte: u8) -> bool {
+    byte.is_ascii_lowercase() || byte.is_ascii_digit() || byte == b'_'
+}
+
+// Notes the line of a word that begins a process or a command.
+fn note_word(
+    commands: &mut Vec<Vec<CommandPlace>>,
+    alloc: Global,
+    word: &[u8],
+    at: usize,
+    line: TextLine,
+) -> Result<(), AllocError> {
+    if word == b"process".as_slice() {
+        commands.push(Vec::new(alloc))?;
+    } else if word == b"when".as_slice() {
+        if let Some(process) = commands.last_mut() {
+            let label = Vec::new(alloc);
+            process.push(CommandPlace { at, line, label })?;
+        }
+    }
+    Ok(())
+}
+
+// The place of each command of a plain program.
+fn places(alloc: Global, text: &[u8]) -> Result<Vec<Vec<CommandPlace>>, AllocError> {
+    let mut commands = Vec::new(alloc);
+    let mut number = 0usize;
+    let mut from = 0usize;
+    for line in text.split(|byte| *byte == b'\n') {
+        number = number.saturating_add(1);
+        let to = from.saturating_add(line.len());
+        let place = TextLine { number, from, to };
+        let mut at = from;
+        for word in line.split(|byte| !is_word_byte(*byte)) {
+            note_word(&mut commands, alloc, word, at, place)?;
+            at = at.saturating_add(word.len()).saturating_add(1);
+        }
+        from = to.saturating_add(1);
+    }
+    Ok(commands)
+}
+
+// The offset at which each line of a text begins.
+fn line_starts(alloc: Global, text: &[u8]) -> Result<Vec<usize>, AllocError> {
+    let mut starts = Vec::new(alloc);
+    let mut from = 0usize;
+    for line in text.split(|byte| *byte == b'\n') {
+        starts.push(from)?;
+        from = from.saturating_add(line.len()).saturating_add(1);
+    }
+    Ok(starts)
+}
+
+// The text up to a `;`, in one line.
+fn one_line(alloc: Global, text: &[u8]) -> Result<Vec<u8>, AllocError> {
+    let mut line = Vec::new(alloc);
+    let mut is_comment = false;
+    let mut is_blank = false;
+    for byte in text {
+        is_comment = (is_comment || *byte == b'#') && *byte != b'\n';
+        if is_comment || byte.is_ascii_whitespace() {
+            is_blank = true;
+            continue;
+        }
+        if line.len() >= SHOWN {
+            line.extend_from_slice(b" ..")?;
+            break;
+        }
+        if is_blank && !line.is_empty() {
+            line.push(b' ')?;
+        }
+        is_blank = false;
+        line.push(*byte)?;
+        if *byte == b';' {
+            break;
+        }
+    }
+    Ok(line)
+}
+
+impl ProgramText {
+    /// The text of a program of the process language. Error: memory ran out.
+    pub fn new(alloc: Global, text: &[u8]) -> Result<ProgramText, AllocError> {
+        Ok(ProgramText {
+            text: Vec::from_slice(alloc, text)?,
+            starts: line_starts(alloc, text)?,
+            commands: places(alloc, text)?,
+        })
+    }
+
+    /// A text whose processes and commands are added in the order of the program. Error: memory ran out.
+    pub fn without_commands(alloc: Global, text: &[u8]) -> Result<ProgramText, AllocError> {
+        Ok(ProgramText {
+            text: Vec::from_slice(alloc, text)?,
+            starts: line_starts(alloc, text)?,
+            commands: Vec::new(alloc),
+        })
+    }
+
+    /// The whole text.
+    pub fn text(&self) -> &[u8] {
+        self.text.as_slice()
+    }
+
+    // The line of the byte at this offset, or the last line.
+    fn line_at(&self, at: usize) -> TextLine {
+        let mut number = 0usize;
+        let mut from = 0usize;
+        let mut to = self.text.len();
+        for start in &self.starts {
+            if *start > at {
+                to = start.saturating_sub(1);
+                break;
+            }
+            number = number.saturating_add(1);
+            from = *start;
+        }
+        TextLine { number, from, to }
+    }
+
+    /// Adds the next process. Error: memory ran out.
+    pub fn add_process(&mut self, alloc: Global) -> Result<(), AllocError> {
+        self.commands.push(Vec::new(alloc))?;
+        Ok(())
+    }
+
+    /// Adds the next command of the last process: the offset in the text at which it begins, and its label or none. Error: memory ran out.
+    pub fn add_command(
+        &mut self,
+        alloc: Global,
+        at: usize,
+        label: Option<&[u8]>,
+    ) -> Result<(), AllocError> {
+        let line = self.line_at(at);
+        let label = Vec::from_slice(alloc, label.unwrap_or(&[]))?;
+        if let Some(process) = self.commands.last_mut() {
+            process.push(CommandPlace { at, line, label })?;
+        }
+        Ok(())
+    }
+
+    fn command(&self, pid: Pid, choice: Choice) -> Option<&CommandPlace> {
+        let process = self.commands.get(pid.0 as usize)?;
+        process.get(choice.0 as usize)
+    }
+
+    /// The line at which a command begins.
+    pub fn place(&self, pid: Pid, choice: Choice) -> Option<TextLine> {
+        let command = self.command(pid, choice)?;
+        Some(command.line)
+    }
+
+    /// The label of a command, with its indices. It is empty if the command has none.
+    pub fn label(&self, pid: Pid, choice: Choice) -> &[u8] {
+        match self.command(pid, choice) {
+            Some(command) => command.label.as_slice(),
+            None => &[],
+        }
+    }
+
+    // The text from the guard of a command on, after its label.
+    fn text_from(&self, command: &CommandPlace) -> &[u8] {
+        let text = self.text.get(command.at..).unwrap_or(&[]);
+        if command.label.is_empty() {
+            return text;
+        }
+        let label = text.iter().take_while(|byte| **byte != b':').count();
+        text.get(label.saturating_add(1)..).unwrap_or(&[])
+    }
+
+    /// The text of a command from its guard up to its `;`. Blanks, line ends and comments in it are one blank. Of a long text it is the
+    /// beginning. Error: memory ran out.
+    pub fn command_text(
+        &self,
+        alloc: Global,
+        pid: Pid,
+        choice: Choice,
+    ) -> Result<Vec<u8>, AllocError> {
+        match self.command(pid, choice) {
+            Some(command) => one_line(alloc, self.text_from(command)),
+            None => Ok(Vec::new(alloc)),
+        }
+    }
+
+    /// The bytes of a line, without blanks at its ends.
+    pub fn line(&self, place: TextLine) -> &[u8] {
+        self.text
+            .get(place.from..place.to)
+            .unwrap_or(&[])
+            .trim_ascii()
+    }
+}
