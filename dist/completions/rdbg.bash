@@ -13,7 +13,9 @@ _rdbg() {
     choices='text svg html shiviz mermaid'
   elif [ "$before" = --color ]; then
     choices='auto always never'
-  elif [ "$before" = --turns ] || [ "$before" = --at ] || [ "$before" = --width ]; then
+  elif [ "$before" = --theme ]; then
+    choices='auto light dark'
+  elif [ "$before" = --turns ] || [ "$before" = --at ] || [ "$before" = --width ] || [ "$before" = --last ]; then
     return
   elif [[ $current == -* ]]; then
     case $word in
@@ -21,7 +23,7 @@ _rdbg() {
       crew) choices='--turns --help' ;;
       talk) choices='--color --help' ;;
       test) choices='--fill --help' ;;
-      draw) choices='--as --at --at-halt --width --help' ;;
+      draw) choices='--as --at --at-halt --last --width --theme --help' ;;
       *) choices='--help' ;;
     esac
   fi

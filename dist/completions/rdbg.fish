@@ -18,5 +18,7 @@ complete -c rdbg -n '__fish_seen_subcommand_from test' -l fill -d 'Print the ses
 complete -c rdbg -n '__fish_seen_subcommand_from draw' -l as -x -a 'text svg html shiviz mermaid' -d 'The form of the picture'
 complete -c rdbg -n '__fish_seen_subcommand_from draw' -l at -x -d 'The state after this line'
 complete -c rdbg -n '__fish_seen_subcommand_from draw' -l at-halt -d 'The state at the first halt'
+complete -c rdbg -n '__fish_seen_subcommand_from draw' -l last -x -d 'Draws at most the last N events'
+complete -c rdbg -n '__fish_seen_subcommand_from draw' -l theme -x -a 'auto light dark' -d 'The colours of an svg picture'
 complete -c rdbg -n '__fish_seen_subcommand_from draw' -l width -x -d 'How many characters wide a text picture is at most'
 complete -c rdbg -n '__fish_seen_subcommand_from talk expand run check crew test draw' -k -a '(__fish_complete_suffix .rdbg)'
