@@ -69,12 +69,20 @@ function stateDetails() {
 }
 // Replaces those parts that have changed, so that a selection of text in the others stays.
 function update(parent, parts) {
-  const holder = node('div', parts), wanted = [...holder.childNodes];
-  while (parent.childNodes.length > wanted.length) parent.lastChild.remove();
-  wanted.forEach((part, i) => {
-    const old = parent.childNodes[i];
-    if (!old) parent.append(part); else if (!old.isEqualNode(part)) old.replaceWith(part);
-  });
+  let old = parent.firstChild;
+  for (const part of [...node('div', parts).childNodes]) {
+    let same = old;
+    while (same && !same.isEqualNode(part)) same = same.nextSibling;
+    while (same && old !== same) old = removed(old);
+    if (same) old = same.nextSibling; else parent.insertBefore(part, old);
+  }
+  while (old) old = removed(old);
+}
+// Removes a part, and gives the one after it.
+function removed(part) {
+  const next = part.nextSibling;
+  part.remove();
+  return next;
 }
 function showDetails() {
   const details = find('details'), hadFocus = details.contains(document.activeElement) && details !== document.activeElement;

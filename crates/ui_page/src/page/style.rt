@@ -97,8 +97,8 @@ mark { background: var(--chosen); color: inherit; outline: 1px solid var(--focus
 #details p { margin: 0 0 4px; overflow-wrap: anywhere; }
 #details .parts { display: flex; flex-wrap: wrap; align-items: flex-start; gap: 4px 28px; }
 #details table { border-collapse: collapse; }
-#details th { text-align: left; font-weight: normal; color: var(--weak); padding: 0 14px 0 0; vertical-align: top; }
-#details td { padding: 0 14px 0 0; overflow-wrap: anywhere; }
+#details th { text-align: left; font-weight: normal; color: var(--weak); vertical-align: top; }
+#details th, #details td { padding: 0 14px 0 0; overflow-wrap: anywhere; }
 #details caption, #details .caption { text-align: left; font-weight: 600; margin: 0; }
 #details caption { white-space: nowrap; }
 #details thead th { font-size: 12px; }
