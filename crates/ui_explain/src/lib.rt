@@ -26,4 +26,5 @@ pub use accepted::Before;
 pub use directive::Directive;
 pub use explainer::{Echo, Explainer};
 pub use expressions::ProcessView;
+pub use values::names_variable;
 pub use view::SourceView;

@@ -24,6 +24,11 @@ fn names(expr: &Expr, named: NamedValue) -> bool {
     }
 }
 
+/// Whether an expression of a process names this variable of the process.
+pub fn names_variable(expr: &Expr, variable: u32) -> bool {
+    names(expr, NamedValue::Variable(variable))
+}
+
 // Appends a name and its value to the last line: the first one after this word, and the others after a comma.
 fn put_value(
     notes: &mut Notes,
