@@ -1,15 +1,21 @@
 //! The cuts of breakpoints in a drawing.
 
-use crate::layout::{FALL, MARGIN, width_of};
-use crate::sheet::SvgSheet;
-use crate::svg::{Point, end_text, escaped, put_ends, put_number, say_text};
+use crate::layout::{FALL, Layout, MARGIN};
+use crate::shapes::Point;
+use crate::sheet::{Scene, SvgSheet};
+use crate::svg::{end_text, escaped, put_ends, put_number, say_text};
 use dbg_base::Pid;
 use std::alloc::AllocError;
 use ui_text::{Notes, Part};
-use ui_timeline::{NamedCut, bytes_of, size};
+use ui_timeline::{NamedCut, bytes_of};
 
 // Where cuts begin and end, from the edges of the drawing.
 const EDGE: i64 = 6;
+
+// From a cut to another one below the same event.
+const STEP: i64 = 4;
+
+const STEPS: usize = 3;
 
 // How many colours and patterns there are. The breakpoint that halts has a colour of its own.
 const COLOURS: usize = 4;
@@ -35,62 +41,52 @@ pub(crate) fn put_cut_class(
     ])
 }
 
+/// The height of a cut on a process's line: below its last event in the cut. Cuts below the same event are at different heights.
+pub(crate) fn level_of(scene: Scene<'_>, layout: &Layout, cut: &NamedCut, pid: Pid) -> i64 {
+    let last = layout.event(scene, pid, cut.cut.count(pid));
+    let aside = i64::try_from(cut.place % STEPS)
+        .unwrap_or(0)
+        .saturating_mul(STEP);
+    last.y.saturating_add(FALL).saturating_add(aside)
+}
+
+/// Where cuts end on the right.
+pub(crate) fn right_of(layout: &Layout) -> i64 {
+    layout.right().saturating_add(EDGE)
+}
+
+/// The corners of a cut, from left to right.
+pub(crate) fn corners(
+    scene: Scene<'_>,
+    layout: &Layout,
+    cut: &NamedCut,
+) -> Result<Vec<Point>, AllocError> {
+    let mut corners = Vec::new(scene.alloc);
+    let mut begin = EDGE;
+    for p in 0..scene.processes() {
+        let next = p.saturating_add(1);
+        let end = if next < scene.processes() {
+            layout.begin(Pid(next))
+        } else {
+            right_of(layout)
+        };
+        let y = level_of(scene, layout, cut, Pid(p));
+        for x in [begin, end] {
+            corners.push(Point { x, y })?;
+        }
+        begin = end;
+    }
+    Ok(corners)
+}
+
 impl SvgSheet<'_> {
-    // The height of a cut that goes across. Those before it may be at the same place.
-    fn across(&self, cut: &NamedCut) -> i64 {
-        let processes = self.scene.processes();
-        let events = size(&cut.cut, processes);
-        let mut before = 0usize;
-        for other in self.scene.cuts {
-            if other.place == cut.place {
-                break;
-            }
-            if other.is_prefix && size(&other.cut, processes) == events {
-                before = before.saturating_add(1);
-            }
-        }
-        self.layout.across(events, before)
-    }
-
-    // The height of a cut on a process's line: after its last event in the cut.
-    fn level(&self, cut: &NamedCut, pid: Pid, across: Option<i64>) -> i64 {
-        match across {
-            Some(y) => y,
-            None => {
-                let last = self.layout.event(self.scene, pid, cut.cut.count(pid));
-                last.y.saturating_add(FALL)
-            }
-        }
-    }
-
     // Appends the corners of a cut to the last line, from left to right.
     fn put_corners(&self, notes: &mut Notes, cut: &NamedCut) -> Result<(), AllocError> {
-        let across = if cut.is_prefix {
-            Some(self.across(cut))
-        } else {
-            None
-        };
-        let mut begin = EDGE;
-        for p in 0..self.scene.processes() {
-            let next = p.saturating_add(1);
-            let end = if next < self.scene.processes() {
-                self.layout.begin(Pid(next))
-            } else {
-                self.right()
-            };
-            let y = self.level(cut, Pid(p), across);
-            for x in [begin, end] {
-                notes.add(&[Part::Text(" "), Part::Number(x), Part::Text(",")])?;
-                notes.add(&[Part::Number(y)])?;
-            }
-            begin = end;
+        for corner in &corners(self.scene, self.layout, cut)? {
+            notes.add(&[Part::Text(" "), Part::Number(corner.x), Part::Text(",")])?;
+            notes.add(&[Part::Number(corner.y)])?;
         }
         Ok(())
-    }
-
-    // Where cuts end on the right.
-    fn right(&self) -> i64 {
-        self.layout.right().saturating_add(EDGE)
     }
 
     /// What is inside the first cut.
@@ -108,7 +104,11 @@ impl SvgSheet<'_> {
         ])?;
         notes.add(&[Part::Number(top)])?;
         self.put_corners(notes, cut)?;
-        notes.add(&[Part::Text(" "), Part::Number(self.right()), Part::Text(",")])?;
+        notes.add(&[
+            Part::Text(" "),
+            Part::Number(right_of(self.layout)),
+            Part::Text(","),
+        ])?;
         notes.add(&[Part::Number(top), Part::Text("\"/>")])
     }
 
@@ -123,36 +123,13 @@ impl SvgSheet<'_> {
         notes.add(&[Part::Text("</title></polyline>")])
     }
 
-    // How many of the cuts before this one have their name at the same place, on the right.
-    fn names_before(&self, cut: &NamedCut) -> i64 {
-        let last = Pid(self.scene.processes().saturating_sub(1));
-        let mut before = 0i64;
-        for other in self.scene.cuts {
-            if other.place == cut.place {
-                break;
-            }
-            if !other.is_prefix && other.cut.count(last) == cut.cut.count(last) {
-                before = before.saturating_add(1);
-            }
-        }
-        before
-    }
-
-    /// The name of a cut: above the line that goes across, or at the right end of the line.
-    pub(crate) fn say_cut_name(&self, notes: &mut Notes, cut: &NamedCut) -> Result<(), AllocError> {
-        let at = if cut.is_prefix {
-            Point {
-                x: self.layout.words(Pid(0)),
-                y: self.across(cut).saturating_sub(6),
-            }
-        } else {
-            let last = Pid(self.scene.processes().saturating_sub(1));
-            let aside = self.names_before(cut).saturating_mul(14).saturating_add(4);
-            Point {
-                x: self.right().saturating_add(4),
-                y: self.level(cut, last, None).saturating_add(aside),
-            }
-        };
+    /// The name of a cut, which begins at this point.
+    pub(crate) fn say_cut_name(
+        &self,
+        notes: &mut Notes,
+        cut: &NamedCut,
+        at: Point,
+    ) -> Result<(), AllocError> {
         notes.say(&[Part::Text("  <text")])?;
         put_cut_class(notes, "of", cut)?;
         put_number(notes, "x", at.x)?;
@@ -188,17 +165,6 @@ impl SvgSheet<'_> {
         let words = escaped(self.scene.alloc, words.as_slice())?;
         notes.add(&[Part::Bytes(words.as_slice())])?;
         end_text(notes)
-    }
-
-    /// How wide the names of the cuts are that are on the right.
-    pub(crate) fn names_width(&self) -> i64 {
-        let mut width = 0i64;
-        for cut in self.scene.cuts {
-            if !cut.is_prefix {
-                width = width.max(width_of(cut.name.bytes().len()));
-            }
-        }
-        width
     }
 
     /// The marks at the last events of a cut of the processes that the predicate names.

@@ -1,12 +1,15 @@
 //! The events of a drawing, and what can be redone.
 
+use crate::labels::EventWords;
+use crate::shapes::Point;
 use crate::sheet::SvgSheet;
-use crate::svg::{Point, end_text, escaped, say_circle, say_text};
+use crate::spots::Place;
+use crate::svg::{end_text, escaped, say_circle, say_text};
 use dbg_base::Pid;
-use event_rows::{Event, Exchange};
+use event_rows::Event;
 use std::alloc::AllocError;
 use ui_text::{Notes, Part};
-use ui_timeline::{ShownEvent, bytes_of, event_of, exchange_of, halting, put_command, put_setting};
+use ui_timeline::{ShownEvent, bytes_of, event_of, halting, put_command, put_setting};
 
 // The radius of the mark of an event.
 const RADIUS: i64 = 5;
@@ -103,30 +106,22 @@ impl SvgSheet<'_> {
         ])
     }
 
-    // How far below the middle of an event its words are, so that the arrow that it sends or receives does not cross them.
-    fn words_below(&self, shown: ShownEvent) -> i64 {
-        match exchange_of(self.scene.view.world, shown) {
-            Exchange::Sent { target, .. } if target.0 > shown.pid.0 => -6,
-            Exchange::Took { source, .. } if source.0 > shown.pid.0 => 16,
-            _ => 4,
-        }
-    }
-
     /// The words at an event.
-    pub(crate) fn say_label(&self, notes: &mut Notes, shown: ShownEvent) -> Result<(), AllocError> {
-        let middle = self.layout.event(self.scene, shown.pid, shown.number);
-        let class = if self.decides(shown) {
-            "words rdbg-halts"
-        } else {
-            "words"
+    pub(crate) fn say_label(
+        &self,
+        notes: &mut Notes,
+        shown: ShownEvent,
+        words: &EventWords,
+        place: Place,
+    ) -> Result<(), AllocError> {
+        let class = match (self.decides(shown), place.is_end) {
+            (false, false) => "words",
+            (false, true) => "words rdbg-end",
+            (true, false) => "words rdbg-halts",
+            (true, true) => "words rdbg-end rdbg-halts",
         };
-        let at = Point {
-            x: self.layout.words(shown.pid),
-            y: middle.y.saturating_add(self.words_below(shown)),
-        };
-        say_text(notes, class, at)?;
-        let words = self.scene.event_label(shown)?;
-        notes.add(&[Part::Bytes(words.as_slice())])?;
+        say_text(notes, class, place.point)?;
+        notes.add(&[Part::Bytes(words.label.as_slice())])?;
         end_text(notes)
     }
 

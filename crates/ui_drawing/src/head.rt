@@ -1,8 +1,10 @@
 //! The start of a drawing: its size, what it is in words, and its style. The end of a drawing: a legend.
 
-use crate::layout::{MARGIN, SENTENCE_ROW, width_of, width_of_key};
+use crate::labels::{width_of, width_of_key};
+use crate::layout::{MARGIN, SENTENCE_ROW};
+use crate::shapes::Point;
 use crate::sheet::SvgSheet;
-use crate::svg::{Point, end_text, escaped, put_ends, put_number, say_text};
+use crate::svg::{end_text, escaped, put_ends, put_number, say_text};
 use dbg_base::Pid;
 use std::alloc::AllocError;
 use ui_text::{Notes, Part};
@@ -24,6 +26,7 @@ static LIGHT: &str = "  <style>
     .rdbg-drawing .rdbg-head { fill: #2b5fb4; }
     .rdbg-drawing .rdbg-open { fill: none; stroke: #2b5fb4; stroke-width: 1.4; }
     .rdbg-drawing .rdbg-value { fill: #2b5fb4; text-anchor: middle; }
+    .rdbg-drawing .rdbg-end { text-anchor: end; }
     .rdbg-drawing .rdbg-words, .rdbg-drawing .rdbg-value, .rdbg-drawing .rdbg-of { paint-order: stroke; stroke: #ffffff; stroke-width: 4px; }
     .rdbg-drawing .rdbg-cut { fill: none; stroke: currentColor; stroke-width: 2; }
     .rdbg-drawing .rdbg-inside { fill: currentColor; fill-opacity: .08; }
@@ -59,24 +62,25 @@ static DARK: &str = "      .rdbg-drawing text { fill: #ececec; }
       .rdbg-drawing .rdbg-colour3 { color: #b5d165; }
       .rdbg-drawing .rdbg-halts { color: #ff7b72; }";
 
-// How many characters the longest of these lines has.
-fn most_characters(lines: &Notes) -> usize {
-    let mut most = 0usize;
+// The longest of these lines.
+fn longest(lines: &Notes) -> &[u8] {
+    let mut longest: &[u8] = &[];
     for line in lines.lines() {
-        most = most.max(line.len());
+        if line.len() > longest.len() {
+            longest = line.as_slice();
+        }
     }
-    most
+    longest
 }
 
 impl SvgSheet<'_> {
     /// The width of the drawing.
     pub(crate) fn width(&self) -> Result<i64, AllocError> {
-        let drawn = self.layout.right().saturating_add(self.names_width());
-        let heading = width_of(most_characters(self.heading));
-        let key = width_of_key(most_characters(self.key));
-        let mut widest = drawn.max(heading).max(key);
+        let heading = width_of(longest(self.heading));
+        let key = width_of_key(longest(self.key));
+        let mut widest = self.places.right.max(heading).max(key);
         for cut in self.scene.cuts {
-            let sentence = width_of_key(self.scene.cut_sentence(cut)?.len());
+            let sentence = width_of_key(self.scene.cut_sentence(cut)?.as_slice());
             widest = widest.max(sentence.saturating_add(42));
         }
         Ok(widest.saturating_add(MARGIN.saturating_mul(2)))
@@ -127,7 +131,7 @@ impl SvgSheet<'_> {
             notes.add(&[Part::Text(")")])?;
         }
         notes.add(&[Part::Text(
-            ", downward in an order in which they can have happened; arrows are messages, with their values; dashed arrows are on their way; dotted marks can be redone; lines across are the cuts of breakpoints</desc>",
+            ", each below those on which it depends; arrows are messages, with their values; dashed arrows are on their way; dotted marks can be redone; stepped lines across are the cuts of breakpoints</desc>",
         )])
     }
 

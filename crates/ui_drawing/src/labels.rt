@@ -3,12 +3,13 @@
 use crate::sheet::Scene;
 use crate::svg::shortened;
 use dbg_base::Pid;
+use event_rows::Event;
 use std::alloc::AllocError;
-use ui_explain::ProcessView;
+use ui_explain::{ProcessView, names_variable};
 use ui_text::{Notes, Part};
 use ui_timeline::{NamedCut, ShownEvent, bytes_of, event_of, halting, put_left_out, size};
 
-// The most variables that are shown at an event.
+// The most variables that are shown at an event, unless the predicate names more.
 const WORDS: usize = 2;
 
 // The most characters at an event.
@@ -20,6 +21,45 @@ const SENTENCE: usize = 100;
 /// The choices of a redo line that are drawn, at most.
 pub(crate) const AGAIN: u32 = 4;
 
+// The width of a character of the drawing, and of one of its legend.
+const CHARACTER: i64 = 8;
+
+const KEY_CHARACTER: i64 = 7;
+
+/// How wide words are.
+pub(crate) fn width_of(words: &[u8]) -> i64 {
+    let characters = i64::try_from(words.len()).unwrap_or(i64::MAX);
+    characters.saturating_mul(CHARACTER)
+}
+
+/// How wide words of the legend are.
+pub(crate) fn width_of_key(words: &[u8]) -> i64 {
+    let characters = i64::try_from(words.len()).unwrap_or(i64::MAX);
+    characters.saturating_mul(KEY_CHARACTER)
+}
+
+/// The words at an event, and at the message that it received, or that it sent and that is on its way.
+#[derive(Drop)]
+pub(crate) struct EventWords {
+    pub(crate) label: Vec<u8>,
+    pub(crate) message: Option<Notes>,
+}
+
+impl EventWords {
+    /// How wide the words at the event are.
+    pub(crate) fn label_width(&self) -> i64 {
+        width_of(self.label.as_slice())
+    }
+
+    /// How wide the words at the message are.
+    pub(crate) fn message_width(&self) -> i64 {
+        match &self.message {
+            Some(words) => width_of(bytes_of(words)),
+            None => 0,
+        }
+    }
+}
+
 impl<'a> Scene<'a> {
     pub(crate) fn processes(&self) -> u32 {
         self.view.program.processes()
@@ -29,26 +69,78 @@ impl<'a> Scene<'a> {
         ProcessView::new(self.view.program, pid)
     }
 
-    /// The words at an event: its number, its command, and the first variables that it set.
-    pub(crate) fn event_label(&self, shown: ShownEvent) -> Result<Vec<u8>, AllocError> {
+    // Whether the predicate of the first cut, which is that of the breakpoint that halts the session if one does, names a variable.
+    fn is_named(&self, pid: Pid, variable: u32) -> bool {
+        let Some(cut) = self.cuts.first() else {
+            return false;
+        };
+        let Some((_, breakpoint)) = self.view.book.find(cut.name) else {
+            return false;
+        };
+        let detector = breakpoint.detector();
+        let mut conjuncts = 0..cut.pids.len();
+        conjuncts.any(|place| match detector.conjunct(place) {
+            Some((process, expr)) => process == pid && names_variable(expr, variable),
+            None => false,
+        })
+    }
+
+    // Appends the values of the variables that an event set to the last line: those that the predicate names, or the others, and at most so
+    // many. Returns how many.
+    fn put_settings(
+        &self,
+        words: &mut Notes,
+        pid: Pid,
+        event: &Event,
+        named: bool,
+        most: usize,
+    ) -> Result<usize, AllocError> {
+        let mut count = 0usize;
+        for setting in event.settings() {
+            if count < most && self.is_named(pid, setting.variable) == named {
+                let name = self.scope(pid).variable(setting.variable);
+                let value = Part::Number(setting.new);
+                words.add(&[Part::Text(" "), name, Part::Text("="), value])?;
+                count = count.saturating_add(1);
+            }
+        }
+        Ok(count)
+    }
+
+    // The words at an event: its number, its command, and the variables that it set. Those that the predicate names are first, and are
+    // never left out.
+    fn event_label(&self, shown: ShownEvent) -> Result<Vec<u8>, AllocError> {
         let mut words = Notes::new(self.alloc);
         words.say(&[Part::Number(i64::from(shown.number))])?;
+        let mut room = LABEL;
         if let Some(event) = event_of(self.view.world, shown) {
             words.add(&[Part::Text(":"), Part::Number(i64::from(event.choice().0))])?;
-            let scope = self.scope(shown.pid);
-            for setting in event.settings().iter().take(WORDS) {
-                let (name, value) = (scope.variable(setting.variable), Part::Number(setting.new));
-                words.add(&[Part::Text(" "), name, Part::Text("="), value])?;
-            }
-            if event.settings().len() > WORDS {
+            let all = event.settings().len();
+            let named = self.put_settings(&mut words, shown.pid, event, true, all)?;
+            room = room.max(bytes_of(&words).len().saturating_add(3));
+            let most = WORDS.saturating_sub(named);
+            let others = self.put_settings(&mut words, shown.pid, event, false, most)?;
+            if all > named.saturating_add(others) {
                 words.add(&[Part::Text(" ..")])?;
             }
         }
-        shortened(self.alloc, bytes_of(&words), LABEL)
+        shortened(self.alloc, bytes_of(&words), room)
     }
 
-    /// The words at the message that an event received, or that it sent and that is on its way. None if there is no such message.
-    pub(crate) fn message_label(&self, shown: ShownEvent) -> Result<Option<Notes>, AllocError> {
+    /// The words at the events that are shown, and at their messages.
+    pub(crate) fn words(&self) -> Result<Vec<EventWords>, AllocError> {
+        let mut words = Vec::new(self.alloc);
+        for shown in self.events() {
+            words.push(EventWords {
+                label: self.event_label(*shown)?,
+                message: self.message_label(*shown)?,
+            })?;
+        }
+        Ok(words)
+    }
+
+    // The words at the message that an event received, or that it sent and that is on its way. None if there is no such message.
+    fn message_label(&self, shown: ShownEvent) -> Result<Option<Notes>, AllocError> {
         let mut words = Notes::new(self.alloc);
         if let Some(received) = self.timeline.received_by(self.view.world, shown) {
             words.say(&[Part::Number(received.value)])?;

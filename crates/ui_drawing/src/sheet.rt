@@ -1,6 +1,9 @@
 //! A space-time diagram as a drawing (SVG): a line downward for each process.
 
+use crate::arrangement::Arrangement;
+use crate::labels::EventWords;
 use crate::layout::Layout;
+use crate::places::Places;
 use dbg_base::{Pid, Refusal};
 use dbg_command::SessionView;
 use std::alloc::{AllocError, Global};
@@ -23,6 +26,8 @@ pub(crate) struct Scene<'a> {
 pub(crate) struct SvgSheet<'a> {
     pub(crate) scene: Scene<'a>,
     pub(crate) layout: &'a Layout,
+    pub(crate) words: &'a [EventWords],
+    pub(crate) places: &'a Places,
     pub(crate) heading: &'a Notes,
     pub(crate) key: &'a Notes,
     /// A number for the names in this drawing, so that a page may have several drawings.
@@ -124,16 +129,17 @@ impl SvgSheet<'_> {
     }
 
     fn say_labels(&self, notes: &mut Notes) -> Result<(), AllocError> {
-        for shown in self.scene.events() {
-            self.say_arrow_label(notes, *shown)?;
-            self.say_label(notes, *shown)?;
+        let events = self.scene.events().iter().zip(self.words);
+        for ((shown, words), places) in events.zip(&self.places.events) {
+            self.say_arrow_label(notes, words, places.message)?;
+            self.say_label(notes, *shown, words, places.label)?;
         }
         Ok(())
     }
 
     fn say_cut_names(&self, notes: &mut Notes) -> Result<(), AllocError> {
-        for cut in self.scene.cuts {
-            self.say_cut_name(notes, cut)?;
+        for (cut, at) in self.scene.cuts.iter().zip(&self.places.names) {
+            self.say_cut_name(notes, cut, *at)?;
         }
         Ok(())
     }
@@ -166,10 +172,13 @@ pub fn draw_drawing(
     };
     let heading = scene.heading()?;
     let key = scene.key()?;
-    let layout = Layout::of(scene, heading.lines().len())?;
+    let words = scene.words()?;
+    let arrangement = Arrangement::of(scene, heading.lines().len(), words.as_slice())?;
     let sheet = SvgSheet {
         scene,
-        layout: &layout,
+        layout: &arrangement.layout,
+        words: words.as_slice(),
+        places: &arrangement.places,
         heading: &heading,
         key: &key,
         id: scene.id(),

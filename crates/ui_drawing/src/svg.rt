@@ -1,14 +1,8 @@
 //! The parts of an SVG: attributes, texts and shapes.
 
+use crate::shapes::Point;
 use std::alloc::{AllocError, Global};
 use ui_text::{Notes, Part};
-
-/// A point, in pixels from the left and from the top.
-#[derive(Clone, Copy)]
-pub(crate) struct Point {
-    pub(crate) x: i64,
-    pub(crate) y: i64,
-}
 
 /// Appends an attribute that is a number to the last line.
 pub(crate) fn put_number(
