@@ -1,3 +1,4 @@
 pub mod UndoneOrderLemmas
+pub mod FirstCutLemmas
 pub mod EventNumberLemmas
 pub mod EventClockLemmas

@@ -2,7 +2,7 @@
 use Rattle.std.proofs.Common.{◌≡◌, ◌≢◌, ◌⊎◌, ◌<◌, ◌≤◌, ℕ, zero, suc, List, [], ◌∷◌, ◌++◌, length, map, reverse, replicate, get_or, set, take, sum, ◌-◌, ◌+◌}
 use Rattle.std.proofs.Common.{Option, None, Some, Ok, Err, refl, sym, ap, ◌∙◌, subst, inl, inr, arith, append_assoc}
 use Rattle.std.proofs.Common.{⊎_elim, true, false}
-use Rattle.std.specs.Prelude.{OnOk, IfErr}
+use Rattle.std.specs.Prelude.{OnOk, IfErr, IfSome}
 use Rattle.std.specs.Result.{is_ok}
 use Rattle.std.proofs.lemmas.Bool.{cases_eq}
 use Rattle.std.proofs.lemmas.List.{length-replicate, length-set, ext_get_or, get_or-set_same, get_or-set_other}
@@ -22,6 +22,7 @@ use Rattle.cut_core.specs.declared.kind.Kind.{Kind}
 use Rattle.cut_core.specs.ConsistentCuts.{IsConsistentCut}
 use Rattle.causal_world.specs.Scenes.{Scene, IsWorldOf}
 use Rattle.causal_world.specs.Worlds.{IsSomeWorld}
+use Rattle.causal_world.proofs.ClockRows.{has_events}
 use Rattle.causal_world.proofs.WorldCallLemmas.{kinds_there, events_counted}
 use Rattle.causal_world.proofs.RollbackLemmas.{none_after, choices_counted}
 use Rattle.causal_world.proofs.WorldOfLemmas.{choices_more, history_without}
@@ -34,6 +35,7 @@ use Rattle.dbg_laws.proofs.OrderSwapLemmas.{takes}
 use Rattle.dbg_laws.proofs.PlayLemmas.{possible}
 use Rattle.dbg_laws.proofs.UndoLemmas.{with_without, within_without}
 use Rattle.event_log.specs.EventOrders.{IsEventOrder, Continues, no_events}
+use Rattle.event_log.specs.FirstCuts.{cuts_before, IsLatest}
 
 -- If no process may undo, none has an event.
 
@@ -81,9 +83,32 @@ sizes w some = kinds_there some.0 w some.1 ∙ sym some.1.state.places
 abbrev pub MayAny : Scene → ℕ → Type 0
 MayAny w p = (P : Program) → IsWorldOf P w → MayUndo P (history_of w.state) p
 
--- of the first n processes this one may undo its last event, or none may
-abbrev pub IsBest : Scene → ℕ → Option Pid → Type 0
-IsBest w n best = MatchOption best ((q : ℕ) → q < n → IsStuck w q) (λ pid. (pid.0 < length w.state.places) × MayAny w pid.0)
+-- among the first n processes, none that may undo its last event is beyond more cuts
+abbrev pub IsAhead : List (List ℕ) → Scene → ℕ → ℕ → Type 0
+IsAhead cuts w n p = (P : Program) (q : ℕ) → q < n → IsWorldOf P w → MayUndo P (history_of w.state) q
+    → cuts_before cuts w.state q ≤ cuts_before cuts w.state p
+
+-- of the first n processes this one may undo its last event and is ahead, or none may
+abbrev pub IsBest : List (List ℕ) → Scene → ℕ → Option Pid → Type 0
+IsBest cuts w n best = MatchOption best ((q : ℕ) → q < n → IsStuck w q)
+    (λ pid. (pid.0 < length w.state.places) × MayAny w pid.0 × IsAhead cuts w n pid.0)
+
+-- a process that is stuck may not undo
+stuck_not : (w : Scene) (q : ℕ) → IsStuck w q → (P : Program) → IsWorldOf P w → MayUndo P (history_of w.state) q → ⊥
+stuck_not w q (inl none) P of may = let some = may.some in absurd (omega (arith, none, some, choices_counted P w q of))
+stuck_not w q (inr never) P of may = never P of may
+
+-- one more process, which is not ahead of the best one
+ahead_of : (cuts : List (List ℕ)) (w : Scene) (n p : ℕ) → IsAhead cuts w n p
+    → ((P : Program) → IsWorldOf P w → MayUndo P (history_of w.state) n → cuts_before cuts w.state n ≤ cuts_before cuts w.state p)
+    → IsAhead cuts w (n + 1) p
+ahead_of cuts w n p ahead next P q below of may =
+    ⊎_elim
+    (λ (same : q ≡ n).
+    subst (λ (x : ℕ). cuts_before cuts w.state x ≤ cuts_before cuts w.state p) (sym same)
+    (next P of (subst (MayUndo P (history_of w.state)) same may)))
+    (λ (apart : q ≢ n). ahead P q (omega (arith, below, apart)) of may)
+    (cases_eq q n)
 
 pub found_may : {A : Type 0} (w : Scene) (p : ℕ) (r : Result A Refusal) → is_ok r ≡ true → OnOk r (MayAny w p) → MayAny w p
 found_may w p (Ok value) ok may = may
@@ -95,25 +120,49 @@ found_stuck w p (Ok value) failed some cannot = cc
 found_stuck w p (Err refusal) failed some cannot = stuck_by w p refusal some cannot
 
 -- the best one stays if the next process may not undo its last event
-pub best_stays : (w : Scene) (n : ℕ) (best : Option Pid) → IsBest w n best → IsStuck w n → IsBest w (n + 1) best
-best_stays w n (Some pid) is stuck = is
-best_stays w n None is stuck = λ q below.
+pub best_stays : (cuts : List (List ℕ)) (w : Scene) (n : ℕ) (best : Option Pid) → IsBest cuts w n best → IsStuck w n
+    → IsBest cuts w (n + 1) best
+best_stays cuts w n (Some pid) is stuck =
+    (is.0, is.1, ahead_of cuts w n pid.0 is.2 (λ P of may. absurd (stuck_not w n stuck P of may)))
+best_stays cuts w n None is stuck = λ q below.
     ⊎_elim (λ (same : q ≡ n). subst (IsStuck w) (sym same) stuck) (λ (apart : q ≢ n). is q (omega (arith, below, apart))) (cases_eq q n)
 
--- or if there is one already
-pub best_left : (w : Scene) (n : ℕ) (best : Option Pid) → IsBest w n best → best ≢ None → IsBest w (n + 1) best
-best_left w n (Some pid) is some = is
-best_left w n None is some = absurd (some refl)
+-- or if that is not beyond more cuts
+pub best_left : (cuts : List (List ℕ)) (w : Scene) (n : ℕ) (best : Option Pid) → IsBest cuts w n best → best ≢ None
+    → IfSome best (λ pid. cuts_before cuts w.state n ≤ cuts_before cuts w.state pid.0) → IsBest cuts w (n + 1) best
+best_left cuts w n (Some pid) is some fewer = (is.0, is.1, ahead_of cuts w n pid.0 is.2 (λ P of may. fewer))
+best_left cuts w n None is some fewer = absurd (some refl)
+
+-- the next process is ahead of the best one, or the first that may undo its last event
+ahead_by : (cuts : List (List ℕ)) (w : Scene) (n : ℕ) (best : Option Pid) → IsBest cuts w n best
+    → IfSome best (λ pid. cuts_before cuts w.state pid.0 ≤ cuts_before cuts w.state n) → IsAhead cuts w n n
+ahead_by cuts w n (Some pid) is more P q below of may = let few = is.2 P q below of may in omega (arith, few, more)
+ahead_by cuts w n None is more P q below of may = absurd (stuck_not w q (is q below) P of may)
+
+pub best_found : (cuts : List (List ℕ)) (w : Scene) (n : ℕ) (old best : Option Pid) → IsBest cuts w n old
+    → IfSome old (λ pid. cuts_before cuts w.state pid.0 ≤ cuts_before cuts w.state n) → best ≡ Some (record { 0 = n })
+    → n < length w.state.places → MayAny w n → IsBest cuts w (n + 1) best
+best_found cuts w n old best is more found here may =
+    subst (IsBest cuts w (n + 1)) (sym found)
+    (here, may, ahead_of cuts w n n (ahead_by cuts w n old is more) (λ P of own. omega arith))
+
+-- what holds of the best one in this case
+pub of_best : {A : Type 0} (F : Pid → Type 0) (best : Option Pid) → IfSome best (λ pid. A → F pid) → A → IfSome best F
+of_best F (Some pid) by case = by case
+of_best F None by case = tt
 
 -- at the end
-pub best_of_all : (w : Scene) (n : ℕ) (best : Option Pid) → IsSomeWorld w → length w.kinds ≤ n → IsBest w n best
-    → MatchOption best ((p : ℕ) → place_at w.state p ≡ 0) (λ pid. (pid.0 < length w.state.places) × MayAny w pid.0)
-best_of_all w n (Some pid) some all is = is
-best_of_all w n None some all is = none_has_events w some (λ q below. is q (omega (arith, below, all)))
-
-pub best_found : (w : Scene) (n : ℕ) (pid : Pid) (best : Option Pid) → best ≡ Some pid → pid.0 < length w.state.places → MayAny w pid.0
-    → IsBest w n best
-best_found w n pid best is here may = subst (IsBest w n) (sym is) (here, may)
+pub best_of_all : (cuts : List (List ℕ)) (w : Scene) (n : ℕ) (best : Option Pid) → IsSomeWorld w → length w.kinds ≤ n
+    → IsBest cuts w n best → IsLatest cuts w best
+best_of_all cuts w n (Some pid) some all is = (
+  is.0,
+  is.1,
+  λ P q of may.
+      let has = may.some in
+      let here = has_events w.kinds q (omega (arith, has, choices_counted P w q of, events_counted P w q of)) in
+      is.2 P q (omega (arith, here, all)) of may,
+)
+best_of_all cuts w n None some all is = none_has_events w some (λ q below. is q (omega (arith, below, all)))
 
 -- One more event is undone.
 

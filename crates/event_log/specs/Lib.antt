@@ -1,2 +1,3 @@
 pub mod EventOrders
+pub mod FirstCuts
 pub mod TimedEvents
