@@ -95,8 +95,12 @@ impl SourceView<'_> {
         ])
     }
 
-    // Another armed breakpoint that has a cut, so it halts the session after `pass`.
-    fn next_halting(&self, alloc: Global, halting: Name) -> Result<Option<Name>, Refusal> {
+    /// Another armed breakpoint that has a cut, so it halts the session after `pass`.
+    pub(crate) fn next_halting(
+        &self,
+        alloc: Global,
+        halting: Name,
+    ) -> Result<Option<Name>, Refusal> {
         for (name, is_armed) in self.session.book.list(alloc)?.items() {
             if *is_armed && *name != halting && self.has_cut(*name) {
                 return Ok(Some(*name));

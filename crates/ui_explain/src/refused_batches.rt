@@ -1,7 +1,7 @@
 //! Why a command of a batch is refused.
 
 use crate::view::SourceView;
-use dbg_base::{Plan, Refusal};
+use dbg_base::{Name, Plan, Refusal};
 use std::alloc::{AllocError, Global};
 use ui_text::{Notes, Part, meaning};
 
@@ -23,6 +23,19 @@ fn refusal_of(number: u32) -> Option<Refusal> {
         24 => Some(Refusal::NoneEnabled),
         _ => None,
     }
+}
+
+// Whether a breakpoint is armed after these commands, if it exists then. `is_armed` says whether it is armed before them.
+fn is_armed_after(plans: &[Plan], name: Name, is_armed: bool) -> bool {
+    let mut is_armed = is_armed;
+    for plan in plans {
+        match plan {
+            Plan::Break(own, _) | Plan::Arm(own) if *own == name => is_armed = true,
+            Plan::Pass(own) | Plan::Clear(own) if *own == name => is_armed = false,
+            _ => {}
+        }
+    }
+    is_armed
 }
 
 impl SourceView<'_> {
@@ -68,15 +81,38 @@ impl SourceView<'_> {
         }
     }
 
-    // Says which breakpoints may have halted the session in the middle of a batch: those that are armed and have no cut now.
-    fn tell_halting(&self, alloc: Global, notes: &mut Notes) -> Result<(), Refusal> {
+    // Whether a breakpoint that a batch sets is not there before the batch, and is armed and not set once more after these later commands.
+    fn is_new_after(&self, name: Name, later: &[Plan]) -> bool {
+        let is_set_again = later
+            .iter()
+            .any(|plan| matches!(plan, Plan::Break(own, _) if *own == name));
+        self.session.book.find(name).is_none() && !is_set_again && is_armed_after(later, name, true)
+    }
+
+    // Says which breakpoints may halt the session after these commands of a batch: those that are armed then.
+    fn tell_halting(
+        &self,
+        alloc: Global,
+        notes: &mut Notes,
+        plans: &[Plan],
+    ) -> Result<(), Refusal> {
         let marks = self.session.book.list(alloc)?;
         let mut word = "after the commands before it, a breakpoint halts the session: ";
         notes.say(&[])?;
         for (name, is_armed) in marks.items() {
-            if *is_armed && !self.has_cut(*name) {
+            if is_armed_after(plans, *name, *is_armed) {
                 notes.add(&[Part::Text(word), Part::Name(*name)])?;
                 word = " or ";
+            }
+        }
+        for (at, plan) in plans.iter().enumerate() {
+            let later = plans.get(at.saturating_add(1)..).unwrap_or(&[]);
+            match plan {
+                Plan::Break(name, _) if self.is_new_after(*name, later) => {
+                    notes.add(&[Part::Text(word), Part::Name(*name)])?;
+                    word = " or ";
+                }
+                _ => {}
             }
         }
         Ok(())
@@ -100,7 +136,10 @@ impl SourceView<'_> {
         notes.add(&[Part::Text(": "), Part::Text(meaning(number))])?;
         match plans.first() {
             Some(plan) if at == 1 => self.tell_first(alloc, notes, plan, number),
-            _ if number == 9 => self.tell_halting(alloc, notes),
+            _ if number == 9 => {
+                let before = (at as usize).saturating_sub(1);
+                self.tell_halting(alloc, notes, plans.get(..before).unwrap_or(plans))
+            }
             _ => Ok(notes.say(&[Part::Text(
                 "the commands before it were accepted, and are undone: of a batch all commands are made, or none",
             )])?),

@@ -46,16 +46,25 @@ impl SourceView<'_> {
         Ok(any)
     }
 
-    // Says that a breakpoint halts the session, if one does.
-    fn tell_halted(&self, notes: &mut Notes) -> Result<(), AllocError> {
-        match self.session.book.halted() {
-            Some(name) => notes.say(&[
-                Part::Text("the breakpoint "),
-                Part::Name(name),
-                Part::Text(" halts the session: `pass` lets it continue"),
-            ]),
-            None => Ok(()),
+    // Says that a breakpoint halts the session, if one does, and what `pass` would do.
+    fn tell_halted(&self, alloc: Global, notes: &mut Notes) -> Result<(), Refusal> {
+        let Some(name) = self.session.book.halted() else {
+            return Ok(());
+        };
+        notes.say(&[
+            Part::Text("the breakpoint "),
+            Part::Name(name),
+            Part::Text(" halts the session: `pass` "),
+        ])?;
+        match self.next_halting(alloc, name)? {
+            Some(next) => notes.add(&[
+                Part::Text("disarms it, and then the breakpoint "),
+                Part::Name(next),
+                Part::Text(" does"),
+            ])?,
+            None => notes.add(&[Part::Text("lets it continue")])?,
         }
+        Ok(())
     }
 
     /// Says which commands can fire in the present state, or that none can: those of the process of this name, or of all processes if the
@@ -77,7 +86,7 @@ impl SourceView<'_> {
                 Part::Text(" can fire"),
             ])?;
         }
-        Ok(self.tell_halted(notes)?)
+        self.tell_halted(alloc, notes)
     }
 
     // Shows a command, and says what prevents it from firing.
@@ -107,7 +116,7 @@ impl SourceView<'_> {
                 self.tell_command(alloc, notes, Pid(p), Choice(number))?;
             }
         }
-        Ok(self.tell_halted(notes)?)
+        self.tell_halted(alloc, notes)
     }
 
     fn tell_values(&self, notes: &mut Notes, pid: Pid) -> Result<(), AllocError> {
