@@ -42,7 +42,8 @@ def page_problem(suite, file):
     page, session = FinalState(read_page(draw(suite, "html", file).decode())), Session(suite, file)
     end = len(session.lines)
     replies = session.replies({end: list(page.answers)})
-    problems = wrong_answers(replies, {**page.replies, **{(end, question): answer for question, answer in page.answers.items()}})
+    shown = {number: reply for number, reply in page.replies.items() if reply}  # a directive has no reply
+    problems = wrong_answers(replies, {**shown, **{(end, question): answer for question, answer in page.answers.items()}})
     problems += wrong_answers({name: shown_reasons(session, name) for name in page.reasons}, page.reasons)
     return "\n".join(problems)
 
