@@ -1,6 +1,7 @@
 //! Interactive sessions and sessions with expectations.
 #![tactic(auto)]
 
+mod comparing;
 mod drawing;
 mod expanding;
 mod filling;
@@ -15,6 +16,7 @@ mod sentences;
 mod session_input;
 mod testing;
 
+pub use comparing::{Comparison, PlayedLine, compare};
 pub use drawing::{Drawn, draw, draw_status};
 pub use expanding::expand;
 pub use filling::fill_session;

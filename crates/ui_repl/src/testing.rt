@@ -1,5 +1,6 @@
 //! Sessions with expectations.
 
+use crate::comparing::{PlayedLine, compare};
 use crate::expanding::write_text;
 use crate::plain_lines::replies_to;
 use crate::playing::{PlayedSession, is_reported, next_reply, wanted};
@@ -19,30 +20,19 @@ pub enum Tested {
     Failed,
 }
 
-// A line whose reply is not the expected one.
+// A line of a session, and how many replies come before its last one, or before it if it has none.
 #[derive(Clone, Copy)]
-struct Difference<'a> {
-    // The line's number in the session, from 1.
-    number: usize,
-    line: &'a [u8],
-    wanted: &'a [u8],
-    // How many replies come before the reply to the line.
+struct SessionLine<'a> {
+    text: &'a [u8],
     before: usize,
 }
 
-// A line of a session that is not as it must be.
-#[derive(Clone, Copy)]
-enum Wrong<'a> {
-    Reply(Difference<'a>),
-    // The line with this number gives an expected reply, and no command line is before it.
-    Misplaced(usize, &'a [u8]),
-}
-
-// The comparison of a session with its replies: the first line that is wrong, and how many replies were compared before it.
-#[derive(Clone, Copy)]
-struct Comparison<'a> {
-    wrong: Option<Wrong<'a>>,
-    compared: usize,
+// The lines of a session that was played: what they are for a comparison, and their texts. The first one has this number in the session.
+#[derive(Drop)]
+struct SessionLines<'a> {
+    first: usize,
+    played: Vec<PlayedLine<'a>>,
+    lines: Vec<SessionLine<'a>>,
 }
 
 // Whether the line is blank or a comment.
@@ -50,70 +40,105 @@ fn is_remark(line: &[u8]) -> bool {
     matches!(next_word(without_return(line)).0.first(), None | Some(b'#'))
 }
 
-// Compares the replies of a session with the output of the interactive session. The reply to a line that is short for several lines is the
-// last one.
-fn compare<'a>(alloc: Global, played: &PlayedSession<'a>) -> Result<Comparison<'a>, AllocError> {
-    let (mut number, lines) = played.command_lines();
-    let mut asked = None;
-    let mut compared = 0usize;
-    let mut replies = 0usize;
-    let mut rest = played.page();
-    let mut reply: &[u8] = &[];
-    for line in lines.split(|byte| *byte == b'\n') {
-        if let Some(wanted) = wanted(line) {
-            let wrong = match asked {
-                Some(asked) if wanted == reply => None,
-                Some(asked) => Some(Wrong::Reply(Difference { wanted, ..asked })),
-                None => Some(Wrong::Misplaced(number, line)),
-            };
-            if wrong.is_some() {
-                return Ok(Comparison { wrong, compared });
-            }
-            compared = compared.saturating_add(1);
-            asked = None;
-        } else if !is_remark(line) {
-            asked = None;
-            let given = replies_to(alloc, played.model(), line, rest)?;
-            rest = given.rest;
-            replies = replies.saturating_add(given.count);
-            if let Some(last) = given.last {
-                reply = last;
-                asked = Some(Difference {
-                    number,
-                    line,
-                    wanted: &[],
-                    before: replies.saturating_sub(1),
-                });
+impl<'a> SessionLines<'a> {
+    fn push(
+        &mut self,
+        played: PlayedLine<'a>,
+        text: &'a [u8],
+        before: usize,
+    ) -> Result<(), AllocError> {
+        self.played.push(played)?;
+        Ok(self.lines.push(SessionLine { text, before })?)
+    }
+
+    // The lines of a session. The reply to a line that is short for several lines is the last one.
+    fn of(alloc: Global, session: &'a PlayedSession<'_>) -> Result<SessionLines<'a>, AllocError> {
+        let (first, text) = session.command_lines();
+        let mut lines = SessionLines {
+            first,
+            played: Vec::new(alloc),
+            lines: Vec::new(alloc),
+        };
+        let mut rest = session.page();
+        let mut count = 0usize;
+        for line in text.split(|byte| *byte == b'\n') {
+            if let Some(wanted) = wanted(line) {
+                lines.push(PlayedLine::Expected(wanted), line, count)?;
+            } else if is_remark(line) {
+                lines.push(PlayedLine::Remark, line, count)?;
+            } else {
+                let replies = replies_to(alloc, session.model(), line, rest)?;
+                rest = replies.rest;
+                count = count.saturating_add(replies.count);
+                let played = match replies.last {
+                    Some(reply) => PlayedLine::Answered(reply),
+                    None => PlayedLine::Unanswered,
+                };
+                lines.push(played, line, count.saturating_sub(1))?;
             }
         }
-        number = number.saturating_add(1);
+        Ok(lines)
     }
-    Ok(Comparison {
-        wrong: None,
-        compared,
-    })
+
+    // The position of the last line before this one that is no remark, if it was answered.
+    fn answered_before(&self, place: usize) -> Option<usize> {
+        let before = self.played.as_slice().get(..place)?;
+        let at = before
+            .iter()
+            .rposition(|line| !matches!(line, PlayedLine::Remark))?;
+        match before.get(at) {
+            Some(PlayedLine::Answered(_)) => Some(at),
+            _ => None,
+        }
+    }
+
+    // Reports the line at a position, whose expected reply is not that of the line before it.
+    fn tell_wrong(
+        &self,
+        alloc: Global,
+        name: &str,
+        place: usize,
+        page: &[u8],
+    ) -> Result<Vec<u8>, AllocError> {
+        let wanted = match self.played.as_slice().get(place) {
+            Some(PlayedLine::Expected(wanted)) => *wanted,
+            _ => &[],
+        };
+        let asked = self.answered_before(place);
+        let Some(line) = self.lines.as_slice().get(asked.unwrap_or(place)) else {
+            return Ok(Vec::new(alloc));
+        };
+        let number = self.first.saturating_add(asked.unwrap_or(place));
+        if asked.is_some() {
+            tell_difference(alloc, name, number, *line, wanted, page)
+        } else {
+            tell_misplaced(alloc, name, number, line.text)
+        }
+    }
 }
 
 // Reports a line whose reply is not the expected one, with the explanation of that reply.
 fn tell_difference(
     alloc: Global,
     name: &str,
-    difference: &Difference<'_>,
+    number: usize,
+    line: SessionLine<'_>,
+    wanted: &[u8],
     page: &[u8],
 ) -> Result<Vec<u8>, AllocError> {
     let mut text = Vec::new(alloc);
     let mut rest = page;
     let mut reply: &[u8] = &[];
-    for _ in 0..difference.before.saturating_add(1) {
+    for _ in 0..line.before.saturating_add(1) {
         (reply, rest) = next_reply(rest);
     }
     text.extend_from_slice(name.as_bytes())?;
     text.extend_from_slice(b":")?;
-    text.extend_from_slice(Buffer::new().format(difference.number).as_bytes())?;
+    text.extend_from_slice(Buffer::new().format(number).as_bytes())?;
     text.extend_from_slice(b": ")?;
-    text.extend_from_slice(difference.line)?;
+    text.extend_from_slice(line.text)?;
     text.extend_from_slice(b"\n  expected: ")?;
-    text.extend_from_slice(difference.wanted)?;
+    text.extend_from_slice(wanted)?;
     text.extend_from_slice(b"\n  reply:    ")?;
     text.extend_from_slice(reply)?;
     text.extend_from_slice(b"\n")?;
@@ -172,19 +197,12 @@ fn tell_passed(alloc: Global, name: &str, compared: usize) -> Result<Vec<u8>, Al
 fn tell_comparison(
     alloc: Global,
     name: &str,
-    comparison: &Comparison<'_>,
+    lines: &SessionLines<'_>,
     page: &[u8],
 ) -> Result<(Vec<u8>, Tested), AllocError> {
+    let comparison = compare(lines.played.as_slice());
     match comparison.wrong {
-        Some(Wrong::Reply(difference)) => {
-            Ok((
-                tell_difference(alloc, name, &difference, page)?,
-                Tested::Failed,
-            ))
-        }
-        Some(Wrong::Misplaced(number, line)) => {
-            Ok((tell_misplaced(alloc, name, number, line)?, Tested::Failed))
-        }
+        Some(place) => Ok((lines.tell_wrong(alloc, name, place, page)?, Tested::Failed)),
         None if comparison.compared == 0 => {
             let what = b"no line `> REPLY` gives an expected reply\n";
             Ok((tell_named(alloc, name, what)?, Tested::Failed))
@@ -220,8 +238,8 @@ pub fn test_session<W: Sink>(
             return Ok(Tested::Failed);
         }
     }
-    let comparison = compare(alloc, &played)?;
-    let (text, tested) = tell_comparison(alloc, name, &comparison, played.page())?;
+    let lines = SessionLines::of(alloc, &played)?;
+    let (text, tested) = tell_comparison(alloc, name, &lines, played.page())?;
     write_text(text.as_slice(), writer)?;
     Ok(tested)
 }
