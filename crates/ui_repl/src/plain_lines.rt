@@ -33,6 +33,26 @@ fn command_word(line: &[u8]) -> (&[u8], &[u8]) {
     }
 }
 
+// The command of a line, without the heads `for ..:` before it: what follows the last colon outside brackets and parentheses.
+fn after_heads(line: &[u8]) -> &[u8] {
+    if command_word(line).0 != b"for".as_slice() {
+        return line;
+    }
+    let mut depth = 0usize;
+    let mut place = 0usize;
+    let mut end = 0usize;
+    for byte in line {
+        place = place.saturating_add(1);
+        match byte {
+            b'(' | b'[' => depth = depth.saturating_add(1),
+            b')' | b']' => depth = depth.saturating_sub(1),
+            b':' if depth == 0 => end = place,
+            _ => {}
+        }
+    }
+    line.get(end..).unwrap_or(line)
+}
+
 // How many words there are. Blanks in brackets or parentheses separate no words.
 fn count_words(bytes: &[u8]) -> usize {
     let mut count = 0usize;
@@ -77,7 +97,7 @@ pub(crate) fn completed(alloc: Global, line: &[u8]) -> Result<Vec<u8>, AllocErro
         return Ok(Vec::from_slice(alloc, line)?);
     }
     let code = without_return(without_comment(line));
-    let (word, arguments) = command_word(code);
+    let (word, arguments) = command_word(after_heads(code));
     match whole_word(word, count_words(arguments)) {
         Some(whole) => {
             let end = code.len().saturating_sub(arguments.len());
