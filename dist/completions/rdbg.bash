@@ -15,7 +15,7 @@ _rdbg() {
     choices='auto always never'
   elif [ "$before" = --theme ]; then
     choices='auto light dark'
-  elif [ "$before" = --turns ] || [ "$before" = --at ] || [ "$before" = --width ] || [ "$before" = --last ]; then
+  elif [ "$before" = --turns ] || [ "$before" = --at ] || [ "$before" = --width ] || [ "$before" = --last ] || [ "$before" = --only ]; then
     return
   elif [[ $current == -* ]]; then
     case $word in
@@ -23,7 +23,7 @@ _rdbg() {
       crew) choices='--turns --help' ;;
       talk) choices='--color --help' ;;
       test) choices='--fill --help' ;;
-      draw) choices='--as --at --at-halt --last --width --theme --help' ;;
+      draw) choices='--as --at --at-halt --last --only --width --theme --help' ;;
       *) choices='--help' ;;
     esac
   fi

@@ -24,7 +24,7 @@ pub enum Coloring {
 
 /// The work on an input.
 #[derive(Clone, Copy, Debug, PartialEq, Eq)]
-pub enum Work {
+pub enum Work<'a> {
     /// A job whose output is for programs.
     Job(Job),
     /// Check a program text, and explain what is wrong.
@@ -34,14 +34,14 @@ pub enum Work {
     /// Answer and explain the lines of a person.
     Talk(Coloring),
     /// Play a session, and draw it.
-    Draw(Picture),
+    Draw(Picture<'a>),
 }
 
 /// What the arguments ask for.
 #[derive(Debug, Drop)]
 pub enum Request<'a> {
     /// This work, with the file of this name, or with standard input.
-    Work(Work, Option<&'a str>),
+    Work(Work<'a>, Option<&'a str>),
     /// Play the sessions of these files, at least one, and compare their replies.
     Test(Vec<&'a str>),
     /// Print the session of this file with the replies that it has now.

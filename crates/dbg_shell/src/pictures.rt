@@ -59,6 +59,11 @@ pub(crate) fn draw<'a>(alloc: Global) -> Result<Command<'a>, AllocError> {
             .help("Draws at most the last N events"),
     )?
     .arg(
+        Arg::new(alloc, "only").long("only").value_name("P,Q").help(
+            "Draws only these processes, their names separated by commas",
+        ),
+    )?
+    .arg(
         Arg::new(alloc, "theme")
             .long("theme")
             .value_name("COLOURS")
@@ -112,6 +117,11 @@ fn conflict(matches: &ArgMatches<'_>, form: PictureForm, moment: Moment) -> Opti
             "a page and a log have all events: '--last' cannot be used with '--as html' or '--as shiviz'",
         );
     }
+    if has_all_events && matches.get_str("only").is_some() {
+        return Some(
+            "a page and a log have all processes: '--only' cannot be used with '--as html' or '--as shiviz'",
+        );
+    }
     if form != PictureForm::Svg && matches.get_str("theme").is_some() {
         return Some("only an svg picture has a theme: '--theme' cannot be used with another form");
     }
@@ -119,10 +129,10 @@ fn conflict(matches: &ArgMatches<'_>, form: PictureForm, moment: Moment) -> Opti
 }
 
 /// The picture that the arguments of `draw` ask for.
-pub(crate) fn named_picture(
+pub(crate) fn named_picture<'a>(
     command: &mut Command<'_>,
-    matches: &ArgMatches<'_>,
-) -> Result<Picture, Error> {
+    matches: &ArgMatches<'a>,
+) -> Result<Picture<'a>, Error> {
     let form = named_form(matches.get_str("as"));
     let moment = named_moment(matches);
     if let Some(why) = conflict(matches, form, moment) {
@@ -131,6 +141,7 @@ pub(crate) fn named_picture(
     Ok(Picture {
         form,
         moment,
+        only: matches.get_str("only"),
         width: matches.get_one::<u32>("width").unwrap_or(WIDTH),
         last: matches.get_one::<u32>("last").unwrap_or(ALL_EVENTS),
         theme: named_theme(matches.get_str("theme")),

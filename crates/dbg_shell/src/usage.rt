@@ -206,11 +206,11 @@ fn command<'a>(alloc: Global) -> Result<Command<'a>, AllocError> {
 }
 
 // The work of the subcommand of this name.
-fn named_work(
+fn named_work<'a>(
     command: &mut Command<'_>,
     name: &str,
-    matches: &ArgMatches<'_>,
-) -> Result<Work, Error>
+    matches: &ArgMatches<'a>,
+) -> Result<Work<'a>, Error>
     ensures { IfOk result IsWork }
 {
     match name {

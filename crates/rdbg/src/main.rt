@@ -60,7 +60,7 @@ fn work_from<R: Threads + Wait + Sync, I: Read + Typed + Drop, W: Sink, E: Sink>
     rt: &R,
     alloc: Global,
     width: usize,
-    work: Work,
+    work: Work<'_>,
     input: I,
     writer: &mut W,
     errors: &mut E,
@@ -75,7 +75,7 @@ fn work_from<R: Threads + Wait + Sync, I: Read + Typed + Drop, W: Sink, E: Sink>
 }
 
 // Whether standard input follows a file. Nobody is to type what a picture or an expanded session is made of.
-fn reads_on(work: Work, is_typed: bool) -> bool {
+fn reads_on(work: Work<'_>, is_typed: bool) -> bool {
     match work {
         Work::Job(Job::Run) | Work::Talk(_) => true,
         Work::Expand | Work::Draw(_) => !is_typed,
@@ -84,7 +84,7 @@ fn reads_on(work: Work, is_typed: bool) -> bool {
 }
 
 // Whether a person types an interactive session.
-fn is_typed_session(work: Work, is_typed: bool) -> bool {
+fn is_typed_session(work: Work<'_>, is_typed: bool) -> bool {
     is_typed && matches!(work, Work::Talk(_))
 }
 
@@ -92,7 +92,7 @@ fn is_typed_session(work: Work, is_typed: bool) -> bool {
 fn work_with_file<R: Threads + Wait + Sync, W: Sink, E: Sink>(
     rt: &HostRuntime,
     threads: &R,
-    work: Work,
+    work: Work<'_>,
     file: File,
     writer: &mut W,
     errors: &mut E,
@@ -181,7 +181,7 @@ fn fill<W: Sink, E: Sink>(rt: &HostRuntime, name: &str, writer: &mut W, errors: 
 fn do_work<R: Threads + Wait + Sync, W: Sink, E: Sink>(
     rt: &HostRuntime,
     threads: &R,
-    work: Work,
+    work: Work<'_>,
     file: Option<&str>,
     writer: &mut W,
     errors: &mut E,

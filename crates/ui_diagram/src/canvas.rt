@@ -6,11 +6,17 @@ use std::alloc::{AllocError, Global};
 // The least width of a column.
 const NARROWEST: usize = 8;
 
+/// Where the column of a process begins, unless it is not shown.
+#[derive(Clone, Copy)]
+struct Column {
+    begin: usize,
+    is_shown: bool,
+}
+
 /// The columns of the processes.
 #[derive(Drop)]
 pub(crate) struct Canvas {
-    // Where each column begins.
-    places: Vec<usize>,
+    columns: Vec<Column>,
     // Where the last one ends.
     end: usize,
 }
@@ -21,16 +27,21 @@ pub(crate) struct CanvasRow {
     bytes: Vec<u8>,
 }
 
-// How wide a column is that needs so much, if no column is wider than another number, except that none is narrower than the least.
-fn column(need: usize, widest: usize) -> usize {
-    need.min(widest).max(NARROWEST)
+// How wide a column is that needs so much, if no column is wider than another number, except that none is narrower than the least. Only the
+// column of a process that is not shown needs nothing.
+fn width_of(need: usize, widest: usize) -> usize {
+    if need == 0 {
+        0
+    } else {
+        need.min(widest).max(NARROWEST)
+    }
 }
 
 // How wide all columns are.
 fn total(needs: &[usize], widest: usize) -> usize {
     let mut total = 0usize;
     for need in needs {
-        total = total.saturating_add(column(*need, widest));
+        total = total.saturating_add(width_of(*need, widest));
     }
     total
 }
@@ -51,13 +62,14 @@ impl Canvas {
     /// Columns that need so much, within this width. If that is too little, the widest columns get less than they need.
     pub(crate) fn new(alloc: Global, needs: &[usize], width: usize) -> Result<Canvas, AllocError> {
         let widest = widest(needs, width);
-        let mut places = Vec::new(alloc);
+        let mut columns = Vec::new(alloc);
         let mut end = 0usize;
         for need in needs {
-            places.push(end)?;
-            end = end.saturating_add(column(*need, widest));
+            let (begin, is_shown) = (end, *need > 0);
+            columns.push(Column { begin, is_shown })?;
+            end = end.saturating_add(width_of(*need, widest));
         }
-        Ok(Canvas { places, end })
+        Ok(Canvas { columns, end })
     }
 
     /// Makes the last column so wide that the rows have this width at least.
@@ -67,7 +79,10 @@ impl Canvas {
 
     /// The position of the line of a process.
     pub(crate) fn place(&self, pid: Pid) -> usize {
-        self.places.get(pid.0 as usize).copied().unwrap_or(self.end)
+        match self.columns.get(pid.0 as usize) {
+            Some(column) => column.begin,
+            None => self.end,
+        }
     }
 
     /// How many characters a column has room for, with a blank before the next one.
@@ -85,11 +100,13 @@ impl Canvas {
         Ok(CanvasRow { bytes })
     }
 
-    /// A row with the line of each process.
+    /// A row with the line of each process that is shown.
     pub(crate) fn lines(&self, alloc: Global) -> Result<CanvasRow, AllocError> {
         let mut row = self.filled(alloc, b' ')?;
-        for place in &self.places {
-            row.put(*place, b"|");
+        for column in &self.columns {
+            if column.is_shown {
+                row.put(column.begin, b"|");
+            }
         }
         Ok(row)
     }

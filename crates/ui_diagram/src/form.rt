@@ -30,9 +30,11 @@ pub enum Moment {
 
 /// A picture that is asked for.
 #[derive(Clone, Copy, Debug, PartialEq, Eq)]
-pub struct Picture {
+pub struct Picture<'a> {
     pub form: PictureForm,
     pub moment: Moment,
+    /// The names of the processes that are shown, separated by commas, if not all are.
+    pub only: Option<&'a str>,
     /// How many characters wide a diagram of characters is.
     pub width: u32,
     /// At most this many events are shown, the last ones.

@@ -6,8 +6,8 @@ use std::alloc::{AllocError, Global};
 use ui_explain::ProcessView;
 use ui_text::{Notes, Part};
 use ui_timeline::{
-    NamedCut, ShownEvent, Timeline, bytes_of, event_of, halting, named_cuts, put_left_out,
-    put_setting, size,
+    NamedCut, Selection, ShownEvent, Timeline, bytes_of, event_of, halting, named_cuts,
+    put_left_out, put_setting, size,
 };
 
 // The most events that are shown. Issue trackers draw no diagram of more than 50,000 characters.
@@ -18,6 +18,7 @@ const SHOWN: usize = 400;
 struct MermaidSheet<'a> {
     alloc: Global,
     view: SessionView<'a>,
+    selection: &'a Selection,
     timeline: &'a Timeline,
 }
 
@@ -46,10 +47,10 @@ impl MermaidSheet<'_> {
     }
 
     fn say_participants(&self, notes: &mut Notes) -> Result<(), AllocError> {
-        for p in 0..self.view.program.processes() {
+        for pid in self.selection.pids() {
             notes.say(&[Part::Text("  participant ")])?;
-            self.put_alias(notes, Pid(p))?;
-            notes.add(&[Part::Text(" as "), self.scope(Pid(p)).name()])?;
+            self.put_alias(notes, *pid)?;
+            notes.add(&[Part::Text(" as "), self.scope(*pid).name()])?;
         }
         Ok(())
     }
@@ -65,9 +66,13 @@ impl MermaidSheet<'_> {
         notes.add(&[Part::Text(": ")])
     }
 
+    // Begins a note over all processes that are shown.
     fn say_wide_note(&self, notes: &mut Notes) -> Result<(), AllocError> {
-        let last = self.view.program.processes().saturating_sub(1);
-        self.say_note(notes, Pid(0), Pid(last))
+        let pids = self.selection.pids();
+        match (pids.first(), pids.last()) {
+            (Some(first), Some(last)) => self.say_note(notes, *first, *last),
+            _ => Ok(()),
+        }
     }
 
     // Begins an arrow.
@@ -86,10 +91,11 @@ impl MermaidSheet<'_> {
         notes.add(&[Part::Text(": "), Part::Number(value)])
     }
 
-    // The message that an event received. Its arrow is where it was received.
+    // The message that an event received. Its arrow is where it was received. There is none from a process that is not shown.
     fn say_received(&self, notes: &mut Notes, shown: ShownEvent) -> Result<(), AllocError> {
-        let Some(received) = self.timeline.received_by(self.view.world, shown) else {
-            return Ok(());
+        let received = match self.timeline.received_by(self.view.world, shown) {
+            Some(received) if self.selection.contains(received.source) => received,
+            _ => return Ok(()),
         };
         self.say_arrow(notes, received.source, "->>", shown.pid, received.value)?;
         let next = received.sender.saturating_add(1);
@@ -147,19 +153,33 @@ impl MermaidSheet<'_> {
         Ok(())
     }
 
+    // Adds the message that an event received from a process that is not shown.
+    fn put_hidden_source(&self, parts: &mut Notes, shown: ShownEvent) -> Result<(), AllocError> {
+        match self.timeline.received_by(self.view.world, shown) {
+            Some(received) if !self.selection.contains(received.source) => {
+                let from = self.scope(received.source).name();
+                let value = Part::Number(received.value);
+                parts.say(&[Part::Text("receives "), value, Part::Text(" from "), from])
+            }
+            _ => Ok(()),
+        }
+    }
+
     fn say_event(&self, notes: &mut Notes, shown: ShownEvent) -> Result<(), AllocError> {
         self.say_received(notes, shown)?;
         let mut parts = self.settings(shown)?;
+        self.put_hidden_source(&mut parts, shown)?;
         let Some(sent) = self.timeline.sent_by(self.view.world, shown) else {
             return self.say_parts(notes, shown.pid, &parts);
         };
-        if !sent.is_on_its_way && !self.is_received_next(shown) {
+        let has_target = self.selection.contains(sent.target);
+        if !has_target || !sent.is_on_its_way && !self.is_received_next(shown) {
             let to = self.scope(sent.target).name();
             let value = Part::Number(sent.value);
             parts.say(&[Part::Text("sends "), value, Part::Text(" to "), to])?;
         }
         self.say_parts(notes, shown.pid, &parts)?;
-        if sent.is_on_its_way {
+        if has_target && sent.is_on_its_way {
             self.say_arrow(notes, shown.pid, "--)", sent.target, sent.value)?;
             notes.add(&[Part::Text(" (on its way)")])?;
         }
@@ -189,29 +209,59 @@ impl MermaidSheet<'_> {
         Ok(())
     }
 
-    fn say_left_out(&self, notes: &mut Notes, count: usize) -> Result<(), AllocError> {
+    // How many of these events of the processes that are shown are left out, if there are some.
+    fn say_left_out(&self, notes: &mut Notes, left: &[ShownEvent]) -> Result<(), AllocError> {
+        let count = self.selection.count(left);
         if count == 0 {
             return Ok(());
         }
         self.say_wide_note(notes)?;
         put_left_out(notes, count)
     }
+
+    // Which processes are not shown, if there are some.
+    fn say_hidden(&self, notes: &mut Notes) -> Result<(), AllocError> {
+        if self.selection.is_whole() {
+            return Ok(());
+        }
+        self.say_wide_note(notes)?;
+        self.selection.put_hidden(notes, self.view.program)
+    }
+
+    // The events after the first ones, with the cuts.
+    fn say_events(
+        &self,
+        notes: &mut Notes,
+        first: usize,
+        cuts: &[NamedCut],
+    ) -> Result<(), AllocError> {
+        let mut place = first;
+        for shown in self.timeline.last_events(first) {
+            self.say_cuts(notes, place, cuts)?;
+            if self.selection.contains(shown.pid) {
+                self.say_event(notes, *shown)?;
+            }
+            place = place.saturating_add(1);
+        }
+        self.say_cuts(notes, place, cuts)
+    }
 }
 
 /// Draws a session in its present state as a sequence diagram of Mermaid: its lines. An arrow is where its message was received, and a dashed
-/// one where a message was sent that is on its way. Notes say what the events set, and where the cuts of breakpoints are. Of a long history
-/// the end is shown, at most so many events.
+/// one where a message was sent that is on its way. Notes say what the events set, and where the cuts of breakpoints are. Only the events of
+/// the processes of the selection are shown, and the last of them.
 pub fn draw_mermaid(
     alloc: Global,
     notes: &mut Notes,
     view: SessionView<'_>,
-    last: usize,
+    selection: &Selection,
 ) -> Result<(), Refusal> {
     let mut cuts = named_cuts(alloc, view)?;
     let timeline = Timeline::of(alloc, view.world, cuts.as_mut_slice())?;
     let sheet = MermaidSheet {
         alloc,
         view,
+        selection,
         timeline: &timeline,
     };
     notes.say(&[Part::Text("sequenceDiagram")])?;
@@ -220,13 +270,8 @@ pub fn draw_mermaid(
         notes.say(&[Part::Text("  %% "), Part::Bytes(bytes_of(&heading))])?;
     }
     sheet.say_participants(notes)?;
-    let first = timeline.left_out(last.min(SHOWN));
-    sheet.say_left_out(notes, first)?;
-    let mut place = first;
-    for shown in timeline.last_events(first) {
-        sheet.say_cuts(notes, place, cuts.as_slice())?;
-        sheet.say_event(notes, *shown)?;
-        place = place.saturating_add(1);
-    }
-    Ok(sheet.say_cuts(notes, place, cuts.as_slice())?)
+    let first = timeline.left_out_of(selection, selection.last().min(SHOWN));
+    sheet.say_hidden(notes)?;
+    sheet.say_left_out(notes, timeline.events().get(..first).unwrap_or(&[]))?;
+    Ok(sheet.say_events(notes, first, cuts.as_slice())?)
 }

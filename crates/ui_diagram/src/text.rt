@@ -9,7 +9,7 @@ use dbg_command::SessionView;
 use std::alloc::{AllocError, Global};
 use ui_text::{Notes, Part};
 use ui_timeline::{
-    NamedCut, ShownEvent, Timeline, bytes_of, halting, named_cuts, put_left_out, size,
+    NamedCut, Selection, ShownEvent, Timeline, bytes_of, halting, named_cuts, put_left_out, size,
 };
 use words::{TextScene, words};
 
@@ -49,10 +49,10 @@ impl TextSheet<'_> {
 
     fn say_names(&self, notes: &mut Notes) -> Result<(), AllocError> {
         let mut row = self.canvas.filled(self.scene.alloc, b' ')?;
-        for p in 0..self.scene.processes() {
-            let name = words(self.scene.alloc, &[self.scene.scope(Pid(p)).name()])?;
-            let at = self.canvas.place(Pid(p));
-            row.put_cut(at, bytes_of(&name), self.canvas.room(Pid(p)));
+        for pid in self.scene.selection.pids() {
+            let name = words(self.scene.alloc, &[self.scene.scope(*pid).name()])?;
+            let at = self.canvas.place(*pid);
+            row.put_cut(at, bytes_of(&name), self.canvas.room(*pid));
         }
         say_row(notes, &row)
     }
@@ -93,11 +93,11 @@ impl TextSheet<'_> {
             .timeline
             .received_by(self.scene.view.world, shown)
         {
-            Some(received) => {
+            Some(received) if self.scene.selection.contains(received.source) => {
                 let label = self.scene.received(received)?;
                 self.say_arrow(notes, received.source, shown.pid, b'-', &label)
             }
-            None => Ok(()),
+            _ => Ok(()),
         }
     }
 
@@ -156,10 +156,10 @@ impl TextSheet<'_> {
     ) -> Result<(), AllocError> {
         let mut row = self.canvas.lines(self.scene.alloc)?;
         let mut any = false;
-        for p in 0..self.scene.processes() {
-            if cut.cut.count(Pid(p)) as usize <= own_events(left, Pid(p)) {
+        for pid in self.scene.selection.pids() {
+            if cut.cut.count(*pid) as usize <= own_events(left, *pid) {
                 any = true;
-                self.put_part(&mut row, cut, Pid(p))?;
+                self.put_part(&mut row, cut, *pid)?;
             }
         }
         if any { say_row(notes, &row) } else { Ok(()) }
@@ -167,10 +167,10 @@ impl TextSheet<'_> {
 
     // The messages of each channel that are on their way.
     fn say_all_waiting(&self, notes: &mut Notes) -> Result<(), Refusal> {
-        for p in 0..self.scene.processes() {
-            for q in 0..self.scene.processes() {
-                if let Some(label) = self.scene.waiting(Pid(p), Pid(q))? {
-                    self.say_arrow(notes, Pid(p), Pid(q), b'~', &label)?;
+        for from in self.scene.selection.pids() {
+            for to in self.scene.selection.pids() {
+                if let Some(label) = self.scene.waiting(*from, *to)? {
+                    self.say_arrow(notes, *from, *to, b'~', &label)?;
                 }
             }
         }
@@ -180,11 +180,11 @@ impl TextSheet<'_> {
     fn say_again(&self, notes: &mut Notes) -> Result<(), AllocError> {
         let mut row = self.canvas.lines(self.scene.alloc)?;
         let mut any = false;
-        for p in 0..self.scene.processes() {
-            if let Some(words) = self.scene.again(Pid(p))? {
+        for pid in self.scene.selection.pids() {
+            if let Some(words) = self.scene.again(*pid)? {
                 any = true;
-                let at = self.canvas.place(Pid(p));
-                row.put_cut(at, bytes_of(&words), self.canvas.room(Pid(p)));
+                let at = self.canvas.place(*pid);
+                row.put_cut(at, bytes_of(&words), self.canvas.room(*pid));
             }
         }
         if any { say_row(notes, &row) } else { Ok(()) }
@@ -237,19 +237,30 @@ impl TextSheet<'_> {
         Ok(())
     }
 
-    // How many events are not shown, if there are some.
-    fn say_left_out(&self, notes: &mut Notes, left: &[ShownEvent]) -> Result<(), AllocError> {
-        if left.is_empty() {
+    // Which processes are not shown, if there are some.
+    fn say_hidden(&self, notes: &mut Notes) -> Result<(), AllocError> {
+        if self.scene.selection.is_whole() {
             return Ok(());
         }
         notes.say(&[Part::Text(".. ")])?;
-        put_left_out(notes, left.len())?;
+        let program = self.scene.view.program;
+        self.scene.selection.put_hidden(notes, program)
+    }
+
+    // How many events of the processes that are shown are left out, if there are some.
+    fn say_left_out(&self, notes: &mut Notes, left: &[ShownEvent]) -> Result<(), AllocError> {
+        let count = self.scene.selection.count(left);
+        if count == 0 {
+            return Ok(());
+        }
+        notes.say(&[Part::Text(".. ")])?;
+        put_left_out(notes, count)?;
         notes.add(&[Part::Text(":")])?;
         let mut word = " ";
-        for p in 0..self.scene.processes() {
-            let own = own_events(left, Pid(p));
+        for pid in self.scene.selection.pids() {
+            let own = own_events(left, *pid);
             if own > 0 {
-                let name = self.scene.scope(Pid(p)).name();
+                let name = self.scene.scope(*pid).name();
                 notes.add(&[Part::Text(word), Part::Count(own), Part::Text(" of "), name])?;
                 word = ", ";
             }
@@ -268,8 +279,10 @@ impl TextSheet<'_> {
         let mut place = first;
         for shown in events.get(first..).unwrap_or(&[]) {
             self.say_cuts_across(notes, place, cuts)?;
-            self.say_event(notes, *shown)?;
-            self.say_cut_parts(notes, cuts, *shown)?;
+            if self.scene.selection.contains(shown.pid) {
+                self.say_event(notes, *shown)?;
+                self.say_cut_parts(notes, cuts, *shown)?;
+            }
             place = place.saturating_add(1);
         }
         self.say_cuts_across(notes, place, cuts)
@@ -278,22 +291,23 @@ impl TextSheet<'_> {
 
 /// Draws a session in its present state. Each process has a column with its events downward, each with its number, its command and what it
 /// set. There are arrows for the messages, also for those on their way, the redo lines in brackets, and lines across for the cuts of
-/// breakpoints. Of a long history the end is shown, at most so many events. The columns are as wide as they need to be, but for more than
-/// eight characters each at most so wide that all are within this width.
+/// breakpoints. Only the events of the processes of the selection are shown, and the last of them. The columns are as wide as they need to
+/// be, but for more than eight characters each at most so wide that all are within this width.
 pub fn draw_text(
     alloc: Global,
     notes: &mut Notes,
     view: SessionView<'_>,
+    selection: &Selection,
     width: usize,
-    last: usize,
 ) -> Result<(), Refusal> {
     let mut cuts = named_cuts(alloc, view)?;
     let timeline = Timeline::of(alloc, view.world, cuts.as_mut_slice())?;
     let events = timeline.events();
-    let first = timeline.left_out(last.min(SHOWN));
+    let first = timeline.left_out_of(selection, selection.last().min(SHOWN));
     let scene = TextScene {
         alloc,
         view,
+        selection,
         timeline: &timeline,
     };
     let shown = timeline.last_events(first);
@@ -304,6 +318,7 @@ pub fn draw_text(
     };
     let left = events.get(..first).unwrap_or(&[]);
     sheet.say_heading(notes, cuts.as_slice())?;
+    sheet.say_hidden(notes)?;
     sheet.say_left_out(notes, left)?;
     sheet.say_names(notes)?;
     sheet.say_lines(notes)?;

@@ -61,14 +61,14 @@ impl Arrangement {
         heading: usize,
         words: &[EventWords],
     ) -> Result<Arrangement, AllocError> {
-        let mut falls = zeros(scene, scene.events().len())?;
+        let mut falls = zeros(scene, scene.events.len())?;
         let mut best = arranged(scene, heading, words, falls.as_slice())?;
         let mut from = 0usize;
         for _ in 0..TRIES {
             let Some(place) = best.crossed(falls.as_slice(), from) else {
                 break;
             };
-            if scene.events().len() > MOST_EVENTS {
+            if scene.events.len() > MOST_EVENTS {
                 break;
             }
             add(falls.as_mut_slice(), place, 1);

@@ -37,7 +37,7 @@ fn toward(point: Point, other: Point, distance: i64) -> Point {
 
 // The arrow of a message that an event received.
 fn received_arrow(scene: Scene<'_>, layout: &Layout, shown: ShownEvent) -> Option<Arrow> {
-    let received = scene.timeline.received_by(scene.view.world, shown)?;
+    let received = scene.received(shown)?;
     let from = layout.event(scene, received.source, received.sender);
     let to = layout.event(scene, shown.pid, shown.number);
     Some(Arrow {
@@ -51,10 +51,7 @@ fn received_arrow(scene: Scene<'_>, layout: &Layout, shown: ShownEvent) -> Optio
 
 // The arrow of a message that an event sent and that is on its way. It ends just before the line of its recipient.
 fn waiting_arrow(scene: Scene<'_>, layout: &Layout, shown: ShownEvent) -> Option<Arrow> {
-    let sent = scene.timeline.sent_by(scene.view.world, shown)?;
-    if !sent.is_on_its_way {
-        return None;
-    }
+    let sent = scene.waiting(shown)?;
     let from = layout.event(scene, shown.pid, shown.number);
     let fall = i64::from(shown.pid.0 % 3).saturating_mul(SPREAD);
     let to = Point {

@@ -63,14 +63,13 @@ pub(crate) fn corners(
 ) -> Result<Vec<Point>, AllocError> {
     let mut corners = Vec::new(scene.alloc);
     let mut begin = EDGE;
-    for p in 0..scene.processes() {
-        let next = p.saturating_add(1);
-        let end = if next < scene.processes() {
-            layout.begin(Pid(next))
-        } else {
-            right_of(layout)
+    let pids = scene.selection.pids();
+    for (place, pid) in pids.iter().enumerate() {
+        let end = match pids.get(place.saturating_add(1)) {
+            Some(next) => layout.begin(*next),
+            None => right_of(layout),
         };
-        let y = level_of(scene, layout, cut, Pid(p));
+        let y = level_of(scene, layout, cut, *pid);
         for x in [begin, end] {
             corners.push(Point { x, y })?;
         }
@@ -171,6 +170,9 @@ impl SvgSheet<'_> {
     pub(crate) fn say_deciding(&self, notes: &mut Notes, cut: &NamedCut) -> Result<(), AllocError> {
         for pid in &cut.pids {
             let count = cut.cut.count(*pid);
+            if !self.scene.selection.contains(*pid) {
+                continue;
+            }
             if self.scene.left > 0 && !self.scene.timeline.is_shown(*pid, count, self.scene.left) {
                 continue;
             }

@@ -121,7 +121,8 @@ impl SvgSheet<'_> {
             (true, true) => "words rdbg-end rdbg-halts",
         };
         say_text(notes, class, place.point)?;
-        notes.add(&[Part::Bytes(words.label.as_slice())])?;
+        let label = escaped(self.scene.alloc, words.label.as_slice())?;
+        notes.add(&[Part::Bytes(label.as_slice())])?;
         end_text(notes)
     }
 

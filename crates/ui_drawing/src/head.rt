@@ -110,8 +110,8 @@ impl SvgSheet<'_> {
         }
         notes.say(&[Part::Text("  <title>A session of")])?;
         let mut word = " ";
-        for p in 0..self.scene.processes() {
-            notes.add(&[Part::Text(word), self.scene.scope(Pid(p)).name()])?;
+        for pid in self.scene.selection.pids() {
+            notes.add(&[Part::Text(word), self.scene.scope(*pid).name()])?;
             word = ", ";
         }
         notes.add(&[Part::Text("</title>")])
@@ -119,15 +119,16 @@ impl SvgSheet<'_> {
 
     // How the drawing is to be read.
     fn say_description(&self, notes: &mut Notes) -> Result<(), AllocError> {
-        let count = self.scene.events().len();
+        let count = self.scene.events.len();
         notes.say(&[
             Part::Text("  <desc>"),
             Part::Count(count),
             Part::Text(if count == 1 { " event" } else { " events" }),
         ])?;
-        if self.scene.left > 0 {
+        let left = self.scene.left_out();
+        if left > 0 {
             notes.add(&[Part::Text(" (")])?;
-            put_left_out(notes, self.scene.left)?;
+            put_left_out(notes, left)?;
             notes.add(&[Part::Text(")")])?;
         }
         notes.add(&[Part::Text(

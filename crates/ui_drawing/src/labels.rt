@@ -7,7 +7,9 @@ use event_rows::Event;
 use std::alloc::AllocError;
 use ui_explain::{ProcessView, names_variable};
 use ui_text::{Notes, Part};
-use ui_timeline::{NamedCut, ShownEvent, bytes_of, event_of, halting, put_left_out, size};
+use ui_timeline::{
+    NamedCut, Received, Sent, ShownEvent, bytes_of, event_of, halting, put_left_out, size,
+};
 
 // The most variables that are shown at an event, unless the predicate names more.
 const WORDS: usize = 2;
@@ -107,6 +109,47 @@ impl<'a> Scene<'a> {
         Ok(count)
     }
 
+    /// The message that an event received from a process that is shown.
+    pub(crate) fn received(&self, shown: ShownEvent) -> Option<Received> {
+        let received = self.timeline.received_by(self.view.world, shown)?;
+        if self.selection.contains(received.source) {
+            Some(received)
+        } else {
+            None
+        }
+    }
+
+    /// The message that an event sent to a process that is shown, and that is on its way.
+    pub(crate) fn waiting(&self, shown: ShownEvent) -> Option<Sent> {
+        let sent = self.timeline.sent_by(self.view.world, shown)?;
+        if sent.is_on_its_way && self.selection.contains(sent.target) {
+            Some(sent)
+        } else {
+            None
+        }
+    }
+
+    // Appends the message of an event from or to a process that is not shown to the last line.
+    fn put_hidden_message(&self, words: &mut Notes, shown: ShownEvent) -> Result<(), AllocError> {
+        let world = self.view.world;
+        let message = match (
+            self.timeline.received_by(world, shown),
+            self.timeline.sent_by(world, shown),
+        ) {
+            (Some(received), _) => Some((received.value, " < ", received.source)),
+            (None, Some(sent)) => Some((sent.value, " > ", sent.target)),
+            (None, None) => None,
+        };
+        match message {
+            Some((value, sign, partner)) if !self.selection.contains(partner) => {
+                let name = self.scope(partner).name();
+                let value = Part::Number(value);
+                words.add(&[Part::Text(" "), value, Part::Text(sign), name])
+            }
+            _ => Ok(()),
+        }
+    }
+
     // The words at an event: its number, its command, and the variables that it set. Those that the predicate names are first, and are
     // never left out.
     fn event_label(&self, shown: ShownEvent) -> Result<Vec<u8>, AllocError> {
@@ -124,13 +167,14 @@ impl<'a> Scene<'a> {
                 words.add(&[Part::Text(" ..")])?;
             }
         }
+        self.put_hidden_message(&mut words, shown)?;
         shortened(self.alloc, bytes_of(&words), room)
     }
 
     /// The words at the events that are shown, and at their messages.
     pub(crate) fn words(&self) -> Result<Vec<EventWords>, AllocError> {
         let mut words = Vec::new(self.alloc);
-        for shown in self.events() {
+        for shown in self.events {
             words.push(EventWords {
                 label: self.event_label(*shown)?,
                 message: self.message_label(*shown)?,
@@ -142,38 +186,32 @@ impl<'a> Scene<'a> {
     // The words at the message that an event received, or that it sent and that is on its way. None if there is no such message.
     fn message_label(&self, shown: ShownEvent) -> Result<Option<Notes>, AllocError> {
         let mut words = Notes::new(self.alloc);
-        if let Some(received) = self.timeline.received_by(self.view.world, shown) {
+        if let Some(received) = self.received(shown) {
             words.say(&[Part::Number(received.value)])?;
             return Ok(Some(words));
         }
-        match self.timeline.sent_by(self.view.world, shown) {
-            Some(sent) if sent.is_on_its_way => {
+        match self.waiting(shown) {
+            Some(sent) => {
                 let name = self.scope(sent.target).name();
                 words.say(&[Part::Number(sent.value), Part::Text(" > "), name])?;
                 Ok(Some(words))
             }
-            _ => Ok(None),
+            None => Ok(None),
         }
     }
 
     /// The two processes of that message, the one that sent it first.
     pub(crate) fn message_ends(&self, shown: ShownEvent) -> Option<(Pid, Pid)> {
-        if let Some(received) = self.timeline.received_by(self.view.world, shown) {
-            return Some((received.source, shown.pid));
-        }
-        match self.timeline.sent_by(self.view.world, shown) {
-            Some(sent) if sent.is_on_its_way => Some((shown.pid, sent.target)),
-            _ => None,
+        match self.received(shown) {
+            Some(received) => Some((received.source, shown.pid)),
+            None => Some((shown.pid, self.waiting(shown)?.target)),
         }
     }
 
     /// Whether a message is on its way.
     pub(crate) fn is_waiting(&self) -> bool {
-        let mut events = self.events().iter();
-        events.any(|shown| match self.timeline.sent_by(self.view.world, *shown) {
-            Some(sent) => sent.is_on_its_way,
-            None => false,
-        })
+        let mut events = self.events.iter();
+        events.any(|shown| self.waiting(*shown).is_some())
     }
 
     /// How many events of a process are drawn that can be redone.
@@ -204,10 +242,16 @@ impl<'a> Scene<'a> {
     /// The most such events of a process.
     pub(crate) fn most_again(&self) -> u32 {
         let mut again = 0u32;
-        for p in 0..self.processes() {
-            again = again.max(self.again(Pid(p)));
+        for pid in self.selection.pids() {
+            again = again.max(self.again(*pid));
         }
         again
+    }
+
+    /// How many events of the processes that are shown are left out.
+    pub(crate) fn left_out(&self) -> usize {
+        let left = self.timeline.events().get(..self.left);
+        self.selection.count(left.unwrap_or(&[]))
     }
 }
 
@@ -216,7 +260,7 @@ impl Scene<'_> {
     pub(crate) fn heading(&self) -> Result<Notes, AllocError> {
         let mut heading = Notes::new(self.alloc);
         let Some(cut) = halting(self.cuts) else {
-            let count = self.timeline.events().len();
+            let count = self.selection.count(self.timeline.events());
             let events = Part::Text(if count == 1 { " event" } else { " events" });
             heading.say(&[Part::Count(count), events, Part::Text(", not halted")])?;
             return Ok(heading);
@@ -265,10 +309,15 @@ impl Scene<'_> {
         if self.most_again() > 0 {
             key.say(&[Part::Text("Dotted marks are events that can be redone.")])?;
         }
-        if self.left > 0 {
+        let left = self.left_out();
+        if left > 0 {
             key.say(&[])?;
-            put_left_out(&mut key, self.left)?;
+            put_left_out(&mut key, left)?;
             key.add(&[Part::Text(".")])?;
+        }
+        if !self.selection.is_whole() {
+            key.say(&[])?;
+            self.selection.put_hidden(&mut key, self.view.program)?;
         }
         Ok(key)
     }

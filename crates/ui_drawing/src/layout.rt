@@ -28,6 +28,9 @@ const LEAST_LABEL: i64 = 56;
 
 const LEAST_GUTTER: i64 = 28;
 
+// From the room of a process to that of the next one.
+const GAP: i64 = 12;
+
 /// Where everything is. Each process has a line, with room for the words at arrows on its left and for those at its events on its right.
 #[derive(Drop)]
 pub(crate) struct Layout {
@@ -74,25 +77,34 @@ impl Layout {
             top: lines.saturating_mul(SENTENCE_ROW).saturating_add(38),
         };
         layout.measure_names(scene)?;
-        for (shown, words) in scene.events().iter().zip(words) {
+        for (shown, words) in scene.events.iter().zip(words) {
             layout.measure_event(scene, *shown, words);
         }
-        layout.place_lines(scene.processes())?;
+        layout.place_lines(scene)?;
         Ok(layout)
     }
 
     // Begins with the least rooms. Until the lines are placed, `ends` has the room on the right.
     fn measure_names(&mut self, scene: Scene<'_>) -> Result<(), AllocError> {
         for p in 0..scene.processes() {
-            let name = match scene.view.program.process_name(Pid(p)) {
-                Some(name) => width_of(name.bytes()),
-                None => 0,
-            };
-            self.gutters.push(LEAST_GUTTER)?;
-            self.ends.push(name.max(LEAST_LABEL))?;
-            self.measure_again(scene, Pid(p))?;
+            self.measure_name(scene, Pid(p))?;
         }
         Ok(())
+    }
+
+    // A process that is not shown has no room.
+    fn measure_name(&mut self, scene: Scene<'_>, pid: Pid) -> Result<(), AllocError> {
+        if !scene.selection.contains(pid) {
+            self.gutters.push(0)?;
+            return Ok(self.ends.push(0)?);
+        }
+        let name = match scene.view.program.process_name(pid) {
+            Some(name) => width_of(name.bytes()),
+            None => 0,
+        };
+        self.gutters.push(LEAST_GUTTER)?;
+        self.ends.push(name.max(LEAST_LABEL))?;
+        self.measure_again(scene, pid)
     }
 
     // The words at what a process can redo.
@@ -114,15 +126,21 @@ impl Layout {
         }
     }
 
-    fn place_lines(&mut self, processes: u32) -> Result<(), AllocError> {
+    fn place_lines(&mut self, scene: Scene<'_>) -> Result<(), AllocError> {
         let mut x = MARGIN;
-        for p in 0..processes as usize {
-            x = x.saturating_add(at(self.gutters.as_slice(), p));
+        for p in 0..scene.processes() {
+            let place = p as usize;
+            let gap = if scene.selection.contains(Pid(p)) {
+                GAP
+            } else {
+                0
+            };
+            x = x.saturating_add(at(self.gutters.as_slice(), place));
             self.lines.push(x)?;
             x = x
-                .saturating_add(at(self.ends.as_slice(), p))
-                .saturating_add(12);
-            if let Some(end) = self.ends.get_mut(p) {
+                .saturating_add(at(self.ends.as_slice(), place))
+                .saturating_add(gap);
+            if let Some(end) = self.ends.get_mut(place) {
                 *end = x;
             }
         }
@@ -153,11 +171,6 @@ impl Layout {
     /// The height at which the lines of the processes end, if so many events can be redone.
     pub(crate) fn end(&self, again: u32) -> i64 {
         self.again(again).saturating_sub(8)
-    }
-
-    /// The places of the lines of the processes.
-    pub(crate) fn lines(&self) -> &[i64] {
-        self.lines.as_slice()
     }
 
     /// The place of a process's line.

@@ -2,7 +2,8 @@
 
 use crate::layout::{Layout, MARGIN, ROW};
 use crate::shapes::{Area, Stroke};
-use std::alloc::{AllocError, Global};
+use crate::sheet::Scene;
+use std::alloc::AllocError;
 
 // Of a line that crosses more bands, only the first ones and the last ones are looked at, so that many long lines take no more time.
 const REACH: usize = 16;
@@ -61,8 +62,17 @@ pub(crate) struct Obstacles {
 }
 
 impl Obstacles {
-    /// The lines of the processes of a layout, with room for so many rows.
-    pub(crate) fn of(alloc: Global, layout: &Layout, rows: i64) -> Result<Obstacles, AllocError> {
+    /// The lines of the processes that a scene shows, with room for so many rows.
+    pub(crate) fn of(
+        scene: Scene<'_>,
+        layout: &Layout,
+        rows: i64,
+    ) -> Result<Obstacles, AllocError> {
+        let alloc = scene.alloc;
+        let mut lines = Vec::new(alloc);
+        for pid in scene.selection.pids() {
+            lines.push(layout.line(*pid))?;
+        }
         let mut bands = Vec::new(alloc);
         for _ in 0..rows.saturating_add(2) {
             bands.push(Band {
@@ -71,7 +81,7 @@ impl Obstacles {
             })?;
         }
         Ok(Obstacles {
-            lines: Vec::from_slice(alloc, layout.lines())?,
+            lines,
             bands,
             top: layout.top().saturating_sub(ROW),
             right: i64::MAX,

@@ -43,7 +43,7 @@ struct Room<'a> {
 impl Room<'_> {
     // Adds the marks of the events, and their arrows.
     fn add_events(&self, obstacles: &mut Obstacles) -> Result<(), AllocError> {
-        for shown in self.scene.events() {
+        for shown in self.scene.events {
             let middle = self.layout.event(self.scene, shown.pid, shown.number);
             obstacles.add_area(Area::around(middle, 6), MARK)?;
             if let Some(arrow) = arrow_of(self.scene, self.layout, *shown) {
@@ -63,8 +63,10 @@ impl Room<'_> {
                 obstacles.add_stroke(Stroke { from, to }, CUT)?;
             }
             for pid in &cut.pids {
-                let last = self.layout.event(self.scene, *pid, cut.cut.count(*pid));
-                obstacles.add_area(Area::around(last, 9), MARK)?;
+                if self.scene.selection.contains(*pid) {
+                    let last = self.layout.event(self.scene, *pid, cut.cut.count(*pid));
+                    obstacles.add_area(Area::around(last, 9), MARK)?;
+                }
             }
         }
         Ok(())
@@ -72,11 +74,11 @@ impl Room<'_> {
 
     // Adds the words at what can be redone.
     fn add_again(&self, obstacles: &mut Obstacles) -> Result<(), AllocError> {
-        for p in 0..self.scene.processes() {
-            for n in 0..self.scene.again(Pid(p)) {
-                let label = self.scene.again_label(Pid(p), n)?;
+        for pid in self.scene.selection.pids() {
+            for n in 0..self.scene.again(*pid) {
+                let label = self.scene.again_label(*pid, n)?;
                 let point = Point {
-                    x: self.layout.line(Pid(p)),
+                    x: self.layout.line(*pid),
                     y: self.layout.again(n),
                 };
                 let area = label_area(point, width_of(bytes_of(&label)), false, 4);
@@ -100,18 +102,19 @@ impl Room<'_> {
         let width = width_of(bytes_of(&title));
         let mut choice = Choice::new();
         let mut level = self.layout.top();
-        for p in 0..self.scene.processes() {
-            level = level_of(self.scene, self.layout, cut, Pid(p));
-            let x = self.layout.words(Pid(p));
-            let fits = x.saturating_add(width) <= self.layout.room_end(Pid(p));
-            if fits && self.is_free(cut, Pid(p)) {
+        for pid in self.scene.selection.pids() {
+            level = level_of(self.scene, self.layout, cut, *pid);
+            let x = self.layout.words(*pid);
+            let fits = x.saturating_add(width) <= self.layout.room_end(*pid);
+            if fits && self.is_free(cut, *pid) {
                 let y = level.saturating_add(15);
                 choice.offer(obstacles, Area::of_words(Point { x, y }, width), false);
             }
         }
         let x = right_of(self.layout).saturating_add(4);
         let mut y = level.saturating_add(4);
-        for _ in self.scene.cuts {
+        // Each of the other names may be in two of these places.
+        for _ in 0..self.scene.cuts.len().saturating_mul(2) {
             choice.offer(obstacles, Area::of_words(Point { x, y }, width), false);
             y = y.saturating_add(14);
         }
@@ -148,7 +151,7 @@ impl Room<'_> {
         places: &mut Places,
         words: &[EventWords],
     ) -> Result<(), AllocError> {
-        for (shown, words) in self.scene.events().iter().zip(words) {
+        for (shown, words) in self.scene.events.iter().zip(words) {
             let middle = self.layout.event(self.scene, shown.pid, shown.number);
             let choice = label_choice(obstacles, middle, words.label_width());
             obstacles.add_area(choice.area.with_gap(), WORDS)?;
@@ -171,7 +174,7 @@ impl Room<'_> {
         places: &mut Places,
         words: &[EventWords],
     ) -> Result<(), AllocError> {
-        let events = self.scene.events().iter().zip(words);
+        let events = self.scene.events.iter().zip(words);
         for ((shown, words), own) in events.zip(places.events.iter_mut()) {
             if let Some(arrow) = arrow_of(self.scene, self.layout, *shown) {
                 let choice = message_choice(obstacles, arrow, words.message_width());
@@ -192,7 +195,7 @@ impl Places {
         words: &[EventWords],
     ) -> Result<Places, AllocError> {
         let rows = layout.last_row().saturating_add(i64::from(AGAIN));
-        let mut obstacles = Obstacles::of(scene.alloc, layout, rows.saturating_add(2))?;
+        let mut obstacles = Obstacles::of(scene, layout, rows.saturating_add(2))?;
         let mut places = Places {
             events: Vec::new(scene.alloc),
             names: Vec::new(scene.alloc),

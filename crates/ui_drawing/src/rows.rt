@@ -9,7 +9,7 @@ use ui_timeline::ShownEvent;
 /// The row of each event, from 1: below the event of its process before it, and below the event that sent what it received.
 #[derive(Drop)]
 pub(crate) struct Rows {
-    // In the order of the events.
+    // In the order of the events, with those of the processes that are not shown.
     rows: Vec<i64>,
     // How many events are left out before them.
     left: usize,
@@ -34,10 +34,17 @@ impl Rows {
             last: 0,
         };
         let mut latest = zeros(scene, scene.processes() as usize)?;
-        for (shown, fall) in scene.events().iter().zip(falls) {
+        let mut falls = falls.iter();
+        for shown in scene.timeline.last_events(scene.left) {
             let own = shown.pid.0 as usize;
             let above = at(latest.as_slice(), own).max(rows.sender_row(scene, *shown));
-            let row = above.saturating_add(1).saturating_add(*fall);
+            // An event that is not shown needs no row, but what depends on it is below what it depends on.
+            let row = if scene.selection.contains(shown.pid) {
+                let fall = falls.next().copied().unwrap_or(0);
+                above.saturating_add(1).saturating_add(fall)
+            } else {
+                above
+            };
             raise(latest.as_mut_slice(), own, row);
             rows.rows.push(row)?;
             rows.last = rows.last.max(row);

@@ -4,11 +4,11 @@ use crate::arrangement::Arrangement;
 use crate::labels::EventWords;
 use crate::layout::Layout;
 use crate::places::Places;
-use dbg_base::{Pid, Refusal};
+use dbg_base::Refusal;
 use dbg_command::SessionView;
 use std::alloc::{AllocError, Global};
 use ui_text::{Notes, Part};
-use ui_timeline::{NamedCut, ShownEvent, Theme, Timeline, event_of, named_cuts, size};
+use ui_timeline::{NamedCut, Selection, ShownEvent, Theme, Timeline, event_of, named_cuts, size};
 
 /// What a drawing shows.
 #[derive(Clone, Copy)]
@@ -17,8 +17,11 @@ pub(crate) struct Scene<'a> {
     pub(crate) view: SessionView<'a>,
     pub(crate) timeline: &'a Timeline,
     pub(crate) cuts: &'a [NamedCut],
+    pub(crate) selection: &'a Selection,
     /// How many events are left out, before those that are shown.
     pub(crate) left: usize,
+    /// The events that are shown.
+    pub(crate) events: &'a [ShownEvent],
 }
 
 /// A drawing that is being made.
@@ -40,16 +43,27 @@ fn mixed(number: u32, added: u32) -> u32 {
     number.wrapping_mul(31).wrapping_add(added)
 }
 
-impl<'a> Scene<'a> {
-    /// The events that are shown.
-    pub(crate) fn events(&self) -> &'a [ShownEvent] {
-        self.timeline.last_events(self.left)
+// The last events of the processes of a selection, without so many of the first events.
+fn selected_events(
+    alloc: Global,
+    timeline: &Timeline,
+    selection: &Selection,
+    left: usize,
+) -> Result<Vec<ShownEvent>, AllocError> {
+    let mut events = Vec::new(alloc);
+    for shown in timeline.last_events(left) {
+        if selection.contains(shown.pid) {
+            events.push(*shown)?;
+        }
     }
+    Ok(events)
+}
 
+impl Scene<'_> {
     // A number that is the same for the same events.
     fn events_number(&self) -> u32 {
         let mut number = self.processes();
-        for shown in self.events() {
+        for shown in self.events {
             number = mixed(number, shown.pid.0);
             if let Some(event) = event_of(self.view.world, *shown) {
                 number = mixed(number, event.choice().0);
@@ -76,8 +90,8 @@ impl<'a> Scene<'a> {
 
 impl SvgSheet<'_> {
     fn say_lines(&self, notes: &mut Notes) -> Result<(), AllocError> {
-        for p in 0..self.scene.processes() {
-            self.say_process_line(notes, Pid(p))?;
+        for pid in self.scene.selection.pids() {
+            self.say_process_line(notes, *pid)?;
         }
         Ok(())
     }
@@ -90,14 +104,14 @@ impl SvgSheet<'_> {
     }
 
     fn say_arrows(&self, notes: &mut Notes) -> Result<(), AllocError> {
-        for shown in self.scene.events() {
+        for shown in self.scene.events {
             self.say_arrow(notes, *shown)?;
         }
         Ok(())
     }
 
     fn say_events(&self, notes: &mut Notes) -> Result<(), AllocError> {
-        for shown in self.scene.events() {
+        for shown in self.scene.events {
             self.say_event(notes, *shown)?;
         }
         Ok(())
@@ -121,15 +135,15 @@ impl SvgSheet<'_> {
     }
 
     fn say_names(&self, notes: &mut Notes) -> Result<(), AllocError> {
-        for p in 0..self.scene.processes() {
-            self.say_process_name(notes, Pid(p))?;
-            self.say_redo_line(notes, Pid(p))?;
+        for pid in self.scene.selection.pids() {
+            self.say_process_name(notes, *pid)?;
+            self.say_redo_line(notes, *pid)?;
         }
         Ok(())
     }
 
     fn say_labels(&self, notes: &mut Notes) -> Result<(), AllocError> {
-        let events = self.scene.events().iter().zip(self.words);
+        let events = self.scene.events.iter().zip(self.words);
         for ((shown, words), places) in events.zip(&self.places.events) {
             self.say_arrow_label(notes, words, places.message)?;
             self.say_label(notes, *shown, words, places.label)?;
@@ -153,22 +167,27 @@ impl SvgSheet<'_> {
     }
 }
 
-/// Draws a session in its present state, as `draw_text` does, as a drawing (SVG): its lines. At most so many events are shown, the last ones.
+/// Draws a session in its present state, as `draw_text` does, as a drawing (SVG): its lines. Only the events of the processes of
+/// the selection are shown, and the last of them.
 pub fn draw_drawing(
     alloc: Global,
     notes: &mut Notes,
     view: SessionView<'_>,
-    last: usize,
+    selection: &Selection,
     theme: Theme,
 ) -> Result<(), Refusal> {
     let mut cuts = named_cuts(alloc, view)?;
     let timeline = Timeline::of(alloc, view.world, cuts.as_mut_slice())?;
+    let left = timeline.left_out_of(selection, selection.last());
+    let events = selected_events(alloc, &timeline, selection, left)?;
     let scene = Scene {
         alloc,
         view,
         timeline: &timeline,
         cuts: cuts.as_slice(),
-        left: timeline.left_out(last),
+        selection,
+        left,
+        events: events.as_slice(),
     };
     let heading = scene.heading()?;
     let key = scene.key()?;

@@ -2,11 +2,13 @@
 
 use dbg_base::{Refusal, Said};
 use dbg_command::SessionView;
+use proc_lang::Program;
 use std::alloc::{AllocError, Global};
 use ui_diagram::{Moment, Picture, PictureForm, draw_mermaid, draw_text, write_log};
 use ui_drawing::draw_drawing;
 use ui_explain::Explainer;
 use ui_text::Notes;
+use ui_timeline::{Selection, unknown_name};
 
 // Lines, each with a line end.
 fn with_line_ends(alloc: Global, lines: &[Vec<u8>]) -> Result<Vec<u8>, AllocError> {
@@ -19,13 +21,18 @@ fn with_line_ends(alloc: Global, lines: &[Vec<u8>]) -> Result<Vec<u8>, AllocErro
 }
 
 // The picture that is wanted.
-fn picture_of(alloc: Global, wanted: Picture, view: SessionView<'_>) -> Result<Vec<u8>, Refusal> {
+fn picture_of(
+    alloc: Global,
+    wanted: Picture<'_>,
+    view: SessionView<'_>,
+) -> Result<Vec<u8>, Refusal> {
     let mut notes = Notes::new(alloc);
-    let last = wanted.last as usize;
+    let selection = Selection::of(alloc, view.program, wanted.only, wanted.last as usize)?;
+    let width = wanted.width as usize;
     match wanted.form {
-        PictureForm::Text => { draw_text(alloc, &mut notes, view, wanted.width as usize, last)? }
-        PictureForm::Svg => draw_drawing(alloc, &mut notes, view, last, wanted.theme)?,
-        PictureForm::Mermaid => draw_mermaid(alloc, &mut notes, view, last)?,
+        PictureForm::Text => draw_text(alloc, &mut notes, view, &selection, width)?,
+        PictureForm::Svg => draw_drawing(alloc, &mut notes, view, &selection, wanted.theme)?,
+        PictureForm::Mermaid => draw_mermaid(alloc, &mut notes, view, &selection)?,
         PictureForm::Shiviz | PictureForm::Html => return write_log(alloc, view),
     }
     Ok(with_line_ends(alloc, notes.lines())?)
@@ -41,20 +48,28 @@ fn is_halt(said: &Said) -> bool {
 
 /// An explainer that draws one state of a session: the one at the first halt, if the picture shows that, or else the one at the end.
 #[derive(Drop)]
-pub struct Artist {
-    wanted: Picture,
+pub struct Artist<'a> {
+    wanted: Picture<'a>,
+    // A name of a process that the picture is to show, and that the program does not have.
+    unknown: Option<&'a [u8]>,
     picture: Option<Vec<u8>>,
     is_out_of_memory: bool,
 }
 
-impl Artist {
+impl<'a> Artist<'a> {
     /// An artist for this picture.
-    pub fn new(wanted: Picture) -> Artist {
+    pub fn new(wanted: Picture<'a>) -> Artist<'a> {
         Artist {
             wanted,
+            unknown: None,
             picture: None,
             is_out_of_memory: false,
         }
+    }
+
+    /// The first name of a process that the picture is to show, and that the program does not have. Then there is no picture.
+    pub fn unknown_name(&self) -> Option<&'a [u8]> {
+        self.unknown
     }
 
     /// Whether memory ran out.
@@ -71,6 +86,9 @@ impl Artist {
     }
 
     fn draw(&mut self, alloc: Global, view: SessionView<'_>) {
+        if self.unknown.is_some() {
+            return;
+        }
         match picture_of(alloc, self.wanted, view) {
             Ok(picture) => self.picture = Some(picture),
             Err(_) => self.is_out_of_memory = true,
@@ -78,7 +96,15 @@ impl Artist {
     }
 }
 
-impl Explainer for Artist {
+impl Explainer for Artist<'_> {
+    fn begin(&mut self, _alloc: Global, program: &Program, _text: &[u8]) -> Result<(), AllocError> {
+        self.unknown = self
+            .wanted
+            .only
+            .and_then(|list| unknown_name(program, list));
+        Ok(())
+    }
+
     fn explain_call(&mut self, alloc: Global, view: SessionView<'_>, said: &Said) -> Notes {
         let is_first = self.picture.is_none() && !self.is_out_of_memory;
         if self.wanted.moment == Moment::Halt && is_first && is_halt(said) {

@@ -24,13 +24,15 @@ pub enum Drawn {
     NoLine,
     /// No breakpoint halts the session, and that was reported.
     NoHalt,
+    /// The program has no process of a name that was given, and that was reported.
+    NoProcess,
 }
 
-/// The exit status: that of the session, or 2 if it has no such line, and 1 if nothing halts it.
+/// The exit status: that of the session, or 2 if it has no such line or process, and 1 if nothing halts it.
 pub fn draw_status(outcome: &Result<Drawn, ServeFault>) -> u8 {
     match outcome {
         Ok(Drawn::Played(served)) => status(&Ok(*served)),
-        Ok(Drawn::NoLine) => 2,
+        Ok(Drawn::NoLine | Drawn::NoProcess) => 2,
         Ok(Drawn::NoHalt) => 1,
         Err(fault) => fault.status(),
     }
@@ -82,7 +84,7 @@ fn draw_page<R: Source + Typed, W: Sink, E: Sink>(
 
 fn draw_state<R: Source + Typed, W: Sink, E: Sink>(
     alloc: Global,
-    picture: Picture,
+    picture: Picture<'_>,
     is_stopped: &Cell<bool>,
     reader: &mut R,
     writer: &mut W,
@@ -98,6 +100,10 @@ fn draw_state<R: Source + Typed, W: Sink, E: Sink>(
     if !is_played(served) {
         let written = write_whole(errors, replies.into_inner().as_slice());
         hand_on(written, errors)?;
+    } else if let Some(name) = artist.unknown_name() {
+        let before = Part::Text("the program has no process `");
+        report(alloc, &[before, Part::Bytes(name), Part::Text("`")], errors)?;
+        return Ok(Drawn::NoProcess);
     } else if let Some(picture) = artist.picture() {
         let written = write_whole(writer, picture);
         hand_on(written, writer)?;
@@ -115,7 +121,7 @@ fn draw_state<R: Source + Typed, W: Sink, E: Sink>(
 // Plays the plain session of an input whose program text was read, and draws it.
 fn draw_from<R: Read + Typed + Drop, W: Sink, E: Sink>(
     alloc: Global,
-    picture: Picture,
+    picture: Picture<'_>,
     model: Option<&Model>,
     beginning: &Beginning,
     reader: R,
@@ -136,7 +142,7 @@ fn draw_from<R: Read + Typed + Drop, W: Sink, E: Sink>(
 // Plays a session whose program and lines may be in the model notation, and draws it.
 fn draw_session<R: Read + Typed + Drop, W: Sink, E: Sink>(
     alloc: Global,
-    picture: Picture,
+    picture: Picture<'_>,
     reader: R,
     writer: &mut W,
     errors: &mut E,
@@ -193,10 +199,10 @@ fn report_line<E: Sink>(
 /// Plays a session as `talk` does, and writes a picture of it: of its end, of the state after a line or at the first halt, or a page to go
 /// through it. If the input is too long, the picture is of the lines within the limit. The program and the lines may be in the model
 /// notation. The other writer gets the explanation of a program that is refused, as `talk` explains it, or the report that the session has
-/// no such line or no halt; then nothing is drawn. Errors: the reader or a writer failed, or memory ran out.
+/// no such line, process or halt; then nothing is drawn. Errors: the reader or a writer failed, or memory ran out.
 pub fn draw<R: Read + Typed + Drop, W: Sink, E: Sink>(
     alloc: Global,
-    picture: Picture,
+    picture: Picture<'_>,
     reader: R,
     writer: &mut W,
     errors: &mut E,

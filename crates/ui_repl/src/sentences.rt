@@ -9,6 +9,7 @@ use std::alloc::{AllocError, Global};
 use ui_diagram::{ALL_EVENTS, draw_text};
 use ui_explain::{Before, Directive, Echo, Explainer, SourceView};
 use ui_text::{Notes, Part, ProgramText, tell_help, tell_too_long};
+use ui_timeline::Selection;
 
 // A call that is about to be made, and what was known before it.
 #[derive(Drop)]
@@ -201,6 +202,12 @@ impl<'a> Sentences<'a> {
         }
     }
 
+    // Draws the whole session.
+    fn draw(&self, alloc: Global, notes: &mut Notes, view: SessionView<'_>) -> Result<(), Refusal> {
+        let selection = Selection::of(alloc, view.program, None, ALL_EVENTS as usize)?;
+        draw_text(alloc, notes, view, &selection, self.width)
+    }
+
     fn tell_directive(
         &self,
         alloc: Global,
@@ -216,9 +223,7 @@ impl<'a> Sentences<'a> {
             Directive::List(name) => view.tell_list(alloc, notes, name),
             Directive::State(name) => view.tell_state(alloc, notes, name),
             Directive::Line(name) => Ok(view.tell_line(notes, name)?),
-            Directive::Draw => {
-                draw_text(alloc, notes, view.session, self.width, ALL_EVENTS as usize)
-            }
+            Directive::Draw => self.draw(alloc, notes, view.session),
             Directive::TooLong(word) => Ok(tell_too_long(notes, word)?),
         }
     }

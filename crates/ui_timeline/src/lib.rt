@@ -5,6 +5,7 @@ mod commands;
 mod cuts;
 mod listing;
 mod messages;
+mod selection;
 mod settings;
 mod theme;
 
@@ -12,5 +13,6 @@ pub use commands::put_command;
 pub use cuts::{NamedCut, bytes_of, halting, named_cuts, size};
 pub use listing::{ShownEvent, Timeline, event_of, put_left_out};
 pub use messages::{Received, Sent, exchange_of};
+pub use selection::{Selection, unknown_name};
 pub use settings::put_setting;
 pub use theme::Theme;

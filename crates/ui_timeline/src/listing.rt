@@ -8,6 +8,7 @@ ghost use Rattle.event_log.specs.EventOrders.{IsEventOrder};
 
 use crate::cuts::{NamedCut, size};
 use crate::messages::{Messages, Received, Sent};
+use crate::selection::Selection;
 use causal_world::World;
 use dbg_base::{Cut, Pid, Refusal};
 use event_log::event_order;
@@ -149,6 +150,27 @@ impl Timeline {
         ensures { result ≡ length self.now.events.items - most }
     {
         self.events.len().saturating_sub(most)
+    }
+
+    /// How many events are before the last ones, if at most so many of a selection are shown.
+    pub fn left_out_of(&self, selection: &Selection, most: usize) -> usize {
+        if selection.is_whole() {
+            return self.left_out(most);
+        }
+        let mut skipped = selection.count(self.events.as_slice()).saturating_sub(most);
+        let mut place = 0usize;
+        let mut left = 0usize;
+        for shown in &self.events {
+            if skipped == 0 {
+                break;
+            }
+            place = place.saturating_add(1);
+            if selection.contains(shown.pid) {
+                skipped = skipped.saturating_sub(1);
+                left = place;
+            }
+        }
+        left
     }
 
     /// The last events: all without so many of the first ones.

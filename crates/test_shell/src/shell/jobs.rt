@@ -147,14 +147,14 @@ fn words_name_files(rt: HostRuntime) {
 }
 
 // The work that the arguments ask for.
-fn work_of(alloc: Global, words: Words) -> Option<Work> {
+fn work_of(alloc: Global, words: Words) -> Option<Work<'static>> {
     match asked(alloc, words) {
         Ok(Request::Work(work, _)) => Some(work),
         _ => None,
     }
 }
 
-const WORKS: [(Words, Work); 6] = [
+const WORKS: [(Words, Work<'static>); 6] = [
     (&["rdbg", "talk"], Work::Talk(Coloring::Auto)),
     (
         &["rdbg", "talk", "--color", "always"],
@@ -169,7 +169,7 @@ const WORKS: [(Words, Work); 6] = [
     (&["rdbg", "run"], Work::Job(Job::Run)),
 ];
 
-pub(super) fn expect_work(rt: &impl Abort, alloc: Global, words: Words, want: Work) {
+pub(super) fn expect_work(rt: &impl Abort, alloc: Global, words: Words, want: Work<'static>) {
     let found = work_of(alloc, words);
     expect_same(rt, (words, found), (words, Some(want)));
 }

@@ -102,6 +102,7 @@ fn words_ask_for_pictures(rt: HostRuntime) {
         let picture = Picture {
             form: *form,
             moment: *moment,
+            only: None,
             width: *width,
             last: *last,
             theme: *theme,
@@ -110,7 +111,47 @@ fn words_ask_for_pictures(rt: HostRuntime) {
     }
 }
 
-const WRONG: [Row; 7] = [
+// Arguments, and the form and the processes of the picture that they ask for.
+const SELECTIONS: [(Words, PictureForm, &str); 3] = [
+    (&["rdbg", "draw", "--only", "a"], PictureForm::Text, "a"),
+    (
+        &["rdbg", "draw", "--as=svg", "--only=left,right"],
+        PictureForm::Svg,
+        "left,right",
+    ),
+    (
+        &["rdbg", "draw", "--only", "a,b", "--as", "mermaid"],
+        PictureForm::Mermaid,
+        "a,b",
+    ),
+];
+
+#[test]
+fn words_ask_for_some_processes(rt: HostRuntime) {
+    for (words, form, only) in &SELECTIONS {
+        let picture = Picture {
+            form: *form,
+            moment: Moment::End,
+            only: Some(only),
+            width: 120,
+            last: ALL_EVENTS,
+            theme: Theme::Auto,
+        };
+        expect_work(&rt, rt.alloc(), words, Work::Draw(picture));
+    }
+}
+
+const WRONG: [Row; 9] = [
+    (
+        &["rdbg", "draw", "--as=html", "--only", "a"],
+        ErrorKind::ArgumentConflict,
+        2,
+    ),
+    (
+        &["rdbg", "draw", "--as=shiviz", "--only", "a"],
+        ErrorKind::ArgumentConflict,
+        2,
+    ),
     (
         &["rdbg", "draw", "--last", "0"],
         ErrorKind::ValueValidation,

@@ -24,17 +24,19 @@ impl Needs {
         }
     }
 
-    // The words of an arrow between neighbours have to fit between their lines. Between others there is more room.
+    // The words of an arrow between neighbours have to fit between their lines.
     fn add_arrow(&mut self, from: Pid, to: Pid, label: &Notes) {
-        if from.0.abs_diff(to.0) == 1 {
-            let left = Pid(from.0.min(to.0));
-            self.add(left, bytes_of(label).len().saturating_add(ARROW));
-        }
+        let left = Pid(from.0.min(to.0));
+        self.add(left, bytes_of(label).len().saturating_add(ARROW));
     }
 }
 
 impl TextScene<'_> {
+    // A process that is not shown needs nothing.
     fn measure_process(&self, needs: &mut Needs, pid: Pid) -> Result<(), AllocError> {
+        if !self.selection.contains(pid) {
+            return Ok(needs.columns.push(0)?);
+        }
         let name = match self.view.program.process_name(pid) {
             Some(name) => name.bytes().len(),
             None => 0,
@@ -46,22 +48,27 @@ impl TextScene<'_> {
         Ok(())
     }
 
+    // The message that an event received needs room if it comes from a neighbour. From others there is more room.
     fn measure_event(&self, needs: &mut Needs, shown: ShownEvent) -> Result<(), AllocError> {
         let words = self.event(shown, usize::MAX)?;
         needs.add(shown.pid, bytes_of(&words).len());
-        if let Some(received) = self.timeline.received_by(self.view.world, shown) {
-            let label = self.received(received)?;
-            needs.add_arrow(received.source, shown.pid, &label);
+        match self.timeline.received_by(self.view.world, shown) {
+            Some(received) if self.has_arrow_to_neighbour(received.source, shown.pid) => {
+                let label = self.received(received)?;
+                needs.add_arrow(received.source, shown.pid, &label);
+                Ok(())
+            }
+            _ => Ok(()),
         }
-        Ok(())
     }
 
-    // The arrows of the messages on their way between a process and the next one.
-    fn measure_waiting(&self, needs: &mut Needs, pid: Pid) -> Result<(), Refusal> {
-        let next = Pid(pid.0.saturating_add(1));
-        if next.0 >= self.processes() {
-            return Ok(());
-        }
+    // Whether there is an arrow between two processes, and no process that is shown is between them.
+    fn has_arrow_to_neighbour(&self, from: Pid, to: Pid) -> bool {
+        self.selection.contains(from) && self.selection.are_neighbours(from, to)
+    }
+
+    // The arrows of the messages on their way between a process and the next one that is shown.
+    fn measure_waiting(&self, needs: &mut Needs, pid: Pid, next: Pid) -> Result<(), Refusal> {
         for (from, to) in [(pid, next), (next, pid)] {
             if let Some(label) = self.waiting(from, to)? {
                 needs.add_arrow(from, to, &label);
@@ -73,9 +80,9 @@ impl TextScene<'_> {
     // The marks of a cut that does not go across are in each column.
     fn measure_part(&self, needs: &mut Needs, cut: &NamedCut) {
         let name = cut.name.bytes().len().saturating_add(3);
-        for p in 0..self.processes() {
+        for pid in self.selection.pids() {
             if !cut.is_prefix {
-                needs.add(Pid(p), name);
+                needs.add(*pid, name);
             }
         }
     }
@@ -85,8 +92,12 @@ impl TextScene<'_> {
         for p in 0..self.processes() {
             self.measure_process(needs, Pid(p))?;
         }
-        for p in 0..self.processes() {
-            self.measure_waiting(needs, Pid(p))?;
+        let mut before = None;
+        for pid in self.selection.pids() {
+            if let Some(before) = before {
+                self.measure_waiting(needs, before, *pid)?;
+            }
+            before = Some(*pid);
         }
         Ok(())
     }
@@ -99,7 +110,9 @@ impl TextScene<'_> {
         cuts: &[NamedCut],
     ) -> Result<(), AllocError> {
         for shown in events {
-            self.measure_event(needs, *shown)?;
+            if self.selection.contains(shown.pid) {
+                self.measure_event(needs, *shown)?;
+            }
         }
         for cut in cuts {
             self.measure_part(needs, cut);

@@ -6,13 +6,14 @@ use event_rows::Setting;
 use std::alloc::{AllocError, Global};
 use ui_explain::ProcessView;
 use ui_text::{Notes, Part};
-use ui_timeline::{Received, ShownEvent, Timeline, bytes_of, event_of};
+use ui_timeline::{Received, Selection, ShownEvent, Timeline, bytes_of, event_of};
 
 /// What a diagram shows.
 #[derive(Clone, Copy)]
 pub(super) struct TextScene<'a> {
     pub(super) alloc: Global,
     pub(super) view: SessionView<'a>,
+    pub(super) selection: &'a Selection,
     pub(super) timeline: &'a Timeline,
 }
 
@@ -93,19 +94,38 @@ impl<'a> TextScene<'a> {
         words(self.alloc, &[Part::Text(if room < 3 { "" } else { " .." })])
     }
 
-    // The message that an event sent, in so much room: the name of its recipient is cut before its value is.
-    fn sent(&self, shown: ShownEvent, room: usize) -> Result<Notes, AllocError> {
-        let mut line = words(self.alloc, &[])?;
-        if let Some(sent) = self.timeline.sent_by(self.view.world, shown) {
-            line.add(&[Part::Text(" "), Part::Number(sent.value), Part::Text(">")])?;
-            let name = words(self.alloc, &[self.scope(sent.target).name()])?;
-            let used = bytes_of(&line).len();
-            put_shortened(&mut line, bytes_of(&name), room.saturating_sub(used))?;
-        }
+    // A message to or from a process, in so much room: the name of the process is cut before the value is.
+    fn message(
+        &self,
+        value: i64,
+        sign: &'static str,
+        partner: Pid,
+        room: usize,
+    ) -> Result<Notes, AllocError> {
+        let mut line = words(
+            self.alloc,
+            &[Part::Text(" "), Part::Number(value), Part::Text(sign)],
+        )?;
+        let name = words(self.alloc, &[self.scope(partner).name()])?;
+        let used = bytes_of(&line).len();
+        put_shortened(&mut line, bytes_of(&name), room.saturating_sub(used))?;
         Ok(line)
     }
 
-    /// What an event did, in few words, within so much room. What it set is left out before what it sent.
+    // The message that an event sent, or that it received from a process that is not shown, so that no arrow shows it.
+    fn exchanged(&self, shown: ShownEvent, room: usize) -> Result<Notes, AllocError> {
+        if let Some(sent) = self.timeline.sent_by(self.view.world, shown) {
+            return self.message(sent.value, ">", sent.target, room);
+        }
+        match self.timeline.received_by(self.view.world, shown) {
+            Some(received) if !self.selection.contains(received.source) => {
+                self.message(received.value, "<", received.source, room)
+            }
+            _ => words(self.alloc, &[]),
+        }
+    }
+
+    /// What an event did, in few words, within so much room. What it set is left out before the message.
     pub(super) fn event(&self, shown: ShownEvent, room: usize) -> Result<Notes, AllocError> {
         let number = Part::Number(i64::from(shown.number));
         let mut line = words(self.alloc, &[Part::Text("o "), number])?;
@@ -115,11 +135,11 @@ impl<'a> TextScene<'a> {
         let choice = Part::Number(i64::from(event.choice().0));
         line.add(&[Part::Text(":"), choice])?;
         let room = room.saturating_sub(bytes_of(&line).len());
-        let sent = self.sent(shown, room)?;
-        let room = room.saturating_sub(bytes_of(&sent).len());
+        let message = self.exchanged(shown, room)?;
+        let room = room.saturating_sub(bytes_of(&message).len());
         let settings = self.settings(self.scope(shown.pid), event.settings(), room)?;
         line.add(&[Part::Bytes(bytes_of(&settings))])?;
-        line.add(&[Part::Bytes(bytes_of(&sent))])?;
+        line.add(&[Part::Bytes(bytes_of(&message))])?;
         Ok(line)
     }
 
