@@ -115,9 +115,11 @@ class Drawing:
     def cuts(self):
         return [element for element in self.of_kind("cut") if element.get("points")]
 
-    def problems(self):
-        """What is wrong with the drawing, one line each."""
-        return [*self.leaks(), *self.outside(), *self.wrong_arrows(), *self.collisions(), *self.crossed(), *self.wrong_rows(), *self.crossings()]
+    def problems(self, is_whole=True):
+        """What is wrong with the drawing, one line each. If not all processes are shown, what depends on the others is lower."""
+        rows = self.wrong_rows() if is_whole else []
+        problems = [self.leaks(), self.outside(), self.wrong_arrows(), self.rising_arrows(), self.collisions(), self.crossed(), rows, self.crossings()]
+        return [problem for found in problems for problem in found]
 
     def leaks(self):
         """Names that another part of a page may have, too."""
@@ -175,13 +177,17 @@ class Drawing:
                 corners = [tuple(map(float, point.split(","))) for point in (element.get("points") or "").split()]
                 yield from (Stroke(*one, *other, kind) for one, other in zip(corners, corners[1:]))
 
+    def rising_arrows(self):
+        """Arrows that do not go down."""
+        for arrow in self.of_kind("message", "waiting"):
+            if float(arrow.get("y2")) <= float(arrow.get("y1")):
+                yield f"the arrow of {arrow.find(f'{SVG}title').text} does not go down"
+
     def wrong_rows(self):
-        """Arrows that do not go down, and events that are above their causal depth, or further below it than they need."""
+        """Events that are above their causal depth, or further below it than they need."""
         senders = {}
         for arrow in self.of_kind("message", "waiting"):
             title = arrow.find(f"{SVG}title").text
-            if float(arrow.get("y2")) <= float(arrow.get("y1")):
-                yield f"the arrow of {title} does not go down"
             ends = re.fullmatch(r"-?\d+ from event (\d+) of (\w+) to event (\d+) of (\w+)", title)
             if ends:
                 senders[ends[4], ends[3]] = ends[2], ends[1]

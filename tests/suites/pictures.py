@@ -1,13 +1,18 @@
-"""The pictures of sessions: golden files, drawings, diagrams that Mermaid must read, and pages that must know what the program answers.
+"""The pictures of sessions: golden files, drawings, diagrams that Mermaid must read, logs that ShiViz must read, and pages that an HTML5
+parser must read and that must know what the program answers.
 
 The pages of tests/pictures/, of examples/ and of 20 random sessions are replayed from what they know of each line. The state to which this
 leads, and the replies on the way, must be those of the program.
 """
+import functools
 import itertools
 import re
+import subprocess
+import sys
 
 from harness import TOP, Fault, sessions, temporary_folder
 from harness.drawing import Drawing
+from harness.log import log_problems
 from harness.page_data import FinalState, read_page
 from harness.random_sessions import random_session
 from harness.session import Session, draw, short_name
@@ -19,6 +24,14 @@ MERMAID_TEXT = r"(?:[^#;<\n]|#lt;)+"
 MERMAID = re.compile(
     rf"sequenceDiagram\n(?:  %% .*\n)?(?:  participant p\d+ as \w+\n)+"
     rf"(?:  (?:Note over p\d+(?:,p\d+)?|p\d+(?:->>|--\))p\d+): {MERMAID_TEXT}\n)*")
+# Reads a page from standard input, and prints the faults that an HTML5 parser finds in it.
+FIND_MARKUP_FAULTS = """
+import html5lib, sys
+parser = html5lib.HTMLParser()
+parser.parse(sys.stdin.buffer.read())
+for (line, column), fault, _ in parser.errors:
+    print(f"line {line}, column {column}: {fault}")
+"""
 GOLDEN_PAGE = TOP / "docs" / "two_phase_commit.html"
 
 
@@ -67,12 +80,52 @@ def halt_problem(suite, file):
     return "\n".join([*drawing.problems(), *([] if len(halting) == 1 else [f"{len(halting)} cuts halt the session"])])
 
 
+def process_names(drawing):
+    return [name.text for name in drawing.of_kind("name")]
+
+
+def selection_problem(suite, file):
+    """What is wrong with the drawing of the first two processes of a session."""
+    wanted = process_names(Drawing(draw(suite, "svg", file)))[:2]
+    drawing = Drawing(suite.rdbg("draw", "--as", "svg", "--only", ",".join(wanted), file).output)
+    shown = process_names(drawing)
+    return "\n".join([*drawing.problems(is_whole=False), *([] if shown == wanted else [f"it shows {shown} in place of {wanted}"])])
+
+
 def mermaid_problem(suite, file):
     """The first line that Mermaid does not read."""
     diagram = draw(suite, "mermaid", file).decode()
     read = MERMAID.match(diagram)
     rest = diagram[read.end():] if read else diagram
     return rest and f"Mermaid does not read {rest.splitlines()[0]!r}"
+
+
+def log_problem(suite, file):
+    """What is wrong with the log of a session."""
+    return "\n".join(log_problems(draw(suite, "shiviz", file).decode()))
+
+
+@functools.cache
+def python_with_parser():
+    """A Python that has the HTML5 parser html5lib, or None."""
+    for python in (sys.executable, "/usr/bin/python3"):
+        if subprocess.run([python, "-c", "import html5lib"], stderr=subprocess.DEVNULL).returncode == 0:
+            return python
+    return None
+
+
+def markup_problem(suite, file):
+    """What an HTML5 parser finds wrong with the page of a session."""
+    ran = subprocess.run([python_with_parser(), "-c", FIND_MARKUP_FAULTS], input=draw(suite, "html", file), stdout=subprocess.PIPE)
+    return ran.stdout.decode() if ran.returncode == 0 else f"the parser ended with status {ran.returncode}"
+
+
+def check_markup(suite, file):
+    name = f"the markup of the page of {short_name(file)}"
+    if python_with_parser():
+        suite.attempt(name, markup_problem, suite, file)
+    else:
+        suite.skip(name, "html5lib is not installed")
 
 
 def check_golden(suite, golden, form, file):
@@ -93,6 +146,9 @@ def run(suite):
             file.write_text(random_session(number))
         for file in [*sessions("tests/pictures", "examples"), *random_files]:
             suite.attempt(f"the page of {short_name(file)}", page_problem, suite, file)
+            check_markup(suite, file)
             suite.attempt(f"{short_name(file)} as mermaid", mermaid_problem, suite, file)
+            suite.attempt(f"{short_name(file)} as a log", log_problem, suite, file)
             suite.attempt(f"the drawing of {short_name(file)}", drawing_problem, suite, file)
             suite.attempt(f"the drawing of {short_name(file)} at its first halt", halt_problem, suite, file)
+            suite.attempt(f"the drawing of two processes of {short_name(file)}", selection_problem, suite, file)
