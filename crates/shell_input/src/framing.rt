@@ -22,8 +22,8 @@ const ROOM: usize = 1_048_577;
 
 const _: () = prove!(ROOM == INPUT_BYTES + 1);
 
-// At most this many bytes are requested at once.
-const CHUNK: usize = 4_096;
+// At most this many bytes are requested at once. Each read clears so many, also if the reader gives one line at a time.
+const CHUNK: usize = 512;
 
 /// The position of a line in the bytes that were read: the offset of its first byte, and the offset after its last.
 #[derive(Clone, Copy, Debug, PartialEq, Eq)]
