@@ -97,6 +97,7 @@ impl Beginning {
             is_ended: self.input.ended,
             is_long: false,
             lines: Vec::from_slice(alloc, read)?,
+            from: 0,
             next: Vec::new(alloc),
             plain: self.plain_program(alloc, model)?,
             given: 0,
@@ -116,8 +117,9 @@ pub(crate) struct PlainSession<'a, R> {
     is_ended: bool,
     // Whether the bytes that were read begin in the middle of a line that is too long.
     is_long: bool,
-    // What was read and is not plain yet.
+    // What was read, and where of it the bytes begin that are not plain yet.
     lines: Vec<u8>,
+    from: usize,
     // The plain lines that come next, the last of them first.
     next: Vec<GivenLine>,
     // What is plain, how much of it was returned, and how often it is to be returned again.
@@ -141,14 +143,6 @@ fn end_lines(lines: &mut [GivenLine], is_ended: bool) -> Result<(), AllocError> 
         }
     }
     Ok(())
-}
-
-// The bytes before a line end, or all of them if there is none, and the bytes after it.
-fn split_at_line_end(bytes: &[u8], end: Option<usize>) -> (&[u8], &[u8]) {
-    let length = end.unwrap_or(bytes.len());
-    let next = length.saturating_add(1);
-    let line = bytes.get(..length).unwrap_or(bytes);
-    (line, bytes.get(next..).unwrap_or(&[]))
 }
 
 impl<R: Read> PlainSession<'_, R> {
@@ -201,16 +195,30 @@ impl<R: Read> PlainSession<'_, R> {
         Ok(lines)
     }
 
-    // Makes the first bytes that were read plain: a line, or if there is no line end, all of them.
+    // The bytes that were read and are not plain yet.
+    fn unused(&self) -> &[u8] {
+        self.lines.get(self.from..).unwrap_or(&[])
+    }
+
+    // Makes the first unused bytes plain: a line, or if there is no line end, all of them.
     fn make_plain(&mut self, end: Option<usize>) -> Result<(), AllocError> {
-        let (line, rest) = split_at_line_end(self.lines.as_slice(), end);
-        let rest = Vec::from_slice(self.alloc, rest)?;
-        let mut next = self.plain_lines(line)?;
+        let unused = self.unused();
+        let length = end.unwrap_or(unused.len());
+        let mut next = self.plain_lines(unused.get(..length).unwrap_or(unused))?;
         end_lines(next.as_mut_slice(), end.is_some())?;
         next.reverse();
         self.is_long = end.is_none();
-        self.lines = rest;
+        self.from = self.from.saturating_add(length).saturating_add(1);
         self.next = next;
+        Ok(())
+    }
+
+    // Appends these bytes to the unused ones, and drops the others.
+    fn keep(&mut self, read: &[u8]) -> Result<(), AllocError> {
+        let mut lines = Vec::from_slice(self.alloc, self.unused())?;
+        lines.extend_from_slice(read)?;
+        self.lines = lines;
+        self.from = 0;
         Ok(())
     }
 
@@ -219,8 +227,7 @@ impl<R: Read> PlainSession<'_, R> {
         let mut chunk = [0u8; CHUNK];
         let count = self.reader.read(&mut chunk)?;
         self.is_ended = count == 0;
-        let read = chunk.get(..count).unwrap_or(&[]);
-        match self.lines.extend_from_slice(read) {
+        match self.keep(chunk.get(..count).unwrap_or(&[])) {
             Ok(()) => Ok(()),
             Err(_) => Err(Error::from(ErrorKind::OutOfMemory)),
         }
@@ -231,13 +238,14 @@ impl<R: Read> PlainSession<'_, R> {
         if self.begin_again() || self.begin_next() {
             return Ok(true);
         }
-        let end = self.lines.iter().position(|byte| *byte == b'\n');
-        let is_full = self.is_ended || self.lines.len() > LINE_BYTES;
+        let unused = self.unused();
+        let end = unused.iter().position(|byte| *byte == b'\n');
+        let is_full = self.is_ended || unused.len() > LINE_BYTES;
         if end.is_none() && !is_full {
             self.read_more()?;
             return Ok(true);
         }
-        if self.lines.is_empty() {
+        if unused.is_empty() {
             return Ok(false);
         }
         match self.make_plain(end) {
