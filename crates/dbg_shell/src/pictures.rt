@@ -12,6 +12,9 @@ static PICTURES: [&str; 5] = ["text", "svg", "html", "shiviz", "mermaid"];
 
 static THEMES: [&str; 3] = ["auto", "light", "dark"];
 
+// How many events a drawing shows if `--last` does not say it: the time for more would exceed that for playing the session.
+const DRAWN_EVENTS: u32 = 2_000;
+
 /// The subcommand `draw`.
 pub(crate) fn draw<'a>(alloc: Global) -> Result<Command<'a>, AllocError> {
     with_file(
@@ -56,7 +59,7 @@ pub(crate) fn draw<'a>(alloc: Global) -> Result<Command<'a>, AllocError> {
             .long("last")
             .value_name("N")
             .value_parser(clap::value_parser!(u32).range(1..))
-            .help("Draws at most the last N events"),
+            .help("Draws at most the last N events; for an svg picture 2000 if not given"),
     )?
     .arg(
         Arg::new(alloc, "only").long("only").value_name("P,Q").help(
@@ -103,6 +106,16 @@ fn named_theme(name: Option<&str>) -> Theme {
     }
 }
 
+// How many events a picture shows at most, if `--last` does not say it.
+fn usual_last(form: PictureForm) -> u32 {
+    match form {
+        PictureForm::Svg => DRAWN_EVENTS,
+        PictureForm::Text | PictureForm::Html | PictureForm::Shiviz | PictureForm::Mermaid => {
+            ALL_EVENTS
+        }
+    }
+}
+
 // Why these arguments of `draw` cannot be used together, if they cannot.
 fn conflict(matches: &ArgMatches<'_>, form: PictureForm, moment: Moment) -> Option<&'static str> {
     if form == PictureForm::Html && moment != Moment::End {
@@ -143,7 +156,7 @@ pub(crate) fn named_picture<'a>(
         moment,
         only: matches.get_str("only"),
         width: matches.get_one::<u32>("width").unwrap_or(WIDTH),
-        last: matches.get_one::<u32>("last").unwrap_or(ALL_EVENTS),
+        last: matches.get_one::<u32>("last").unwrap_or(usual_last(form)),
         theme: named_theme(matches.get_str("theme")),
     })
 }

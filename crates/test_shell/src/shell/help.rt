@@ -1,5 +1,5 @@
 use super::MEMORY;
-use super::jobs::Words;
+use super::jobs::ArgumentList;
 use crate::expecting::expect_same;
 use dbg_shell::job;
 
@@ -93,7 +93,7 @@ For more information, try '--help'.
 ";
 
 // The text of the error for these arguments.
-const TEXTS: [(Words, &str); 3] = [
+const TEXTS: [(ArgumentList, &str); 3] = [
     (&["rdbg", "--help"], HELP),
     (&["rdbg", "crew", "--help"], CREW_HELP),
     (&["rdbg", "crew", "--turns", "0"], NO_TURNS),

@@ -6,14 +6,14 @@ use std::alloc::Global;
 use std::process::Abort;
 
 // Arguments; the first is the program's name.
-pub(super) type Words = &'static [&'static str];
+pub(super) type ArgumentList = &'static [&'static str];
 
 // The job that the arguments ask for.
-fn job_of(alloc: Global, words: Words) -> Option<Job> {
+fn job_of(alloc: Global, words: ArgumentList) -> Option<Job> {
     job(alloc, words).ok()
 }
 
-const JOBS: [(Words, Job); 4] = [
+const JOBS: [(ArgumentList, Job); 4] = [
     (&["rdbg", "run"], Job::Run),
     (&["rdbg", "check"], Job::Check),
     (&["rdbg", "crew", "--turns", "1"], Job::Crew(1)),
@@ -29,7 +29,7 @@ fn words_ask_for_jobs(rt: HostRuntime) {
 }
 
 // Arguments, with the kind and the status of their error.
-pub(super) type Row = (Words, ErrorKind, i32);
+pub(super) type Row = (ArgumentList, ErrorKind, i32);
 
 // The kind and the status of an error.
 fn refused<T: Drop>(outcome: Result<T, Error>) -> Option<(ErrorKind, i32)> {
@@ -111,7 +111,7 @@ const OTHER_WORDS: [Row; 17] = [
 ];
 
 // What the arguments ask for, in a word, and the first file that they name.
-fn request_of(alloc: Global, words: Words) -> (&'static str, Option<&'static str>) {
+fn request_of(alloc: Global, words: ArgumentList) -> (&'static str, Option<&'static str>) {
     match asked(alloc, words) {
         Ok(Request::Work(_, file)) => ("work", file),
         Ok(Request::Test(files)) => ("test", files.first().copied()),
@@ -121,7 +121,7 @@ fn request_of(alloc: Global, words: Words) -> (&'static str, Option<&'static str
     }
 }
 
-const FILES: [(Words, &str, Option<&str>); 10] = [
+const FILES: [(ArgumentList, &str, Option<&str>); 10] = [
     (&["rdbg", "run", "one"], "work", Some("one")),
     (&["rdbg", "check", "a b"], "work", Some("a b")),
     (
@@ -147,14 +147,14 @@ fn words_name_files(rt: HostRuntime) {
 }
 
 // The work that the arguments ask for.
-fn work_of(alloc: Global, words: Words) -> Option<Work<'static>> {
+fn work_of(alloc: Global, words: ArgumentList) -> Option<Work<'static>> {
     match asked(alloc, words) {
         Ok(Request::Work(work, _)) => Some(work),
         _ => None,
     }
 }
 
-const WORKS: [(Words, Work<'static>); 6] = [
+const WORKS: [(ArgumentList, Work<'static>); 6] = [
     (&["rdbg", "talk"], Work::Talk(Coloring::Auto)),
     (
         &["rdbg", "talk", "--color", "always"],
@@ -169,7 +169,12 @@ const WORKS: [(Words, Work<'static>); 6] = [
     (&["rdbg", "run"], Work::Job(Job::Run)),
 ];
 
-pub(super) fn expect_work(rt: &impl Abort, alloc: Global, words: Words, want: Work<'static>) {
+pub(super) fn expect_work(
+    rt: &impl Abort,
+    alloc: Global,
+    words: ArgumentList,
+    want: Work<'static>,
+) {
     let found = work_of(alloc, words);
     expect_same(rt, (words, found), (words, Some(want)));
 }
@@ -181,7 +186,7 @@ fn words_ask_for_work(rt: HostRuntime) {
     }
 }
 
-const NO_JOBS: [Words; 4] = [
+const NO_JOBS: [ArgumentList; 4] = [
     &["rdbg", "talk"],
     &["rdbg", "check", "--explain"],
     &["rdbg", "test", "one"],

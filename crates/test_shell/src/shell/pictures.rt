@@ -1,11 +1,11 @@
-use super::jobs::{Row, Words, expect_refused, expect_work};
+use super::jobs::{ArgumentList, Row, expect_refused, expect_work};
 use clap::error::ErrorKind;
 use dbg_shell::Work;
 use ui_diagram::{ALL_EVENTS, Moment, Picture, PictureForm};
 use ui_timeline::Theme;
 
 // Arguments, and the form, the moment, the width, the number of events and the theme of the picture that they ask for.
-const PICTURES: [(Words, PictureForm, Moment, u32, u32, Theme); 11] = [
+const PICTURES: [(ArgumentList, PictureForm, Moment, u32, u32, Theme); 11] = [
     (
         &["rdbg", "draw"],
         PictureForm::Text,
@@ -19,7 +19,7 @@ const PICTURES: [(Words, PictureForm, Moment, u32, u32, Theme); 11] = [
         PictureForm::Svg,
         Moment::End,
         120,
-        ALL_EVENTS,
+        2_000,
         Theme::Auto,
     ),
     (
@@ -59,7 +59,7 @@ const PICTURES: [(Words, PictureForm, Moment, u32, u32, Theme); 11] = [
         PictureForm::Svg,
         Moment::Halt,
         120,
-        ALL_EVENTS,
+        2_000,
         Theme::Auto,
     ),
     (
@@ -91,7 +91,7 @@ const PICTURES: [(Words, PictureForm, Moment, u32, u32, Theme); 11] = [
         PictureForm::Svg,
         Moment::End,
         120,
-        ALL_EVENTS,
+        2_000,
         Theme::Light,
     ),
 ];
@@ -111,30 +111,37 @@ fn words_ask_for_pictures(rt: HostRuntime) {
     }
 }
 
-// Arguments, and the form and the processes of the picture that they ask for.
-const SELECTIONS: [(Words, PictureForm, &str); 3] = [
-    (&["rdbg", "draw", "--only", "a"], PictureForm::Text, "a"),
+// Arguments, and the form, the number of events and the processes of the picture that they ask for.
+const SELECTIONS: [(ArgumentList, PictureForm, u32, &str); 3] = [
+    (
+        &["rdbg", "draw", "--only", "a"],
+        PictureForm::Text,
+        ALL_EVENTS,
+        "a",
+    ),
     (
         &["rdbg", "draw", "--as=svg", "--only=left,right"],
         PictureForm::Svg,
+        2_000,
         "left,right",
     ),
     (
         &["rdbg", "draw", "--only", "a,b", "--as", "mermaid"],
         PictureForm::Mermaid,
+        ALL_EVENTS,
         "a,b",
     ),
 ];
 
 #[test]
 fn words_ask_for_some_processes(rt: HostRuntime) {
-    for (words, form, only) in &SELECTIONS {
+    for (words, form, last, only) in &SELECTIONS {
         let picture = Picture {
             form: *form,
             moment: Moment::End,
             only: Some(only),
             width: 120,
-            last: ALL_EVENTS,
+            last: *last,
             theme: Theme::Auto,
         };
         expect_work(&rt, rt.alloc(), words, Work::Draw(picture));
