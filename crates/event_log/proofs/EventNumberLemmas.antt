@@ -1,7 +1,7 @@
 -- Events are listed in an order, each with its number.
 use Rattle.std.proofs.Common.{◌≡◌, ◌≢◌, ◌⊎◌, ◌<◌, ◌≤◌, ◌+◌, ℕ, zero, suc, List, [], ◌∷◌, ◌++◌, length, map, replicate, get_or, set, take, refl, sym, ap, ◌∙◌, subst}
-use Rattle.std.proofs.Common.{inl, inr, ⊎_elim, arith, eqb, cond, Ok, count_by, ◌==◌}
-use Rattle.std.proofs.lemmas.Bool.{cases_eq, eq-eqb, ne_eqb}
+use Rattle.std.proofs.Common.{inl, inr, ⊎_elim, arith, eqb, cond, Ok}
+use Rattle.std.proofs.lemmas.Bool.{cases_eq}
 use Rattle.std.proofs.lemmas.List.{take_all, get_or-replicate, length-map, length-replicate, length-set, get_or-set_same, get_or-set_other, map-append, take_more}
 use Rattle.std.proofs.lemmas.List.Sums.{sum_by-cons, sum_by_push, sum_by_more, sum_by-take-le}
 use Rattle.dbg_base.specs.Trees.{Program}
@@ -13,24 +13,9 @@ use Rattle.dbg_laws.proofs.Lists.{none_in_replicate}
 use Rattle.dbg_laws.proofs.OrderSwapLemmas.{first_step, is_there, length-choices_of}
 use Rattle.event_log.specs.declared.timed.TimedEvent.{TimedEvent}
 use Rattle.event_log.specs.EventOrders.{IsEventOrder}
+use Rattle.event_log.specs.FirstCuts.{times}
 use Rattle.event_log.specs.TimedEvents.{events_of, AreNumbered}
-
--- How often a process occurs in a list.
-
-abbrev times : ℕ → List ℕ → ℕ
-times p order = count_by (λ q. q == p) order
-
-abbrev one_if : ℕ → ℕ → ℕ
-one_if q p = cond (eqb q p) 1 0
-
-once : (p q : ℕ) → q ≡ p → ◌≡◌ {A = ℕ} (one_if q p) 1
-once p q same = ap (λ b. cond b 1 0) (eq-eqb q p same)
-
-never : (p q : ℕ) → q ≢ p → ◌≡◌ {A = ℕ} (one_if q p) 0
-never p q apart = ap (λ b. cond b 1 0) (ne_eqb q p apart)
-
-times_first : (p q : ℕ) (order : List ℕ) → times p (q ∷ order) ≡ one_if q p + times p order
-times_first p q order = sum_by-cons (λ x. cond (eqb x p) 1 0) q order
+use Rattle.event_log.proofs.TimesLemmas.{one_if, once, never, times_first}
 
 -- as often as these events have the process
 events_times : (p : ℕ) (events : List TimedEvent) → events_of p events ≡ times p (map (λ (e : TimedEvent). e.pid.0) events)

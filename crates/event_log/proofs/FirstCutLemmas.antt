@@ -1,9 +1,9 @@
 -- The events of a single consistent cut are undone last, so they come first in the order.
-use Rattle.std.proofs.Common.{◌≡◌, ◌≢◌, ◌⊎◌, ◌<◌, ◌≤◌, ◌+◌, ◌-◌, ℕ, List, [], ◌∷◌, ◌++◌, length, reverse, get_or, take, refl, sym, ap, ◌∙◌, subst, inl, inr, ⊎_elim, arith, append_assoc, eqb, cond, count_by}
+use Rattle.std.proofs.Common.{◌≡◌, ◌≢◌, ◌⊎◌, ◌<◌, ◌≤◌, ◌+◌, ◌-◌, ℕ, List, [], ◌∷◌, ◌++◌, length, reverse, get_or, take, refl, sym, ap, ◌∙◌, subst, inl, inr, ⊎_elim, arith, append_assoc, cond, count_by}
 use Rattle.std.specs.Prelude.{nat_lt}
-use Rattle.std.proofs.lemmas.Bool.{cases_eq, cases_lt, eq-eqb, ne_eqb, lt-ltb, le-ltb}
+use Rattle.std.proofs.lemmas.Bool.{cases_eq, cases_lt, lt-ltb, le-ltb}
 use Rattle.std.proofs.lemmas.List.{append-nil, reverse-append, take-append-le, get_or-set_same, get_or-set_other}
-use Rattle.std.proofs.lemmas.List.Sums.{sum_by-cons, sum_by_push}
+use Rattle.std.proofs.lemmas.List.Sums.{sum_by-cons}
 use Rattle.dbg_base.specs.Trees.{Program}
 use Rattle.dbg_base.specs.Counts.{sends_to, receives_from}
 use Rattle.dbg_base.specs.Cuts.{IsConsistent}
@@ -16,23 +16,7 @@ use Rattle.causal_world.proofs.RollbackLemmas.{choices_counted}
 use Rattle.causal_world.proofs.HistoryRecordLemmas.{some_undo}
 use Rattle.causal_world.proofs.WorldOfLemmas.{history_without}
 use Rattle.event_log.specs.FirstCuts.{times, AreFirst, AreLast, cuts_before}
-
--- How often a process occurs in a list.
-
-abbrev one_if : ℕ → ℕ → ℕ
-one_if q p = cond (eqb q p) 1 0
-
-once : (p : ℕ) → ◌≡◌ {A = ℕ} (one_if p p) 1
-once p = ap (λ b. cond b 1 0) (eq-eqb p p refl)
-
-never : (p q : ℕ) → q ≢ p → ◌≡◌ {A = ℕ} (one_if q p) 0
-never p q apart = ap (λ b. cond b 1 0) (ne_eqb q p apart)
-
-times_more : (p q : ℕ) (order : List ℕ) → times p (order ++ q ∷ []) ≡ times p order + one_if q p
-times_more p q order = sum_by_push (λ x. cond (eqb x p) 1 0) order q
-
-times_first : (p q : ℕ) (order : List ℕ) → times p (q ∷ order) ≡ one_if q p + times p order
-times_first p q order = sum_by-cons (λ x. cond (eqb x p) 1 0) q order
+use Rattle.event_log.proofs.TimesLemmas.{one_if, once, never, times_first, times_more}
 
 times_back : (p : ℕ) (order : List ℕ) → times p (reverse order) ≡ times p order
 times_back p [] = refl
@@ -136,7 +120,7 @@ module _ (P : Program) (w new : Scene) (cut undone : List ℕ) (p : ℕ) (of : I
           let at = ap (λ (x : ℕ). place_at new.state x) own in
           let was = ap (λ (x : ℕ). place_at w.state x) own in
           let one = ap (λ (x : ℕ). one_if p x) own in
-          omega (arith, now, more, at, was, one, once p, has, place_own w new p moved here))
+          omega (arith, now, more, at, was, one, once p p refl, has, place_own w new p moved here))
           (λ (apart : q ≢ p). omega (arith, now, more, never q p (λ x. apart (sym x)), place_other w new p moved q apart))
           (cases_eq q p)
 

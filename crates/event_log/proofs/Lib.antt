@@ -1,4 +1,5 @@
 pub mod UndoneOrderLemmas
+pub mod TimesLemmas
 pub mod FirstCutLemmas
 pub mod EventNumberLemmas
 pub mod EventClockLemmas
