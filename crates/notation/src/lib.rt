@@ -19,6 +19,7 @@ mod model;
 mod parser;
 mod pieces;
 mod plain_text;
+mod rendering;
 mod scope;
 mod sentences;
 mod session;
