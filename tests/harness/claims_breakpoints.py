@@ -43,7 +43,7 @@ def not_yet(reading, process, reason, further):
     reading.record("not yet", (reading.breakpoint, process))
 
 
-@claim(r"(?P<process>\w+): its part is false (?:after|in (?P<states>\d+) states, the last of them after) (?P<last>\d+ events?)")
+@claim(r"(?P<process>\w+): its part is false (?:after|in (?P<states>\d+) states that were looked at, the last of them after) (?P<last>\d+ events?)")
 def false_states(reading, process, states, last):
     """In how many states the search found the part of a process to be false. It may have left out those before what is needed."""
     count, number = int(last.split()[0]), int(states or 1)

@@ -64,7 +64,7 @@ impl SourceView<'_> {
             notes.add(&[
                 Part::Text("in "),
                 Part::Count(states),
-                Part::Text(" states, the last of them after "),
+                Part::Text(" states that were looked at, the last of them after "),
             ])?;
         }
         put_events(notes, last)
