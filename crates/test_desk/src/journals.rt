@@ -136,7 +136,7 @@ fn is_other(call: &Call, said: &Said) -> bool {
 
 // The calls of the two seats.
 #[derive(Clone, Copy, Debug, PartialEq, Eq)]
-enum Kind {
+enum AnswerKind {
     First,
     Unknown,
     Back,
@@ -146,31 +146,31 @@ enum Kind {
 }
 
 // Which of these calls it is.
-fn kind_of(call: &Call, said: &Said) -> Kind {
+fn kind_of(call: &Call, said: &Said) -> AnswerKind {
     if is_first(call, said) {
-        Kind::First
+        AnswerKind::First
     } else if is_unknown(call, said) {
-        Kind::Unknown
+        AnswerKind::Unknown
     } else if is_back(call, said) {
-        Kind::Back
+        AnswerKind::Back
     } else if asks_values(call, said) {
-        Kind::Asks
+        AnswerKind::Asks
     } else if is_other(call, said) {
-        Kind::Other
+        AnswerKind::Other
     } else {
-        Kind::None
+        AnswerKind::None
     }
 }
 
 // Which call a seat has recorded.
-fn kind_recorded(rt: &impl Abort, own: &RecordedCall) -> Kind {
+fn kind_recorded(rt: &impl Abort, own: &RecordedCall) -> AnswerKind {
     let call = own.call().expect(rt, "ample memory");
     let said = own.said().expect(rt, "ample memory");
     kind_of(&call, &said)
 }
 
 // Expects a seat to have recorded these calls.
-fn expect_recorded(rt: &impl Abort, calls: &[RecordedCall], wanted: &[Kind]) {
+fn expect_recorded(rt: &impl Abort, calls: &[RecordedCall], wanted: &[AnswerKind]) {
     expect_same(rt, calls.len(), wanted.len());
     for (own, kind) in calls.iter().zip(wanted) {
         expect_same(rt, kind_recorded(rt, own), *kind);
@@ -188,9 +188,9 @@ fn expect_calls<L: Run>(rt: &impl Abort, trial: &DeskTrial<L, NextCmd>) {
     let entry = trial.locked.entry(1).expect(rt, "an entry");
     expect_true(rt, is_asked(entry));
     expect_true(rt, trial.locked.entry(5).is_none());
-    let ones = [Kind::First, Kind::Unknown, Kind::Back];
+    let ones = [AnswerKind::First, AnswerKind::Unknown, AnswerKind::Back];
     expect_recorded(rt, trial.one.own_calls(), &ones);
-    let others = [Kind::Asks, Kind::Other];
+    let others = [AnswerKind::Asks, AnswerKind::Other];
     expect_recorded(rt, trial.two.own_calls(), &others);
 }
 

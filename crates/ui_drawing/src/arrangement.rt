@@ -2,7 +2,7 @@
 
 use crate::labels::EventWords;
 use crate::layout::Layout;
-use crate::places::Places;
+use crate::places::WordPlaces;
 use crate::rows::zeros;
 use crate::sheet::Scene;
 use std::alloc::AllocError;
@@ -20,7 +20,7 @@ const MOST_ROWS: i64 = 2;
 #[derive(Drop)]
 pub(crate) struct Arrangement {
     pub(crate) layout: Layout,
-    pub(crate) places: Places,
+    pub(crate) places: WordPlaces,
 }
 
 // An arrangement in which the events are so many rows lower.
@@ -31,7 +31,7 @@ fn arranged(
     falls: &[i64],
 ) -> Result<Arrangement, AllocError> {
     let layout = Layout::of(scene, heading, words, falls)?;
-    let places = Places::of(scene, &layout, words)?;
+    let places = WordPlaces::of(scene, &layout, words)?;
     Ok(Arrangement { layout, places })
 }
 

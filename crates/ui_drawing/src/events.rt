@@ -3,7 +3,7 @@
 use crate::labels::EventWords;
 use crate::shapes::Point;
 use crate::sheet::SvgSheet;
-use crate::spots::Place;
+use crate::spots::WordSpot;
 use crate::svg::{end_text, escaped, say_circle, say_text};
 use dbg_base::Pid;
 use event_rows::Event;
@@ -112,7 +112,7 @@ impl SvgSheet<'_> {
         notes: &mut Notes,
         shown: ShownEvent,
         words: &EventWords,
-        place: Place,
+        place: WordSpot,
     ) -> Result<(), AllocError> {
         let class = match (self.decides(shown), place.is_end) {
             (false, false) => "words",

@@ -1,7 +1,7 @@
 //! The columns of a drawing, and where its events are.
 
 use crate::labels::{EventWords, width_of};
-use crate::rows::Rows;
+use crate::rows::RowNumbers;
 use crate::shapes::Point;
 use crate::sheet::Scene;
 use dbg_base::Pid;
@@ -38,7 +38,7 @@ pub(crate) struct Layout {
     gutters: Vec<i64>,
     lines: Vec<i64>,
     ends: Vec<i64>,
-    rows: Rows,
+    rows: RowNumbers,
     top: i64,
 }
 
@@ -73,7 +73,7 @@ impl Layout {
             gutters: Vec::new(scene.alloc),
             lines: Vec::new(scene.alloc),
             ends: Vec::new(scene.alloc),
-            rows: Rows::of(scene, falls)?,
+            rows: RowNumbers::of(scene, falls)?,
             top: lines.saturating_mul(SENTENCE_ROW).saturating_add(38),
         };
         layout.measure_names(scene)?;

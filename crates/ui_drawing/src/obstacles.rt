@@ -31,14 +31,14 @@ const OUTSIDE: i64 = 1000;
 
 // A line, and what it costs to cover it.
 #[derive(Clone, Copy)]
-struct Drawn {
+struct CostlyStroke {
     stroke: Stroke,
     cost: i64,
 }
 
 // A rectangle, and what it costs to cover it.
 #[derive(Clone, Copy)]
-struct Taken {
+struct CostlyArea {
     area: Area,
     cost: i64,
 }
@@ -46,8 +46,8 @@ struct Taken {
 // What is between two heights.
 #[derive(Drop)]
 struct Band {
-    drawn: Vec<Drawn>,
-    taken: Vec<Taken>,
+    drawn: Vec<CostlyStroke>,
+    taken: Vec<CostlyArea>,
 }
 
 /// Lines, marks and words that are placed, in bands as high as a row.
@@ -98,7 +98,7 @@ impl Obstacles {
         usize::try_from(y.saturating_sub(self.top) / ROW).unwrap_or(0)
     }
 
-    fn push_drawn(&mut self, band: usize, drawn: Drawn) -> Result<(), AllocError> {
+    fn push_drawn(&mut self, band: usize, drawn: CostlyStroke) -> Result<(), AllocError> {
         match self.bands.get_mut(band) {
             Some(band) if band.drawn.len() < MOST => Ok(band.drawn.push(drawn)?),
             _ => Ok(()),
@@ -107,7 +107,7 @@ impl Obstacles {
 
     /// Adds a line, and what it costs to cover it.
     pub(crate) fn add_stroke(&mut self, stroke: Stroke, cost: i64) -> Result<(), AllocError> {
-        let drawn = Drawn { stroke, cost };
+        let drawn = CostlyStroke { stroke, cost };
         let (top, bottom) = stroke.heights();
         let (first, last) = (self.band(top), self.band(bottom));
         let near = last.min(first.saturating_add(REACH)).saturating_add(1);
@@ -124,7 +124,7 @@ impl Obstacles {
     pub(crate) fn add_area(&mut self, area: Area, cost: i64) -> Result<(), AllocError> {
         for band in self.band(area.top)..self.band(area.bottom).saturating_add(1) {
             if let Some(band) = self.bands.get_mut(band) {
-                band.taken.push(Taken { area, cost })?;
+                band.taken.push(CostlyArea { area, cost })?;
             }
         }
         Ok(())

@@ -7,7 +7,7 @@ use crate::layout::Layout;
 use crate::obstacles::{ARROW, CUT, MARK, Obstacles, WORDS};
 use crate::shapes::{Area, Point, Stroke};
 use crate::sheet::Scene;
-use crate::spots::{Choice, Place, label_area, label_choice, message_choice};
+use crate::spots::{BestSpot, WordSpot, label_area, label_choice, message_choice};
 use dbg_base::Pid;
 use std::alloc::AllocError;
 use ui_timeline::{NamedCut, ShownEvent, bytes_of};
@@ -15,7 +15,7 @@ use ui_timeline::{NamedCut, ShownEvent, bytes_of};
 /// Where the words of an event and of its message are.
 #[derive(Clone, Copy)]
 pub(crate) struct EventPlaces {
-    pub(crate) label: Place,
+    pub(crate) label: WordSpot,
     /// The middle of the words.
     pub(crate) message: Point,
     /// What it costs that they cross others, and that arrows cross the mark of the event.
@@ -24,7 +24,7 @@ pub(crate) struct EventPlaces {
 
 /// Where the words of a drawing are.
 #[derive(Drop)]
-pub(crate) struct Places {
+pub(crate) struct WordPlaces {
     /// In the order of the events.
     pub(crate) events: Vec<EventPlaces>,
     /// Of the names of the cuts.
@@ -35,12 +35,12 @@ pub(crate) struct Places {
 
 // A drawing whose words are being placed.
 #[derive(Clone, Copy)]
-struct Room<'a> {
+struct Placing<'a> {
     scene: Scene<'a>,
     layout: &'a Layout,
 }
 
-impl Room<'_> {
+impl Placing<'_> {
     // Adds the marks of the events, and their arrows.
     fn add_events(&self, obstacles: &mut Obstacles) -> Result<(), AllocError> {
         for shown in self.scene.events {
@@ -100,7 +100,7 @@ impl Room<'_> {
     fn name_area(&self, obstacles: &Obstacles, cut: &NamedCut) -> Result<Area, AllocError> {
         let title = cut.title(self.scene.alloc)?;
         let width = width_of(bytes_of(&title));
-        let mut choice = Choice::new();
+        let mut choice = BestSpot::new();
         let mut level = self.layout.top();
         for pid in self.scene.selection.pids() {
             level = level_of(self.scene, self.layout, cut, *pid);
@@ -125,7 +125,7 @@ impl Room<'_> {
     fn place_names(
         &self,
         obstacles: &mut Obstacles,
-        places: &mut Places,
+        places: &mut WordPlaces,
     ) -> Result<(), AllocError> {
         for cut in self.scene.cuts {
             let area = self.name_area(obstacles, cut)?;
@@ -148,7 +148,7 @@ impl Room<'_> {
     fn place_labels(
         &self,
         obstacles: &mut Obstacles,
-        places: &mut Places,
+        places: &mut WordPlaces,
         words: &[EventWords],
     ) -> Result<(), AllocError> {
         for (shown, words) in self.scene.events.iter().zip(words) {
@@ -171,7 +171,7 @@ impl Room<'_> {
     fn place_messages(
         &self,
         obstacles: &mut Obstacles,
-        places: &mut Places,
+        places: &mut WordPlaces,
         words: &[EventWords],
     ) -> Result<(), AllocError> {
         let events = self.scene.events.iter().zip(words);
@@ -187,21 +187,21 @@ impl Room<'_> {
     }
 }
 
-impl Places {
+impl WordPlaces {
     /// Places the words of a scene: the names of the cuts, the words of the events, and those of the messages.
     pub(crate) fn of(
         scene: Scene<'_>,
         layout: &Layout,
         words: &[EventWords],
-    ) -> Result<Places, AllocError> {
+    ) -> Result<WordPlaces, AllocError> {
         let rows = layout.last_row().saturating_add(i64::from(AGAIN));
         let mut obstacles = Obstacles::of(scene, layout, rows.saturating_add(2))?;
-        let mut places = Places {
+        let mut places = WordPlaces {
             events: Vec::new(scene.alloc),
             names: Vec::new(scene.alloc),
             right: layout.right(),
         };
-        let room = Room { scene, layout };
+        let room = Placing { scene, layout };
         room.add_events(&mut obstacles)?;
         room.add_cuts(&mut obstacles)?;
         room.add_again(&mut obstacles)?;

@@ -8,7 +8,7 @@ use ui_timeline::ShownEvent;
 
 /// The row of each event, from 1: below the event of its process before it, and below the event that sent what it received.
 #[derive(Drop)]
-pub(crate) struct Rows {
+pub(crate) struct RowNumbers {
     // In the order of the events, with those of the processes that are not shown.
     rows: Vec<i64>,
     // How many events are left out before them.
@@ -25,10 +25,10 @@ pub(crate) fn zeros(scene: Scene<'_>, count: usize) -> Result<Vec<i64>, AllocErr
     Ok(zeros)
 }
 
-impl Rows {
+impl RowNumbers {
     /// The rows of the events that a scene shows, each so many rows lower than its causal depth asks for.
-    pub(crate) fn of(scene: Scene<'_>, falls: &[i64]) -> Result<Rows, AllocError> {
-        let mut rows = Rows {
+    pub(crate) fn of(scene: Scene<'_>, falls: &[i64]) -> Result<RowNumbers, AllocError> {
+        let mut rows = RowNumbers {
             rows: Vec::new(scene.alloc),
             left: scene.left,
             last: 0,

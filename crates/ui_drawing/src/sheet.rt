@@ -3,7 +3,7 @@
 use crate::arrangement::Arrangement;
 use crate::labels::EventWords;
 use crate::layout::Layout;
-use crate::places::Places;
+use crate::places::WordPlaces;
 use dbg_base::Refusal;
 use dbg_command::SessionView;
 use std::alloc::{AllocError, Global};
@@ -30,7 +30,7 @@ pub(crate) struct SvgSheet<'a> {
     pub(crate) scene: Scene<'a>,
     pub(crate) layout: &'a Layout,
     pub(crate) words: &'a [EventWords],
-    pub(crate) places: &'a Places,
+    pub(crate) places: &'a WordPlaces,
     pub(crate) heading: &'a Notes,
     pub(crate) key: &'a Notes,
     /// A number for the names in this drawing, so that a page may have several drawings.
@@ -167,6 +167,28 @@ impl SvgSheet<'_> {
     }
 }
 
+// Draws a scene.
+fn draw_scene(notes: &mut Notes, scene: Scene<'_>, theme: Theme) -> Result<(), AllocError> {
+    let heading = scene.heading()?;
+    let key = scene.key()?;
+    let words = scene.words()?;
+    let arrangement = Arrangement::of(scene, heading.lines().len(), words.as_slice())?;
+    let sheet = SvgSheet {
+        scene,
+        layout: &arrangement.layout,
+        words: words.as_slice(),
+        places: &arrangement.places,
+        heading: &heading,
+        key: &key,
+        id: scene.id(),
+        theme,
+    };
+    sheet.say_head(notes)?;
+    sheet.say_shapes(notes)?;
+    sheet.say_words(notes)?;
+    notes.say(&[Part::Text("</svg>")])
+}
+
 /// Draws a session in its present state, as `draw_text` does, as a drawing (SVG): its lines. Only the events of the processes of
 /// the selection are shown, and the last of them.
 pub fn draw_drawing(
@@ -189,23 +211,5 @@ pub fn draw_drawing(
         left,
         events: events.as_slice(),
     };
-    let heading = scene.heading()?;
-    let key = scene.key()?;
-    let words = scene.words()?;
-    let arrangement = Arrangement::of(scene, heading.lines().len(), words.as_slice())?;
-    let sheet = SvgSheet {
-        scene,
-        layout: &arrangement.layout,
-        words: words.as_slice(),
-        places: &arrangement.places,
-        heading: &heading,
-        key: &key,
-        id: scene.id(),
-        theme,
-    };
-    sheet.say_head(notes)?;
-    sheet.say_shapes(notes)?;
-    sheet.say_words(notes)?;
-    notes.say(&[Part::Text("</svg>")])?;
-    Ok(())
+    Ok(draw_scene(notes, scene, theme)?)
 }

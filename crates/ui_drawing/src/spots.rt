@@ -7,7 +7,7 @@ use crate::shapes::{ASCENT, Area, DESCENT, Point, Stroke};
 
 /// Where words are: where they begin or, on the left of an event, where they end.
 #[derive(Clone, Copy)]
-pub(crate) struct Place {
+pub(crate) struct WordSpot {
     pub(crate) point: Point,
     pub(crate) is_end: bool,
 }
@@ -33,17 +33,17 @@ const WAITING: &[i64] = &[12, 13, 10, 8, 6, 4, 3];
 
 /// The area that costs least of those that were offered, and whether its words end at its event.
 #[derive(Clone, Copy)]
-pub(crate) struct Choice {
+pub(crate) struct BestSpot {
     pub(crate) cost: i64,
     pub(crate) area: Area,
     is_end: bool,
 }
 
-impl Choice {
+impl BestSpot {
     /// Nothing was offered.
-    pub(crate) fn new() -> Choice {
+    pub(crate) fn new() -> BestSpot {
         let nowhere = Point { x: 0, y: 0 };
-        Choice {
+        BestSpot {
             cost: i64::MAX,
             area: Area::around(nowhere, 0),
             is_end: false,
@@ -55,20 +55,20 @@ impl Choice {
         if self.cost > 0 {
             let cost = obstacles.cost(area);
             if cost < self.cost {
-                *self = Choice { cost, area, is_end };
+                *self = BestSpot { cost, area, is_end };
             }
         }
     }
 
     /// Where the words are, for the words at an event.
-    pub(crate) fn place(&self) -> Place {
+    pub(crate) fn place(&self) -> WordSpot {
         let point = self.area.middle();
         let x = if self.is_end {
             self.area.right
         } else {
             self.area.left
         };
-        Place {
+        WordSpot {
             point: Point { x, y: point.y },
             is_end: self.is_end,
         }
@@ -126,7 +126,7 @@ fn end_area(stroke: Stroke, width: i64, is_below: bool) -> Area {
 
 // Offers the areas along a line: on its sides or above and below it.
 fn offer_along(
-    choice: &mut Choice,
+    choice: &mut BestSpot,
     obstacles: &Obstacles,
     arrow: Arrow,
     width: i64,
@@ -146,8 +146,8 @@ fn offer_along(
 }
 
 /// The best area for the words of an event at this point.
-pub(crate) fn label_choice(obstacles: &Obstacles, event: Point, width: i64) -> Choice {
-    let mut choice = Choice::new();
+pub(crate) fn label_choice(obstacles: &Obstacles, event: Point, width: i64) -> BestSpot {
+    let mut choice = BestSpot::new();
     for (is_end, below) in SIDES {
         let area = label_area(event, width, *is_end, *below);
         choice.offer(obstacles, area, *is_end);
@@ -156,8 +156,8 @@ pub(crate) fn label_choice(obstacles: &Obstacles, event: Point, width: i64) -> C
 }
 
 /// The best area for the words at an arrow.
-pub(crate) fn message_choice(obstacles: &Obstacles, arrow: Arrow, width: i64) -> Choice {
-    let mut choice = Choice::new();
+pub(crate) fn message_choice(obstacles: &Obstacles, arrow: Arrow, width: i64) -> BestSpot {
+    let mut choice = BestSpot::new();
     let is_steep = arrow.stroke.is_steep();
     for is_steep in [is_steep, !is_steep] {
         offer_along(&mut choice, obstacles, arrow, width, is_steep);
