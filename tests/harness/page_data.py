@@ -3,6 +3,7 @@
 crates/ui_page/README.md lists the operations: what a line of the session did.
 """
 import json
+import re
 
 from harness import Fault
 
@@ -12,10 +13,18 @@ def decoded(text):
     return text.encode("latin-1").decode("utf-8", "backslashreplace")
 
 
+def byte_of(sign):
+    """The byte that stands in the data as the sign whose number is 256 more."""
+    return chr(ord(sign[0]) - 256)
+
+
 def read_page(page):
-    """The data of a page."""
-    data = json.loads(page.partition("type=application/json>")[2].partition("</script>")[0])
-    data["lines"] = [[decoded(part) if isinstance(part, str) else part for part in line] for line in data["lines"]]
+    """The data of a page: its processes, the text of the program, and the lines, each with its reply and its operations."""
+    texts = page.partition("type=application/json>")[2].partition("</script>")[0].strip().splitlines()
+    data, *values = [json.loads(re.sub("[\u0100-\u01ff]", byte_of, text)) for text in texts]
+    operations = {number: made for number, *made in values if isinstance(number, int)}
+    shown = [value for value in values if isinstance(value[0], str)]
+    data["lines"] = [[decoded(line), decoded(reply), *operations.get(number, [])] for number, (line, reply) in enumerate(shown, 1)]
     return data
 
 
@@ -39,7 +48,7 @@ class Replay:
         self.breakpoints = []  # of each its name, whether it is armed, and its eliminations
         self.halting = None  # the breakpoint that halts the session
         self.replies = {}
-        for number, (line, reply, *operations) in enumerate(data["lines"][:-1], 1):
+        for number, (line, reply, *operations) in enumerate(data["lines"], 1):
             if not line.strip().startswith("#"):
                 self.follow(number, line.split(), reply, operations)
 
@@ -82,10 +91,14 @@ class Replay:
         self.breakpoints = [(name, armed, [] if parts else trails[name]) for name, armed, *parts in breakpoints]
 
     def search(self, searches):
-        for i, count, *numbers in searches:
-            name, armed, trail = self.breakpoints[i]
-            require(count <= len(trail) and (count or numbers), "the search of", name)
-            self.breakpoints[i] = (name, armed, trail[:count] + eliminations(numbers))
+        changed = set()
+        for places, dropped, *numbers in searches:
+            for first, count in zip(places[::2], places[1::2]):
+                for i in range(first, first + count):
+                    name, armed, trail = self.breakpoints[i]
+                    require(dropped <= len(trail) and (dropped or numbers) and i not in changed, "the search of", name)
+                    changed.add(i)
+                    self.breakpoints[i] = (name, armed, trail[:len(trail) - dropped] + eliminations(numbers))
 
     def halt(self, name):
         self.halting = name
@@ -136,7 +149,7 @@ class FinalState:
         if len(false) == 1:
             yield f"{name}: its part is false after {events(false[0])}"
         elif false:
-            yield f"{name}: its part is false in {len(false)} states, the last of them after {events(false[-1])}"
+            yield f"{name}: its part is false in {len(false)} states that were looked at, the last of them after {events(false[-1])}"
         if needed:
             to, by, event = needed[-1]
             yield f"{name}: at least {events(to)}, since event {event} of {self.names[by]} depends on its event {to}"

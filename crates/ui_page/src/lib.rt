@@ -2,11 +2,12 @@
 #![tactic(auto)]
 
 mod artist;
-mod json;
+mod data;
+mod list;
 mod page;
 mod recorder;
 
 pub use artist::Artist;
-pub use json::Json;
+pub use data::{Incomplete, PageData};
 pub use page::write_page;
 pub use recorder::Recorder;

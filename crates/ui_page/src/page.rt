@@ -19,7 +19,7 @@ mod style;
 mod style_media;
 mod zoom;
 
-use crate::json::Json;
+use crate::data::PageData;
 use shell_io::Sink;
 use shell_print::{ServeFault, hand_on, write_whole};
 
@@ -53,7 +53,7 @@ fn write_script<W: Sink>(writer: &mut W) -> Result<(), ServeFault> {
 }
 
 /// Writes the page of a session, as it was recorded.
-pub fn write_page<W: Sink>(session: &Json, writer: &mut W) -> Result<(), ServeFault> {
+pub fn write_page<W: Sink>(session: &PageData, writer: &mut W) -> Result<(), ServeFault> {
     write_parts(
         &[
             frame::HEAD,

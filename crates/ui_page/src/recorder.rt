@@ -1,17 +1,22 @@
 //! Records what each line of a session did, for the page.
 
+ghost use Rattle.std.specs.Prelude.{IfOk};
+ghost use Rattle.ui_page.specs.PageLines.{ArePageLines};
+
 mod breakpoints;
 mod events;
 mod lines;
 mod trail;
 
-use crate::json::Json;
+use crate::data::{Incomplete, PageData};
+use crate::list::{List, text_value};
 use breakpoints::{BreakpointChange, Breakpoints};
 use causal_world::World;
 use dbg_base::{Call, Choice, Done, Pid, Plan, Refusal, Reply, Said};
 use dbg_command::SessionView;
 use lines::RecordedLines;
 use proc_lang::Program;
+use serde_json::{Map, Value};
 use std::alloc::{AllocError, Global};
 use ui_explain::{Echo, Explainer};
 use ui_text::{Notes, ProgramText};
@@ -56,8 +61,6 @@ pub struct Recorder<'a> {
     alloc: Global,
     // The program as it was written, if it is not the one that is played.
     source: Option<&'a ProgramText>,
-    // The processes, and the text of the program.
-    processes: Json,
     lines: RecordedLines,
     breakpoints: Breakpoints,
     // The call that is about to be made.
@@ -66,62 +69,88 @@ pub struct Recorder<'a> {
     before: Option<World>,
     // How each command that counts may have changed breakpoints.
     changes: Vec<BreakpointChange>,
-    is_out_of_memory: bool,
+    is_incomplete: bool,
 }
 
-impl Json {
+impl List {
     // A command: the number of its line, and the line.
     fn command(&mut self, text: &ProgramText, pid: Pid, number: u32) -> Result<(), AllocError> {
-        let Some(place) = text.place(pid, Choice(number)) else {
-            return self.put("[0,\"\"]");
-        };
-        self.put("[")?;
-        self.count(place.number)?;
-        self.put(",")?;
-        self.string(text.line(place))?;
-        self.put("]")
+        let mut command = self.another();
+        match text.place(pid, Choice(number)) {
+            Some(place) => {
+                command.count(place.number)?;
+                command.text(text.line(place))?;
+            }
+            None => {
+                command.count(0)?;
+                command.text(&[])?;
+            }
+        }
+        self.list(command)
     }
 
-    // A process: its name, its variables with their values at the start, and its commands.
-    fn process(
+    // The commands of a process.
+    fn commands(
         &mut self,
         program: &Program,
         text: &ProgramText,
         pid: Pid,
     ) -> Result<(), AllocError> {
-        self.put("{\"name\":")?;
-        self.name(program.process_name(pid))?;
-        self.put(",\"variables\":[")?;
-        let mut between = "[";
-        for variable in 0..program.variables(pid) {
-            self.put(between)?;
-            self.name(program.variable_name(pid, variable))?;
-            self.put(",")?;
-            self.value(program.start_value(pid, variable).unwrap_or(0))?;
-            self.put("]")?;
-            between = ",[";
-        }
-        self.put("],\"commands\":[")?;
-        let mut between = "";
         for number in 0..program.commands(pid) {
-            self.put(between)?;
             self.command(text, pid, number)?;
-            between = ",";
         }
-        self.put("]}")
+        Ok(())
     }
 
-    // The processes, with commas between them, and then the text of the program.
-    fn processes(&mut self, program: &Program, text: &ProgramText) -> Result<(), AllocError> {
-        for p in 0..program.processes() {
-            if p > 0 {
-                self.put(",")?;
-            }
-            self.process(program, text, Pid(p))?;
+    // The variables of a process with their values at the start.
+    fn variables(&mut self, program: &Program, pid: Pid) -> Result<(), AllocError> {
+        for variable in 0..program.variables(pid) {
+            let mut start = self.another();
+            start.name(program.variable_name(pid, variable))?;
+            start.value(program.start_value(pid, variable).unwrap_or(0))?;
+            self.list(start)?;
         }
-        self.put("],\n\"program\":")?;
-        self.string(text.text())
+        Ok(())
     }
+}
+
+// A process: its name, its variables with their values at the start, and its commands.
+fn process_value(
+    alloc: Global,
+    program: &Program,
+    text: &ProgramText,
+    pid: Pid,
+) -> Result<Value, AllocError> {
+    let name = match program.process_name(pid) {
+        Some(name) => text_value(alloc, name.bytes())?,
+        None => Value::Null,
+    };
+    let mut variables = List::new(alloc);
+    variables.variables(program, pid)?;
+    let mut commands = List::new(alloc);
+    commands.commands(program, text, pid)?;
+    let mut members = Map::new(alloc);
+    serde_json::put(&mut members, alloc, "name", name)?;
+    serde_json::put(&mut members, alloc, "variables", variables.into_value())?;
+    serde_json::put(&mut members, alloc, "commands", commands.into_value())?;
+    Ok(Value::Object(members))
+}
+
+// The processes, and the text of the program.
+fn program_value(
+    alloc: Global,
+    program: &Program,
+    text: &ProgramText,
+) -> Result<Value, AllocError> {
+    let mut processes = List::new(alloc);
+    for p in 0..program.processes() {
+        processes.push(process_value(alloc, program, text, Pid(p))?)?;
+    }
+    let source = text_value(alloc, text.text())?;
+    let mut members = Map::new(alloc);
+    serde_json::put(&mut members, alloc, "processes", processes.into_value())?;
+    serde_json::put(&mut members, alloc, "program", source)?;
+    Ok(Value::Object(members))
 }
 
 impl<'a> Recorder<'a> {
@@ -131,26 +160,31 @@ impl<'a> Recorder<'a> {
         Recorder {
             alloc,
             source,
-            processes: Json::new(alloc),
             lines: RecordedLines::new(alloc),
             breakpoints: Breakpoints::new(alloc),
             kind: CallKind::Other,
             before: None,
             changes: Vec::new(alloc),
-            is_out_of_memory: false,
+            is_incomplete: false,
         }
     }
 
-    /// Whether memory ran out.
-    pub fn is_out_of_memory(&self) -> bool {
-        self.is_out_of_memory
+    /// Whether something was not recorded, since memory ran out.
+    pub fn is_incomplete(&self) -> bool {
+        self.is_incomplete
     }
 
-    // Notes that memory ran out, if it did.
+    // Notes that something was not recorded, if it was not.
     fn note<E: Drop>(&mut self, done: Result<(), E>) {
         if done.is_err() {
-            self.is_out_of_memory = true;
+            self.is_incomplete = true;
         }
+    }
+
+    // Records the program.
+    fn put_program(&mut self, program: &Program, text: &ProgramText) -> Result<(), Incomplete> {
+        let value = program_value(self.alloc, program, text)?;
+        self.lines.add(self.alloc, &value)
     }
 
     fn put_batch(&mut self, view: SessionView<'_>) -> Result<(), AllocError> {
@@ -159,7 +193,7 @@ impl<'a> Recorder<'a> {
         };
         for p in 0..view.program.processes() {
             self.lines
-                .done()
+                .operations()
                 .changed_line(view.program, before, view.world, Pid(p))?;
         }
         Ok(())
@@ -168,22 +202,25 @@ impl<'a> Recorder<'a> {
     // What an accepted command did to the processes, as an operation.
     fn put_command(&mut self, view: SessionView<'_>, reply: &Reply) -> Result<(), AllocError> {
         let world = view.world;
-        let json = self.lines.done();
+        let operations = self.lines.operations();
         match self.kind {
-            CallKind::Further(pid) => json.made(",[\"e\",", view.program, world, pid),
-            CallKind::Again(pid) => json.made(",[\"r\",", view.program, world, pid),
+            CallKind::Further(pid) => operations.made("e", view.program, world, pid),
+            CallKind::Again(pid) => operations.made("r", view.program, world, pid),
             CallKind::Undo(pid) => {
-                json.put(",[\"u\",")?;
-                json.number(i64::from(pid.0))?;
-                json.put("]")
+                let mut undo = operations.another_of("u")?;
+                undo.number(i64::from(pid.0))?;
+                operations.list(undo)
             }
             CallKind::Batch(_) => self.put_batch(view),
-            CallKind::Back => json.put(",[\"b\"]"),
+            CallKind::Back => {
+                let back = operations.another_of("b")?;
+                operations.list(back)
+            }
             CallKind::Other => match &reply.done {
                 Done::Places(cut) => {
-                    json.put(",[\"p\",")?;
-                    json.counts(cut.counts())?;
-                    json.put("]")
+                    let mut places = operations.another_of("p")?;
+                    places.counts(cut.counts())?;
+                    operations.list(places)
                 }
                 _ => Ok(()),
             },
@@ -204,34 +241,37 @@ impl<'a> Recorder<'a> {
     fn put_all(&mut self, view: SessionView<'_>, reply: &Reply) -> Result<(), Refusal> {
         self.put_command(view, reply)?;
         let change = self.change()?;
-        let json = self.lines.done();
-        self.breakpoints.put_changes(json, view, change)
+        let operations = self.lines.operations();
+        self.breakpoints.put_changes(operations, view, change)
     }
 
-    /// What was recorded, as JSON: the processes, and the lines with their replies. The replies are in this text, one after the other.
-    pub fn session(&self, replies: &[u8]) -> Result<Json, AllocError> {
-        let mut json = Json::new(self.alloc);
-        json.put("{\"processes\":[")?;
-        json.put_json(self.processes.bytes())?;
-        json.put(",\n\"lines\":[\n")?;
-        self.lines.put_into(&mut json, replies)?;
-        json.put("[]]}\n")?;
-        Ok(json)
+    // The present line is answered.
+    fn end_line(&mut self) {
+        let ended = self.lines.end(self.alloc);
+        self.note(ended);
+    }
+
+    /// What was recorded: the program, what each line did, and the lines with their replies. The replies are in this text, one after the
+    /// other.
+    pub fn session(self, replies: &[u8]) -> Result<PageData, Incomplete>
+        ensures lines { IfOk result (λ page. ∥ ArePageLines page.bytes.items ∥₁) }
+    {
+        self.lines.with_replies(self.alloc, replies)
     }
 }
 
 impl Explainer for Recorder<'_> {
     fn begin(&mut self, alloc: Global, program: &Program, text: &[u8]) -> Result<(), AllocError> {
-        match self.source {
-            Some(source) => self.processes.processes(program, source),
-            None => self
-                .processes
-                .processes(program, &ProgramText::new(alloc, text)?),
-        }
+        let put = match self.source {
+            Some(source) => self.put_program(program, source),
+            None => self.put_program(program, &ProgramText::new(alloc, text)?),
+        };
+        self.note(put);
+        Ok(())
     }
 
     fn hear(&mut self, _alloc: Global, line: &[u8], _is_typed: bool) -> Echo {
-        let begun = self.lines.begin(line);
+        let begun = self.lines.begin(self.alloc, line);
         self.note(begun);
         Echo::Nothing
     }
@@ -241,7 +281,7 @@ impl Explainer for Recorder<'_> {
         if let CallKind::Batch(_) = self.kind {
             match view.world.copy() {
                 Ok(before) => self.before = Some(before),
-                Err(_) => self.is_out_of_memory = true,
+                Err(_) => self.is_incomplete = true,
             }
         }
     }
@@ -252,7 +292,7 @@ impl Explainer for Recorder<'_> {
             self.note(reported);
         }
         self.before = None;
-        self.lines.end();
+        self.end_line();
         Notes::new(alloc)
     }
 
@@ -263,7 +303,7 @@ impl Explainer for Recorder<'_> {
         _line: &[u8],
         _refusal: &Refusal,
     ) -> Notes {
-        self.lines.end();
+        self.end_line();
         Notes::new(alloc)
     }
 }

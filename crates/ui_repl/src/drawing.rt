@@ -68,13 +68,16 @@ fn draw_page<R: Source + Typed, W: Sink, E: Sink>(
     let mut dialogue = Dialogue::new(Recorder::new(alloc, source), is_stopped);
     let mut replies = Noted::new(Vec::new(alloc));
     let served = play(alloc, &mut dialogue, reader, &mut replies)?;
-    let recorder = dialogue.explainer();
-    if recorder.is_out_of_memory() {
+    let recorder = dialogue.into_explainer();
+    if recorder.is_incomplete() {
         return Err(ServeFault::Memory);
     }
     let replies = replies.into_inner();
     if is_played(served) {
-        write_page(&recorder.session(replies.as_slice())?, writer)?;
+        let Ok(data) = recorder.session(replies.as_slice()) else {
+            return Err(ServeFault::Memory);
+        };
+        write_page(&data, writer)?;
     } else {
         let written = write_whole(errors, replies.as_slice());
         hand_on(written, errors)?;

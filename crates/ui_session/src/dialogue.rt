@@ -49,6 +49,11 @@ impl<'a, T> Dialogue<'a, T> {
     pub fn explainer(&self) -> &T {
         &self.explainer
     }
+
+    /// The explainer, after the session.
+    pub fn into_explainer(self) -> T {
+        self.explainer
+    }
 }
 
 impl<T: Explainer, R: Typed> Observer<R> for Dialogue<'_, T> {

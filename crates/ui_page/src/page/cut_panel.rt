@@ -10,8 +10,8 @@ function reason({p, to, by, event}) {
 // The last eliminations of a search, with those of the current line in bold.
 const SHOWN_STEPS = 200;
 function searchSteps(name, last) {
-  const old = states[Math.max(0, place - 1)].points.find(point => point.name === name), items = [];
-  const kept = old ? common(old.search, last) : last.n;
+  const before = states[Math.max(0, place - 1)], old = before.searches[pointPlace(before, name)], items = [];
+  const kept = old ? common(old, last) : last.n;
   for (let step = last; step.n > 0 && items.length < SHOWN_STEPS; step = step.before) {
     items.push(node('li', step.n > kept ? node('b', reason(step)) : reason(step), {value: step.n}));
   }

@@ -56,8 +56,8 @@ pub(super) static BODY: &str = r#"</style>
 </div>
 <noscript>
 <h1>A session of rdbg</h1>
-<p>Scripts are off, so there is no drawing. This is the session as the page has it: the processes, the program, and each line with its reply and
-what it did.</p>
+<p>Scripts are off, so there is no drawing. This is the session as the page has it: the processes, the program, what each line did, and the lines
+with their replies.</p>
 </noscript>
 <script id=session type=application/json>
 "#;

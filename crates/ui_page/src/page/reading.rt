@@ -4,15 +4,18 @@ pub(super) static READING: &str = r#"
 'use strict';
 (() => {
 const find = id => document.getElementById(id);
-let session;
+// The data are a line of JSON for the program, one for what a line of the session did, if it did something, and one for each line with its
+// reply. In a text, `<` and each byte that is not ASCII are characters from 256 on.
+let session, values;
 try {
-  session = JSON.parse(find('session').textContent);
+  const data = find('session').textContent.trim().replace(/[\u0100-\u01ff]/g, sign => String.fromCharCode(sign.charCodeAt(0) - 256));
+  [session, ...values] = JSON.parse('[' + data.replaceAll('\n', ',') + ']');
 } catch (fault) {
   find('said').textContent = 'The data of the session are incomplete: ' + fault.message;
   return;
 }
 
-// Texts. The data have each byte of a text as one character. Valid UTF-8 becomes its characters, and any other byte is shown as \x
+// Texts. They have each byte as one character. Valid UTF-8 becomes its characters, and any other byte is shown as \x
 // and two digits. Control characters, and those that change the direction of a text, are shown by their numbers.
 const SEQUENCES = new RegExp('[\\xc2-\\xdf][\\x80-\\xbf]|\\xe0[\\xa0-\\xbf][\\x80-\\xbf]|\\xed[\\x80-\\x9f][\\x80-\\xbf]|' +
   '[\\xe1-\\xec\\xee\\xef][\\x80-\\xbf]{2}|\\xf0[\\x90-\\xbf][\\x80-\\xbf]{2}|[\\xf1-\\xf3][\\x80-\\xbf]{3}|\\xf4[\\x80-\\x8f][\\x80-\\xbf]{2}|' +
@@ -32,7 +35,8 @@ function readable(text) {
 }
 
 const processes = session.processes, count = processes.length;
-const lines = session.lines.filter(line => line.length > 0);
+const lines = values.filter(([text]) => typeof text === 'string'), lineOperations = lines.map(() => []);
+for (const value of values) if (typeof value[0] === 'number') lineOperations[value[0] - 1] = value.slice(1);
 for (const line of lines) {
   line[0] = readable(line[0]);
   line[1] = readable(line[1]);

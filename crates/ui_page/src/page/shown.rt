@@ -76,14 +76,14 @@ function depthAt(p, n) {
   return n === 0 ? 0 : n <= made.length ? made[n - 1].depth : later[p].events[n - made.length - 1].depth;
 }
 // How far the search for a breakpoint's cut came: the frontier, with -1 for a process that is past, and the cut, if there is one.
-function found(point) {
-  const heads = headsAt(point.search), frontier = heads.map((n, p) => n > state.lines[p].done.n ? -1 : n);
-  return {...point, frontier, cut: frontier.includes(-1) ? null : heads};
+function found(point, i) {
+  const search = state.searches[i], heads = headsAt(search), frontier = heads.map((n, p) => n > state.lines[p].done.n ? -1 : n);
+  return {...point, search, frontier, cut: frontier.includes(-1) ? null : heads};
 }
 // Shows the state of the place.
 function follow() {
   state = states[place];
-  points = state.points.filter(({name}) => !hidden.points.has(name)).map(found);
+  points = state.points.map(found).filter(({name}) => !hidden.points.has(name));
   state.lines.forEach((line, p) => {
     if (later[p].line === line) return;
     shown.reach(p, line.done);

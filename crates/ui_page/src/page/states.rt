@@ -89,11 +89,11 @@ class Rows {
 // the event `event` of process `by` depends on so many.
 const noElimination = {n: 0, p: 0, to: 0, by: undefined, event: 0, heads: processes.map(() => 0)};
 noElimination.before = noElimination.far = noElimination;
-// The search after further eliminations, which are numbers of a row, from position 2 on: each is p and to, or -1 - p, to, by and event.
-function eliminated(last, row) {
-  for (let i = 2; i < row.length; i += 2) {
-    const isPassed = row[i] < 0, p = isPassed ? -1 - row[i] : row[i], to = row[i + 1];
-    const by = isPassed ? row[i + 2] : undefined, event = isPassed ? row[i + 3] : 0;
+// The search after further eliminations, which are numbers: each is p and to, or -1 - p, to, by and event.
+function eliminated(last, numbers) {
+  for (let i = 0; i < numbers.length; i += 2) {
+    const isPassed = numbers[i] < 0, p = isPassed ? -1 - numbers[i] : numbers[i], to = numbers[i + 1];
+    const by = isPassed ? numbers[i + 2] : undefined, event = isPassed ? numbers[i + 3] : 0;
     last = {n: last.n + 1, p, to, by, event, before: last, far: farLink(last), heads: null};
     if (isPassed) i += 2;
   }
@@ -121,7 +121,21 @@ function headsAt(last) {
   return heads;
 }
 
-// The state after each line: `lines` of the processes, breakpoints (`points`), and the name of the one that halts.
+// The search after such a change: so many of its last eliminations are gone, and others follow. Searches that were equal stay one.
+function changedSearches(searches, [places, dropped, ...numbers]) {
+  const changed = searches.slice(), made = new Map();
+  for (let i = 0; i < places.length; i += 2) {
+    for (let j = places[i]; j < places[i] + places[i + 1]; j++) {
+      const old = searches[j];
+      if (!made.has(old)) made.set(old, eliminated(at(old, old.n - dropped), numbers));
+      changed[j] = made.get(old);
+    }
+  }
+  return changed;
+}
+
+// The state after each line: `lines` of the processes, the breakpoints (`points`), their `searches` in the same order, and the name of the one
+// that halts.
 let state = {
   lines: processes.map((process, p) => {
     const done = start(p, 0, 0);
@@ -129,10 +143,12 @@ let state = {
     done.clock = processes.map(() => 0);
     return {done, later: null};
   }),
-  points: [], halting: null,
+  points: [], searches: [], halting: null,
 };
 const states = [state];
 
+// Where a breakpoint is among those of a state; -1 if it is not there.
+function pointPlace({points}, name) { return points.findIndex(point => point.name === name); }
 function withLine(p, line) {
   const changed = state.lines.slice();
   changed[p] = line;
@@ -162,19 +178,11 @@ function act(operation, fresh, given) {
     fresh.push(events);
     withLine(p, {done, later: choice && {last: choice, from: done.n, rest: null}});
   } else if (kind === 'm') {
-    const points = p.map(([name, armed, parts]) => {
-      if (parts) return {name, armed, parts, search: noElimination};
-      return {...state.points.find(point => point.name === name), armed};
-    });
-    state = {...state, points};
+    const olds = p.map(([name, , parts]) => parts ? -1 : pointPlace(state, name));
+    const points = p.map(([name, armed, parts], i) => parts ? {name, armed, parts} : {...state.points[olds[i]], armed});
+    state = {...state, points, searches: olds.map(old => old < 0 ? noElimination : state.searches[old])};
   } else if (kind === 'c') {
-    // So many eliminations of the search for breakpoint i stay, and others follow them.
-    const points = state.points.slice();
-    for (const row of p) {
-      const [i, kept] = row, point = points[i];
-      points[i] = {...point, search: eliminated(at(point.search, kept), row)};
-    }
-    state = {...state, points};
+    state = {...state, searches: p.reduce(changedSearches, state.searches)};
   } else if (kind === 'h') {
     state = {...state, halting: p};
   }
@@ -200,8 +208,8 @@ function settle(fresh, rows) {
 }
 {
   const rows = new Rows(), given = [];
-  for (const [, reply, ...operations] of lines) {
-    const old = state, fresh = [];
+  for (const [i, [, reply]] of lines.entries()) {
+    const old = state, operations = lineOperations[i], fresh = [];
     for (const operation of operations) act(operation, fresh, given);
     if (fresh.length > 0) settle(fresh, rows);
     if (/^ok\b/.test(reply) && !operations.some(operation => operation[0] === 'b')) given.push(old);

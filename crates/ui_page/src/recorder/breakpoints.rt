@@ -1,6 +1,6 @@
 //! Changes of the breakpoints, of their searches, and of which breakpoint halts, as JSON.
 
-use crate::json::Json;
+use crate::list::List;
 use crate::recorder::trail::Trail;
 use break_book::{Book, Breakpoint};
 use causal_world::World;
@@ -42,7 +42,23 @@ pub(super) struct Breakpoints {
     halted: Option<Name>,
 }
 
-impl Json {
+// How the search of the breakpoint at a position has changed: how many of the eliminations that the page has are gone, the last ones, and
+// which follow.
+#[derive(Clone, Copy)]
+struct SearchChange<'a> {
+    at: usize,
+    dropped: usize,
+    more: &'a [Elimination],
+}
+
+impl SearchChange<'_> {
+    // Whether another search has changed in the same way.
+    fn is_like(&self, other: &SearchChange<'_>) -> bool {
+        self.dropped == other.dropped && self.more == other.more
+    }
+}
+
+impl List {
     // A conjunct of a breakpoint: its process, and its expression as text.
     fn conjunct(
         &mut self,
@@ -53,14 +69,13 @@ impl Json {
         let mut words = Notes::new(alloc);
         words.say(&[])?;
         scope.put_expression(&mut words, expr)?;
-        self.put("[")?;
-        self.number(i64::from(scope.pid.0))?;
-        self.put(",")?;
+        let mut conjunct = self.another();
+        conjunct.number(i64::from(scope.pid.0))?;
         match words.lines().first() {
-            Some(line) => self.string(line.as_slice())?,
-            None => self.string(&[])?,
+            Some(line) => conjunct.text(line.as_slice())?,
+            None => conjunct.text(&[])?,
         }
-        self.put("]")
+        self.list(conjunct)
     }
 
     // The conjuncts of a breakpoint.
@@ -70,21 +85,13 @@ impl Json {
         program: &Program,
         breakpoint: &Breakpoint,
     ) -> Result<(), AllocError> {
-        let mut between = ",[";
+        let mut conjuncts = self.another();
         for at in 0..program.processes() {
             if let Some((pid, expr)) = breakpoint.detector().conjunct(at as usize) {
-                self.put(between)?;
-                self.conjunct(alloc, ProcessView { program, pid }, expr)?;
-                between = ",";
+                conjuncts.conjunct(alloc, ProcessView { program, pid }, expr)?;
             }
         }
-        self.put("]")
-    }
-
-    // One more number of a list.
-    fn further(&mut self, number: i64) -> Result<(), AllocError> {
-        self.put(",")?;
-        self.number(number)
+        self.list(conjuncts)
     }
 
     // An elimination, as further numbers: its process p, and the count to which the candidate advances. If the elimination is because of a
@@ -94,55 +101,77 @@ impl Json {
         let to = i64::from(elimination.to);
         match elimination.cause {
             Cause::FalseAt => {
-                self.further(pid)?;
-                self.further(to)
+                self.number(pid)?;
+                self.number(to)
             }
             Cause::Passed(by, event) => {
-                self.further((-1i64).saturating_sub(pid))?;
-                self.further(to)?;
-                self.further(i64::from(by.0))?;
-                self.further(i64::from(event))
+                self.number((-1i64).saturating_sub(pid))?;
+                self.number(to)?;
+                self.number(i64::from(by.0))?;
+                self.number(i64::from(event))
             }
         }
     }
 
-    // How many eliminations of a breakpoint's search stay, and which follow them.
-    fn search(&mut self, at: usize, kept: usize, more: &[Elimination]) -> Result<(), AllocError> {
-        self.put("[")?;
-        self.count(at)?;
-        self.put(",")?;
-        self.count(kept)?;
-        for elimination in more {
-            self.elimination(elimination)?;
+    // The positions of the searches that have changed like this one: of each row of neighbours the first one, and how many they are.
+    fn positions(
+        &mut self,
+        change: &SearchChange<'_>,
+        changes: &[SearchChange<'_>],
+    ) -> Result<(), AllocError> {
+        let mut positions = self.another();
+        let (mut first, mut count) = (change.at, 0usize);
+        for other in changes.iter().filter(|other| other.is_like(change)) {
+            if other.at != first.saturating_add(count) {
+                positions.count(first)?;
+                positions.count(count)?;
+                (first, count) = (other.at, 0);
+            }
+            count = count.saturating_add(1);
         }
-        self.put("]")
+        positions.count(first)?;
+        positions.count(count)?;
+        self.list(positions)
+    }
+
+    // How searches have changed. Those that have changed in the same way have one item: their positions, how many eliminations are gone, and
+    // which follow.
+    fn searches(&mut self, changes: &[SearchChange<'_>]) -> Result<(), AllocError> {
+        let mut searches = self.another();
+        for (number, change) in changes.iter().enumerate() {
+            let mut earlier = changes.iter().take(number);
+            if !earlier.any(|other| other.is_like(change)) {
+                let mut search = self.another();
+                search.positions(change, changes)?;
+                search.count(change.dropped)?;
+                for elimination in change.more {
+                    search.elimination(elimination)?;
+                }
+                searches.list(search)?;
+            }
+        }
+        self.list(searches)
     }
 }
 
 impl ShownBreakpoint {
-    // Writes how the search of the breakpoint at this position has changed, and returns whether it has.
-    fn put_search(
+    // How the search of the breakpoint has changed since the page was last given it, if it has. The page is given this.
+    fn search_change<'a>(
         &mut self,
-        json: &mut Json,
-        between: &str,
         at: usize,
-        steps: &[Elimination],
+        steps: &'a [Elimination],
         change: BreakpointChange,
-    ) -> Result<bool, AllocError> {
+    ) -> Result<Option<SearchChange<'a>>, AllocError> {
         if change != BreakpointChange::Followed || !self.trail.is_first_of(steps) {
             let common = self.trail.common(steps);
             self.trail.truncate(common);
         }
-        let kept = self.trail.len();
-        let more = steps.get(kept..).unwrap_or(&[]);
-        if kept == self.known && more.is_empty() {
-            return Ok(false);
-        }
-        json.put(between)?;
-        json.search(at, kept, more)?;
+        let dropped = self.known.saturating_sub(self.trail.len());
+        let more = steps.get(self.trail.len()..).unwrap_or(&[]);
         self.trail.extend(more)?;
         self.known = self.trail.len();
-        Ok(true)
+        let is_same = dropped == 0 && more.is_empty();
+        Ok((!is_same).then_some(SearchChange { at, dropped, more }))
     }
 }
 
@@ -175,21 +204,21 @@ impl Breakpoints {
     // Writes a breakpoint's name and mark, and its conjuncts if the breakpoint is new.
     fn put_mark(
         &mut self,
-        json: &mut Json,
+        marks: &mut List,
         program: &Program,
         (name, is_armed): (Name, bool),
         breakpoint: &Breakpoint,
     ) -> Result<ShownBreakpoint, AllocError> {
-        json.put("[")?;
-        json.string(name.bytes())?;
-        json.put(if is_armed { ",1" } else { ",0" })?;
+        let mut mark = marks.another();
+        mark.text(name.bytes())?;
+        mark.count(usize::from(is_armed))?;
         let reported = match self.take(name) {
             Some(reported) => ShownBreakpoint {
                 is_armed,
                 ..reported
             },
             None => {
-                json.conjuncts(self.alloc, program, breakpoint)?;
+                mark.conjuncts(self.alloc, program, breakpoint)?;
                 ShownBreakpoint {
                     name,
                     is_armed,
@@ -198,30 +227,29 @@ impl Breakpoints {
                 }
             }
         };
-        json.put("]")?;
+        marks.list(mark)?;
         Ok(reported)
     }
 
     // Writes which breakpoints there are, with their marks.
     fn put_marks(
         &mut self,
-        json: &mut Json,
+        operations: &mut List,
         program: &Program,
         book: &Book,
         marks: &[(Name, bool)],
     ) -> Result<(), AllocError> {
         let mut reported = Vec::new(self.alloc);
-        json.put(",[\"m\",[")?;
-        let mut between = "";
+        let mut list = operations.another();
         for mark in marks {
             if let Some((_, breakpoint)) = book.find(mark.0) {
-                json.put(between)?;
-                reported.push(self.put_mark(json, program, *mark, breakpoint)?)?;
-                between = ",";
+                reported.push(self.put_mark(&mut list, program, *mark, breakpoint)?)?;
             }
         }
         self.reported = reported;
-        json.put("]]")
+        let mut operation = operations.another_of("m")?;
+        operation.list(list)?;
+        operations.list(operation)
     }
 
     // Notes the place of a process, and drops the eliminations that depend on undone events.
@@ -251,37 +279,42 @@ impl Breakpoints {
     // Writes how the searches have changed.
     fn put_searches(
         &mut self,
-        json: &mut Json,
+        operations: &mut List,
         book: &Book,
         change: BreakpointChange,
     ) -> Result<(), AllocError> {
-        let mut between = ",[\"c\",[";
+        let mut changes = Vec::new(self.alloc);
         for (at, reported) in self.reported.iter_mut().enumerate() {
             if let Some((_, breakpoint)) = book.find(reported.name) {
                 let steps = breakpoint.detector().why();
-                if reported.put_search(json, between, at, steps, change)? {
-                    between = ",";
+                if let Some(changed) = reported.search_change(at, steps, change)? {
+                    changes.push(changed)?;
                 }
             }
         }
-        json.put(if between == "," { "]]" } else { "" })
+        if changes.is_empty() {
+            return Ok(());
+        }
+        let mut operation = operations.another_of("c")?;
+        operation.searches(changes.as_slice())?;
+        operations.list(operation)
     }
 
-    fn put_halted(&mut self, json: &mut Json, book: &Book) -> Result<(), AllocError> {
+    fn put_halted(&mut self, operations: &mut List, book: &Book) -> Result<(), AllocError> {
         let halted = book.halted();
         if halted == self.halted {
             return Ok(());
         }
         self.halted = halted;
-        json.put(",[\"h\",")?;
-        json.name(halted)?;
-        json.put("]")
+        let mut operation = operations.another_of("h")?;
+        operation.name(halted)?;
+        operations.list(operation)
     }
 
     /// Writes what has changed of the breakpoints, as operations.
     pub(super) fn put_changes(
         &mut self,
-        json: &mut Json,
+        operations: &mut List,
         view: SessionView<'_>,
         change: BreakpointChange,
     ) -> Result<(), Refusal> {
@@ -293,9 +326,9 @@ impl Breakpoints {
             self.reported.clear();
         }
         if are_new || !self.are_reported(marks.items()) {
-            self.put_marks(json, view.program, book, marks.items())?;
+            self.put_marks(operations, view.program, book, marks.items())?;
         }
-        self.put_searches(json, book, change)?;
-        Ok(self.put_halted(json, book)?)
+        self.put_searches(operations, book, change)?;
+        Ok(self.put_halted(operations, book)?)
     }
 }

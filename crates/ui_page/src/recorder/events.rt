@@ -1,6 +1,6 @@
 //! Events and the lines of processes, as JSON.
 
-use crate::json::Json;
+use crate::list::List;
 use causal_world::World;
 use dbg_base::Pid;
 use event_rows::{Event, Exchange};
@@ -40,54 +40,53 @@ fn has_same_rest(one: &World, other: &World, pid: Pid) -> bool {
         && (one.place(pid)..length).all(|at| one.choice(pid, at) == other.choice(pid, at))
 }
 
-impl Json {
+impl List {
     // The message of an event: 0, or the message with its value and its number in the channel.
     fn exchange(&mut self, exchange: Exchange) -> Result<(), AllocError> {
-        let (kind, pid, value, count) = match exchange {
-            Exchange::Nothing => return self.put("0"),
+        let (way, pid, value, count) = match exchange {
+            Exchange::Nothing => return self.number(0),
             Exchange::Sent {
                 target,
                 value,
                 count,
-            } => ("[\"s\",", target, value, count),
+            } => ("s", target, value, count),
             Exchange::Took {
                 source,
                 message,
                 count,
-            } => ("[\"r\",", source, message, count),
+            } => ("r", source, message, count),
         };
-        self.put(kind)?;
-        self.number(i64::from(pid.0))?;
-        self.put(",")?;
-        self.value(value)?;
-        self.put(",")?;
-        self.number(i64::from(count))?;
-        self.put("]")
+        let mut message = self.another_of(way)?;
+        message.number(i64::from(pid.0))?;
+        message.value(value)?;
+        message.number(i64::from(count))?;
+        self.list(message)
+    }
+
+    // What an event set: of each variable its name, its value before and its value after.
+    fn settings(&mut self, scope: ProcessView<'_>, event: &Event) -> Result<(), AllocError> {
+        let mut settings = self.another();
+        for setting in event.settings() {
+            let mut one = self.another();
+            one.name(scope.program.variable_name(scope.pid, setting.variable))?;
+            one.value(setting.old)?;
+            one.value(setting.new)?;
+            settings.list(one)?;
+        }
+        self.list(settings)
     }
 
     // The command of an event, what it set, and the message that it sent or received.
     fn event(&mut self, scope: ProcessView<'_>, event: &Event) -> Result<(), AllocError> {
         self.number(i64::from(event.choice().0))?;
-        self.put(",[")?;
-        let mut between = "[";
-        for setting in event.settings() {
-            self.put(between)?;
-            self.name(scope.program.variable_name(scope.pid, setting.variable))?;
-            self.put(",")?;
-            self.value(setting.old)?;
-            self.put(",")?;
-            self.value(setting.new)?;
-            self.put("]")?;
-            between = ",[";
-        }
-        self.put("],")?;
+        self.settings(scope, event)?;
         self.exchange(event.exchange())
     }
 
-    /// The last event of a process, as an operation that begins like this.
+    /// The last event of a process, as an operation that begins with this word.
     pub(super) fn made(
         &mut self,
-        begin: &str,
+        word: &str,
         program: &Program,
         world: &World,
         pid: Pid,
@@ -95,11 +94,10 @@ impl Json {
         let Some(event) = world.rows().last(pid) else {
             return Ok(());
         };
-        self.put(begin)?;
-        self.number(i64::from(pid.0))?;
-        self.put(",")?;
-        self.event(ProcessView { program, pid }, event)?;
-        self.put("]")
+        let mut operation = self.another_of(word)?;
+        operation.number(i64::from(pid.0))?;
+        operation.event(ProcessView { program, pid }, event)?;
+        self.list(operation)
     }
 
     // The events of a process from this one on.
@@ -110,29 +108,26 @@ impl Json {
         world: &World,
         pid: Pid,
     ) -> Result<(), AllocError> {
-        let mut between = "[";
+        let mut events = self.another();
         for at in first..world.place(pid) {
             if let Some(event) = world.rows().event(pid, at as usize) {
-                self.put(between)?;
-                self.event(ProcessView { program, pid }, event)?;
-                self.put("]")?;
-                between = ",[";
+                let mut one = self.another();
+                one.event(ProcessView { program, pid }, event)?;
+                events.list(one)?;
             }
         }
-        Ok(())
+        self.list(events)
     }
 
     // The redo line of a process.
     fn choices(&mut self, world: &World, pid: Pid) -> Result<(), AllocError> {
-        let mut between = "";
+        let mut choices = self.another();
         for at in world.place(pid)..world.line_len(pid) {
             if let Some(choice) = world.choice(pid, at) {
-                self.put(between)?;
-                self.number(i64::from(choice.0))?;
-                between = ",";
+                choices.number(i64::from(choice.0))?;
             }
         }
-        Ok(())
+        self.list(choices)
     }
 
     /// How a batch changed a process's line, as an operation, if it did: how many events are as before, the events after them, and the redo
@@ -149,14 +144,11 @@ impl Json {
         if same == place && before.place(pid) == place && has_same_rest(before, world, pid) {
             return Ok(());
         }
-        self.put(",[\"l\",")?;
-        self.number(i64::from(pid.0))?;
-        self.put(",")?;
-        self.number(i64::from(same))?;
-        self.put(",[")?;
-        self.events_from(same, program, world, pid)?;
-        self.put("],[")?;
-        self.choices(world, pid)?;
-        self.put("]]")
+        let mut operation = self.another_of("l")?;
+        operation.number(i64::from(pid.0))?;
+        operation.number(i64::from(same))?;
+        operation.events_from(same, program, world, pid)?;
+        operation.choices(world, pid)?;
+        self.list(operation)
     }
 }

@@ -1,83 +1,111 @@
 //! The lines of a session, and what each of them did.
 
-use crate::json::Json;
+use crate::data::{Incomplete, PageData};
+use crate::list::List;
+use serde_json::Value;
 use shell_parse::without_return;
 use std::alloc::{AllocError, Global};
+use std::mem;
 use ui_text::first_line;
 
-// The ends of a line's text and of its operations, in the texts of all lines, and whether it has a reply.
+// The end of a line's text in the texts of all lines, and whether the line has a reply.
 #[derive(Clone, Copy)]
-struct Ends {
-    line: usize,
-    done: usize,
+struct End {
+    text: usize,
     is_answered: bool,
 }
 
-/// The lines, one after the other, with their operations, as JSON.
+/// The lines, one after the other, and their operations.
 #[derive(Drop)]
 pub(super) struct RecordedLines {
     text: Vec<u8>,
-    done: Json,
-    ends: Vec<Ends>,
+    ends: Vec<End>,
+    // How many lines the page shows so far.
+    shown: usize,
+    // The operations of the present line.
+    operations: List,
+    // The program. Then of each line that has operations, its number among the lines that the page shows, and the operations.
+    data: PageData,
 }
 
 impl RecordedLines {
     pub(super) fn new(alloc: Global) -> RecordedLines {
         RecordedLines {
             text: Vec::new(alloc),
-            done: Json::new(alloc),
             ends: Vec::new(alloc),
+            shown: 0,
+            operations: List::new(alloc),
+            data: PageData::new(alloc),
         }
+    }
+
+    /// Adds a line to the data.
+    pub(super) fn add(&mut self, alloc: Global, value: &Value) -> Result<(), Incomplete> {
+        self.data.add(alloc, value)
     }
 
     /// Begins a line.
-    pub(super) fn begin(&mut self, line: &[u8]) -> Result<(), AllocError> {
-        self.text.extend_from_slice(without_return(line))?;
-        let ends = Ends {
-            line: self.text.len(),
-            done: self.done.len(),
+    pub(super) fn begin(&mut self, alloc: Global, line: &[u8]) -> Result<(), AllocError> {
+        let line = without_return(line);
+        if is_shown(line) {
+            self.shown = self.shown.saturating_add(1);
+        }
+        self.operations = List::new(alloc);
+        self.operations.count(self.shown)?;
+        self.text.extend_from_slice(line)?;
+        let end = End {
+            text: self.text.len(),
             is_answered: false,
         };
-        Ok(self.ends.push(ends)?)
+        Ok(self.ends.push(end)?)
     }
 
-    /// The operations of the present line, each with a comma before it.
-    pub(super) fn done(&mut self) -> &mut Json {
-        &mut self.done
+    /// The number of the present line, and then its operations.
+    pub(super) fn operations(&mut self) -> &mut List {
+        &mut self.operations
     }
 
     /// The present line is answered, and its operations end here.
-    pub(super) fn end(&mut self) {
-        let done = self.done.len();
-        if let Some(ends) = self.ends.last_mut() {
-            ends.done = done;
-            ends.is_answered = true;
+    pub(super) fn end(&mut self, alloc: Global) -> Result<(), Incomplete> {
+        if let Some(end) = self.ends.last_mut() {
+            end.is_answered = true;
         }
-    }
-
-    /// Appends the lines with their replies and operations. The replies are in this text, one after the other.
-    pub(super) fn put_into(&self, json: &mut Json, replies: &[u8]) -> Result<(), AllocError> {
-        let mut rest = replies;
-        let (mut line_from, mut done_from) = (0usize, 0usize);
-        for ends in &self.ends {
-            let mut reply: &[u8] = &[];
-            if ends.is_answered {
-                (reply, rest) = first_line(rest);
-            }
-            let line = self.text.get(line_from..ends.line).unwrap_or(&[]);
-            let done = self.done.bytes().get(done_from..ends.done).unwrap_or(&[]);
-            if is_shown(line) {
-                json.put("[")?;
-                json.string(line)?;
-                json.put(",")?;
-                json.string(reply)?;
-                json.put_json(done)?;
-                json.put("],\n")?;
-            }
-            line_from = ends.line;
-            done_from = ends.done;
+        let operations = mem::replace(&mut self.operations, List::new(alloc));
+        if operations.len() > 1 {
+            self.data.add(alloc, &operations.into_value())?;
         }
         Ok(())
+    }
+
+    /// The data, and after them the lines with their replies. The replies are in this text, one after the other.
+    pub(super) fn with_replies(
+        self,
+        alloc: Global,
+        replies: &[u8],
+    ) -> Result<PageData, Incomplete> {
+        let RecordedLines {
+            text,
+            ends,
+            mut data,
+            ..
+        } = self;
+        let mut rest = replies;
+        let mut from = 0usize;
+        for end in &ends {
+            let mut reply: &[u8] = &[];
+            if end.is_answered {
+                (reply, rest) = first_line(rest);
+            }
+            let line = text.get(from..end.text).unwrap_or(&[]);
+            if is_shown(line) {
+                let mut both = List::new(alloc);
+                both.text(line)?;
+                both.text(reply)?;
+                data.add(alloc, &both.into_value())?;
+            }
+            from = end.text;
+        }
+        Ok(data)
     }
 }
 
