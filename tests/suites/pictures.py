@@ -33,6 +33,10 @@ for (line, column), fault, _ in parser.errors:
     print(f"line {line}, column {column}: {fault}")
 """
 GOLDEN_PAGE = TOP / "docs" / "two_phase_commit.html"
+MANY_EVENTS = 2_010
+DRAWN_EVENTS = 2_000  # at most, unless `--last` says more
+MANY_BREAKPOINTS, MANY_PROCESSES = 64, 32
+BYTES_OF_A_LINE = 150  # at most, in the page of so many breakpoints, on average
 
 
 def shown_reasons(session, name):
@@ -128,6 +132,40 @@ def check_markup(suite, file):
         suite.skip(name, "html5lib is not installed")
 
 
+def counting_process(name):
+    return f"process {name} {{\n  var x = 0;\n  when true : x := (x + 1);\n}}\n"
+
+
+def long_drawing_problem(suite, room):
+    """What is wrong with the drawing of a session of more events than a drawing shows."""
+    file = room / "many_events.rdbg"
+    file.write_text(counting_process("a") + "%%\n" + MANY_EVENTS * "1 next a\n")
+    left = MANY_EVENTS - DRAWN_EVENTS
+    usual, whole = Drawing(draw(suite, "svg", file)), Drawing(suite.rdbg("draw", "--as", "svg", "--last", MANY_EVENTS, file).output)
+    yield from [] if usual.events() == DRAWN_EVENTS else [f"{usual.events()} events are drawn"]
+    yield from [] if f"{left} earlier events are left out." in usual.text else ["it does not say how many are left out"]
+    yield from [] if whole.events() == MANY_EVENTS else [f"{whole.events()} events are drawn where --last asks for all"]
+
+
+def shared_searches_problem(suite, room):
+    """What is wrong with the page of many breakpoints whose searches go on at each event: it has what they share once."""
+    file, names = room / "many_breakpoints.rdbg", [f"p{number}" for number in range(MANY_PROCESSES)]
+    predicate = " ".join(f"{name} (x > 30000)" for name in names)
+    breakpoints = [f"1 break b{number} {predicate}" for number in range(MANY_BREAKPOINTS - 1)]
+    lines = [*breakpoints, f"1 break other p1 (x = 2) p3 (x = 2) {names[-1]} (x = 9)", *4 * [f"1 next {name}" for name in names]]
+    file.write_text("".join(map(counting_process, names)) + "%%\n" + "".join(f"{line}\n" for line in lines))
+    page = draw(suite, "html", file).decode()
+    events = re.findall(r'^\[\d+,\["e",.*', page, re.MULTILINE)
+    size = sum(map(len, events)) // max(1, len(events))
+    yield from [] if len(events) == 4 * len(names) else [f"{len(events)} lines made an event"]
+    yield from [] if size <= BYTES_OF_A_LINE else [f"what a line did has {size} bytes"]
+    yield page_problem(suite, file)
+
+
+def joined_problems(problem, *arguments):
+    return "\n".join(filter(None, problem(*arguments)))
+
+
 def check_golden(suite, golden, form, file):
     try:
         suite.golden(golden, draw(suite, form, file))
@@ -141,6 +179,8 @@ def run(suite):
             check_golden(suite, file.with_suffix(f".{form}"), form, file)
     check_golden(suite, GOLDEN_PAGE, "html", TOP / "examples" / "two_phase_commit.rdbg")
     with temporary_folder() as room:
+        suite.attempt("a drawing of many events", joined_problems, long_drawing_problem, suite, room)
+        suite.attempt("a page of many breakpoints", joined_problems, shared_searches_problem, suite, room)
         random_files = [room / f"random_{number}.rdbg" for number in range(RANDOM_SESSIONS)]
         for number, file in enumerate(random_files):
             file.write_text(random_session(number))
