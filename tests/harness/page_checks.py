@@ -26,11 +26,19 @@ def check_line(page, expected, n):
         page.expect("the messages", dict(page.table(MESSAGES)), expected.messages(n))
 
 
+def check_colours(page):
+    """Only the breakpoint that halts is red, and no two cuts look alike."""
+    halting = page.at["title"].partition(", halted ")[2]
+    page.expect("what is red", page.at["red"], [halting] if halting else [])
+    page.expect("the looks of the cuts", sorted(set(page.at["cutLooks"])), sorted(page.at["cutLooks"]))
+
+
 def check_breakpoints(page, expected, n):
     """Each breakpoint that is set after line n, chosen by keyboard, shows its cut. The focus is at the lines before and after."""
     cuts = {name: expected.replies[n, f"cut {name}"] for name in expected.breakpoints}
     wanted = [name for name, answer in cuts.items() if not answer.startswith("no ")]
     page.expect("the breakpoints", sorted(page.at["breakpoints"]), sorted(f"breakpoint {name}" for name in wanted))
+    check_colours(page)
     for name in wanted:
         if not page.tab_to(f"breakpoint {name}"):
             return

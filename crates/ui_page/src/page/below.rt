@@ -101,7 +101,7 @@ function showPoints() {
     const parts = [!cut ? 'no cut' : count > 8 ? 'cut' : 'cut ' + cut.join(' '), ...armed ? [] : ['not armed'], ...isHalting ? ['halts'] : []];
     setText(button, name + ': ' + parts.join(', '));
     button.chooses = {point: name};
-    set(button, {class: colours.get(name) + (isHalting ? ' halting' : ''), 'aria-pressed': Boolean(chosen && chosen.point === name)});
+    set(button, {class: colourOf(name) + (isHalting ? ' halting' : ''), 'aria-pressed': Boolean(chosen && chosen.point === name)});
   });
 }
 "#;

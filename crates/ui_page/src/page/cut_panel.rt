@@ -57,7 +57,7 @@ function cutDetails(point) {
   const ways = channels.map(({from, to, values}) => [processes[from].name + ' to ' + processes[to].name, values.join(' ')]);
   const messages = ways.length > 0 ? table('messages that cross the cut', ways) : node('p', 'no message crosses the cut', {class: 'caption'});
   const heading = state.halting === name ? 'halted by ' + name : 'breakpoint ' + name;
-  return [node('h2', heading), node('p', node('code', predicateOf(point)), {class: colours.get(name)}),
+  return [node('h2', heading), node('p', node('code', predicateOf(point)), {class: colourOf(name)}),
     node('div', [made, messages], {class: 'parts'}), searchDetails(point)];
 }
 function pointDetails(name) {
@@ -66,6 +66,6 @@ function pointDetails(name) {
   const found = state.halting === name ? ', halts the session' : point.cut ? ', has a cut' : ', has no cut';
   const mark = node('p', (point.armed ? 'armed' : 'not armed') + found);
   if (point.cut) return [...cutDetails(point), mark];
-  return [node('h2', 'breakpoint ' + name), node('p', node('code', predicateOf(point)), {class: colours.get(name)}), mark, searchDetails(point)];
+  return [node('h2', 'breakpoint ' + name), node('p', node('code', predicateOf(point)), {class: colourOf(name)}), mark, searchDetails(point)];
 }
 "#;

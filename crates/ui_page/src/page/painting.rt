@@ -73,7 +73,7 @@ function paintChannel(part, channel, cut) {
     const event = sent[n], last = got[n], depth = last ? last.depth : flightDepth(to, event, n - got.length);
     if (event.depth < low && depth > most && ++passing > 20) continue;
     const crosses = cut && isInside(cut, event) && !(last && isInside(cut, last));
-    paintArrow(part, channel, n, event, 'arrow' + (last ? '' : ' flying') + (crosses ? ' crossing ' + colours.get(cut.name) : ''));
+    paintArrow(part, channel, n, event, 'arrow' + (last ? '' : ' flying') + (crosses ? ' crossing ' + colourOf(cut.name) : ''));
   }
 }
 
@@ -81,7 +81,7 @@ function paintChannel(part, channel, cut) {
 function markKinds(p, n, isMade, latestOf, cut) {
   const isLast = cut && cut.cut[p] === n && cut.parts.some(([q]) => q === p);
   return 'event' + (isMade ? '' : ' later') + (latestOf[p] === n ? ' latest' : '') + (chosen && chosen.p === p && chosen.n === n ? ' chosen' : '') +
-    (cut && isMade && !isInside(cut, {p, n}) ? ' beyond' : '') + (isLast ? ' holding ' + colours.get(cut.name) : '');
+    (cut && isMade && !isInside(cut, {p, n}) ? ' beyond' : '') + (isLast ? ' holding ' + colourOf(cut.name) : '');
 }
 function paintMark(part, event, {p, n, depth, room, kinds}) {
   const {x, y} = part, digits = String(n).length, forDigits = radius < 8 ? 0 : 2.9 * digits + 2.5;
@@ -119,7 +119,7 @@ function paintCut(part, point, i, isTinted) {
   const offset = 4 * (i % 5), gap = Math.min(radius + 4.5 + offset, width / 2), drawn = cut.map((n, p) => [n, p]).filter(([, p]) => rowOf[p] >= 0);
   const places = drawn.map(([n, p]) => [near(x(depthAt(p, n)) + (n === 0 ? Math.min(offset, width / 2) : gap)), y(p)]);
   if (places.length === 0 || !isTinted && places.every(([x]) => x < seen + margin) || places.every(([x]) => x > seen + wide)) return;
-  const kind = 'cut ' + colours.get(name) + (state.halting === name ? ' halting' : '') + (chosen && chosen.point === name ? ' chosen' : '');
+  const kind = 'cut ' + colourOf(name) + (state.halting === name ? ' halting' : '') + (chosen && chosen.point === name ? ' chosen' : '');
   const [tint, line, title] = cuts.item(name, kind, ['path', 'path', 'title'], {point: name}), first = places[0][0];
   const path = [[first, top], ...places.flatMap(([x, y]) => [[x, y - .45 * height], [x, y + .55 * height]])].map(place => place.join()).join(' L');
   const bottom = places[places.length - 1][1] + .55 * height;

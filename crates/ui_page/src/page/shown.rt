@@ -41,7 +41,13 @@ const halts = lines.flatMap(([, reply], at) => / halted \w+$/.test(reply) ? [at 
 // the session halts first, or at its end.
 let place = halts.length > 0 ? halts[0] : lines.length, chosen = null, playing = 0;
 const shown = new Rows(), later = processes.map(() => ({line: null, events: []}));
+// The colour and the pattern of each breakpoint, those of a drawing, in the order in which breakpoints were set. Red is for the one that halts.
 const colours = new Map();
+states.forEach(({points}, n) => {
+  if (n > 0 && points === states[n - 1].points) return;
+  for (const {name} of points) if (!colours.has(name)) colours.set(name, 'c' + (1 + colours.size % 4) + ' dash' + colours.size % 5);
+});
+function colourOf(name) { return state.halting === name ? 'c0' : colours.get(name); }
 let points = [], shownLine = -1;
 
 // What is hidden, and the row of each process that is drawn.
@@ -90,7 +96,6 @@ function follow() {
     let depth = line.done.depth;
     later[p] = {line, events: choices(line).map(event => ({event, depth: depth = Math.max(depth + 1, event.depth)}))};
   });
-  for (const {name} of points) if (!colours.has(name)) colours.set(name, 'c' + colours.size % 8);
 }
 // For each process that this line changed, the number of the event that the line made or undid; 0 for the others.
 function latest(n) {

@@ -5,16 +5,14 @@ pub(super) static STYLE: &str = r#":root {
   --ground: rgb(255,255,255); --area: rgb(243,244,246); --edge: rgb(200,204,210); --text: rgb(27,31,36); --weak: rgb(89,96,106);
   --event: rgb(37,84,160); --on-event: rgb(255,255,255); --arrow: rgb(92,101,114); --rail: rgb(128,135,147);
   --chosen: rgb(255,236,179); --focus: rgb(190,80,0);
-  --bad: rgb(176,32,32); --c0: rgb(192,40,60); --c1: rgb(0,115,95); --c2: rgb(135,60,190); --c3: rgb(160,85,0);
-  --c4: rgb(0,105,165); --c5: rgb(170,35,125); --c6: rgb(85,110,0); --c7: rgb(90,85,95);
+  --bad: rgb(176,32,32); --c0: rgb(192,40,60); --c1: rgb(160,85,0); --c2: rgb(135,60,190); --c3: rgb(0,115,95); --c4: rgb(85,110,0);
 }
 @media (prefers-color-scheme: dark) {
   :root {
     --ground: rgb(24,26,31); --area: rgb(35,38,45); --edge: rgb(72,78,90); --text: rgb(228,231,236); --weak: rgb(160,168,180);
     --event: rgb(120,170,245); --on-event: rgb(16,20,28); --arrow: rgb(150,160,175); --rail: rgb(112,120,135);
     --chosen: rgb(82,68,22); --focus: rgb(255,190,90);
-    --bad: rgb(255,165,160); --c0: rgb(255,120,135); --c1: rgb(80,210,175); --c2: rgb(200,155,255); --c3: rgb(245,175,90);
-    --c4: rgb(110,190,250); --c5: rgb(245,135,205); --c6: rgb(185,210,85); --c7: rgb(190,185,195);
+    --bad: rgb(255,165,160); --c0: rgb(255,120,135); --c1: rgb(245,175,90); --c2: rgb(200,155,255); --c3: rgb(80,210,175); --c4: rgb(185,210,85);
   }
 }
 * { box-sizing: border-box; }
@@ -103,6 +101,8 @@ mark { background: var(--chosen); color: inherit; outline: 1px solid var(--focus
 #details caption { white-space: nowrap; }
 #details thead th { font-size: 12px; }
 #details .state td { vertical-align: top; }
+#details .state th { min-width: 6em; }
+#details .state td:nth-child(3) { min-width: 8em; }
 #details .state td:nth-child(2), #details .state td:nth-child(4) { white-space: nowrap; }
 #details .state .part th { font-weight: 600; color: inherit; }
 #details details { margin: 4px 0; }
@@ -139,14 +139,18 @@ g { cursor: inherit; }
 .arrow.flying path { fill: none; }
 .arrow.crossing line, .arrow.crossing path { stroke: currentColor; stroke-width: 2.5; }
 .arrow.crossing:not(.flying) path { fill: currentColor; }
-.cut path { fill: none; stroke: currentColor; stroke-width: 1.5; stroke-dasharray: 7 3; stroke-linejoin: round; }
+.cut path { fill: none; stroke: currentColor; stroke-width: 1.5; stroke-linejoin: round; }
+.cut.dash0 path { stroke-dasharray: 8 4; }
+.cut.dash1 path { stroke-dasharray: 2 3; }
+.cut.dash2 path { stroke-dasharray: 12 3 2 3; }
+.cut.dash3 path { stroke-dasharray: 4 4; }
+.cut.dash4 path { stroke-dasharray: 12 3 2 3 2 3; }
 .cut .tint, .cut.chosen .tint, .cut.halting .tint { fill: currentColor; fill-opacity: .06; stroke: none; pointer-events: none; }
 .cut text { fill: currentColor; paint-order: stroke; stroke: var(--ground); stroke-width: 4px; }
 .cut.chosen path { stroke-width: 3; }
-.cut.halting path { stroke-width: 3.5; stroke-dasharray: none; }
+.cut.halting path { stroke-width: 3.5; }
 .cut.halting text, #points .halting { font-weight: bold; }
-.c0 { color: var(--c0); } .c1 { color: var(--c1); } .c2 { color: var(--c2); } .c3 { color: var(--c3); }
-.c4 { color: var(--c4); } .c5 { color: var(--c5); } .c6 { color: var(--c6); } .c7 { color: var(--c7); }
+.c0 { color: var(--c0); } .c1 { color: var(--c1); } .c2 { color: var(--c2); } .c3 { color: var(--c3); } .c4 { color: var(--c4); }
 .event, .event > *, .arrow { transition: opacity .25s; }
 .new, .gone { opacity: 0; }
 @media (prefers-reduced-motion: reduce) { .event, .event > *, .arrow { transition: none; } }
