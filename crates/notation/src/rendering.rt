@@ -215,7 +215,7 @@ impl<'a> Renderer<'a> {
         self.put(plain.bytes.as_slice())
     }
 
-    // Writes what a piece stands for, but for repeated parts.
+    // Writes the plain text of a piece that is not a repetition.
     fn piece(&mut self, piece: &'a LinePiece) -> Result<(), ExpansionStop> {
         self.from = piece.from;
         match &piece.meant {

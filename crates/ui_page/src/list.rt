@@ -12,8 +12,8 @@ pub(crate) struct List {
     items: Vec<Value>,
 }
 
-// The sign that stands for a byte in a text. A byte that is not ASCII, or might end a script, is the sign whose number is 256 more: so the
-// data are valid UTF-8 whatever the session has, and a text has no `<`. The script of the page makes bytes of them again.
+// The sign of a byte in a text. For a byte that is not ASCII, or that might end a script, its number is 256 more. So the data are valid UTF-8
+// whatever the session has, and a text has no `<`. The script of the page makes bytes of the signs again.
 fn sign(byte: u8) -> char {
     match byte {
         b'<' | 0x7f..=0xff => { char::from_u32(u32::from(byte).saturating_add(256)).unwrap_or('?') }
