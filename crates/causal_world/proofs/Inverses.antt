@@ -332,6 +332,33 @@ room_from_next channels old grid taken k p more t within is same grows enough be
     → HasRoomsAfter (record { channels = l; room = grid.room }) p t.event.exchange more) same enough))
     (cases_lt 0 (puts_of (take k taken) p j))
 
+taken_next : (taken : List Taken) (k : ℕ) (t : Taken) → k < length taken → t ≡ get_or taken k t
+    → take (suc k) taken ≡ take k taken ++ t ∷ []
+taken_next [] k t within is = absurd (omega (arith, within))
+taken_next (x ∷ taken) zero t within is = ap (λ (y : Taken). y ∷ []) (sym is)
+taken_next (x ∷ taken) (suc k) t within is = ap (λ (l : List Taken). x ∷ l) (taken_next taken k t (omega (arith, within)) is)
+
+-- one more event is counted for its process, and for no other
+pub record CountedNext (taken : List Taken) (k : ℕ) (t : Taken) (p : ℕ) : Type 0 where
+  pub own : t.pid.0 ≡ p → count_by (is_of p) (take (k + 1) taken) ≡ count_by (is_of p) (take k taken) + 1
+  pub other : t.pid.0 ≢ p → count_by (is_of p) (take (k + 1) taken) ≡ count_by (is_of p) (take k taken)
+
+pub counted_next : (taken : List Taken) (k : ℕ) (t : Taken) (p : ℕ) → k < length taken → t ≡ get_or taken k t
+    → CountedNext taken k t p
+counted_next taken k t p within is =
+    let later : k + 1 ≡ suc k = omega arith in
+    let more : count_by (is_of p) (take (k + 1) taken) ≡ count_by (is_of p) (take k taken) + cond (t.pid.0 == p) 1 0 =
+    ap (λ (n : ℕ). count_by (is_of p) (take n taken)) later ∙ ap (λ (l : List Taken). count_by (is_of p) l) (taken_next taken k t within is)
+    ∙ counted_push p (take k taken) t in
+    record {
+      own = λ same.
+          let one : cond {A = ℕ} (t.pid.0 == p) 1 0 ≡ 1 = ap (λ (b : Bool). cond {A = ℕ} b 1 0) (eq-eqb t.pid.0 p same) in
+          omega (arith, more, one);
+      other = λ apart.
+          let none : cond {A = ℕ} (t.pid.0 == p) 1 0 ≡ 0 = ap (λ (b : Bool). cond {A = ℕ} b 1 0) (ne_eqb t.pid.0 p apart) in
+          omega (arith, more, none);
+    }
+
 -- room for all events of a process
 pub room_whole : (channels : List (List (List ℤ))) (room : List (List ℕ)) (taken : List Taken) (p more : ℕ)
     → more ≡ count_by (is_of p) taken → HasRoomFrom channels room taken p more → (j : ℕ) → p < length channels

@@ -1,6 +1,6 @@
 //! Undone events are made again, the last undone first.
 
-ghost use Rattle.std.specs.Prelude.{◌≡◌, ℕ, ◌<◌, ◌≤◌, [], length, OnOk, slice_index_or};
+ghost use Rattle.std.specs.Prelude.{◌≡◌, ℕ, ◌<◌, ◌≤◌, [], length, slice_index_or, IfOk, OnOk};
 ghost use Rattle.std.specs.List.{count_by};
 ghost use Rattle.dbg_base.specs.Trees as tree;
 ghost use Rattle.fifo_grid.specs.Grids.{room_at};
@@ -17,38 +17,50 @@ use crate::rolled::Taken;
 use dbg_base::Pid;
 use fifo_grid::Grid;
 use local_eval::Env;
-use std::alloc::AllocError;
+use std::alloc::{AllocError, Global};
 
-// How many of the events are of this process.
-fn count_of_process(taken: &[Taken], pid: Pid) -> usize
-    ensures { result ≡ count_by (is_of pid.0) taken.now }
+// How many of the events are of each of so many processes.
+fn counts_of(alloc: Global, taken: &[Taken], processes: u32) -> Result<Vec<usize>, AllocError>
+    ensures len { IfOk result (λ counts. length counts.items ≡ processes) }
+    ensures each { IfOk result (λ counts. (p : ℕ) → p < processes
+        → slice_index_or counts.items p 0 ≡ count_by (is_of p) taken.now) }
 {
-    let mut count = 0;
+    let mut counts = vec![in alloc; 0usize; processes as usize]?;
     for one in taken {
-        if one.pid.0 == pid.0 {
-            count += 1;
+        let p = one.pid.0 as usize;
+        if p < counts.len() {
+            counts[p] += 1;
         }
     }
-    count
+    Ok(counts)
 }
 
-// Makes room for so many messages to each process to which this one sends by these events.
-fn make_room_from(grid: &mut Grid, taken: &[Taken], pid: Pid, more: usize) -> Result<(), AllocError>
+// The count of this process, 0 if it has none.
+fn count_for(counts: &[usize], pid: Pid) -> usize
+    ensures { result ≡ slice_index_or counts.now pid.0 0 }
+{
+    match counts.get(pid.0 as usize) {
+        Some(count) => *count,
+        None => 0,
+    }
+}
+
+// Makes room on each channel to which these events send, for as many messages as the sender has events.
+fn make_room_each(grid: &mut Grid, taken: &[Taken], counts: &[usize]) -> Result<(), AllocError>
     ensures channels { grid.new.channels ≡ grid.old.channels }
-    ensures grows { (i j : ℕ) → room_at grid.old.room i j ≤ room_at grid.new.room i j }
-    ensures room { OnOk result ((j : ℕ) → pid.0 < length grid.old.channels → j < length (slice_index_or grid.old.channels pid.0 [])
-        → 0 < puts_of taken.now pid.0 j → more ≤ room_at grid.new.room pid.0 j) }
+    ensures room { OnOk result ((i j : ℕ) → i < length grid.old.channels → j < length (slice_index_or grid.old.channels i [])
+        → 0 < puts_of taken.now i j → slice_index_or counts.now i 0 ≤ room_at grid.new.room i j) }
 {
     for one in taken {
-        if one.pid.0 == pid.0 {
-            make_room_after(grid, pid, one.event.exchange(), more)?;
-        }
+        let more = count_for(counts, one.pid);
+        make_room_after(grid, one.pid, one.event.exchange(), more)?;
     }
     Ok(())
 }
 
 /// Makes room for all of these events. Contracts see no change, also if an allocation fails.
 pub(crate) fn make_room_forth(
+    alloc: Global,
     grid: &mut Grid,
     past: &mut Past,
     taken: &[Taken],
@@ -59,11 +71,12 @@ pub(crate) fn make_room_forth(
         → j < length (slice_index_or grid.old.channels i []) → puts_of taken.now i j ≤ room_at grid.new.room i j) }
     ensures room { OnOk result (HasRoomForEach past.new taken.now) }
 {
-    for p in 0..past.tally().processes() {
-        let more = count_of_process(taken, Pid(p));
-        past.reserve(Pid(p), more)?;
-        make_room_from(grid, taken, Pid(p), more)?;
+    let processes = past.tally().processes();
+    let counts = counts_of(alloc, taken, processes)?;
+    for p in 0..processes {
+        past.reserve(Pid(p), counts[p as usize])?;
     }
+    make_room_each(grid, taken, counts.as_slice())?;
     Ok(())
 }
 

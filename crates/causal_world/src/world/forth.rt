@@ -21,7 +21,12 @@ impl World {
         ensures kept { OnErr result (self.new ≡ self.old) }
         ensures left { OnErr result (rolled.new ≡ rolled.old) }
     {
-        make_room_forth(&mut self.grid, &mut self.past, rolled.taken.as_slice())?;
+        make_room_forth(
+            *rolled.taken.allocator(),
+            &mut self.grid,
+            &mut self.past,
+            rolled.taken.as_slice(),
+        )?;
         roll_forth(
             &mut self.lines,
             &mut self.envs,
