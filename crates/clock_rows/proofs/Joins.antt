@@ -1,5 +1,5 @@
 -- The join of two rows, component by component.
-use Rattle.std.proofs.Common.{◌≡◌, ℕ, zero, suc, ◌+◌, ◌<◌, List, [], ◌∷◌, ◌++◌, length, get_or, set, take, max, refl, ap, arith}
+use Rattle.std.proofs.Common.{◌≡◌, ℕ, zero, suc, ◌+◌, ◌<◌, List, [], ◌∷◌, ◌++◌, length, get_or, set, take, drop, max, refl, ap, arith}
 use Rattle.clock_rows.specs.Clocks.{join, next_row}
 
 pub join_at : (row other : List ℕ) (i : ℕ) → i < length row → i < length other
@@ -48,3 +48,14 @@ other_more zero (m ∷ row) (n ∷ other) (suc i) lt there ne =
     ap (λ (rest : List ℕ). (max m n + 1) ∷ rest) (join_more row other i (omega arith) (omega arith))
 other_more (suc own) (m ∷ row) (n ∷ other) (suc i) lt there ne =
     ap (λ (rest : List ℕ). max m n ∷ rest) (other_more own row other i (omega arith) (omega arith) (λ e. ne (ap suc e)))
+
+-- the counts so far are joined, the others not yet
+pub join_so_far : (others counts : List ℕ) (at : ℕ) → at < length others → length others ≡ length counts
+    → set (join (take at others) (take at counts) ++ drop at counts) at
+    (max (get_or others at 0) (get_or (join (take at others) (take at counts) ++ drop at counts) at 0))
+    ≡ join (take (suc at) others) (take (suc at) counts) ++ drop (suc at) counts
+join_so_far [] counts at lt len = absurd (omega arith)
+join_so_far (o ∷ others) [] at lt len = absurd (omega arith)
+join_so_far (o ∷ others) (c ∷ counts) zero lt len = refl
+join_so_far (o ∷ others) (c ∷ counts) (suc at) lt len =
+    ap (λ (rest : List ℕ). max o c ∷ rest) (join_so_far others counts at (omega arith) (omega arith))

@@ -1,11 +1,19 @@
 -- The rows of one process in a flat list of `len` counts, with `n` counts in each row.
-use Rattle.std.proofs.Common.{◌≡◌, ℕ, ◌+◌, ◌-◌, ◌*◌, ◌/◌, ◌<◌, ◌≤◌, List, [], ◌∷◌, ◌++◌, length, get_or, take, drop, replicate}
+use Rattle.std.proofs.Common.{◌≡◌, ℕ, zero, suc, ◌+◌, ◌-◌, ◌*◌, ◌/◌, ◌<◌, ◌≤◌, List, [], ◌∷◌, ◌++◌, length, get_or, take, drop, replicate}
 use Rattle.std.proofs.Common.{sym, ap, ◌∙◌, arith, length-drop, add-one, subst}
 use Rattle.std.proofs.lemmas.List.{take_all, length-set, length-replicate}
-use Rattle.std.proofs.Math.Nat.{div-eq-sub-div, div-mul-le_self, mul-le-mul_left, mul-div_cancel}
+use Rattle.std.proofs.Math.Nat.{div-eq-sub-div, mul-le-mul_left, mul-div_cancel}
 use Rattle.clock_rows.specs.Clocks.{pieces, join, next_row, last_row, AreWholeRows}
 use Rattle.clock_rows.proofs.Pieces.{length_pieces, pieces_more, pieces_less, piece_at}
 use Rattle.clock_rows.proofs.Joins.{length_join}
+
+one_less : (room n : ℕ) → 0 < room → room * n ≡ (room - 1) * n + n
+one_less zero n lt = absurd (omega arith)
+one_less (suc room) n lt =
+    let times : suc room * n ≡ (room + 1) * n = ap (λ (k : ℕ). k * n) (sym (add-one room)) in
+    let spread : (room + 1) * n ≡ room * n + n = omega arith in
+    let less : suc room - 1 ≡ room = omega arith in
+    times ∙ spread ∙ ap (λ (k : ℕ). k * n + n) (sym less)
 
 module _ (n len : ℕ) (rows : AreWholeRows n len) where
   pub count_less : (len - n) / n + 1 ≡ len / n
@@ -77,16 +85,6 @@ module _ (n len : ℕ) (rows : AreWholeRows n len) where
       ∙ ap (λ (m : ℕ). take n (drop m list)) before_last
       ∙ take_all n (drop (len - n) list) rest
 
-  pub room_less : (capacity : ℕ) → 0 < (capacity - len) / n → (capacity - (len + n)) / n ≡ (capacity - len) / n - 1
-  room_less capacity more =
-      let some : n * 1 ≤ n * ((capacity - len) / n) = mul-le-mul_left n (omega arith) in
-      let most : (capacity - len) / n * n ≤ capacity - len = div-mul-le_self (capacity - len) n in
-      let inside : n ≤ capacity - len = omega arith in
-      let less : capacity - len - n ≡ capacity - (len + n) = omega arith in
-      let one : (capacity - len) / n ≡ (capacity - len - n) / n + 1 = div-eq-sub-div rows.wide inside in
-      let same : (capacity - len - n) / n ≡ (capacity - (len + n)) / n = ap (λ (m : ℕ). m / n) less in
-      omega arith
-
   -- after the last row is removed
   module _ (after m : ℕ) (same : m ≡ len) (less : after + (len - (m - n)) ≡ len) where
     left : after ≡ len - n
@@ -127,11 +125,18 @@ module _ (n len : ℕ) (rows : AreWholeRows n len) where
         ∙ rows_more list (next_row own (drop (m - n) list) joined) long next_long
         ∙ ap (λ (row : List ℕ). pieces n (len / n) list ++ next_row own row joined ∷ []) (sym last_from)
 
-    pub room_pushed : (capacity holds : ℕ) → after ≡ len + length joined → holds ≡ capacity → 0 < (capacity - len) / n
-        → (holds - after) / n ≡ (capacity - len) / n - 1
-    room_pushed capacity holds more kept some =
-        let rest : holds - after ≡ capacity - (len + n) = omega arith in
-        ap (λ (k : ℕ). k / n) rest ∙ room_less capacity some
+    pub row_raised : (flat raised : List ℕ) → flat ≡ list
+        → raised ≡ join (take (length flat - (m - n)) (drop (m - n) flat)) joined → raised ≡ join (drop (m - n) list) joined
+    row_raised flat raised is joins =
+        let whole : take (length flat - (m - n)) (drop (m - n) flat) ≡ drop (m - n) flat =
+        take_all (length flat - (m - n)) (drop (m - n) flat) (omega (arith, length-drop (m - n) flat)) in
+        joins ∙ ap (λ (row : List ℕ). join row joined) (whole ∙ ap (λ (xs : List ℕ). drop (m - n) xs) is)
+
+    pub room_pushed : (room capacity holds : ℕ) → after ≡ len + length joined → capacity ≤ holds → 0 < room
+        → room * n ≤ capacity - len → (room - 1) * n ≤ holds - after
+    room_pushed room capacity holds more kept some enough =
+        let one : room * n ≡ (room - 1) * n + n = one_less room n some in
+        omega arith
 
   -- the i-th row is within the list
   pub row_within : (i : ℕ) (list : List ℕ) → i < length (pieces n (len / n) list) → i * n + n ≤ len

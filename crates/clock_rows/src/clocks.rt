@@ -14,7 +14,7 @@ use std::marker::Model;
 #[derive(Debug, Drop)]
 pub struct Clocks {
     lines: Vec<ClockLine>,
-    // A buffer for one row, with one count for each process.
+    // A buffer for the next row, with one count for each process.
     copied: Vec<u32>,
 }
 
@@ -129,8 +129,9 @@ impl Clocks {
             ++ next_row pid.0 (last_row (slice_index_or self.old.rows pid.0 [])) joined.now ∷ []) }
         ensures room { self.new.room ≡ slice_set self.old.room pid.0 (slice_index_or self.old.room pid.0 0 - 1) }
     {
+        self.copied.copy_from_slice(joined);
         let line = &mut self.lines[pid.0 as usize];
-        line.push(pid.0 as usize, joined);
+        line.push(pid.0 as usize, &mut self.copied);
     }
 
     /// Like `push`, with the n-th row of the source, which may be the process itself.
@@ -149,7 +150,7 @@ impl Clocks {
         let given = &self.lines[source.0 as usize];
         self.copied.copy_from_slice(given.row(n as usize));
         let line = &mut self.lines[pid.0 as usize];
-        line.push(pid.0 as usize, self.copied.as_slice());
+        line.push(pid.0 as usize, &mut self.copied);
     }
 
     /// Removes the last row of the process, which must have more than its first. No room is lost. It does not allocate.

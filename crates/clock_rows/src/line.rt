@@ -12,10 +12,12 @@ use std::marker::Model;
 pub(crate) struct ClockLine {
     width: usize,
     counts: Vec<u32>,
+    // How many more rows fit without allocation.
+    room: usize,
 }
 
 impl Model for ClockLine {
-    ghost use Rattle.std.specs.Prelude.{◌-◌, ◌/◌};
+    ghost use Rattle.std.specs.Prelude.{◌-◌, ◌*◌, ◌/◌, ◌≤◌};
     ghost use Rattle.std.specs.Vec.{vec_len, vec_capacity};
     ghost use Rattle.clock_rows.specs.Clocks.{LineState, AreWholeRows, pieces};
 
@@ -24,24 +26,20 @@ impl Model for ClockLine {
     ghost view = { λ line. record {
       width = line.width;
       rows = pieces line.width (vec_len line.counts / line.width) line.counts.items;
-      room = (vec_capacity line.counts - vec_len line.counts) / line.width;
+      room = line.room;
     } };
 
-    ghost invariant = { λ line. AreWholeRows line.width (vec_len line.counts) };
+    ghost invariant = { λ line. AreWholeRows line.width (vec_len line.counts)
+        × (line.room * line.width ≤ vec_capacity line.counts - vec_len line.counts) };
 }
 
-// Appends the join of the counts from `start` on with the given ones, with the count at `own` one more.
-fn append_next(counts: &mut Vec<u32>, start: usize, own: usize, joined: &[u32])
-    requires row { start + length joined.now ≡ vec_len counts.old }
-    requires room { vec_len counts.old + length joined.now ≤ vec_capacity counts.old }
-    requires fits { slice_index_or (join (drop start counts.old.items) joined.now) own 0 < 4294967295 }
-    ensures items { counts.new.items ≡ counts.old.items ++ next_row own (drop start counts.old.items) joined.now }
-    ensures len { vec_len counts.new ≡ vec_len counts.old + length joined.now }
-    ensures capacity { vec_capacity counts.new ≡ vec_capacity counts.old }
+// Raises each of these counts to the other one at its position, where that is greater.
+fn raise(counts: &mut [u32], others: &[u32])
+    requires { length others.now ≡ length counts.old }
+    ensures { counts.new ≡ join others.now counts.old }
 {
-    for (at, other) in joined.iter().enumerate() {
-        let count = counts[start + at].max(*other);
-        counts.push_reserved(if at == own { count + 1 } else { count });
+    for at in 0..others.len() {
+        counts[at] = others[at].max(counts[at]);
     }
 }
 
@@ -55,6 +53,7 @@ impl ClockLine {
         Ok(ClockLine {
             width,
             counts: vec![in alloc; 0u32; width]?,
+            room: 0,
         })
     }
 
@@ -82,23 +81,32 @@ impl ClockLine {
         ensures grows { self.old.room ≤ self.new.room }
         ensures ok { OnOk result (more ≤ self.new.room) }
     {
-        match more.checked_mul(self.width) {
-            Some(counts) => self.counts.reserve(counts),
-            None => Err(AllocError),
+        if more <= self.room {
+            return Ok(());
         }
+        let counts = more.checked_mul(self.width).ok_or(AllocError)?;
+        self.counts.reserve(counts)?;
+        self.room = more;
+        Ok(())
     }
 
-    /// Appends the next row: the join of the last row and the given one, with the count at `own` one more. It does not allocate.
-    pub(crate) fn push(&mut self, own: usize, joined: &[u32])
+    /// Makes the next row of the given one, and appends it: the join of the last row and the given one, with the count at `own` one more. It
+    /// does not allocate.
+    pub(crate) fn push(&mut self, own: usize, row: &mut [u32])
         requires room { 0 < self.old.room }
-        requires len { length joined.now ≡ self.old.width }
-        requires fits { slice_index_or (join (last_row self.old.rows) joined.now) own 0 < 4294967295 }
+        requires len { length row.old ≡ self.old.width }
+        requires own { own < self.old.width }
+        requires fits { slice_index_or (join (last_row self.old.rows) row.old) own 0 < 4294967295 }
         ensures width { self.new.width ≡ self.old.width }
-        ensures rows { self.new.rows ≡ self.old.rows ++ next_row own (last_row self.old.rows) joined.now ∷ [] }
+        ensures rows { self.new.rows ≡ self.old.rows ++ next_row own (last_row self.old.rows) row.old ∷ [] }
         ensures room { self.new.room ≡ self.old.room - 1 }
+        ensures len { length row.new ≡ length row.old }
     {
         let start = self.counts.len() - self.width;
-        append_next(&mut self.counts, start, own, joined);
+        raise(row, &self.counts[start..]);
+        row[own] += 1;
+        self.counts.extend_from_slice(row).unwrap();
+        self.room -= 1;
     }
 
     /// Removes the last row, which must not be the first. It does not allocate.
@@ -120,6 +128,7 @@ impl ClockLine {
         Ok(ClockLine {
             width: self.width,
             counts: self.counts.clone()?,
+            room: 0,
         })
     }
 }
