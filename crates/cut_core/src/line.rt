@@ -11,6 +11,9 @@ use dbg_base::Pid;
 use std::alloc::{AllocError, Global};
 use std::marker::Model;
 
+// Room is made for at least so many events at once, since each list is looked at then.
+const SPARE: usize = 8;
+
 /// What the events of one process did, in order. The position of each event is in one of several lists, by what it did. The last list is
 /// for all kinds without a list of their own.
 #[derive(Debug, Drop)]
@@ -166,12 +169,14 @@ impl CountLine {
         if more <= self.room {
             return Ok(());
         }
-        if more > u32::MAX as usize - self.kinds.len() {
+        let left = u32::MAX as usize - self.kinds.len();
+        if more > left {
             return Err(AllocError);
         }
-        self.kinds.reserve(more)?;
-        reserve_each(&mut self.lists, more)?;
-        self.room = self.room.max(more);
+        let room = more.max(SPARE).min(left);
+        self.kinds.reserve(room)?;
+        reserve_each(&mut self.lists, room)?;
+        self.room = self.room.max(room);
         Ok(())
     }
 

@@ -32,6 +32,10 @@ fn before(places: &[u32], n: u32) -> usize
 {
     let mut low = 0;
     let mut high = places.len();
+    // Most often all are asked for.
+    if high > 0 && places[high - 1] < n {
+        return high;
+    }
     while low < high {
         let middle = low + (high - low) / 2;
         if places[middle] < n {
