@@ -1,17 +1,17 @@
 //! The effect of a command on its process.
 
-ghost use Rattle.std.specs.Prelude.{◌≡◌, [], ◌∷◌, IfOk};
-ghost use Rattle.dbg_base.specs.Firing.{with_set, assigned, effect_with, effect_of};
+ghost use Rattle.dbg_base.specs.Firing.{assigned, effect_with, effect_of};
 ghost use Rattle.proc_lang.specs.ProcessTrees.{assignment_trees, command_tree};
 ghost use Rattle.local_eval.specs.Changes.{Gives};
 
 use crate::env::Env;
-use crate::evaluation::eval;
+use crate::evaluation::evaluate;
 use crate::fault::EvalError;
+use crate::local::{Local, Received};
 use crate::value::number;
 use dbg_base::Sequence;
 use proc_lang::{Action, Assignment, Guarded};
-use std::alloc::{AllocError, Global};
+use std::alloc::Global;
 
 /// The effect of a command that fires.
 #[derive(Debug, Drop)]
@@ -22,28 +22,17 @@ pub struct Change {
     pub message: Option<i64>,
 }
 
-// The local state with one variable set. A variable that does not exist is left out.
-fn with_value(env: &Env, index: u32, value: i64) -> Result<Env, AllocError>
-    ensures { IfOk result (λ taken. taken ≡ with_set env.now ((index, value) ∷ [])) }
-{
-    let mut taken = env.copy()?;
-    if (index as usize) < taken.len() {
-        taken.set(index, value);
-    }
-    Ok(taken)
-}
-
 // Evaluates the assignments in this local state, and appends them to the variables that are set already.
-fn assign(
+fn assign<L: Local>(
     mut sets: Vec<(u32, i64)>,
     message: Option<i64>,
     assignments: &[Assignment],
-    env: &Env,
+    local: &L,
 ) -> Result<Change, EvalError>
-    ensures { Gives result (effect_with sets.items message (assigned (assignment_trees assignments.now) env.now)) }
+    ensures { Gives result (effect_with sets.items message (assigned (assignment_trees assignments.now) (L.state local.now))) }
 {
     for assignment in assignments {
-        let value = number(eval(&assignment.value, env)?)?;
+        let value = number(evaluate(&assignment.value, local)?)?;
         sets.push((assignment.variable, value))?;
     }
     Ok(Change {
@@ -69,13 +58,17 @@ pub fn effect(
     let mut sets = Vec::new(alloc);
     match (&command.action, message) {
         (Action::Send { value, .. }, _) => {
-            let sent = number(eval(value, env)?)?;
+            let sent = number(evaluate(value, env)?)?;
             assign(sets, Some(sent), command.assignments.items(), env)
         }
         (Action::Receive { variable, .. }, Some(message)) => {
-            let taken = with_value(env, *variable, message)?;
             sets.push((*variable, message))?;
-            assign(sets, None, command.assignments.items(), &taken)
+            let local = Received {
+                env,
+                variable: *variable,
+                message,
+            };
+            assign(sets, None, command.assignments.items(), &local)
         }
         _ => assign(sets, None, command.assignments.items(), env),
     }

@@ -4,12 +4,14 @@ ghost use Rattle.std.specs.Prelude.{◌≡◌, pos, ◌-ℤ◌, slice_get};
 ghost use Rattle.std.specs.Option.{option_map};
 ghost use Rattle.dbg_base.specs.Trees.{tree_of};
 ghost use Rattle.dbg_base.specs.LocalStates.{counts_of};
-ghost use Rattle.dbg_base.specs.Evaluation.{Num, ranged, on_numbers, evaluate};
+ghost use Rattle.dbg_base.specs.Evaluation as model;
+ghost use Rattle.dbg_base.specs.Evaluation.{Num, ranged, on_numbers};
 ghost use Rattle.dbg_base.specs.Firing.{truth_of};
 ghost use Rattle.local_eval.specs.Outcomes.{value_of, outcome};
 
 use crate::env::Env;
 use crate::fault::EvalFault;
+use crate::local::Local;
 use crate::value::{Value, number, truth};
 use dbg_base::{Direction, Expr, Operator, Pid};
 
@@ -24,17 +26,17 @@ fn in_range(number: Option<i64>) -> Result<Value, EvalFault>
 }
 
 // The value of a variable, or a fault if there is no such variable.
-fn variable(env: &Env, index: u32) -> Result<Value, EvalFault>
-    ensures { outcome value_of result ≡ option_map Num (slice_get env.now.values index) }
+fn variable<L: Local>(local: &L, index: u32) -> Result<Value, EvalFault>
+    ensures { outcome value_of result ≡ option_map Num (slice_get (L.state local.now).values index) }
 {
-    in_range(env.values().get(index as usize).copied())
+    in_range(local.variable(index))
 }
 
 // A count of messages, or a fault if there is no such process.
-fn count(env: &Env, direction: Direction, other: Pid) -> Result<Value, EvalFault>
-    ensures { outcome value_of result ≡ option_map (λ n. Num (pos n)) (slice_get (counts_of direction env.now) other.0) }
+fn count<L: Local>(local: &L, direction: Direction, other: Pid) -> Result<Value, EvalFault>
+    ensures { outcome value_of result ≡ option_map (λ n. Num (pos n)) (slice_get (counts_of direction (L.state local.now)) other.0) }
 {
-    match env.counts(direction).get(other.0 as usize) {
+    match local.counts(direction).get(other.0 as usize) {
         Some(count) => Ok(Value::Num(i64::from(*count))),
         None => Err(EvalFault),
     }
@@ -67,45 +69,52 @@ fn calculate(operator: Operator, x: i64, y: i64) -> Result<Value, EvalFault>
     }
 }
 
-/// The value of the expression in this local state. It is a fault if a number leaves its range, a divisor is 0, an operand has the wrong
-/// type, or a variable or process does not exist. `and` and `or` evaluate the right operand only if the left one does not decide, and then
-/// return its value, whatever its type. It does not allocate.
-pub fn eval(expr: &Expr, env: &Env) -> Result<Value, EvalFault>
-    ensures { outcome value_of result ≡ evaluate (tree_of expr.now) env.now }
+// The value of the expression, as `eval` has it.
+pub(crate) fn evaluate<L: Local>(expr: &Expr, local: &L) -> Result<Value, EvalFault>
+    ensures { outcome value_of result ≡ model.evaluate (tree_of expr.now) (L.state local.now) }
 {
     match expr {
         Expr::Number(number) => Ok(Value::Num(*number)),
-        Expr::Variable(index) => variable(env, *index),
+        Expr::Variable(index) => variable(local, *index),
         Expr::Truth(truth) => Ok(Value::Truth(*truth)),
-        Expr::Sent(pid) => count(env, Direction::Sent, *pid),
-        Expr::Got(pid) => count(env, Direction::Got, *pid),
-        Expr::Not(operand) => Ok(Value::Truth(!truth(eval(operand, env)?)?)),
-        Expr::Negate(operand) => negate(number(eval(operand, env)?)?),
+        Expr::Sent(pid) => count(local, Direction::Sent, *pid),
+        Expr::Got(pid) => count(local, Direction::Got, *pid),
+        Expr::Not(operand) => Ok(Value::Truth(!truth(evaluate(operand, local)?)?)),
+        Expr::Negate(operand) => negate(number(evaluate(operand, local)?)?),
         Expr::Binary(Operator::And, left, right) => {
-            if truth(eval(left, env)?)? {
-                eval(right, env)
+            if truth(evaluate(left, local)?)? {
+                evaluate(right, local)
             } else {
                 Ok(Value::Truth(false))
             }
         }
         Expr::Binary(Operator::Or, left, right) => {
-            if truth(eval(left, env)?)? {
+            if truth(evaluate(left, local)?)? {
                 Ok(Value::Truth(true))
             } else {
-                eval(right, env)
+                evaluate(right, local)
             }
         }
         Expr::Binary(operator, left, right) => {
-            let x = number(eval(left, env)?)?;
-            let y = number(eval(right, env)?)?;
+            let x = number(evaluate(left, local)?)?;
+            let y = number(evaluate(right, local)?)?;
             calculate(*operator, x, y)
         }
     }
 }
 
+/// The value of the expression in this local state. It is a fault if a number leaves its range, a divisor is 0, an operand has the wrong
+/// type, or a variable or process does not exist. `and` and `or` evaluate the right operand only if the left one does not decide, and then
+/// return its value, whatever its type. It does not allocate.
+pub fn eval(expr: &Expr, env: &Env) -> Result<Value, EvalFault>
+    ensures { outcome value_of result ≡ model.evaluate (tree_of expr.now) env.now }
+{
+    evaluate(expr, env)
+}
+
 /// Whether the guard is true in this local state. It is a fault if the evaluation faults or the value is a number. It does not allocate.
 pub fn guard(expr: &Expr, env: &Env) -> Result<bool, EvalFault>
-    ensures { outcome (λ b. b) result ≡ truth_of (evaluate (tree_of expr.now) env.now) }
+    ensures { outcome (λ b. b) result ≡ truth_of (model.evaluate (tree_of expr.now) env.now) }
 {
-    truth(eval(expr, env)?)
+    truth(evaluate(expr, env)?)
 }

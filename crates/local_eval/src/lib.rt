@@ -7,6 +7,7 @@ mod change;
 mod env;
 mod evaluation;
 mod fault;
+mod local;
 mod value;
 
 pub use change::{Change, effect};
