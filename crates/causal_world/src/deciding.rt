@@ -74,7 +74,7 @@ fn event(
         Err(EvalError::Memory) => return Err(AllocError),
     };
     let exchange = exchange(env, &command.action, change.message, taken);
-    Ok(Ok(Event::of(alloc, choice, env, change.sets.items(), exchange)?))
+    Ok(Ok(Event::of(alloc, choice, env, change.sets.as_slice(), exchange)?))
 }
 
 // The event of the command after its guard was true, or why the command does not fire.

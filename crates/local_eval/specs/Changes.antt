@@ -7,7 +7,7 @@ use Rattle.local_eval.specs.declared.fault.EvalError.TheVariants.{Fault, Memory}
 
 -- the effect of a change of the code
 abbrev pub effect_of_change : Change → Effect
-effect_of_change change = record { sets = change.sets; message = change.message }
+effect_of_change change = record { sets = change.sets.items; message = change.message }
 
 -- The result is this effect, or a fault exactly if there is no effect, unless memory ran out.
 abbrev pub Gives : Result Change EvalError → Option Effect → Type 0

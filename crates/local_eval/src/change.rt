@@ -9,22 +9,22 @@ use crate::evaluation::evaluate;
 use crate::fault::EvalError;
 use crate::local::{Local, Received};
 use crate::value::number;
-use dbg_base::Sequence;
 use proc_lang::{Action, Assignment, Guarded};
+use smallvec::SmallVec;
 use std::alloc::Global;
 
 /// The effect of a command that fires.
 #[derive(Debug, Drop)]
 pub struct Change {
     /// The variables that are set, each with its new value, in this order.
-    pub sets: Sequence<(u32, i64)>,
+    pub sets: SmallVec<(u32, i64), 2>,
     /// The value that is sent, if any.
     pub message: Option<i64>,
 }
 
 // Evaluates the assignments in this local state, and appends them to the variables that are set already.
 fn assign<L: Local>(
-    mut sets: Vec<(u32, i64)>,
+    mut sets: SmallVec<(u32, i64), 2>,
     message: Option<i64>,
     assignments: &[Assignment],
     local: &L,
@@ -35,10 +35,7 @@ fn assign<L: Local>(
         let value = number(evaluate(&assignment.value, local)?)?;
         sets.push((assignment.variable, value))?;
     }
-    Ok(Change {
-        sets: Sequence::new(sets),
-        message,
-    })
+    Ok(Change { sets, message })
 }
 
 /// The effect of a command in this local state of its process: the variables that it sets, and the value that it sends. If the command
@@ -55,7 +52,7 @@ pub fn effect(
 ) -> Result<Change, EvalError>
     ensures { Gives result (effect_of (command_tree command.now) env.now message) }
 {
-    let mut sets = Vec::new(alloc);
+    let mut sets = SmallVec::new(alloc);
     match (&command.action, message) {
         (Action::Send { value, .. }, _) => {
             let sent = number(evaluate(value, env)?)?;

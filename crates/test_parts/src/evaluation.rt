@@ -284,7 +284,7 @@ fn expect_effect(
     sent: Option<i64>,
 ) {
     let change = effect(alloc, command, env, message).expect(rt, "no fault");
-    expect_same(rt, (change.sets.items(), change.message), (sets, sent));
+    expect_same(rt, (change.sets.as_slice(), change.message), (sets, sent));
 }
 
 #[test]
@@ -349,5 +349,5 @@ fn a_receive_that_reads_the_count_before(rt: HostRuntime) {
     let env = make_counts(&rt, rt.alloc(), 0, 1);
     let command = receive_and_add(&rt, rt.alloc(), Pid(1), Expr::Got(Pid(1)));
     let change = effect(rt.alloc(), &command, &env, Some(11)).expect(&rt, "no fault");
-    expect_same(&rt, change.sets.items(), &[(0, 11), (1, 12)]);
+    expect_same(&rt, change.sets.as_slice(), &[(0, 11), (1, 12)]);
 }
