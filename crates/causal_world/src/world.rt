@@ -316,6 +316,17 @@ impl World {
         count_of(self.past.clock(pid, n), of)
     }
 
+    /// The clock of an existing process after its n-th event, as the row that is kept of it: one count for each process. It does not
+    /// allocate.
+    pub fn clock_row(&self, pid: Pid, n: u32) -> &[u32]
+        requires process { pid.0 < length self.now.state.places }
+        requires event { n ≤ place_at self.now.state pid.0 }
+        ensures row { result.now ≡ row_at self.now.clocks pid.0 n }
+        ensures len { length result.now ≡ length self.now.state.places }
+    {
+        self.past.clock(pid, n)
+    }
+
     /// What the events did to messages: the sends and receives of each process, in order. The world is always one of some program.
     pub fn tally(&self) -> &Tally
         ensures kinds { result.now.kinds ≡ self.now.kinds }

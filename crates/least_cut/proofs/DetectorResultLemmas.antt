@@ -1,6 +1,7 @@
 -- The results of a detector are those of the model for the history of its world.
 use Rattle.std.proofs.Common.{◌≡◌, ◌≢◌, ℕ, zero, suc, ◌<◌, ◌≤◌, Bool, true, false, ◌&&◌, ◌||◌, ◌==◌, List, [], ◌∷◌, length}
-use Rattle.std.proofs.Common.{◌⊎◌, inl, inr, get_or, set, map, replicate, refl, sym, ap, ◌∙◌, subst, ⊎_elim, arith, nat_le, if◌then◌else◌}
+use Rattle.std.proofs.Common.{◌⊎◌, inl, inr, get_or, set, map, replicate, refl, sym, ap, ◌∙◌, subst, ⊎_elim, arith, nat_le, not, if◌then◌else◌}
+use Rattle.std.specs.Bool.{MatchBool}
 use Rattle.std.specs.List.{AllByRecursion, list_any}
 use Rattle.std.proofs.lemmas.Bool.{cases_lt, eq-eqb, eqb-true, le-leb, lt-leb, leb-true}
 use Rattle.std.proofs.lemmas.Bool.Decides.{eqb_tells}
@@ -21,7 +22,7 @@ use Rattle.causal_world.specs.Scenes.{Scene, IsWorldOf}
 use Rattle.least_cut.specs.Watches.{TruthLine, WatchRoom, conjunct_in, truth_line, scan_of}
 use Rattle.least_cut.specs.Searches.{IsTrailFrom, none_of, IsSettledAt}
 use Rattle.least_cut.specs.Detectors.{DetectorState, conjuncts_of, lines_of, AreWatchesOf, IsDetectorOf, is_past_in}
-use Rattle.least_cut.specs.Detectors.{TellsFrontier, reported_head}
+use Rattle.least_cut.specs.Detectors.{TellsFrontier, reported_head, is_own_past, has_cut_in}
 use Rattle.least_cut.proofs.WorldHistoryLemmas.{IsHere, choices_placed, same_start, has_clocks, truths_placed, neither}
 use Rattle.least_cut.proofs.WorldHistoryLemmas.{trail_sound, settled_all}
 
@@ -120,17 +121,12 @@ module _ (P : Program) (w : Scene) (of : IsWorldOf P w) where
       (λ (apart : ((conjunct.process == p) ≡ false) × (conjunct.process ≢ p)). let other : (conjunct.process == p) ≡ false = apart.0 in cc)
       (eqb_tells conjunct.process p)
 
--- at most as many local states of the line's process are known as its candidate says
-abbrev pub is_own_past : List ℕ → TruthLine → Bool
-is_own_past candidates line = nat_le (length line.truths) (get_or candidates line.process 0)
-
 -- what one line says of its own process
-pub own_false : (candidates : List ℕ) (line : TruthLine) (p n : ℕ) → p ≡ line.process → n ≡ get_or candidates p 0
-    → ((line.process == p) && nat_le (length line.truths) n) ≡ false → is_own_past candidates line ≡ false
-own_false candidates line p n own at_own fails =
-    let named : (line.process == p) ≡ true = eq-eqb line.process p (sym own) in
-    let few : nat_le (length line.truths) n ≡ false = cc in
-    ap (nat_le (length line.truths)) (ap (λ (x : ℕ). get_or candidates x 0) (sym own) ∙ sym at_own) ∙ few
+pub own_said : (candidates : List ℕ) (line : TruthLine) (p n : ℕ) → p ≡ line.process → n ≡ get_or candidates p 0
+    → ((line.process == p) && nat_le (length line.truths) n) ≡ is_own_past candidates line
+own_said candidates line p n own at_own =
+    ap (λ (b : Bool). b && nat_le (length line.truths) n) (eq-eqb line.process p (sym own))
+    ∙ ap (nat_le (length line.truths)) (at_own ∙ ap (λ (x : ℕ). get_or candidates x 0) own)
 
 -- a line of another process says nothing of this one
 pub other_line : (line : TruthLine) (own p n : ℕ) → own ≡ line.process → own ≢ p
@@ -156,6 +152,25 @@ own_none candidates (line ∷ lines) none p =
     cc)
     (λ (apart : ((line.process == p) ≡ false) × (line.process ≢ p)). let other : (line.process == p) ≡ false = apart.0 in cc)
     (eqb_tells line.process p)
+
+-- one line says it of a process
+more_true : (a b : Bool) → b ≡ true → (a || b) ≡ true
+more_true true b e = refl
+more_true false b e = e
+
+pub own_some : (candidates : List ℕ) (lines : List TruthLine) → list_any (is_own_past candidates) lines ≡ true
+    → (p : ℕ) × (is_past_in lines p (get_or candidates p 0) ≡ true)
+own_some candidates [] some = cc
+own_some candidates (line ∷ lines) some =
+    let p : ℕ = line.process in
+    let first : ℕ → Bool = λ r. (p == r) && nat_le (length line.truths) (get_or candidates r 0) in
+    ⊎_elim
+    (λ (own : is_own_past candidates line ≡ true).
+    (p, ap (λ (b : Bool). b || is_past_in lines p (get_or candidates p 0)) (own_said candidates line p (get_or candidates p 0) refl refl ∙ own)))
+    (λ (other : list_any (is_own_past candidates) lines ≡ true).
+    let rest = own_some candidates lines other in
+    (rest.0, more_true (first rest.0) (is_past_in lines rest.0 (get_or candidates rest.0 0)) rest.1))
+    (one_of (is_own_past candidates line) (list_any (is_own_past candidates) lines) some)
 
 -- A detector.
 
@@ -244,6 +259,15 @@ module _ (P : Program) (w : Scene) (of : IsWorldOf P w) (d : DetectorState) (is 
       subst (λ (tuple : List ℕ). IsLeast P (H P w of) all tuple) reported_reach
       (is_least P (H P w of) all d.trail reported_sound settled (has_clocks P w of)
       (λ p. subst (λ (tuple : List ℕ). get_or tuple p 0 ≤ choices_at (H P w of) p) (sym reported_reach) (reported_within p (none p))))
+
+  -- whether a cut satisfies the conjuncts
+  pub reported_cut : MatchBool (has_cut_in d.candidates (lines_of d)) (IsLeast P (H P w of) all d.candidates) (NoCut P (H P w of) all)
+  reported_cut = by (list_any (is_own_past d.candidates) (lines_of d)) refl
+    where
+      by : (past : Bool) → list_any (is_own_past d.candidates) (lines_of d) ≡ past
+          → MatchBool (not past) (IsLeast P (H P w of) all d.candidates) (NoCut P (H P w of) all)
+      by true some = let one = own_some d.candidates (lines_of d) some in reported_none one.0 one.1
+      by false none = reported_least (own_none d.candidates (lines_of d) none)
 
   same_head : (p : ℕ) → head_at (choices_at (H P w of) p) (get_or d.candidates p 0)
       ≡ reported_head (lines_of d) p (get_or d.candidates p 0)

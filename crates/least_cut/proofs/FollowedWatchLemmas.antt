@@ -1,12 +1,13 @@
 -- The truths of a conjunct in one world, as a loop reads the events of another.
-use Rattle.std.proofs.Common.{◌≡◌, ℕ, ◌+◌, ◌-◌, ◌<◌, ◌≤◌, [], length, get_or, take, sym, ap, ◌∙◌, subst, arith}
+use Rattle.std.proofs.Common.{◌≡◌, ℕ, ◌+◌, ◌-◌, ◌<◌, ◌≤◌, [], length, get_or, take, refl, sym, ap, ◌∙◌, subst, arith}
 use Rattle.dbg_base.specs.LocalStates.{LocalState, no_state}
 use Rattle.dbg_base.specs.SystemStates.{place_at}
 use Rattle.event_rows.specs.Events.{past_of}
 use Rattle.causal_world.specs.Scenes.{Scene}
 use Rattle.causal_world.specs.Worlds.{IsSomeWorld}
-use Rattle.least_cut.specs.Watches.{WatchState, conjunct_in, IsWatchOf, IsAdvanced, WasWatchOf}
+use Rattle.least_cut.specs.Watches.{WatchState, conjunct_in, IsWatchOf, IsAdvanced, AreAlong, WasWatchOf}
 use Rattle.least_cut.proofs.Truths.{AreAlike, IsWatchTo, alike_after, events_placed, same_places, same_start, kept_to, cut_to}
+use Rattle.least_cut.proofs.Truths.{truths_counted}
 use Rattle.least_cut.proofs.Truths.{watched_more, watched_all}
 
 module _ (w : Scene) (old : WatchState) (some : IsSomeWorld w) (was : WasWatchOf old w) (p place : ℕ) (same : p ≡ old.line.process)
@@ -68,3 +69,14 @@ module _ (w : Scene) (old : WatchState) (some : IsSomeWorld w) (was : WasWatchOf
     -- all events
     pub ends : place + 1 ≤ length now.line.truths → IsWatchOf w now
     ends all = watched_all w (conjunct_in old) now is here (omega (arith, all, counted))
+
+-- a watch of one world is a watch of the other if its process has as many events in it
+pub still_watch : (v w : Scene) (watch : WatchState) → IsSomeWorld v → IsSomeWorld w → AreAlong v w → IsWatchOf v watch
+    → place_at v.state watch.line.process ≡ place_at w.state watch.line.process → IsWatchOf w watch
+still_watch v w watch some other along is same =
+    let p : ℕ = watch.line.process in
+    let was : WasWatchOf watch w = (v, some, is, along) in
+    let known : length watch.line.truths ≡ place_at w.state p + 1 =
+    truths_counted v v watch is ∙ ap (λ (n : ℕ). n + 1) (events_placed v p some is.here ∙ same) in
+    ends w watch other was p (place_at w.state p) refl refl watch
+    (kept w watch other was p (place_at w.state p) refl refl watch refl (omega (arith, known))) (omega (arith, known))

@@ -1,5 +1,5 @@
 -- A detector as a process makes an event or undoes its last one.
-use Rattle.std.proofs.Common.{◌≡◌, ◌≢◌, ℕ, ◌-◌, ◌<◌, ◌≤◌, ◌⊎◌, min, List, [], length, map, get_or, take, sym, ap, ◌∙◌}
+use Rattle.std.proofs.Common.{◌≡◌, ◌≢◌, ℕ, ◌-◌, ◌<◌, ◌≤◌, ◌⊎◌, min, List, [], ◌∷◌, length, map, get_or, take, sym, ap, ◌∙◌}
 use Rattle.std.proofs.Common.{subst, ⊎_elim, inl, inr, arith}
 use Rattle.std.proofs.lemmas.Bool.{cases_eq, cases_lt}
 use Rattle.std.proofs.lemmas.List.{get_or-set_same, get_or-set_other, take_all, length-take-le, length-set, get_or_past}
@@ -11,13 +11,14 @@ use Rattle.dbg_base.specs.Reversal.{without_last, without_back}
 use Rattle.dbg_base.specs.SystemStates.{place_at, history_of}
 use Rattle.causal_world.specs.Scenes.{Scene, IsWorldOf, IsEarlier}
 use Rattle.causal_world.proofs.EarlierWorldLemmas.{earlier_world}
-use Rattle.least_cut.specs.Watches.{TruthLine, WatchRoom, scan_of, AreAlong}
+use Rattle.least_cut.specs.Watches.{TruthLine, WatchRoom, scan_of, IsWatchOf, AreAlong}
 use Rattle.least_cut.specs.Searches.{IsSettledAt}
-use Rattle.least_cut.specs.Detectors.{DetectorState, conjuncts_of, lines_of, HasRoomUpTo, IsSearchOf}
+use Rattle.least_cut.specs.Detectors.{DetectorState, conjuncts_of, lines_of, AreWatchesOf, HasRoomUpTo, IsSearchOf}
 use Rattle.least_cut.specs.Detectors.{IsDetectorOf, GoesOn, DropsTo, Watches, IsLimit}
 use Rattle.least_cut.specs.Detectors.{WasOf}
 use Rattle.least_cut.proofs.WorldHistoryLemmas.{IsHere, choices_placed}
 use Rattle.least_cut.proofs.DetectorResultLemmas.{all_here, lines_same}
+use Rattle.least_cut.proofs.FollowedWatchLemmas.{still_watch}
 use Rattle.least_cut.proofs.Trails.{settled_moved, still_settled}
 use Rattle.least_cut.proofs.SearchStepLemmas.{candidates_within}
 use Rattle.least_cut.proofs.MovedDetectorLemmas.{agree_along, moved_search, room_less}
@@ -86,6 +87,16 @@ module _ (P : Program) (less more : Scene) (p : ℕ) (of : IsWorldOf P less) (ot
 
   pub same_sizes : length less.state.places ≡ length more.state.places
   same_sizes = of.state.places ∙ sym other.state.places
+
+  -- a watch of another process is also that of the world with one more event
+  pub others_watched : (watches : List WatchRoom) → AreWatchesOf less watches
+      → AllByRecursion (λ watch. watch.state.line.process ≢ p → IsWatchOf more watch.state) watches
+  others_watched [] all = tt
+  others_watched (watch ∷ watches) all = (
+    λ apart.
+        still_watch less more watch.state (P, of) (P, other) (inl one_earlier) all.0 (same_place watch.state.line.process apart),
+    others_watched watches all.1,
+  )
 
 -- a smaller component is within the same limit
 pub limit_less : (v w : Scene) (p m n : ℕ) → m ≤ n → IsLimit v w p n → IsLimit v w p m

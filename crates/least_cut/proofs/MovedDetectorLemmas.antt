@@ -1,6 +1,6 @@
 -- A detector in a world with more or fewer events than its own world.
 use Rattle.std.proofs.Common.{◌≡◌, ℕ, zero, take, suc, ◌+◌, ◌<◌, ◌≤◌, ◌&&◌, ◌==◌, true, not, List, [], ◌∷◌, length, map, get_or, drop, replicate}
-use Rattle.std.proofs.Common.{refl, sym, ap, ◌∙◌, subst, ⊎_elim, arith}
+use Rattle.std.proofs.Common.{set, refl, sym, ap, ◌∙◌, subst, ⊎_elim, arith}
 use Rattle.std.proofs.lemmas.List.{length-replicate}
 use Rattle.std.proofs.lemmas.List.Sums.{sum_by-cons}
 use Rattle.std.specs.List.{AllByRecursion}
@@ -134,6 +134,23 @@ steps_next counts p = let later : p + 1 ≡ suc p = omega arith in omega (arith,
           sum_by-cons (λ x. x) (n + 1) (map (λ (place : ℕ). place + 1) (take (suc p) counts)),
           sum_by-cons (λ x. x) (n + 1) (map (λ (place : ℕ). place + 1) (take p counts)),
         )
+
+-- one more event, of process p
+pub steps_one_more : (places : List ℕ) (p : ℕ) → steps_up_to (set places p (get_or places p 0 + 1)) ≤ steps_up_to places + 1
+steps_one_more [] p = omega arith
+steps_one_more (n ∷ places) zero =
+    omega (
+      arith,
+      sum_by-cons (λ x. x) (n + 1 + 1) (map (λ (place : ℕ). place + 1) places),
+      sum_by-cons (λ x. x) (n + 1) (map (λ (place : ℕ). place + 1) places),
+    )
+steps_one_more (n ∷ places) (suc p) =
+    omega (
+      arith,
+      steps_one_more places p,
+      sum_by-cons (λ x. x) (n + 1) (map (λ (place : ℕ). place + 1) (set places p (get_or places p 0 + 1))),
+      sum_by-cons (λ x. x) (n + 1) (map (λ (place : ℕ). place + 1) places),
+    )
 
 less_steps : (less places : List ℕ) → length less ≡ length places → ((p : ℕ) → get_or less p 0 ≤ get_or places p 0)
     → steps_up_to less ≤ steps_up_to places

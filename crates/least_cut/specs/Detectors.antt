@@ -1,5 +1,5 @@
 -- What contracts see of a detector, and how it agrees with a world.
-use Rattle.std.specs.Prelude.{◌≡◌, ℕ, ◌+◌, ◌<◌, ◌≤◌, ◌⊎◌, ◌&&◌, ◌==◌, Bool, List, [], length, map, take, nat_le, slice_index}
+use Rattle.std.specs.Prelude.{◌≡◌, ℕ, ◌+◌, ◌<◌, ◌≤◌, ◌⊎◌, ◌&&◌, ◌==◌, not, Bool, List, [], length, map, take, nat_le, slice_index}
 use Rattle.std.specs.Prelude.{if◌then◌else◌, slice_index_or, slice_set}
 use Rattle.std.specs.List.{AllByRecursion, list_any}
 use Rattle.dbg_base.specs.declared.elimination.Elimination.{Elimination}
@@ -84,6 +84,14 @@ pub record GoesOn (w : Scene) (old new : DetectorState) : Type 0 where
 -- A conjunct names process p, and the process has fewer than n events, by the truths that are known.
 abbrev pub is_past_in : List TruthLine → ℕ → ℕ → Bool
 is_past_in lines p n = list_any (λ line. (line.process == p) && nat_le (length line.truths) n) lines
+
+-- at most as many local states of the line's process are known as its candidate says
+abbrev pub is_own_past : List ℕ → TruthLine → Bool
+is_own_past candidates line = nat_le (length line.truths) (slice_index candidates line.process)
+
+-- no process that a line names is past
+abbrev pub has_cut_in : List ℕ → List TruthLine → Bool
+has_cut_in candidates lines = not (list_any (is_own_past candidates) lines)
 
 -- a component as the frontier has it, by the truths that are known
 abbrev pub reported_head : List TruthLine → ℕ → ℕ → Head

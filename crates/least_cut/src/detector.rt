@@ -1,6 +1,6 @@
 //! A detector: the least cut of the events so far that satisfies a breakpoint.
 
-ghost use Rattle.std.specs.Prelude.{◌≡◌, ◌<◌, ◌≤◌, ◌+◌, length, map, IfOk, IfErr, IfSome, OnOk, MatchOption};
+ghost use Rattle.std.specs.Prelude.{◌≡◌, ◌≢◌, ◌<◌, ◌≤◌, ◌+◌, length, map, IfOk, IfErr, IfSome, OnOk, MatchOption};
 ghost use Rattle.std.specs.Prelude.{slice_index, slice_get};
 ghost use Rattle.std.specs.Option.{option_map};
 ghost use Rattle.std.specs.List.{AllByRecursion};
@@ -13,12 +13,13 @@ ghost use Rattle.dbg_base.specs.Frontiers.{IsFrontier};
 ghost use Rattle.dbg_base.specs.Eliminations.{IsSound, reach};
 ghost use Rattle.dbg_base.specs.SystemStates.{history_of};
 ghost use Rattle.causal_world.specs.Scenes.{Scene, IsWorldOf};
-ghost use Rattle.least_cut.specs.Watches.{conjunct_in, scan_of, WasWatchOf};
+ghost use Rattle.least_cut.specs.Watches.{conjunct_in, scan_of, IsWatchOf, WasWatchOf};
 ghost use Rattle.dbg_base.specs.declared.refusal.Refusal.TheVariants.{Memory};
 ghost use Rattle.causal_world.specs.Worlds.{IsSomeWorld};
 ghost use Rattle.least_cut.specs.Searches as model;
 ghost use Rattle.least_cut.specs.Searches.{is_false_in};
 ghost use Rattle.least_cut.specs.Detectors.{conjunct_with, conjuncts_of, lines_of, is_past_in, one_more, AreWatchesOf, HasTruthRoom, HasRoomUpTo};
+ghost use Rattle.least_cut.specs.Detectors.{has_cut_in};
 ghost use Rattle.least_cut.specs.Detectors.{IsSearchOf, IsDetectorOf, IsGrown, IsShrunk, IsMoved, IsSameButRoom, DropsTo, IsLimit};
 ghost use Rattle.least_cut.specs.Detectors.{Watches, TellsFrontier, AreRoomier, AreWatched, reported_head};
 
@@ -144,6 +145,22 @@ fn watch_each(watches: &mut Vec<Watch>, world: &World)
     }
 }
 
+// Makes what is kept of each conjunct of this process that of the world. What is kept of the others is that of the world already.
+fn watch_at(watches: &mut Vec<Watch>, pid: Pid, world: &World)
+    requires world { IsSomeWorld world.now }
+    requires was { AllByRecursion (λ watch. WasWatchOf watch.state world.now) watches.old.items }
+    requires others { AllByRecursion (λ watch. watch.state.line.process ≢ pid.0 → IsWatchOf world.now watch.state) watches.old.items }
+    requires room { AllByRecursion (HasTruthRoom world.now.state.places) watches.old.items }
+    ensures { AreWatched world.now watches.old.items watches.new.items }
+{
+    for i in 0..watches.len() {
+        let watch = &mut watches[i];
+        if watch.pid() == pid {
+            watch.follow(world);
+        }
+    }
+}
+
 impl Detector {
     /// The detector of these conjuncts, at least one, in a world that has their processes. The scan says where the conjuncts are true.
     /// Error: `Memory`, if an allocation fails.
@@ -247,6 +264,17 @@ impl Detector {
         watch_each(&mut self.watches, world);
     }
 
+    // The same, if only this process has made events.
+    fn watch_process(&mut self, world: &World, pid: Pid)
+        requires world { IsSomeWorld world.now }
+        requires was { AllByRecursion (λ watch. WasWatchOf watch.state world.now) self.old.watches }
+        requires others { AllByRecursion (λ watch. watch.state.line.process ≢ pid.0 → IsWatchOf world.now watch.state) self.old.watches }
+        requires room { AllByRecursion (HasTruthRoom world.now.state.places) self.old.watches }
+        ensures { Watches world.now self.old self.new }
+    {
+        watch_at(&mut self.watches, pid, world);
+    }
+
     // The greatest component of the process to which eliminations may still lead: the number of its events, or one more if none was undone.
     fn limit(&self, world: &World, pid: Pid) -> u32
         requires { IsSomeWorld world.now }
@@ -280,7 +308,7 @@ impl Detector {
         ensures of { IsDetectorOf world.now self.new }
         ensures conjuncts { conjuncts_of self.new ≡ conjuncts_of self.old }
     {
-        self.watch(world);
+        self.watch_process(world, pid);
         if self.candidate(pid) != world.place(pid) {
             return;
         }
@@ -324,19 +352,30 @@ impl Detector {
         Some((watch.pid(), watch.expr()))
     }
 
+    /// Whether a cut satisfies the conjuncts: none of their processes is past. It does not allocate.
+    pub fn has_cut(&self) -> bool
+        ensures { result ≡ has_cut_in self.now.candidates (lines_of self.now) }
+    {
+        for watch in &self.watches {
+            let pid = watch.pid();
+            if watch.is_past(pid, self.candidate(pid)) {
+                return false;
+            }
+        }
+        true
+    }
+
     /// The least cut that satisfies the conjuncts, or None if no cut does. It does not allocate.
     pub fn cut(&self) -> Option<&Cut>
         ensures { (w : Scene) (P : tree.Program) → IsDetectorOf w self.now → IsWorldOf P w
             → MatchOption result (NoCut P (history_of w.state) (conjuncts_of self.now))
             (λ cut. IsLeast P (history_of w.state) (conjuncts_of self.now) cut.now) }
     {
-        for watch in &self.watches {
-            let pid = watch.pid();
-            if watch.is_past(pid, self.candidate(pid)) {
-                return None;
-            }
+        if self.has_cut() {
+            Some(&self.candidates)
+        } else {
+            None
         }
-        Some(&self.candidates)
     }
 
     // The component of a process as the frontier has it: this count, or past.

@@ -13,6 +13,19 @@ use crate::detector::Detector;
 use causal_world::World;
 use dbg_base::{Cause, Elimination, Pid};
 
+// Whether a count of the row is greater than the other count of its process. It reads them all, without a branch for each.
+fn exceeds(row: &[u32], counts: &[u32]) -> bool
+    requires { length row.now ≡ length counts.now }
+    ensures more { IsTrue result → (r : ℕ) × (slice_index counts.now r < slice_index row.now r) }
+    ensures most { result ≡ false → IsAtMost row.now counts.now }
+{
+    let mut more = false;
+    for i in 0..row.len() {
+        more |= row[i] > counts[i];
+    }
+    more
+}
+
 impl Detector {
     // Makes the elimination.
     fn eliminate(&mut self, world: &World, step: Elimination)
@@ -90,6 +103,9 @@ impl Detector {
         ensures same { result ≡ false → self.new.candidates ≡ self.old.candidates }
     {
         let event = self.candidate(pid).min(world.place(pid));
+        if !exceeds(world.clock_row(pid, event), self.candidates.counts()) {
+            return false;
+        }
         let mut moved = false;
         for p in 0..world.tally().processes() {
             if self.pass_part(world, pid, event, Pid(p)) {

@@ -5,7 +5,8 @@ use Rattle.dbg_base.specs.SystemStates.{place_at}
 use Rattle.cut_core.specs.declared.kind.Kind.{Kind}
 use Rattle.causal_world.specs.Pasts.{row_at}
 use Rattle.causal_world.proofs.WorldCallLemmas.{kinds_placed}
-use Rattle.least_cut.proofs.SearchStepLemmas.{stays, goes_on, on_sum, row_within}
+use Rattle.least_cut.specs.Detectors.{DetectorState}
+use Rattle.least_cut.proofs.SearchStepLemmas.{candidates_sized, stays, goes_on, on_sum, row_within}
 use Rattle.least_cut.proofs.detector.Detector.pass_clock.Goals as goal
 use Rattle.least_cut.proofs.detector.Detector.pass_clock.Goals.{then-pass_part, else-pass_part}
 
@@ -17,6 +18,11 @@ loop-p-init c = record {
   more = λ moved. cc;
   same = λ moved. refl;
 }
+
+pub exceeds-requires : goal.exceeds-requires
+exceeds-requires c =
+    c.clock_row.ensures.len ∙ sym (candidates_sized c.args.world.now c.args.self.now c.requires.search)
+    ∙ sym (ap (λ (d : DetectorState). length d.candidates) c.self.view_is) ∙ sym (ap (λ (l : List ℕ). length l) c.counts.ensures)
 
 pub pass_part-requires-clause-search : goal.pass_part-requires-clause-search
 pass_part-requires-clause-search c = c.loop-p.invariant.on.search
