@@ -1,8 +1,8 @@
 -- What contracts see of a list of breakpoints, and how it agrees with a world.
 use Rattle.std.specs.Prelude.{◌≡◌, ℕ, zero, suc, ◌<◌, Bool, true, false, List, [], ◌∷◌, length, map, slice_get, Option, Some, None}
-use Rattle.std.specs.Prelude.{if◌then◌else◌, ◌⊎◌}
+use Rattle.std.specs.Prelude.{if◌then◌else◌, ◌⊎◌, ◌&&◌}
 use Rattle.std.specs.Bool.{MatchBool}
-use Rattle.std.specs.List.{AllByRecursion, IsDistinct}
+use Rattle.std.specs.List.{AllByRecursion, IsDistinct, position_or_len}
 use Rattle.std.specs.Str.{bytes_eq}
 use Rattle.dbg_base.specs.declared.refusal.Refusal.{Refusal}
 use Rattle.dbg_base.specs.declared.refusal.Refusal.TheVariants as refusals
@@ -13,7 +13,7 @@ use Rattle.dbg_base.specs.Predicates.{Conjunct, IsLeast, NoCut}
 use Rattle.dbg_base.specs.Breakpoints.{Breakpoint, HasCut, named, with_mark}
 use Rattle.causal_world.specs.Scenes.{Scene}
 use Rattle.least_cut.specs.Watches.{TruthLine}
-use Rattle.least_cut.specs.Detectors.{DetectorState, conjuncts_of, lines_of, IsDetectorOf, HasRoomUpTo, IsGrown, IsShrunk, IsMoved}
+use Rattle.least_cut.specs.Detectors.{DetectorState, conjuncts_of, lines_of, has_cut_in, IsDetectorOf, HasRoomUpTo, IsGrown, IsShrunk, IsMoved}
 
 -- what is kept of a breakpoint, without its name
 pub record Kept : Type 0 where
@@ -113,6 +113,18 @@ pub record IsPlacedAt (name : List ℕ) (book : List Entry) (i : ℕ) (kept : Ke
   pub within : i < length book
   pub detector : (w : Scene) → AreDetectorsOf w book → IsDetectorOf w kept.detector
   pub marked : (armed : Bool) → breakpoints_of (marked_at i armed book) ≡ with_mark name armed (breakpoints_of book)
+
+-- whether it is armed and has a cut, by what its detector keeps
+abbrev pub halts_in : Kept → Bool
+halts_in kept = kept.armed && has_cut_in kept.detector.candidates (lines_of kept.detector)
+
+-- the same by what calls show of it
+abbrev pub halts_shown : Shown → Bool
+halts_shown shown = shown.armed && has_cut_in shown.candidates shown.lines
+
+-- the position, from 0, of the first one that is armed and has a cut, or the number of breakpoints if there is none
+abbrev pub first_halt : List Entry → ℕ
+first_halt book = position_or_len halts_shown (shown_of book)
 
 -- whether a cut satisfies the conjuncts
 abbrev pub TellsWhether : Program → History → List Conjunct → Bool → Type 0

@@ -16,7 +16,7 @@ ghost use Rattle.least_cut.specs.Watches.{scan_of};
 ghost use Rattle.least_cut.specs.Detectors.{IsDetectorOf};
 ghost use Rattle.dbg_base.specs.Breakpoints as model;
 ghost use Rattle.break_book.specs.Books.{breakpoint_of, breakpoints_of, new_breakpoint, AreDetectorsOf, HasDistinctNames, IsPlacedAt};
-ghost use Rattle.break_book.specs.Books.{marked_at, arm_refusal, MayPass, CannotPass};
+ghost use Rattle.break_book.specs.Books.{marked_at, arm_refusal, first_halt, MayPass, CannotPass};
 
 mod following;
 
@@ -34,14 +34,16 @@ use std::marker::Model;
 #[derive(Debug, Drop)]
 pub struct Book {
     breaks: IndexMap<Name, Breakpoint>,
+    // The position of the breakpoint that halts the session, from 0, or the number of breakpoints if none does.
+    halting: usize,
 }
 
 impl Model for Book {
-    ghost use Rattle.std.specs.Prelude.{List, ◌≤◌, length};
+    ghost use Rattle.std.specs.Prelude.{List, ◌≡◌, ◌≤◌, length};
     ghost use Rattle.dbg_base.specs.declared.limits.TheConstants.{BREAKPOINTS};
     ghost use Rattle.least_cut.specs.TreeCodes.{coded_tree};
     ghost use Rattle.std.specs.Coded.{codes};
-    ghost use Rattle.break_book.specs.Books.{Entry};
+    ghost use Rattle.break_book.specs.Books.{Entry, first_halt};
 
     ghost Value = { List Entry };
 
@@ -49,7 +51,7 @@ impl Model for Book {
 
     ghost view = { λ book. book.breaks.entries };
 
-    ghost invariant = { λ book. length book.breaks.entries ≤ BREAKPOINTS };
+    ghost invariant = { λ book. (length book.breaks.entries ≤ BREAKPOINTS) × (book.halting ≡ first_halt book.breaks.entries) };
 }
 
 // Appends a breakpoint with a new name.
@@ -66,6 +68,18 @@ fn append(
     Ok(())
 }
 
+// The position of the first breakpoint that is armed and has a cut, from 0, or the number of breakpoints if there is none.
+fn first_halting(breaks: &IndexMap<Name, Breakpoint>) -> usize
+    ensures { result ≡ first_halt breaks.now.entries }
+{
+    for i in 0..breaks.len() {
+        if breaks[i].halts() {
+            return i;
+        }
+    }
+    breaks.len()
+}
+
 impl Book {
     /// No breakpoints. It does not allocate.
     pub fn new(alloc: Global) -> Book
@@ -73,6 +87,7 @@ impl Book {
     {
         Book {
             breaks: IndexMap::new(alloc),
+            halting: 0,
         }
     }
 
@@ -84,7 +99,10 @@ impl Book {
         for (name, breakpoint) in self.breaks.iter() {
             append(&mut breaks, *name, breakpoint.copy()?)?;
         }
-        Ok(Book { breaks })
+        Ok(Book {
+            breaks,
+            halting: self.halting,
+        })
     }
 
     /// Whether a further breakpoint of this name may be set. Errors: `BreakTaken` if the name is taken, otherwise `BreaksFull` if there are
@@ -126,6 +144,7 @@ impl Book {
         self.breaks
             .insert(name, Breakpoint::new(detector))
             .map_err(|_| Refusal::Memory)?;
+        self.halting = first_halting(&self.breaks);
         Ok(())
     }
 
@@ -144,6 +163,7 @@ impl Book {
         let Some((position, _, breakpoint)) = self.breaks.shift_remove_full(&name) else {
             return Err(Refusal::UnknownBreak);
         };
+        self.halting = first_halting(&self.breaks);
         Ok((position, breakpoint))
     }
 
@@ -164,7 +184,10 @@ impl Book {
         ensures of { (w : Scene) → AreDetectorsOf w self.old → IsDetectorOf w breakpoint.detector → AreDetectorsOf w self.new }
     {
         match self.breaks.insert_before(position, name, breakpoint) {
-            Ok(_) => Ok(()),
+            Ok(_) => {
+                self.halting = first_halting(&self.breaks);
+                Ok(())
+            }
             Err(failed) => Err((Refusal::Memory, failed.value.1)),
         }
     }
@@ -224,12 +247,8 @@ impl Book {
         ensures { (w : Scene) (P : tree.Program) → AreDetectorsOf w self.now → IsWorldOf P w
             → IsHaltedBy P (history_of w.state) (breakpoints_of self.now) result }
     {
-        for (name, breakpoint) in self.breaks.iter() {
-            if breakpoint.halts() {
-                return Some(*name);
-            }
-        }
-        None
+        let (name, _) = self.breaks.get_index(self.halting)?;
+        Some(*name)
     }
 
     /// The position of the breakpoint that halts the session, from 1 in the order in which they were set, or 0 if none does. It does not
@@ -239,12 +258,10 @@ impl Book {
             → HaltsAt P (history_of w.state) (breakpoints_of self.now) result }
         ensures few { result ≤ BREAKPOINTS }
     {
-        let Some(name) = self.halted() else {
-            return 0;
-        };
-        match self.entry(name) {
-            Ok((position, _)) => position as u32 + 1,
-            Err(_) => 0,
+        if self.halting < self.breaks.len() {
+            self.halting as u32 + 1
+        } else {
+            0
         }
     }
 
@@ -291,5 +308,6 @@ impl Book {
         ensures of { (w : Scene) → AreDetectorsOf w self.old → AreDetectorsOf w self.new }
     {
         self.breaks[position].mark(armed);
+        self.halting = first_halting(&self.breaks);
     }
 }

@@ -1,14 +1,10 @@
 //! One breakpoint: its mark, and the detector of its cut.
 
 ghost use Rattle.std.specs.Prelude.{◌≡◌, ◌≤◌, true, OnOk};
-ghost use Rattle.std.specs.Bool.{MatchBool};
 ghost use Rattle.dbg_base.specs.Copies.{IsCopy};
-ghost use Rattle.dbg_base.specs.Trees as tree;
-ghost use Rattle.dbg_base.specs.SystemStates.{history_of};
-ghost use Rattle.causal_world.specs.Scenes.{Scene, IsWorldOf};
 ghost use Rattle.least_cut.specs.Searches as model;
-ghost use Rattle.least_cut.specs.Detectors.{conjuncts_of, IsDetectorOf, HasRoomUpTo, IsGrown, IsShrunk, IsMoved, one_more};
-ghost use Rattle.break_book.specs.Books.{TellsWhether, Halts, HaltsNot, IsRoomier, IsFollowed};
+ghost use Rattle.least_cut.specs.Detectors.{lines_of, has_cut_in, HasRoomUpTo, IsGrown, IsShrunk, IsMoved, one_more};
+ghost use Rattle.break_book.specs.Books.{halts_in, IsRoomier, IsFollowed};
 
 use causal_world::World;
 use dbg_base::{Cut, Pid, Refusal};
@@ -79,16 +75,14 @@ impl Breakpoint {
 
     // Whether it has a cut.
     pub(crate) fn has_cut(&self) -> bool
-        ensures { (w : Scene) (P : tree.Program) → IsDetectorOf w self.now.detector → IsWorldOf P w
-            → TellsWhether P (history_of w.state) (conjuncts_of self.now.detector) result }
+        ensures { result ≡ has_cut_in self.now.detector.candidates (lines_of self.now.detector) }
     {
-        self.detector().cut().is_some()
+        self.detector.has_cut()
     }
 
     // Whether it is armed and has a cut.
     pub(crate) fn halts(&self) -> bool
-        ensures { (w : Scene) (P : tree.Program) → IsDetectorOf w self.now.detector → IsWorldOf P w
-            → MatchBool result (Halts P (history_of w.state) self.now) (HaltsNot P (history_of w.state) self.now) }
+        ensures { result ≡ halts_in self.now }
     {
         self.is_armed() && self.has_cut()
     }

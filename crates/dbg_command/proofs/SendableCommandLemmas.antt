@@ -98,7 +98,11 @@ clear_send =
     )
 
 book_fields : IsSend book_inside.the_row
-book_fields = declared_send book_inside.the_type (search (breakpoint_send, name_sent.the_send, sendable, crosses) depth 30, tt)
+book_fields =
+    declared_send book_inside.the_type (
+      (search (breakpoint_send, name_sent.the_send, sendable, crosses) depth 30),
+      ((search sendable), tt),
+    )
 
 book_send : IsSend book.the_row
 book_send = search (book_fields, sendable)

@@ -46,7 +46,7 @@ impl Table {
             (state_of self.old) (state_of self.new)) }
         ensures kept { OnErr result (shown self.new ≡ shown self.old) }
     {
-        self.ready(alloc, program, pid)?;
+        self.ready(program, pid)?;
         let cutoff = self.world.step(alloc, program, pid, choice)?;
         Ok((self.grown(pid, choice), cutoff))
     }
@@ -65,7 +65,7 @@ impl Table {
             (state_of self.old) (state_of self.new)) }
         ensures kept { OnErr result (shown self.new ≡ shown self.old) }
     {
-        self.ready(alloc, program, pid)?;
+        self.ready(program, pid)?;
         let (choice, cutoff) = self.world.next(alloc, program, pid)?;
         Ok((self.grown(pid, choice), cutoff))
     }
@@ -84,7 +84,7 @@ impl Table {
             (state_of self.new)) }
         ensures kept { OnErr result (shown self.new ≡ shown self.old) }
     {
-        self.ready(alloc, program, pid)?;
+        self.ready(program, pid)?;
         let choice = self.world.redo(alloc, program, pid)?;
         Ok(self.grown(pid, choice))
     }

@@ -117,12 +117,7 @@ impl Table {
 
     // Prepares for an event of the process: checks that the process exists and that no breakpoint halts the session, and makes room in each
     // detector.
-    pub(crate) fn ready(
-        &mut self,
-        alloc: Global,
-        program: &Program,
-        pid: Pid,
-    ) -> Result<(), Refusal>
+    pub(crate) fn ready(&mut self, program: &Program, pid: Pid) -> Result<(), Refusal>
         requires { IsTableOf (program_of program.now) self.old }
         ensures of { IsTableOf (program_of program.now) self.new }
         ensures world { self.new.world ≡ self.old.world }
@@ -133,7 +128,7 @@ impl Table {
     {
         known(program, pid)?;
         self.unhalted()?;
-        self.book.reserve(alloc, &self.world, pid)
+        self.book.reserve(&self.world, pid)
     }
 
     // The least cut of the breakpoint of this name, if it has one.

@@ -1,6 +1,6 @@
 //! The breakpoints follow their world as events are made and undone.
 
-ghost use Rattle.std.specs.Prelude.{◌≡◌, ◌<◌, ◌≤◌, length, IfOk, IfErr, OnOk};
+ghost use Rattle.std.specs.Prelude.{◌≡◌, ℕ, ◌<◌, ◌≤◌, length, IfErr, OnOk};
 ghost use Rattle.dbg_base.specs.declared.refusal.Refusal.TheVariants.{Memory};
 ghost use Rattle.causal_world.specs.Scenes.{Scene};
 ghost use Rattle.causal_world.specs.Worlds.{IsSomeWorld};
@@ -9,24 +9,24 @@ ghost use Rattle.least_cut.specs.Detectors.{one_more};
 ghost use Rattle.break_book.specs.Books.{breakpoints_of, shown_of, AreDetectorsOf, HaveRoomUpTo, AreGrown, AreShrunk, AreMoved};
 ghost use Rattle.break_book.specs.Books.{AreRoomier, AreFollowed};
 
-use super::Book;
+use super::{Book, first_halting};
 use crate::breakpoint::Breakpoint;
 use causal_world::World;
 use dbg_base::{Cut, Name, Pid, Refusal};
 use indexmap::IndexMap;
 use least_cut::steps_up_to;
-use std::alloc::{AllocError, Global};
+use std::alloc::AllocError;
 
-// At least as many as there can be eliminations after one more event of the process.
-fn steps_after(alloc: Global, world: &World, pid: Pid) -> Result<usize, AllocError>
-    requires world { IsSomeWorld world.now }
-    requires process { pid.0 < length world.now.state.places }
-    ensures { IfOk result (λ steps. model.steps_up_to (one_more world.now pid.0) ≤ steps) }
+// At least as many as there can be eliminations after one more event of any process: one for each event, and one for each process.
+fn steps_after(world: &World) -> usize
+    requires { IsSomeWorld world.now }
+    ensures { (p : ℕ) → model.steps_up_to (one_more world.now p) ≤ result }
 {
-    let tally = world.tally();
-    let mut places = tally.all_events(alloc)?;
-    places.set(pid, world.place(pid) + 1);
-    Ok(steps_up_to(&places, tally.processes()))
+    let mut steps: usize = 1;
+    for p in 0..world.tally().processes() {
+        steps += world.place(Pid(p)) as usize + 1;
+    }
+    steps
 }
 
 // Makes room in each detector for one more event of the process.
@@ -98,7 +98,7 @@ fn follow_each(breaks: &mut IndexMap<Name, Breakpoint>, world: &World)
 impl Book {
     /// Makes room for one more event of the process, which must exist. No call shows a change, also on an error. Error: `Memory`, if an
     /// allocation fails.
-    pub fn reserve(&mut self, alloc: Global, world: &World, pid: Pid) -> Result<(), Refusal>
+    pub fn reserve(&mut self, world: &World, pid: Pid) -> Result<(), Refusal>
         requires world { IsSomeWorld world.now }
         requires process { pid.0 < length world.now.state.places }
         requires of { AreDetectorsOf world.now self.old }
@@ -110,7 +110,7 @@ impl Book {
         if self.breaks.is_empty() {
             return Ok(());
         }
-        let steps = steps_after(alloc, world, pid)?;
+        let steps = steps_after(world);
         reserve_each(&mut self.breaks, world, pid, steps)?;
         Ok(())
     }
@@ -137,6 +137,7 @@ impl Book {
         ensures same { breakpoints_of self.new ≡ breakpoints_of self.old }
     {
         grow_each(&mut self.breaks, pid, world);
+        self.halting = first_halting(&self.breaks);
     }
 
     /// The detectors follow the world, in which the process has lost its last event. It does not allocate.
@@ -146,6 +147,7 @@ impl Book {
         ensures same { breakpoints_of self.new ≡ breakpoints_of self.old }
     {
         shrink_each(&mut self.breaks, pid, world);
+        self.halting = first_halting(&self.breaks);
     }
 
     /// The detectors follow the world, in which events were made or undone. It does not allocate.
@@ -156,5 +158,6 @@ impl Book {
         ensures same { breakpoints_of self.new ≡ breakpoints_of self.old }
     {
         follow_each(&mut self.breaks, world);
+        self.halting = first_halting(&self.breaks);
     }
 }

@@ -8,7 +8,7 @@ use Rattle.break_book.proofs.Entries.{IsCleared, position_of, not_named, all_lef
 use Rattle.break_book.proofs.book.Book.clear.Goals as goal
 
 -- the book after the removal
-taken : (c : goal.In-Some)
+taken : (c : goal.After-self-1)
     → IsCleared c.args.name c.args.self.now c.shift_remove_full.new.self.entries c.in-Some.position c.in-Some.breakpoint
 taken c =
     cleared c.args.name c.args.self.now c.shift_remove_full.new.self.entries c.in-Some.position c.in-Some.breakpoint

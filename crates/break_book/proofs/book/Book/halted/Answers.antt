@@ -1,35 +1,20 @@
-use Rattle.std.proofs.Common.{List, Some, None, refl, sym, subst}
-use Rattle.dbg_base.specs.Breakpoints.{IsHaltedBy}
+use Rattle.std.proofs.Common.{List, Some, None, sym, ap, ◌∙◌, subst}
+use Rattle.std.specs.Prelude.{slice_get}
 use Rattle.dbg_base.specs.SystemStates.{history_of}
-use Rattle.break_book.specs.Books.{Entry, breakpoints_of, AreDetectorsOf}
-use Rattle.break_book.proofs.HaltLemmas.{halts_here, halts_after}
+use Rattle.dbg_base.specs.Breakpoints.{IsHaltedBy}
+use Rattle.break_book.specs.Books.{Entry, breakpoints_of, first_halt}
+use Rattle.break_book.proofs.HaltLemmas.{halted_at}
 use Rattle.break_book.proofs.book.Book.halted.Goals as goal
 
-pub returns-then-halts : goal.returns-then-halts
-returns-then-halts c = λ w P are now.
-    let H = history_of w.state in
-    let name = c.in-Some.name.now in
-    let kept = c.in-Some.breakpoint.now in
-    let before = c.loop-name.invariant w P are now in
-    let all = subst (AreDetectorsOf w) c.in-Some.ensures.steps before.0 in
-    before.1 (Some name) (subst (λ (l : List Entry). IsHaltedBy P H (breakpoints_of l) (Some name)) (sym c.in-Some.ensures.steps)
-    (halts_here P H kept name (breakpoints_of c.next.new.self) (c.if-halts.ensures w P all.0 now)))
-
-pub loop-name-preserved : goal.loop-name-preserved
-loop-name-preserved c = λ w P are now.
-    let H = history_of w.state in
-    let name = c.in-Some.name.now in
-    let kept = c.in-Some.breakpoint.now in
-    let before = c.loop-name.invariant w P are now in
-    let all = subst (AreDetectorsOf w) c.in-Some.ensures.steps before.0 in (
-      all.1,
-      λ halted later. before.1 halted
-          (subst (λ (l : List Entry). IsHaltedBy P H (breakpoints_of l) halted) (sym c.in-Some.ensures.steps)
-          (halts_after P H kept name (breakpoints_of c.next.new.self) halted (c.if-halts.ensures w P all.0 now) later)),
-    )
+pub returns-in_err-name : goal.returns-in_err-name
+returns-in_err-name c = λ w P are of.
+    subst (IsHaltedBy P (history_of w.state) (breakpoints_of c.args.self.now)) (sym c.from_residual.ensures)
+    (halted_at P w of c.args.self.now None are
+    (sym (c.in_err-name.ensures.entry ∙ ap (slice_get c.self.inside.breaks.entries) c.self.invariant.1
+    ∙ ap (λ (l : List Entry). slice_get l (first_halt l)) c.self.view_is)))
 
 pub returns : goal.returns
-returns c = λ w P are now.
-    let before = c.loop-name.invariant w P are now in
-    before.1 None (subst (λ (l : List Entry). IsHaltedBy P (history_of w.state) (breakpoints_of l) None)
-    (sym c.in-None.ensures.steps.0) refl)
+returns c = λ w P are of.
+    halted_at P w of c.args.self.now (Some (c.in_ok-name.name.now, c.in_ok-name.field-0-1.now)) are
+    (sym (c.in_ok-name.ensures.entry ∙ ap (slice_get c.self.inside.breaks.entries) c.self.invariant.1
+    ∙ ap (λ (l : List Entry). slice_get l (first_halt l)) c.self.view_is))
