@@ -25,7 +25,7 @@ ghost use Rattle.least_cut.specs.Detectors.{Watches, TellsFrontier, AreRoomier, 
 
 mod search;
 
-use crate::room::copy_items;
+use crate::room::{copy_items, reserve_total};
 use crate::scan::Scan;
 use crate::watch::Watch;
 use causal_world::World;
@@ -241,7 +241,7 @@ impl Detector {
             → HasRoomUpTo self.new (one_more world.now pid.0)) }
     {
         reserve_at(&mut self.watches, pid, world.place(pid) as usize + 2)?;
-        self.trail.reserve(steps.saturating_sub(self.trail.len()))
+        reserve_total(&mut self.trail, steps)
     }
 
     /// Makes room for as many events as the cut has. `steps` is at least the number of eliminations that there can be then. No room is
@@ -251,7 +251,7 @@ impl Detector {
         ensures ok { OnOk result (model.steps_up_to cut.now ≤ steps → HasRoomUpTo self.new cut.now) }
     {
         reserve_each(&mut self.watches, cut)?;
-        self.trail.reserve(steps.saturating_sub(self.trail.len()))
+        reserve_total(&mut self.trail, steps)
     }
 
     // Makes what is kept of the conjuncts that of the world.

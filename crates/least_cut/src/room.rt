@@ -1,6 +1,6 @@
-//! Copies that have as much room as the original.
+//! Copies that have as much room as the original, and room in advance.
 
-ghost use Rattle.std.specs.Prelude.{◌≡◌, IfOk};
+ghost use Rattle.std.specs.Prelude.{◌≡◌, ◌≤◌, IfOk, OnOk};
 ghost use Rattle.std.specs.Vec.{vec_capacity};
 
 use std::alloc::AllocError;
@@ -15,4 +15,16 @@ pub(crate) fn copy_items<T: Copy>(items: &Vec<T>) -> Result<Vec<T>, AllocError>
         made.push_reserved(*item);
     }
     Ok(made)
+}
+
+/// Makes room for so many items in total. No room is lost, and the items stay, also on an error. With enough room it is one comparison.
+pub(crate) fn reserve_total<T>(items: &mut Vec<T>, total: usize) -> Result<(), AllocError>
+    ensures items { items.new.items ≡ items.old.items }
+    ensures grows { vec_capacity items.old ≤ vec_capacity items.new }
+    ensures ok { OnOk result (total ≤ vec_capacity items.new) }
+{
+    if total <= items.capacity() {
+        return Ok(());
+    }
+    items.reserve(total.saturating_sub(items.len()))
 }

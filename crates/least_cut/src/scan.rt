@@ -7,7 +7,7 @@ ghost use Rattle.dbg_base.specs.Calls.{conjunct_of};
 ghost use Rattle.least_cut.specs.Watches.{lines_with, named_in, truth_line, scan_of};
 ghost use Rattle.least_cut.specs.Searches.{is_false_in};
 
-use crate::room::copy_items;
+use crate::room::{copy_items, reserve_total};
 use causal_world::World;
 use dbg_base::{Conjunct, Expr, Gate, Pid, Refusal, Sequence};
 use std::alloc::{AllocError, Global};
@@ -108,7 +108,7 @@ impl Truths {
         ensures grows { self.old.room ≤ self.new.room }
         ensures ok { OnOk result (len ≤ self.new.room) }
     {
-        self.truths.reserve(len.saturating_sub(self.truths.len()))
+        reserve_total(&mut self.truths, len)
     }
 }
 

@@ -8,5 +8,5 @@ returns-in_err-reserve_each-clause-same c =
 
 pub returns-clause-same : goal.returns-clause-same
 returns-clause-same c =
-    rw (← c.self.view_is) (same_but_room _ _ c.reserve_each.ensures.each refl c.reserve.ensures.items
-    (omega (arith, c.reserve.ensures.capacity)))
+    rw (← c.self.view_is) (same_but_room _ _ c.reserve_each.ensures.each refl c.reserve_total.ensures.items
+    (omega (arith, c.reserve_total.ensures.grows)))
