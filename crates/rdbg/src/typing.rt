@@ -46,7 +46,11 @@ impl ProgramEnd {
         }
     }
 
+    // Looks at the next bytes. After the first line `%%` there is nothing to look for.
     fn note(&mut self, bytes: &[u8]) {
+        if self.is_passed {
+            return;
+        }
         for byte in bytes {
             if *byte == b'\n' {
                 self.is_passed = self.is_passed || self.line.is_whole();
