@@ -3,7 +3,7 @@
 ghost use Rattle.std.specs.Prelude.{◌≡◌, [], IfOk, OnOk};
 ghost use Rattle.std.specs.Io.{ReadsAtMost, WritesAtMost};
 ghost use Rattle.std.specs.Io.KnownBytes.{Keeps, ReadConsumes, WriteAppends};
-ghost use Rattle.shell_io.specs.declared.health.Health.TheVariants.{Fine};
+ghost use Rattle.shell_io.specs.declared.health.Health.TheVariants.{Fine, Failed};
 ghost use Rattle.shell_io.specs.Healths.{health_after};
 ghost use Rattle.shell_io.specs.Seen.{seen_noted};
 
@@ -65,15 +65,14 @@ impl<D> Noted<D> {
         Err(Error::from(ErrorKind::Other))
     }
 
-    // Notes whether a call of the device failed.
-    fn note<T>(&mut self, outcome: &Result<T>)
-        requires { self.old.health ≡ Fine }
+    // Notes that a call of the device failed, with this error.
+    fn failed(&mut self, error: Error) -> Error
         ensures device { self.new.device ≡ self.old.device }
-        ensures health { self.new.health ≡ health_after Fine outcome.now }
+        ensures health { self.new.health ≡ Failed }
+        ensures error { result ≡ error }
     {
-        if outcome.is_err() {
-            self.health = Health::Failed;
-        }
+        self.health = Health::Failed;
+        error
     }
 }
 
@@ -88,9 +87,10 @@ impl<R: Read> Source for Noted<R> {
         ensures health { self.new.health ≡ health_after self.old.health result }
     {
         self.go_on()?;
-        let outcome = self.device.read(bytes);
-        self.note(&outcome);
-        outcome
+        match self.device.read(bytes) {
+            Ok(count) => Ok(count),
+            Err(error) => Err(self.failed(error)),
+        }
     }
 }
 
@@ -104,12 +104,11 @@ impl<W: Write> Sink for Noted<W> {
         ensures health { self.new.health ≡ health_after self.old.health result }
     {
         self.go_on()?;
-        let outcome = match self.device.write(bytes) {
-            Ok(0) if !bytes.is_empty() => Err(Error::from(ErrorKind::WriteZero)),
-            outcome => outcome,
-        };
-        self.note(&outcome);
-        outcome
+        match self.device.write(bytes) {
+            Ok(0) if !bytes.is_empty() => Err(self.failed(Error::from(ErrorKind::WriteZero))),
+            Ok(count) => Ok(count),
+            Err(error) => Err(self.failed(error)),
+        }
     }
 
     fn flush(&mut self) -> Result<()>
@@ -117,8 +116,9 @@ impl<W: Write> Sink for Noted<W> {
         ensures health { self.new.health ≡ health_after self.old.health result }
     {
         self.go_on()?;
-        let outcome = self.device.flush();
-        self.note(&outcome);
-        outcome
+        match self.device.flush() {
+            Ok(()) => Ok(()),
+            Err(error) => Err(self.failed(error)),
+        }
     }
 }
