@@ -38,7 +38,20 @@ pub fn write_whole<W: Sink>(writer: &mut W, bytes: &[u8]) -> Result<(), ServeFau
     Ok(())
 }
 
+// Writes what is composed.
+#[cold]
+#[inline(never)]
+fn write_composed<W: Sink>(text: &mut Text<LINE>, writer: &mut W) -> Result<(), ServeFault>
+    ensures puts { Puts (W.seen writer.old) text.old (W.seen writer.new) text.new result [] }
+    ensures empty { IfOk result (λ _. text.new ≡ []) }
+{
+    write_whole(writer, text.bytes())?;
+    text.clear();
+    Ok(())
+}
+
 // Makes room for a pair. If there is less, it writes what is composed.
+#[inline(always)]
 fn make_room<W: Sink>(text: &mut Text<LINE>, writer: &mut W) -> Result<(), ServeFault>
     ensures puts { Puts (W.seen writer.old) text.old (W.seen writer.new) text.new result [] }
     ensures room { IfOk result (λ _. length text.new + PAIR ≤ LINE) }
@@ -46,22 +59,37 @@ fn make_room<W: Sink>(text: &mut Text<LINE>, writer: &mut W) -> Result<(), Serve
     if text.room() >= PAIR {
         return Ok(());
     }
-    write_whole(writer, text.bytes())?;
-    text.clear();
-    Ok(())
+    write_composed(text, writer)
 }
 
 // Appends the name of a process.
-fn append_process(text: &mut Text<LINE>, program: &Program, pid: Pid)
-    requires { length text.old + 40 ≤ LINE }
-    ensures { text.new ≡ text.old ++ name_of (program_of program.now) pid.0 }
+#[inline]
+pub(crate) fn append_process<const ROOM: usize>(text: &mut Text<ROOM>, program: &Program, pid: Pid)
+    requires { length text.old + 32 ≤ ROOM }
+    ensures text { text.new ≡ text.old ++ name_of (program_of program.now) pid.0 }
+    ensures short { length text.new ≤ length text.old + 32 }
 {
     if let Some(name) = program.process_name(pid) {
         text.append(name.bytes());
     }
 }
 
+// Appends a count. Most counts have one digit.
+#[inline]
+pub(crate) fn append_count<const ROOM: usize>(text: &mut Text<ROOM>, count: u32)
+    requires { length text.old + 40 ≤ ROOM }
+    ensures text { text.new ≡ text.old ++ decimal count }
+    ensures short { length text.new ≤ length text.old + 40 }
+{
+    if count < 10 {
+        text.push(b'0' + count as u8);
+        return;
+    }
+    text.append(Buffer::new().format(count).as_bytes());
+}
+
 // Appends an item.
+#[inline(always)]
 fn append_item(text: &mut Text<LINE>, item: &Item<'_>)
     requires { length text.old + 40 ≤ LINE }
     ensures { text.new ≡ text.old ++ item_text item.now }
@@ -70,7 +98,7 @@ fn append_item(text: &mut Text<LINE>, item: &Item<'_>)
         Item::Term(term) => text.append(term.text()),
         Item::Name(name) => text.append(name.bytes()),
         Item::Process(program, pid) => append_process(text, program, *pid),
-        Item::Count(count) => text.append(Buffer::new().format(*count).as_bytes()),
+        Item::Count(count) => append_count(text, *count),
         Item::Size(size) => text.append(Buffer::new().format(*size).as_bytes()),
         Item::Number(number) => text.append(Buffer::new().format(*number).as_bytes()),
     }
@@ -90,32 +118,32 @@ fn put_item<W: Sink>(
     Ok(())
 }
 
-// Appends a space, a name, a sign and a short text.
-fn append_pair(text: &mut Text<LINE>, name: &Name, sign: u8, short: &[u8])
-    requires room { length text.old + PAIR ≤ LINE }
-    requires short { length short.now ≤ 40 }
-    ensures { text.new ≡ text.old ++ (codes " " ++ name.now ++ (sign ∷ []) ++ short.now) }
+// Appends a space, a name, a sign and an item.
+#[inline(always)]
+fn append_pair(text: &mut Text<LINE>, name: &Name, sign: u8, item: &Item<'_>)
+    requires { length text.old + PAIR ≤ LINE }
+    ensures { text.new ≡ text.old ++ (codes " " ++ name.now ++ (sign ∷ []) ++ item_text item.now) }
 {
     text.push(b' ');
     text.append(name.bytes());
     text.push(sign);
-    text.append(short);
+    append_item(text, item);
 }
 
-// Puts a space, a name, a sign and a short text.
+// Puts a space, a name, a sign and an item.
+#[inline(always)]
 fn put_pair<W: Sink>(
     name: &Name,
     sign: u8,
-    short: &[u8],
+    item: &Item<'_>,
     text: &mut Text<LINE>,
     writer: &mut W,
 ) -> Result<(), ServeFault>
-    requires { length short.now ≤ 40 }
     ensures { Puts (W.seen writer.old) text.old (W.seen writer.new) text.new result
-        (codes " " ++ name.now ++ (sign ∷ []) ++ short.now) }
+        (codes " " ++ name.now ++ (sign ∷ []) ++ item_text item.now) }
 {
     make_room(text, writer)?;
-    append_pair(text, name, sign, short);
+    append_pair(text, name, sign, item);
     Ok(())
 }
 
@@ -149,17 +177,16 @@ impl Names<'_> {
 }
 
 impl Amounts<'_> {
-    // The text of the value at this position. The text of a number is in the buffer.
-    fn text_at<'b>(&self, place: usize, buffer: &'b mut Buffer) -> Option<&'b [u8]>
-        ensures text { option_map (λ text. text.now) result ≡ slice_get (amount_texts self.now) place }
-        ensures short { IfSome result (λ text. length text.now ≤ 40) }
+    // The value at this position.
+    fn item_at(&self, place: usize) -> Option<Item<'static>>
+        ensures { option_map item_text result ≡ slice_get (amount_texts self.now) place }
     {
         match self {
-            Amounts::Counts(counts) => Some(buffer.format(*counts.get(place)?).as_bytes()),
-            Amounts::Numbers(numbers) => Some(buffer.format(*numbers.get(place)?).as_bytes()),
+            Amounts::Counts(counts) => Some(Item::Count(*counts.get(place)?)),
+            Amounts::Numbers(numbers) => Some(Item::Number(*numbers.get(place)?)),
             Amounts::Heads(heads) => match heads.get(place)? {
-                Head::At(count) => Some(buffer.format(*count).as_bytes()),
-                Head::Past => Some(b"past"),
+                Head::At(count) => Some(Item::Count(*count)),
+                Head::Past => Some(Item::Term(Term::Past)),
             },
         }
     }
@@ -185,15 +212,14 @@ fn put_pairs<W: Sink>(
     ensures { Puts (W.seen writer.old) text.old (W.seen writer.new) text.new result
         (spaced (pair_words (names_in names.now) (amount_texts amounts.now))) }
 {
-    let mut buffer = Buffer::new();
     for place in 0..amounts.len() {
         let Some(name) = names.at(place) else {
             break;
         };
-        let Some(amount) = amounts.text_at(place, &mut buffer) else {
+        let Some(amount) = amounts.item_at(place) else {
             break;
         };
-        put_pair(&name, b'=', amount, text, writer)?;
+        put_pair(&name, b'=', &amount, text, writer)?;
     }
     Ok(())
 }
@@ -231,8 +257,8 @@ fn put_mark<W: Sink>(
 ) -> Result<(), ServeFault>
     ensures { Puts (W.seen writer.old) text.old (W.seen writer.new) text.new result (codes " " ++ mark_word mark.now) }
 {
-    let armed: &[u8] = if mark.1 { b"on" } else { b"off" };
-    put_pair(&mark.0, b' ', armed, text, writer)
+    let armed = if mark.1 { Term::On } else { Term::Off };
+    put_pair(&mark.0, b' ', &Item::Term(armed), text, writer)
 }
 
 // Puts the breakpoints, each with its mark.

@@ -1,6 +1,6 @@
 //! The answers of a session as text.
 
-ghost use Rattle.std.specs.Prelude.{◌≡◌, ◌≤◌, ◌∷◌, map, length, codes};
+ghost use Rattle.std.specs.Prelude.{◌≡◌, ◌≤◌, ◌+◌, ◌++◌, ◌∷◌, map, length, codes};
 ghost use Rattle.std.specs.Option.{option_map};
 ghost use Rattle.std.specs.Fmt.{decimal, signed_decimal};
 ghost use Rattle.dbg_base.specs.declared.said.Said.TheVariants.{Accepted};
@@ -8,19 +8,24 @@ ghost use Rattle.dbg_base.specs.declared.said.Answer.TheVariants.{PlaceOf, CanUn
 ghost use Rattle.dbg_base.specs.Calls as model;
 ghost use Rattle.dbg_base.specs.Calls.{call_of, query_of};
 ghost use Rattle.dbg_base.specs.Fits.{FitsRefusal, FitsAnswer, FitsCall};
-ghost use Rattle.dbg_base.specs.Replies.{joined, pair_words, name_of, halted_words, carried_words, answer_words, refusal_text, reply_text};
+ghost use Rattle.dbg_base.specs.Replies.{joined, spaced, pair_words, name_of, halted_words, carried_words, answer_words, refusal_text, reply_text};
 ghost use Rattle.dbg_base.specs.Shell.{as_line};
 ghost use Rattle.proc_lang.specs.Programs.{program_of};
 ghost use Rattle.shell_print.specs.Writing.{Writes};
 ghost use Rattle.shell_print.specs.Questions.{question_of, FitsSaid};
+ghost use Rattle.shell_print.specs.declared.reply.TheConstants.{EVENT};
 ghost use Rattle.shell_print.specs.Pieces.{item_text, names_in, amount_texts, piece_words};
 
 use crate::outcome::ServeFault;
-use crate::parts::write_line;
+use crate::parts::{append_count, append_process, write_line, write_whole};
 use crate::pieces::{Amounts, Item, Names, Piece, Term, Words};
+use crate::text::Text;
 use dbg_base::{Answer, Call, Choice, Cut, Done, Name, Pid, Query, Refusal, Reply, Said};
 use proc_lang::Program;
 use shell_io::Sink;
+
+// Room for the line of an event: `ok`, a process, a count, `halted` with a breakpoint, and the line end.
+const EVENT: usize = 120;
 
 // What a refusal contains besides its number, if anything.
 fn carried<'a>(program: &'a Program, refusal: &'a Refusal) -> Piece<'a>
@@ -35,7 +40,19 @@ fn carried<'a>(program: &'a Program, refusal: &'a Refusal) -> Piece<'a>
     }
 }
 
-// Writes the line for an event that a command made or undid.
+// Appends the breakpoint that halts the session, if any.
+fn append_halted(text: &mut Text<EVENT>, halted: &Option<Name>)
+    requires { length text.old + 40 ≤ EVENT }
+    ensures text { text.new ≡ text.old ++ spaced (halted_words halted.now) }
+    ensures short { length text.new ≤ length text.old + 40 }
+{
+    if let Some(name) = halted {
+        text.append(b" halted ");
+        text.append(name.bytes());
+    }
+}
+
+// Writes the line for an event that a command made or undid. Most replies are such lines, so it is composed without pieces.
 fn print_event<'a, W: Sink>(
     program: &'a Program,
     pid: Pid,
@@ -46,12 +63,14 @@ fn print_event<'a, W: Sink>(
     ensures { Writes (W.seen writer.old) (W.seen writer.new) result
         (as_line (joined (codes "ok" ∷ name_of (program_of program.now) pid.0 ∷ decimal choice.0 ∷ halted_words halted.now))) }
 {
-    let pieces = [
-        Piece::Item(Item::Process(program, pid)),
-        Piece::Item(Item::Count(choice.0)),
-        Piece::Halted(halted),
-    ];
-    write_line(b"ok", &pieces, writer)
+    let mut text: Text<EVENT> = Text::new();
+    text.append(b"ok ");
+    append_process(&mut text, program, pid);
+    text.push(b' ');
+    append_count(&mut text, choice.0);
+    append_halted(&mut text, halted);
+    text.push(b'\n');
+    write_whole(writer, text.bytes())
 }
 
 // Writes the line for an accepted command.
