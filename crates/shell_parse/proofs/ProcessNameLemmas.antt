@@ -1,12 +1,9 @@
 -- A process that is found by its name.
-use Rattle.std.proofs.Common.{◌≡◌, ℕ, suc, ◌+◌, ◌<◌, Bool, true, false, cond, List, [], ◌∷◌, length, Option, Some, None}
-use Rattle.std.proofs.Common.{refl, sym, subst, arith, rules}
-use Rattle.std.specs.Prelude.{IfOk, ok_or}
-use Rattle.std.specs.Option.{option_map}
+use Rattle.std.proofs.Common.{◌≡◌, ℕ, suc, ◌+◌, ◌<◌, Bool, true, false, cond, List, [], ◌∷◌, length, Some}
+use Rattle.std.proofs.Common.{refl, sym, subst, arith}
 use Rattle.std.specs.Str.{bytes_eq}
 use Rattle.std.proofs.lemmas.List.{length-map}
 use Rattle.dbg_base.specs.declared.ids.Pid.{Pid}
-use Rattle.dbg_base.specs.declared.refusal.Refusal.{Refusal}
 use Rattle.dbg_base.specs.Names.{place_from, place_of}
 use Rattle.dbg_base.specs.Trees.{Program, names_of}
 
@@ -28,8 +25,5 @@ place_within first k name (n ∷ names) here =
     place_within_by first k name n names (bytes_eq n name) refl (place_within (first + 1) k name names) here
 
 -- it is one of the program
-pub found_known : (P : Program) (name : List ℕ) (found : Option Pid) (refusal : Refusal)
-    → option_map (λ pid. pid.0) found ≡ place_of name (names_of P) → IfOk (ok_or found refusal) (λ pid. pid.0 < length P)
-found_known P name (Some pid) refusal e =
-    omega (arith, place_within 0 pid.0 name (names_of P) (sym e), length-map P (λ process. process.name))
-found_known P name None refusal e = search rules
+pub found_known : (P : Program) (name : List ℕ) (pid : Pid) → Some pid.0 ≡ place_of name (names_of P) → pid.0 < length P
+found_known P name pid e = omega (arith, place_within 0 pid.0 name (names_of P) (sym e), length-map P (λ process. process.name))

@@ -7,8 +7,8 @@ ghost use Rattle.dbg_base.specs.CommandLines.{map_ok, is_separator, parentheses_
 ghost use Rattle.proc_lang.specs.Programs.{program_of};
 ghost use Rattle.shell_parse.specs.Lines.{depth_of, spot_of, has_shape, are_commands, IsMember, AreRead, IsBatchParsed, IsCommandParsed, IsGivable};
 
-use crate::break_line::is_apart;
-use crate::command::{has_shape, parse_by_word, parse_one};
+use crate::break_line::{is_apart, parse_break};
+use crate::command::{has_shape, parse_one, parse_words};
 use crate::words::{is_blank, next_word};
 use dbg_base::limits::BATCH;
 use dbg_base::{Call, Plan, Refusal};
@@ -142,6 +142,7 @@ fn read_commands(alloc: Global, program: &Program, bytes: &[u8]) -> Result<Vec<P
 }
 
 // Parses a batch, from the bytes after its command word.
+#[inline(never)]
 fn parse_batch(alloc: Global, program: &Program, bytes: &[u8]) -> Result<Call, Refusal>
     ensures asks { IsBatchParsed (program_of program.now) bytes.now result }
     ensures fits { IfOk result IsGivable }
@@ -162,5 +163,8 @@ pub(crate) fn parse_command(alloc: Global, program: &Program, bytes: &[u8]) -> R
     if word == b"batch".as_slice() {
         return parse_batch(alloc, program, rest);
     }
-    parse_by_word(alloc, program, word, rest)
+    if word == b"break".as_slice() {
+        return parse_break(alloc, program, rest);
+    }
+    parse_words(program, word, rest)
 }

@@ -1,7 +1,7 @@
 //! Single commands: a command word with its arguments.
 //!
-//! The functions that every line goes through are inlined. So the call is made where it is returned, and is not copied from function to
-//! function.
+//! The functions that every line goes through are inlined, except the two that make most calls: `call_with` and `call_with_two`. If these
+//! were inlined too, the calls of all command words would be put together field by field in one place, which takes longer.
 
 ghost use Rattle.std.specs.Prelude.{◌≡◌, ℕ, List, ◌∷◌, [], Result};
 ghost use Rattle.std.specs.Option.{option_map};
@@ -116,7 +116,9 @@ fn step_call(program: &Program, process: &[u8], choice: &[u8]) -> Result<Call, R
     ensures { map_ok call_of result ≡ with_word (name_word process.now)
         (λ name. step_call (program_of program.now) name choice.now) }
 {
-    let choice = number_word(choice).ok_or(Refusal::BadLine)?;
+    let Some(choice) = number_word(choice) else {
+        return Err(Refusal::BadLine);
+    };
     let pid = process_word(program, process)?;
     Ok(Call::Give(Plan::Step(pid, Choice(choice))))
 }
@@ -127,7 +129,9 @@ fn rollback_call(program: &Program, process: &[u8], place: &[u8]) -> Result<Call
     ensures { map_ok call_of result ≡ with_word (name_word process.now)
         (λ name. rollback_call (program_of program.now) name place.now) }
 {
-    let place = number_word(place).ok_or(Refusal::BadLine)?;
+    let Some(place) = number_word(place) else {
+        return Err(Refusal::BadLine);
+    };
     let pid = process_word(program, process)?;
     Ok(Call::Give(Plan::Rollback(pid, place)))
 }
@@ -138,7 +142,9 @@ fn chan_call(program: &Program, source: &[u8], target: &[u8]) -> Result<Call, Re
     ensures { map_ok call_of result ≡ with_word (name_word source.now)
         (λ name. chan_call (program_of program.now) name target.now) }
 {
-    let target = name_word(target).ok_or(Refusal::BadLine)?;
+    let Some(target) = name_word(target) else {
+        return Err(Refusal::BadLine);
+    };
     let source = process_word(program, source)?;
     let target = named_process(program, target)?;
     Ok(Call::Ask(Query::Chan(source, target)))
@@ -159,21 +165,25 @@ fn lone_call(word: &[u8]) -> Result<Call, Refusal>
 }
 
 // The call of a command word with one argument.
-#[inline(always)]
+#[inline(never)]
 fn call_with(program: &Program, word: &[u8], argument: &[u8]) -> Result<Call, Refusal>
     ensures { map_ok call_of result ≡ call_of_words (program_of program.now) word.now (argument.now ∷ []) }
 {
     if let Some(word) = BreakWord::read(word) {
-        let name = name_word(argument).ok_or(Refusal::BadLine)?;
-        return Ok(word.call(name));
+        return match name_word(argument) {
+            Some(name) => Ok(word.call(name)),
+            None => Err(Refusal::BadLine),
+        };
     }
-    let word = ProcessWord::read(word).ok_or(Refusal::BadLine)?;
+    let Some(word) = ProcessWord::read(word) else {
+        return Err(Refusal::BadLine);
+    };
     let process = process_word(program, argument)?;
     Ok(word.call(process))
 }
 
 // The call of a command word with two arguments.
-#[inline(always)]
+#[inline(never)]
 fn call_with_two(
     program: &Program,
     word: &[u8],
@@ -193,9 +203,9 @@ fn call_with_two(
     }
 }
 
-// The call of a command word and the words after it.
+/// The call of a command word and the words after it. It does not allocate.
 #[inline(always)]
-fn parse_words(program: &Program, word: &[u8], bytes: &[u8]) -> Result<Call, Refusal>
+pub(crate) fn parse_words(program: &Program, word: &[u8], bytes: &[u8]) -> Result<Call, Refusal>
     ensures { map_ok call_of result ≡ call_of_words (program_of program.now) word.now (words_of bytes.now) }
 {
     let Some((first, rest)) = first_word(bytes) else {
@@ -210,28 +220,15 @@ fn parse_words(program: &Program, word: &[u8], bytes: &[u8]) -> Result<Call, Ref
     }
 }
 
-/// Parses a single command, from its command word and the bytes after it.
-pub(crate) fn parse_by_word(
-    alloc: Global,
-    program: &Program,
-    word: &[u8],
-    rest: &[u8],
-) -> Result<Call, Refusal>
-    ensures { (bytes : List ℕ) → next_word bytes ≡ word.now → after_word bytes ≡ rest.now
-        → IsOneParsed (program_of program.now) bytes result }
-{
-    if word == b"break".as_slice() {
-        return parse_break(alloc, program, rest);
-    }
-    parse_words(program, word, rest)
-}
-
 /// Parses a single command.
 pub(crate) fn parse_one(alloc: Global, program: &Program, bytes: &[u8]) -> Result<Call, Refusal>
     ensures { IsOneParsed (program_of program.now) bytes.now result }
 {
     let (word, rest) = next_word(bytes);
-    parse_by_word(alloc, program, word, rest)
+    if word == b"break".as_slice() {
+        return parse_break(alloc, program, rest);
+    }
+    parse_words(program, word, rest)
 }
 
 /// Whether the command has the shape of one that may be in a batch, whatever it names. It does not allocate.

@@ -128,7 +128,10 @@ pub(crate) fn named_process(program: &Program, name: Name) -> Result<Pid, Refusa
     ensures place { map_ok (λ pid. pid.0) result ≡ named_process (program_of program.now) name }
     ensures known { IfOk result (λ pid. pid.0 < length (program_of program.now)) }
 {
-    program.find_process(name).ok_or(Refusal::UnknownProcess)
+    match program.find_process(name) {
+        Some(pid) => Ok(pid),
+        None => Err(Refusal::UnknownProcess),
+    }
 }
 
 // A process by the word that names it.
@@ -136,6 +139,8 @@ pub(crate) fn named_process(program: &Program, name: Name) -> Result<Pid, Refusa
 pub(crate) fn process_word(program: &Program, word: &[u8]) -> Result<Pid, Refusal>
     ensures { map_ok (λ pid. pid.0) result ≡ process_word (program_of program.now) (name_word word.now) }
 {
-    let name = name_word(word).ok_or(Refusal::BadLine)?;
-    named_process(program, name)
+    match name_word(word) {
+        Some(name) => named_process(program, name),
+        None => Err(Refusal::BadLine),
+    }
 }
