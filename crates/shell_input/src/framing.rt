@@ -197,7 +197,8 @@ impl Input {
         Some(Next::Line(self.take_line(len, len)))
     }
 
-    // Reads once.
+    // Reads once. It has the chunk, which the many calls that find a line do without.
+    #[inline(never)]
     fn read_more<R: Source>(&mut self, reader: &mut R) -> Result<(), ServeFault>
         requires room { vec_len self.old.bytes < ROOM }
         requires open { self.old.ended ≡ false }
