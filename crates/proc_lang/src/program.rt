@@ -1,6 +1,7 @@
 //! Programs, and their parts.
 
 ghost use Rattle.std.specs.Prelude.{◌≡◌, ◌≤◌, true};
+ghost use Rattle.std.specs.Str.{bytes_eq};
 ghost use Rattle.dbg_base.specs.declared.limits.TheConstants.{PROCESSES, VARIABLES, COMMANDS};
 ghost use Rattle.dbg_base.specs.WellFormed.{is_well_formed};
 ghost use Rattle.proc_lang.specs.ProcessTrees.{process_trees};
@@ -13,6 +14,14 @@ use dbg_base::{Choice, Name, Pid};
 pub struct Program {
     pub(crate) processes: Vec<Process>,
     pub ghost well_formed: { is_well_formed (process_trees processes.items) ≡ true },
+}
+
+// Whether the process has this name. The names of a program differ mostly in their last byte.
+fn is_named(process: &Process, name: &[u8]) -> bool
+    ensures { result ≡ bytes_eq process.now.name name.now }
+{
+    let own = process.name.bytes();
+    own.last() == name.last() && own == name
 }
 
 impl Program {
@@ -54,8 +63,15 @@ impl Program {
     pub fn find_process(&self, name: Name) -> Option<Pid>
         ensures { option_map (λ pid. pid.0) result ≡ place_of name (names_of (program_of self.now)) }
     {
+        self.find_process_by(name.bytes())
+    }
+
+    /// The process whose name has these bytes, or None if no process has them.
+    pub fn find_process_by(&self, name: &[u8]) -> Option<Pid>
+        ensures { option_map (λ pid. pid.0) result ≡ place_of name.now (names_of (program_of self.now)) }
+    {
         for (i, process) in self.processes.iter().enumerate() {
-            if process.name == name {
+            if is_named(process, name) {
                 return Some(Pid(i as u32));
             }
         }

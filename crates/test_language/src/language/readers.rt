@@ -29,6 +29,11 @@ fn expect_names(rt: &impl Abort, program: &Program) {
     expect_same(rt, program.process_name(Pid(2)), None);
     let found = (program.find_process(b), program.find_process(z));
     expect_same(rt, found, (Some(Pid(1)), None));
+    let by_bytes = (
+        program.find_process_by(b"b"),
+        program.find_process_by(b"bb"),
+    );
+    expect_same(rt, by_bytes, (Some(Pid(1)), None));
 }
 
 // Expects the variables and the commands of the second process, and none of a third.
