@@ -1,5 +1,5 @@
 -- What the calls of a world require of its program, and what they leave. The clocks of a world, and the cut of a rollback.
-use Rattle.std.proofs.Common.{◌≡◌, ℕ, zero, suc, ◌-◌, ◌<◌, ℤ, List, [], ◌∷◌, ◌++◌, length, get_or, Option, Some, Result, Ok, Err, refl}
+use Rattle.std.proofs.Common.{◌≡◌, ℕ, ◌-◌, ◌<◌, ℤ, List, [], ◌∷◌, ◌++◌, length, get_or, Option, Some, Result, Ok, Err, refl}
 use Rattle.std.proofs.Common.{sym, ap, ◌∙◌, subst, arith, ◌≤◌, set, map}
 use Rattle.std.specs.Prelude.{OnErr, slice_get, OnOk}
 use Rattle.std.specs.Option.{option_to_list}

@@ -63,10 +63,11 @@ impl World {
             ((P : tree.Program) → IsWorldOf P self.old → CannotUndo P self.old.state pid.0 refusal) ⊎ (refusal ≡ Memory)) }
         ensures kept { OnErr result (self.new ≡ self.old) }
     {
-        let mut taken = Vec::with_capacity(alloc, 1)?;
         let event = self.pop_event(pid)?;
-        taken.push_reserved(Taken { pid, event });
-        Ok(Rolled { taken })
+        Ok(Rolled {
+            taken: Vec::new(alloc),
+            last: Some(Taken { pid, event }),
+        })
     }
 
     /// Undoes a redo of the process that led to the present world: the world is as it was before. Error: `Memory`, if an allocation fails;
@@ -129,6 +130,6 @@ impl World {
             counts,
             &mut taken,
         );
-        Ok(Rolled { taken })
+        Ok(Rolled { taken, last: None })
     }
 }

@@ -6,7 +6,7 @@ ghost use Rattle.dbg_base.specs.Trees as tree;
 ghost use Rattle.causal_world.specs.Rollings.{IsRolled};
 
 use crate::making::{make_room_forth, roll_forth};
-use crate::rolled::Rolled;
+use crate::rolled::{Rolled, gather};
 use crate::world::World;
 use dbg_base::Refusal;
 
@@ -21,18 +21,20 @@ impl World {
         ensures kept { OnErr result (self.new ≡ self.old) }
         ensures left { OnErr result (rolled.new ≡ rolled.old) }
     {
+        let Rolled { taken, last } = rolled;
+        gather(taken, last)?;
         make_room_forth(
-            *rolled.taken.allocator(),
+            *taken.allocator(),
             &mut self.grid,
             &mut self.past,
-            rolled.taken.as_slice(),
+            taken.as_slice(),
         )?;
         roll_forth(
             &mut self.lines,
             &mut self.envs,
             &mut self.grid,
             &mut self.past,
-            &mut rolled.taken,
+            taken,
         );
         Ok(())
     }

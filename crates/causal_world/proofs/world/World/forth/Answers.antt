@@ -14,10 +14,10 @@ pub roll_forth-requires-clause-ways : goal.roll_forth-requires-clause-ways
 roll_forth-requires-clause-ways c =
     let inside = c.self.inside in
     let room = c.in_ok-make_room_forth.ensures in
-    subst (λ (k : List (List Kind)). HasRoomForth (length k) c.make_room_forth.new.grid.room c.rolled.inside.taken.items)
+    subst (λ (k : List (List Kind)). HasRoomForth (length k) c.make_room_forth.new.grid.room c.gather.new.taken.items)
     (sym room.same.kinds)
     (ways_forth (scene inside.lines inside.envs.items inside.grid.channels inside.past) c.make_room_forth.new.grid.room
-    c.rolled.inside.taken.items c.as_slice.result.now c.self.invariant c.as_slice.ensures.value room.ways)
+    c.gather.new.taken.items c.as_slice.result.now c.self.invariant c.as_slice.ensures.value room.ways)
 
 back : (c : After-roll_forth) (P : Program) (r : IsRolled P c.args.rolled.now c.args.self.now)
     → scene c.roll_forth.new.lines c.roll_forth.new.envs.items c.roll_forth.new.grid.channels c.roll_forth.new.past ≡ r.before
@@ -29,10 +29,11 @@ back c P r =
     (scene inside.lines inside.envs.items inside.grid.channels inside.past) refl refl room.channels room.same.starts room.same.events
     room.same.kinds
     room.same.clocks ∙ c.self.view_is in
+    let gathered : c.gather.new.taken.items ≡ c.args.rolled.now = c.in_ok-gather.ensures.gathered.0 ∙ c.rolled.view_is in
     c.roll_forth.ensures.back P (record {
       before = r.before;
-      from = subst (λ (w : Scene). IsRolledFrom P r.before c.rolled.inside.taken.items w) (sym same)
-          (subst (λ (l : List Taken). IsRolledFrom P r.before l c.args.self.now) (sym c.rolled.view_is) r.from);
+      from = subst (λ (w : Scene). IsRolledFrom P r.before c.gather.new.taken.items w) (sym same)
+          (subst (λ (l : List Taken). IsRolledFrom P r.before l c.args.self.now) (sym gathered) r.from);
     })
 
 pub invariant_of-self-2 : goal.invariant_of-self-2

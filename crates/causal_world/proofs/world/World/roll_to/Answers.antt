@@ -1,5 +1,6 @@
-use Rattle.std.proofs.Common.{◌≡◌, ℤ, List, subst, sym, ap, ◌∙◌}
+use Rattle.std.proofs.Common.{◌≡◌, ℤ, List, append-nil, subst, sym, ap, ◌∙◌}
 use Rattle.dbg_base.specs.Trees.{Program}
+use Rattle.causal_world.specs.declared.rolled.Taken.{Taken}
 use Rattle.causal_world.specs.Scenes.{Scene, scene, IsWorldOf}
 use Rattle.causal_world.specs.Rollings.{IsRolledFrom}
 use Rattle.causal_world.proofs.RollbackLemmas.{rolled_of, ways_back}
@@ -32,4 +33,7 @@ pub returns-clause-of : goal.returns-clause-of
 returns-clause-of c = λ P of. rolled_of P _ _ _ (back (goal.at.returns-clause-of c).After-roll_back P of)
 
 pub returns-clause-back : goal.returns-clause-back
-returns-clause-back c = λ P of. back (goal.at.returns-clause-back c).After-roll_back P of
+returns-clause-back c = λ P of.
+    let after = (goal.at.returns-clause-back c).After-roll_back in
+    let new : Scene = scene after.roll_back.new.lines after.roll_back.new.envs.items after.roll_back.new.grid.channels after.roll_back.new.past in
+    subst (λ (l : List Taken). IsRolledFrom P c.args.self.now l new) (sym (append-nil after.roll_back.new.taken.items)) (back after P of)
