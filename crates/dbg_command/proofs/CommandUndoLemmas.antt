@@ -1,7 +1,7 @@
 -- What is kept of a command undoes it: from the state to which it led, to the state in which it was given.
 use Rattle.std.proofs.Common.{◌≡◌, ℕ, ◌<◌, ◌≤◌, Bool, true, false, List, [], ◌∷◌, ◌++◌, length, insert, Option, Some, None}
 use Rattle.std.proofs.Common.{refl, sym, ap, ◌∙◌, subst, arith}
-use Rattle.std.specs.Prelude.{slice_get, Result, Ok, Err, IfOk, IfSome}
+use Rattle.std.specs.Prelude.{slice_get, Result, Ok, Err, OnOk, IfSome}
 use Rattle.dbg_base.specs.declared.refusal.Refusal.{Refusal}
 use Rattle.std.proofs.lemmas.List.{length-map}
 use Rattle.dbg_base.specs.declared.limits.TheConstants.{BREAKPOINTS}
@@ -33,8 +33,8 @@ leads_from MayGoBack undone M M' N N' from to leads =
     subst (λ (X : ModelState). LeadsBack MayGoBack undone N X) to (subst (λ (X : ModelState). LeadsBack MayGoBack undone X M') from leads)
 
 -- what holds of an accepted command for each program of the table holds for one
-pub accepted_in : {A : Type 0} (r : Result A Refusal) (t : TableState) (P : Program) (Holds : A → Program → Type 0)
-    → IfOk r (λ done. (Q : Program) → IsTableOf Q t → Holds done Q) → IsTableOf P t → IfOk r (λ done. Holds done P)
+pub accepted_in : {A : Type 0} (r : Result A Refusal) (t : TableState) (P : Program) (Holds : Program → Type 0)
+    → OnOk r ((Q : Program) → IsTableOf Q t → Holds Q) → IsTableOf P t → OnOk r (Holds P)
 accepted_in (Ok done) t P Holds holds is = holds P is
 accepted_in (Err refusal) t P Holds holds is = tt
 

@@ -1,9 +1,8 @@
 -- What a command keeps once it was accepted: when that can undo it, and the state to which the undo leads.
-use Rattle.std.specs.Prelude.{◌≡◌, ℕ, ◌<◌, ◌≤◌, Bool, true, false, List, [], length, insert, Option, Some, None, Result, Ok, Err, slice_get, ◌∷◌}
+use Rattle.std.specs.Prelude.{◌≡◌, ℕ, ◌<◌, ◌≤◌, Bool, true, false, List, [], length, insert, Option, Some, None, slice_get, ◌∷◌}
 use Rattle.dbg_base.specs.declared.call.Plan as plan
 use Rattle.dbg_base.specs.declared.call.Plan.TheVariants as plans
 use Rattle.dbg_base.specs.declared.refusal.Refusal.{Refusal}
-use Rattle.dbg_base.specs.declared.said.Reply.{Reply}
 use Rattle.dbg_base.specs.declared.limits.TheConstants.{BREAKPOINTS}
 use Rattle.dbg_base.specs.Trees.{Program}
 use Rattle.dbg_base.specs.SystemStates.{line_of, place_at, redo_line, after_choice, after_redo, after_undo, after_rollback}
@@ -37,10 +36,10 @@ abbrev pub IfApplied : Bool → Type 0 → Type 0
 IfApplied false Holds = ⊥
 IfApplied true Holds = Holds
 
--- the reply to an accepted command, without what is kept of it
-abbrev pub reply_of : {A : Type 0} → Result (Reply × A) Refusal → Result Reply Refusal
-reply_of (Ok done) = Ok done.0
-reply_of (Err refusal) = Err refusal
+-- a command led from M to M', and what is kept of it undoes it
+abbrev pub LeadsBackBy : {A : Type 0} → Option A → (A → ModelState → Type 0) → (A → ModelState → ModelState) → ModelState → ModelState → Type 0
+LeadsBackBy kept MayGoBack undone M M' =
+    (kept ≡ None → ⊥) × LeadsBack (λ N. IfKept kept (λ it. MayGoBack it N)) (undone_by kept undone) M M'
 
 -- Process p made a choice that led to M, and these choices were cut off its line.
 pub record HasStepped (P : Program) (p : ℕ) (cutoff : List ℕ) (M : ModelState) : Type 0 where

@@ -5,7 +5,6 @@ ghost use Rattle.dbg_base.specs.declared.limits.TheConstants.{BATCH};
 ghost use Rattle.dbg_base.specs.Calls.{Batch, IsOne, order_of, plans_in, AreCommands};
 ghost use Rattle.proc_lang.specs.Programs.{program_of};
 ghost use Rattle.dbg_command.specs.Tables.{IsTableOf, FollowsOrRefuses, GivesEach, TellsWithin, shown, state_of};
-ghost use Rattle.dbg_command.specs.Boxes.{reply_of};
 
 use crate::table::Table;
 use dbg_base::{Done, Plan, Refusal, Reply};
@@ -26,16 +25,6 @@ fn within_batch(position: usize, refusal: Refusal) -> Refusal
     }
 }
 
-// The reply, without what is kept of the command.
-fn reported<K: Drop>(done: Result<(Reply, K), Refusal>) -> Result<Reply, Refusal>
-    ensures { result ≡ reply_of done }
-{
-    match done {
-        Ok((reply, _)) => Ok(reply),
-        Err(refusal) => Err(refusal),
-    }
-}
-
 impl Table {
     // Gives one command.
     fn give_one(&mut self, alloc: Global, program: &Program, plan: &Plan) -> Result<Reply, Refusal>
@@ -46,16 +35,16 @@ impl Table {
         ensures kept { OnErr result (shown self.new ≡ shown self.old) }
     {
         match plan {
-            Plan::Step(pid, choice) => reported(self.step(alloc, program, *pid, *choice)),
-            Plan::Next(pid) => reported(self.next(alloc, program, *pid)),
-            Plan::Undo(pid) => reported(self.undo(alloc, program, *pid)),
+            Plan::Step(pid, choice) => self.step(alloc, program, *pid, *choice, &mut None),
+            Plan::Next(pid) => self.next(alloc, program, *pid, &mut None),
+            Plan::Undo(pid) => self.undo(alloc, program, *pid, &mut None),
             Plan::Redo(pid) => self.redo(alloc, program, *pid),
-            Plan::Rollback(pid, n) => reported(self.rollback(alloc, program, *pid, *n)),
-            Plan::Goto(name) => reported(self.go_to(alloc, program, *name)),
+            Plan::Rollback(pid, n) => self.rollback(alloc, program, *pid, *n, &mut None),
+            Plan::Goto(name) => self.go_to(alloc, program, *name, &mut None),
             Plan::Break(name, conjuncts) => {
                 self.set_break(alloc, program, *name, conjuncts, None)
             }
-            Plan::Clear(name) => reported(self.clear(program, *name)),
+            Plan::Clear(name) => self.clear(program, *name, &mut None),
             Plan::Arm(name) => self.arm(program, *name),
             Plan::Pass(name) => self.pass(program, *name),
             Plan::Batch(_) => unreachable!(),

@@ -11,7 +11,7 @@ ghost use Rattle.dbg_base.specs.Calls.{conjunct_of};
 ghost use Rattle.proc_lang.specs.Programs.{program_of};
 ghost use Rattle.least_cut.specs.Watches.{scan_of};
 ghost use Rattle.dbg_command.specs.Tables.{IsTableOf, ActsOrRefuses, Adds, shown, state_of};
-ghost use Rattle.dbg_command.specs.Boxes.{LeadsBack, HasNamed, HasUnarmed, HasCleared, unset, marked, uncleared, reply_of, IsScanFor};
+ghost use Rattle.dbg_command.specs.Boxes.{LeadsBack, LeadsBackBy, HasNamed, HasUnarmed, HasCleared, unset, marked, uncleared, IsScanFor};
 
 use crate::conjuncts::fitting;
 use crate::table::Table;
@@ -89,22 +89,24 @@ impl Table {
         Ok(self.reply(Done::Plain))
     }
 
-    // Removes the breakpoint, and returns it with its position.
+    // Removes the breakpoint. It is in `kept` then, with its position.
     pub(crate) fn clear(
         &mut self,
         program: &Program,
         name: Name,
-    ) -> Result<(Reply, (usize, Breakpoint)), Refusal>
+        kept: &mut Option<(usize, Breakpoint)>,
+    ) -> Result<Reply, Refusal>
         requires { IsTableOf (program_of program.now) self.old }
         ensures of { IsTableOf (program_of program.now) self.new }
-        ensures acts { ActsOrRefuses (program_of program.now) (model.Clear name) (state_of self.old) (reply_of result) (state_of self.new) }
+        ensures acts { ActsOrRefuses (program_of program.now) (model.Clear name) (state_of self.old) result (state_of self.new) }
         ensures memory { IfErr result (λ refusal. refusal ≢ Memory) }
-        ensures leads { IfOk result (λ done. LeadsBack (HasCleared (program_of program.now) done.1.0 name done.1.1)
-            (uncleared done.1.0 name done.1.1) (state_of self.old) (state_of self.new)) }
-        ensures kept { OnErr result (shown self.new ≡ shown self.old) }
+        ensures leads { OnOk result (LeadsBackBy kept.new (λ cleared. HasCleared (program_of program.now) cleared.0 name cleared.1)
+            (λ cleared. uncleared cleared.0 name cleared.1) (state_of self.old) (state_of self.new)) }
+        ensures refused { OnErr result ((shown self.new ≡ shown self.old) × (kept.new ≡ kept.old)) }
     {
         let cleared = self.book.clear(name)?;
-        Ok((self.reply(Done::Plain), cleared))
+        *kept = Some(cleared);
+        Ok(self.reply(Done::Plain))
     }
 
     // Arms the breakpoint: it halts the session again.

@@ -1,6 +1,6 @@
 //! The commands by which a process makes an event: step, next, redo.
 
-ghost use Rattle.std.specs.Prelude.{◌≡◌, IfOk, OnOk, OnErr};
+ghost use Rattle.std.specs.Prelude.{◌≡◌, OnOk, OnErr};
 ghost use Rattle.dbg_base.specs.declared.said.Done.TheVariants.{Played};
 ghost use Rattle.dbg_base.specs.Trees as tree;
 ghost use Rattle.dbg_base.specs.Calls as model;
@@ -8,7 +8,7 @@ ghost use Rattle.proc_lang.specs.Programs.{program_of};
 ghost use Rattle.causal_world.specs.Scenes.{IsWorldOf};
 ghost use Rattle.break_book.specs.Books.{AreGrown, HaveRoomUpTo};
 ghost use Rattle.dbg_command.specs.Tables.{IsTableOf, ActsOrRefuses, Replies, shown, state_of};
-ghost use Rattle.dbg_command.specs.Boxes.{LeadsBack, HasStepped, HasRedone, unstepped, unredone, reply_of};
+ghost use Rattle.dbg_command.specs.Boxes.{LeadsBack, LeadsBackBy, HasStepped, HasRedone, unstepped, unredone};
 
 use crate::table::Table;
 use causal_world::Cutoff;
@@ -30,44 +30,47 @@ impl Table {
         self.reply(Done::Played(pid, choice))
     }
 
-    // Makes the process fire this command. Returns the choices that were cut off its line.
+    // Makes the process fire this command. The choices that were cut off its line are in `kept` then.
     pub(crate) fn step(
         &mut self,
         alloc: Global,
         program: &Program,
         pid: Pid,
         choice: Choice,
-    ) -> Result<(Reply, Cutoff), Refusal>
+        kept: &mut Option<Cutoff>,
+    ) -> Result<Reply, Refusal>
         requires { IsTableOf (program_of program.now) self.old }
         ensures of { IsTableOf (program_of program.now) self.new }
-        ensures acts { ActsOrRefuses (program_of program.now) (model.Step pid.0 choice.0) (state_of self.old) (reply_of result)
-            (state_of self.new) }
-        ensures leads { IfOk result (λ done. LeadsBack (HasStepped (program_of program.now) pid.0 done.1) (unstepped pid.0 done.1)
+        ensures acts { ActsOrRefuses (program_of program.now) (model.Step pid.0 choice.0) (state_of self.old) result (state_of self.new) }
+        ensures leads { OnOk result (LeadsBackBy kept.new (HasStepped (program_of program.now) pid.0) (unstepped pid.0)
             (state_of self.old) (state_of self.new)) }
-        ensures kept { OnErr result (shown self.new ≡ shown self.old) }
+        ensures refused { OnErr result ((shown self.new ≡ shown self.old) × (kept.new ≡ kept.old)) }
     {
         self.ready(program, pid)?;
         let cutoff = self.world.step(alloc, program, pid, choice)?;
-        Ok((self.grown(pid, choice), cutoff))
+        *kept = Some(cutoff);
+        Ok(self.grown(pid, choice))
     }
 
-    // Makes the process fire its first command that can fire. Returns the choices that were cut off its line.
+    // Makes the process fire its first command that can fire. The choices that were cut off its line are in `kept` then.
     pub(crate) fn next(
         &mut self,
         alloc: Global,
         program: &Program,
         pid: Pid,
-    ) -> Result<(Reply, Cutoff), Refusal>
+        kept: &mut Option<Cutoff>,
+    ) -> Result<Reply, Refusal>
         requires { IsTableOf (program_of program.now) self.old }
         ensures of { IsTableOf (program_of program.now) self.new }
-        ensures acts { ActsOrRefuses (program_of program.now) (model.Next pid.0) (state_of self.old) (reply_of result) (state_of self.new) }
-        ensures leads { IfOk result (λ done. LeadsBack (HasStepped (program_of program.now) pid.0 done.1) (unstepped pid.0 done.1)
+        ensures acts { ActsOrRefuses (program_of program.now) (model.Next pid.0) (state_of self.old) result (state_of self.new) }
+        ensures leads { OnOk result (LeadsBackBy kept.new (HasStepped (program_of program.now) pid.0) (unstepped pid.0)
             (state_of self.old) (state_of self.new)) }
-        ensures kept { OnErr result (shown self.new ≡ shown self.old) }
+        ensures refused { OnErr result ((shown self.new ≡ shown self.old) × (kept.new ≡ kept.old)) }
     {
         self.ready(program, pid)?;
         let (choice, cutoff) = self.world.next(alloc, program, pid)?;
-        Ok((self.grown(pid, choice), cutoff))
+        *kept = Some(cutoff);
+        Ok(self.grown(pid, choice))
     }
 
     // Makes the process fire the choice at its place again.

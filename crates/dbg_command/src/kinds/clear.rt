@@ -60,9 +60,7 @@ impl Command for ClearCmd {
         table: &mut Table,
         _scan: Option<Scan>,
     ) -> Result<Reply, Refusal> {
-        let (reply, cleared) = table.clear(program, self.name)?;
-        self.cleared = Some(cleared);
-        Ok(reply)
+        table.clear(program, self.name, &mut self.cleared)
     }
 
     fn revert(&mut self, table: &mut Table) -> Result<(), Refusal> {

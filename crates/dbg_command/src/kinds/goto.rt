@@ -60,9 +60,7 @@ impl Command for GotoCmd {
         table: &mut Table,
         _scan: Option<Scan>,
     ) -> Result<Reply, Refusal> {
-        let (reply, taken) = table.go_to(alloc, program, self.name)?;
-        self.taken = Some(taken);
-        Ok(reply)
+        table.go_to(alloc, program, self.name, &mut self.taken)
     }
 
     fn revert(&mut self, table: &mut Table) -> Result<(), Refusal> {

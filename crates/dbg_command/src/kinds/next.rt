@@ -60,9 +60,12 @@ impl Command for NextCmd {
         table: &mut Table,
         _scan: Option<Scan>,
     ) -> Result<Reply, Refusal> {
-        let (reply, cutoff) = table.next(alloc, program, self.pid)?;
-        self.cutoff = Some(cutoff);
-        Ok(reply)
+        let mut cutoff = None;
+        let outcome = table.next(alloc, program, self.pid, &mut cutoff);
+        if outcome.is_ok() {
+            self.cutoff = cutoff;
+        }
+        outcome
     }
 
     fn revert(&mut self, table: &mut Table) -> Result<(), Refusal> {

@@ -62,9 +62,7 @@ impl Command for RollbackCmd {
         table: &mut Table,
         _scan: Option<Scan>,
     ) -> Result<Reply, Refusal> {
-        let (reply, taken) = table.rollback(alloc, program, self.pid, self.place)?;
-        self.taken = Some(taken);
-        Ok(reply)
+        table.rollback(alloc, program, self.pid, self.place, &mut self.taken)
     }
 
     fn revert(&mut self, table: &mut Table) -> Result<(), Refusal> {

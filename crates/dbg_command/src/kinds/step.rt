@@ -62,9 +62,12 @@ impl Command for StepCmd {
         table: &mut Table,
         _scan: Option<Scan>,
     ) -> Result<Reply, Refusal> {
-        let (reply, cutoff) = table.step(alloc, program, self.pid, self.choice)?;
-        self.cutoff = Some(cutoff);
-        Ok(reply)
+        let mut cutoff = None;
+        let outcome = table.step(alloc, program, self.pid, self.choice, &mut cutoff);
+        if outcome.is_ok() {
+            self.cutoff = cutoff;
+        }
+        outcome
     }
 
     fn revert(&mut self, table: &mut Table) -> Result<(), Refusal> {

@@ -60,9 +60,7 @@ impl Command for UndoCmd {
         table: &mut Table,
         _scan: Option<Scan>,
     ) -> Result<Reply, Refusal> {
-        let (reply, taken) = table.undo(alloc, program, self.pid)?;
-        self.taken = Some(taken);
-        Ok(reply)
+        table.undo(alloc, program, self.pid, &mut self.taken)
     }
 
     fn revert(&mut self, table: &mut Table) -> Result<(), Refusal> {

@@ -28,7 +28,9 @@ returns-clause-leads c =
     let own = subst (IsTableOf P) (sym c.self.view_is) c.requires in
     let before : TableState = record { world = c.self.inside.world; book = c.self.inside.book } in
     let after : TableState = record { world = c.self.inside.world; book = c.clear.new.self } in
-    let did = c.in_ok-cleared.ensures in
-    leads_from _ _ (state_of before) (state_of after) (state_of c.args.self.now) (state_of after) (ap state_of c.self.view_is) refl
-    (has_cleared P c.self.inside.world c.self.inside.book c.clear.new.self own.world own.detectors c.in_ok-cleared.cleared.0 c.args.name
-    c.in_ok-cleared.cleared.1 did.position.0 did.position.1 did.free did.few)
+    let did = c.in_ok-cleared.ensures in (
+      (λ is. cc),
+      leads_from _ _ (state_of before) (state_of after) (state_of c.args.self.now) (state_of after) (ap state_of c.self.view_is) refl
+          (has_cleared P c.self.inside.world c.self.inside.book c.clear.new.self own.world own.detectors c.in_ok-cleared.cleared.0 c.args.name
+          c.in_ok-cleared.cleared.1 did.position.0 did.position.1 did.free did.few),
+    )

@@ -1,7 +1,6 @@
 use Rattle.std.proofs.Common.{ℕ, List, Option, Ok, subst}
 use Rattle.proc_lang.specs.Programs.{program_of}
 use Rattle.dbg_command.specs.Tables.{IsCutOf, state_of}
-use Rattle.dbg_command.specs.Boxes.{reply_of}
 use Rattle.dbg_command.proofs.CommandAnswerLemmas.{went_to, no_cut, not_there, consistent_least}
 use Rattle.dbg_command.proofs.CommandUndoLemmas.{accepted_in}
 use Rattle.dbg_command.proofs.table.Table.go_to.Goals as goal
@@ -22,7 +21,7 @@ returns-in-Ok-Some-clause-of c = c.roll_to.ensures.of (program_of c.args.program
 pub returns-in-Ok-Some-clause-acts : goal.returns-in-Ok-Some-clause-acts
 returns-in-Ok-Some-clause-acts c =
     let P = program_of c.args.program.now in
-    went_to P (state_of c.args.self.now) (state_of c.roll_to.new.self) c.args.name c.in-Ok-Some.cut (reply_of c.roll_to.result)
+    went_to P (state_of c.args.self.now) (state_of c.roll_to.new.self) c.args.name c.in-Ok-Some.cut c.roll_to.result
     (subst (λ (cut : Option (List ℕ)). IsCutOf P (state_of c.args.self.now) c.args.name (Ok cut)) c.in-Ok-Some.field-0-is
     (c.in-Ok-Some.ensures P c.requires)) (c.roll_to.ensures.back P c.requires)
 

@@ -17,10 +17,12 @@ returns-clause-leads c =
     let P = program_of c.args.program.now in
     let own = subst (IsTableOf P) (sym c.self.view_is) c.ready.ensures.of in
     let before : TableState = record { world = c.self.inside.world; book = c.self.inside.book } in
-    let after : TableState = record { world = c.next.new.self; book = c.self.inside.book } in
-    leads_from _ _ (state_of before) (state_of after) (state_of c.args.self.now) (state_of c.grown.new.self)
-    (ap state_of c.self.view_is
-    ∙ (λ i. record { system = (c.ready.ensures.world i).state; breakpoints = c.ready.ensures.breakpoints i }))
-    (sym c.grown.ensures.same)
-    (stepped P before after own.world refl c.args.pid.0 c.in_ok-choice.choice.0 c.in_ok-choice.cutoff c.in_ok-ready.ensures.ready.here
-    c.in_ok-choice.ensures.moves.1 c.in_ok-choice.ensures.cut)
+    let after : TableState = record { world = c.next.new.self; book = c.self.inside.book } in (
+      (λ is. cc),
+      leads_from _ _ (state_of before) (state_of after) (state_of c.args.self.now) (state_of c.grown.new.self)
+          (ap state_of c.self.view_is
+          ∙ (λ i. record { system = (c.ready.ensures.world i).state; breakpoints = c.ready.ensures.breakpoints i }))
+          (sym c.grown.ensures.same)
+          (stepped P before after own.world refl c.args.pid.0 c.in_ok-choice.choice.0 c.in_ok-choice.cutoff c.in_ok-ready.ensures.ready.here
+          c.in_ok-choice.ensures.moves.1 c.in_ok-choice.ensures.cut),
+    )

@@ -32,7 +32,7 @@ returns-clause-back c = λ P is.
     record {
       moves = subst (λ (t : TableState). state_of after ≡ with_system (state_of t) (after_rollback t.world.state c.args.cut)) c.self.view_is
           (system_changed before after _ c.in_ok-rolled.ensures.moves c.follow.ensures.same);
-      replies = c.reply-reply.ensures P (record { world = c.in_ok-rolled.ensures.of P own.world; detectors = c.follow.ensures.of });
+      replies = c.reply.ensures P (record { world = c.in_ok-rolled.ensures.of P own.world; detectors = c.follow.ensures.of });
       refuses = tt;
       kept = tt;
     }
@@ -42,7 +42,9 @@ returns-clause-leads c = λ P is.
     let own = subst (IsTableOf P) (sym c.self.view_is) is in
     let before : TableState = record { world = c.self.inside.world; book = c.self.inside.book } in
     let after : TableState = record { world = c.roll_to.new.self; book = c.follow.new.self } in
-    let did = c.in_ok-rolled.ensures in
-    leads_from _ _ (state_of before) (state_of after) (state_of c.args.self.now) (state_of after) (ap state_of c.self.view_is) refl
-    (rolled P before after own.world c.follow.ensures.same c.in_ok-rolled.rolled c.in_ok-places.places (did.of P own.world)
-    (did.back P own.world) c.in_ok-places.ensures (ap (λ (M : SystemState). M.lines) did.moves))
+    let did = c.in_ok-rolled.ensures in (
+      (λ is. cc),
+      leads_from _ _ (state_of before) (state_of after) (state_of c.args.self.now) (state_of after) (ap state_of c.self.view_is) refl
+          (rolled P before after own.world c.follow.ensures.same c.in_ok-rolled.rolled c.in_ok-places.places (did.of P own.world)
+          (did.back P own.world) c.in_ok-places.ensures (ap (λ (M : SystemState). M.lines) did.moves)),
+    )

@@ -28,10 +28,10 @@ returns-clause-acts c =
     let of : IsTableOf P after = record { world = c.in_ok-rolled.ensures.of P own.world; detectors = c.shrink.ensures.of } in
     let chosen : c.ok_or.result ≡ Ok c.in_ok-choice.choice = c.in_ok-choice.was in
     let was : last_choice c.self.inside.world.state c.args.pid.0 ≡ Some c.in_ok-choice.choice.0 = search (rules, chosen) in
-    subst (λ (t : TableState). ActsOrRefuses P (model.Undo c.args.pid.0) (state_of t) (Ok c.reply-reply.result) (state_of after)) c.self.view_is
-    (taken_back P (state_of before) (state_of after) c.args.pid.0 c.in_ok-choice.choice.0 c.reply-reply.result c.in_ok-known.ensures.here
+    subst (λ (t : TableState). ActsOrRefuses P (model.Undo c.args.pid.0) (state_of t) (Ok c.reply.result) (state_of after)) c.self.view_is
+    (taken_back P (state_of before) (state_of after) c.args.pid.0 c.in_ok-choice.choice.0 c.reply.result c.in_ok-known.ensures.here
     (c.in_ok-rolled.ensures.may P own.world) was (system_changed before after _ c.in_ok-rolled.ensures.moves c.shrink.ensures.same)
-    (c.reply-reply.ensures P of))
+    (c.reply.ensures P of))
 
 pub returns-clause-leads : goal.returns-clause-leads
 returns-clause-leads c =
@@ -39,10 +39,12 @@ returns-clause-leads c =
     let own = subst (IsTableOf P) (sym c.self.view_is) c.requires in
     let before : TableState = record { world = c.self.inside.world; book = c.self.inside.book } in
     let after : TableState = record { world = c.undo.new.self; book = c.shrink.new.self } in
-    let did = c.in_ok-rolled.ensures in
-    leads_from _ _ (state_of before) (state_of after) (state_of c.args.self.now) (state_of after) (ap state_of c.self.view_is) refl
-    (rolled P before after own.world c.shrink.ensures.same c.in_ok-rolled.rolled c.in_ok-places.places (did.of P own.world)
-    (did.back P own.world) c.in_ok-places.ensures (ap (λ (M : SystemState). M.lines) did.moves))
+    let did = c.in_ok-rolled.ensures in (
+      (λ is. cc),
+      leads_from _ _ (state_of before) (state_of after) (state_of c.args.self.now) (state_of after) (ap state_of c.self.view_is) refl
+          (rolled P before after own.world c.shrink.ensures.same c.in_ok-rolled.rolled c.in_ok-places.places (did.of P own.world)
+          (did.back P own.world) c.in_ok-places.ensures (ap (λ (M : SystemState). M.lines) did.moves)),
+    )
 
 pub returns-in_err-rolled-clause-acts : goal.returns-in_err-rolled-clause-acts
 returns-in_err-rolled-clause-acts c =
