@@ -1,5 +1,4 @@
 pub mod Pieces
 pub mod Joins
 pub mod Lines
-pub mod AppendedRowLemmas
 pub mod Widths

@@ -1,11 +1,10 @@
 -- The rows of one process in a flat list of `len` counts, with `n` counts in each row.
 use Rattle.std.proofs.Common.{◌≡◌, ℕ, zero, suc, ◌+◌, ◌-◌, ◌*◌, ◌/◌, ◌<◌, ◌≤◌, List, [], ◌∷◌, ◌++◌, length, get_or, take, drop, replicate}
 use Rattle.std.proofs.Common.{sym, ap, ◌∙◌, arith, length-drop, add-one, subst}
-use Rattle.std.proofs.lemmas.List.{take_all, length-set, length-replicate}
+use Rattle.std.proofs.lemmas.List.{take_all, length-replicate}
 use Rattle.std.proofs.Math.Nat.{div-eq-sub-div, mul-le-mul_left, mul-div_cancel}
-use Rattle.clock_rows.specs.Clocks.{pieces, join, next_row, last_row, AreWholeRows}
+use Rattle.clock_rows.specs.Clocks.{pieces, last_row, AreWholeRows}
 use Rattle.clock_rows.proofs.Pieces.{length_pieces, pieces_more, pieces_less, piece_at}
-use Rattle.clock_rows.proofs.Joins.{length_join}
 
 one_less : (room n : ℕ) → 0 < room → room * n ≡ (room - 1) * n + n
 one_less zero n lt = absurd (omega arith)
@@ -101,42 +100,43 @@ module _ (n len : ℕ) (rows : AreWholeRows n len) where
         ap (λ (xs : List ℕ). pieces n (after / n) xs) (is ∙ ap (λ (k : ℕ). take (k - n) list) same)
         ∙ ap (λ (k : ℕ). pieces n (k / n) (take (len - n) list)) left ∙ rows_less list
 
-  -- after the next row is pushed
-  module _ (after m own : ℕ) (list joined : List ℕ) (same : m ≡ len) (long : length list ≡ len) (wide : length joined ≡ n) where
-    pub last_from : last_row (pieces n (len / n) list) ≡ drop (m - n) list
-    last_from = last_is list long ∙ ap (λ (k : ℕ). drop (k - n) list) (sym same)
-
-    pub whole_pushed : after ≡ len + length joined → AreWholeRows n after
+  -- after a row is pushed
+  module _ (after : ℕ) (list row : List ℕ) (long : length list ≡ len) (wide : length row ≡ n) where
+    pub whole_pushed : after ≡ len + length row → AreWholeRows n after
     whole_pushed more =
         let by_n : len + n ≡ after = omega arith in
         subst (λ (k : ℕ). AreWholeRows n k) by_n whole_more
 
-    pub rows_pushed : (kept : List ℕ) → after ≡ len + length joined → kept ≡ list ++ next_row own (drop (m - n) list) joined
-        → pieces n (after / n) kept ≡ pieces n (len / n) list ++ next_row own (last_row (pieces n (len / n) list)) joined ∷ []
+    pub rows_pushed : (kept : List ℕ) → after ≡ len + length row → kept ≡ list ++ row
+        → pieces n (after / n) kept ≡ pieces n (len / n) list ++ row ∷ []
     rows_pushed kept more is =
         let by_n : after ≡ len + n = omega arith in
-        let row_long : length (drop (m - n) list) ≡ length joined =
-        omega (arith, length-drop (m - n) list, rows.has_first) in
-        let next_long : length (next_row own (drop (m - n) list) joined) ≡ n =
-        length-set (join (drop (m - n) list) joined) own (get_or (join (drop (m - n) list) joined) own 0 + 1)
-        ∙ length_join (drop (m - n) list) joined row_long ∙ row_long ∙ wide in
         ap (λ (xs : List ℕ). pieces n (after / n) xs) is
-        ∙ ap (λ (k : ℕ). pieces n (k / n) (list ++ next_row own (drop (m - n) list) joined)) by_n
-        ∙ rows_more list (next_row own (drop (m - n) list) joined) long next_long
-        ∙ ap (λ (row : List ℕ). pieces n (len / n) list ++ next_row own row joined ∷ []) (sym last_from)
+        ∙ ap (λ (k : ℕ). pieces n (k / n) (list ++ row)) by_n
+        ∙ rows_more list row long wide
 
-    pub row_raised : (flat raised : List ℕ) → flat ≡ list
-        → raised ≡ join (take (length flat - (m - n)) (drop (m - n) flat)) joined → raised ≡ join (drop (m - n) list) joined
-    row_raised flat raised is joins =
-        let whole : take (length flat - (m - n)) (drop (m - n) flat) ≡ drop (m - n) flat =
-        take_all (length flat - (m - n)) (drop (m - n) flat) (omega (arith, length-drop (m - n) flat)) in
-        joins ∙ ap (λ (row : List ℕ). join row joined) (whole ∙ ap (λ (xs : List ℕ). drop (m - n) xs) is)
-
-    pub room_pushed : (room capacity holds : ℕ) → after ≡ len + length joined → capacity ≤ holds → 0 < room
+    pub room_pushed : (room capacity holds : ℕ) → after ≡ len + length row → capacity ≤ holds → 0 < room
         → room * n ≤ capacity - len → (room - 1) * n ≤ holds - after
     room_pushed room capacity holds more kept some enough =
         let one : room * n ≡ (room - 1) * n + n = one_less room n some in
         omega arith
+
+  -- the last row, read from `flat`
+  pub last_read : (m : ℕ) (list flat : List ℕ) → m ≡ len → length list ≡ len → flat ≡ list
+      → take (length flat - (m - n)) (drop (m - n) flat) ≡ last_row (pieces n (len / n) list)
+  last_read m list flat same long is =
+      let whole : take (length flat - (m - n)) (drop (m - n) flat) ≡ drop (m - n) flat =
+      take_all (length flat - (m - n)) (drop (m - n) flat) (omega (arith, length-drop (m - n) flat)) in
+      whole ∙ ap (λ (xs : List ℕ). drop (m - n) xs) is ∙ ap (λ (k : ℕ). drop (k - n) list) same ∙ sym (last_is list long)
+
+  -- the row that ends where the list ends is the last one
+  pub ends_last : (i m : ℕ) (list : List ℕ) → m ≡ len → i * n + n ≡ m
+      → get_or (pieces n (len / n) list) i [] ≡ last_row (pieces n (len / n) list)
+  ends_last i m list same ends =
+      let spread : (i + 1) * n ≡ i * n + n = omega arith in
+      let count : len / n ≡ i + 1 = ap (λ (k : ℕ). k / n) (sym same ∙ sym ends ∙ sym spread) ∙ mul-div_cancel (i + 1) rows.wide in
+      let last : i ≡ length (pieces n (len / n) list) - 1 = omega (arith, length_pieces n (len / n) list, count) in
+      ap (λ (k : ℕ). get_or (pieces n (len / n) list) k []) last
 
   -- the i-th row is within the list
   pub row_within : (i : ℕ) (list : List ℕ) → i < length (pieces n (len / n) list) → i * n + n ≤ len

@@ -1,10 +1,10 @@
 //! The rows of all processes.
 
 ghost use Rattle.std.specs.Prelude.{◌≡◌, ℕ, ◌-◌, ◌<◌, ◌≤◌, ◌++◌, ◌∷◌, [], length, map, take, replicate, slice_set, slice_index_or};
-ghost use Rattle.std.specs.Prelude.{IfOk, OnOk};
+ghost use Rattle.std.specs.Prelude.{IfOk, OnOk, IsTrue};
 ghost use Rattle.clock_rows.specs.Clocks.{join, next_row, last_row};
 
-use crate::line::ClockLine;
+use crate::line::{ClockLine, join_rows};
 use dbg_base::Pid;
 use std::alloc::{AllocError, Global};
 use std::marker::Model;
@@ -15,7 +15,7 @@ use std::marker::Model;
 pub struct Clocks {
     lines: Vec<ClockLine>,
     // A buffer for the next row, with one count for each process.
-    copied: Vec<u32>,
+    next: Vec<u32>,
 }
 
 impl Model for Clocks {
@@ -31,7 +31,7 @@ impl Model for Clocks {
     } };
 
     ghost invariant = { λ clocks. (map (λ line. line.width) clocks.lines.items
-        ≡ replicate (length clocks.lines.items) (length clocks.lines.items)) × (vec_len clocks.copied ≡ length clocks.lines.items) };
+        ≡ replicate (length clocks.lines.items) (length clocks.lines.items)) × (vec_len clocks.next ≡ length clocks.lines.items) };
 }
 
 // One row of zeros for each of so many processes.
@@ -59,6 +59,22 @@ fn copy_lines(lines: &Vec<ClockLine>) -> Result<Vec<ClockLine>, AllocError>
     Ok(made)
 }
 
+// Writes the join of the last row of a process with the n-th row of the given one, which may be the process's own.
+fn join_with(joined: &mut [u32], line: &ClockLine, given: &ClockLine, n: usize, is_own: bool)
+    requires width { line.now.width ≡ length joined.old }
+    requires given { given.now.width ≡ length joined.old }
+    requires row { n < length given.now.rows }
+    requires own { IsTrue is_own → given.now ≡ line.now }
+    ensures { joined.new ≡ join (last_row line.now.rows) (slice_index_or given.now.rows n []) }
+{
+    if is_own && line.is_last(n) {
+        // The join of a row with itself is that row.
+        joined.copy_from_slice(line.last());
+    } else {
+        join_rows(joined, line.last(), given.row(n));
+    }
+}
+
 impl Clocks {
     /// One row of zeros for each of so many processes. Error: out of memory.
     pub fn new(alloc: Global, processes: u32) -> Result<Clocks, AllocError>
@@ -66,7 +82,7 @@ impl Clocks {
     {
         Ok(Clocks {
             lines: first_lines(alloc, processes)?,
-            copied: vec![in alloc; 0u32; processes as usize]?,
+            next: vec![in alloc; 0u32; processes as usize]?,
         })
     }
 
@@ -76,7 +92,7 @@ impl Clocks {
     {
         Ok(Clocks {
             lines: copy_lines(&self.lines)?,
-            copied: self.copied.clone()?,
+            next: self.next.clone()?,
         })
     }
 
@@ -129,9 +145,9 @@ impl Clocks {
             ++ next_row pid.0 (last_row (slice_index_or self.old.rows pid.0 [])) joined.now ∷ []) }
         ensures room { self.new.room ≡ slice_set self.old.room pid.0 (slice_index_or self.old.room pid.0 0 - 1) }
     {
-        self.copied.copy_from_slice(joined);
+        join_rows(&mut self.next, self.lines[pid.0 as usize].last(), joined);
         let line = &mut self.lines[pid.0 as usize];
-        line.push(pid.0 as usize, &mut self.copied);
+        line.push(pid.0 as usize, &mut self.next);
     }
 
     /// Like `push`, with the n-th row of the source, which may be the process itself.
@@ -147,10 +163,11 @@ impl Clocks {
             (slice_index_or (slice_index_or self.old.rows source.0 []) n []) ∷ []) }
         ensures room { self.new.room ≡ slice_set self.old.room pid.0 (slice_index_or self.old.room pid.0 0 - 1) }
     {
+        let own = &self.lines[pid.0 as usize];
         let given = &self.lines[source.0 as usize];
-        self.copied.copy_from_slice(given.row(n as usize));
+        join_with(&mut self.next, own, given, n as usize, source.0 == pid.0);
         let line = &mut self.lines[pid.0 as usize];
-        line.push(pid.0 as usize, &mut self.copied);
+        line.push(pid.0 as usize, &mut self.next);
     }
 
     /// Removes the last row of the process, which must have more than its first. No room is lost. It does not allocate.

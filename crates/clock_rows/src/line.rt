@@ -1,8 +1,9 @@
 //! The rows of one process.
 
-ghost use Rattle.std.specs.Prelude.{◌≡◌, ◌+◌, ◌-◌, ◌<◌, ◌≤◌, ◌++◌, ◌∷◌, [], length, take, drop, replicate, slice_index_or, IfOk, OnOk};
+ghost use Rattle.std.specs.Prelude.{◌≡◌, ◌+◌, ◌-◌, ◌<◌, ◌≤◌, ◌++◌, ◌∷◌, [], length, take, replicate, slice_index_or, slice_set};
+ghost use Rattle.std.specs.Prelude.{IfOk, OnOk, IsTrue};
 ghost use Rattle.std.specs.Vec.{vec_len, vec_capacity};
-ghost use Rattle.clock_rows.specs.Clocks.{join, next_row, last_row};
+ghost use Rattle.clock_rows.specs.Clocks.{join, last_row};
 
 use std::alloc::{AllocError, Global};
 use std::marker::Model;
@@ -33,13 +34,14 @@ impl Model for ClockLine {
         × (line.room * line.width ≤ vec_capacity line.counts - vec_len line.counts) };
 }
 
-// Raises each of these counts to the other one at its position, where that is greater.
-fn raise(counts: &mut [u32], others: &[u32])
-    requires { length others.now ≡ length counts.old }
-    ensures { counts.new ≡ join others.now counts.old }
+/// Writes the join of two rows of the same length: the larger of each two counts.
+pub(crate) fn join_rows(joined: &mut [u32], row: &[u32], other: &[u32])
+    requires row { length row.now ≡ length joined.old }
+    requires other { length other.now ≡ length joined.old }
+    ensures { joined.new ≡ join row.now other.now }
 {
-    for at in 0..others.len() {
-        counts[at] = others[at].max(counts[at]);
+    for at in 0..joined.len() {
+        joined[at] = row[at].max(other[at]);
     }
 }
 
@@ -74,6 +76,22 @@ impl ClockLine {
         &self.counts[start..start + self.width]
     }
 
+    /// The last row.
+    pub(crate) fn last(&self) -> &[u32]
+        ensures row { result.now ≡ last_row self.now.rows }
+        ensures len { length result.now ≡ self.now.width }
+    {
+        &self.counts[self.counts.len() - self.width..]
+    }
+
+    /// Whether the n-th row, from 0, is the last one.
+    pub(crate) fn is_last(&self, n: usize) -> bool
+        requires { n < length self.now.rows }
+        ensures { IsTrue result → slice_index_or self.now.rows n [] ≡ last_row self.now.rows }
+    {
+        n * self.width + self.width == self.counts.len()
+    }
+
     /// Makes room for so many more rows.
     pub(crate) fn reserve(&mut self, more: usize) -> Result<(), AllocError>
         ensures width { self.new.width ≡ self.old.width }
@@ -90,20 +108,17 @@ impl ClockLine {
         Ok(())
     }
 
-    /// Makes the next row of the given one, and appends it: the join of the last row and the given one, with the count at `own` one more. It
-    /// does not allocate.
+    /// Raises the row's count at `own` by one, and appends the row. It does not allocate.
     pub(crate) fn push(&mut self, own: usize, row: &mut [u32])
         requires room { 0 < self.old.room }
         requires len { length row.old ≡ self.old.width }
         requires own { own < self.old.width }
-        requires fits { slice_index_or (join (last_row self.old.rows) row.old) own 0 < 4294967295 }
+        requires fits { slice_index_or row.old own 0 < 4294967295 }
         ensures width { self.new.width ≡ self.old.width }
-        ensures rows { self.new.rows ≡ self.old.rows ++ next_row own (last_row self.old.rows) row.old ∷ [] }
+        ensures rows { self.new.rows ≡ self.old.rows ++ slice_set row.old own (slice_index_or row.old own 0 + 1) ∷ [] }
         ensures room { self.new.room ≡ self.old.room - 1 }
         ensures len { length row.new ≡ length row.old }
     {
-        let start = self.counts.len() - self.width;
-        raise(row, &self.counts[start..]);
         row[own] += 1;
         self.counts.extend_from_slice(row).unwrap();
         self.room -= 1;
