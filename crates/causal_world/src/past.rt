@@ -10,6 +10,8 @@ ghost use Rattle.causal_world.specs.Scenes.{with_event, without_event};
 ghost use Rattle.causal_world.specs.Pasts.{kind_done, with_kind, without_kind, without_row, row_at};
 ghost use Rattle.causal_world.specs.Pasts.{IsWhole, AreClocksOf, IsSamePast, HasRoomFor, IsCause};
 ghost use Rattle.causal_world.specs.Room.{IsAppended};
+ghost use Rattle.causal_world.specs.Worlds.{last_of};
+ghost use Rattle.event_rows.specs.EventValues.{EventValue};
 
 use clock_rows::Clocks;
 use cut_core::{Kind, Tally};
@@ -53,6 +55,16 @@ fn kind_of(exchange: Exchange) -> Kind
         Exchange::Nothing => Kind::Local,
         Exchange::Sent { target, .. } => Kind::Sent(target),
         Exchange::Took { source, .. } => Kind::Got(source),
+    }
+}
+
+// What the last event of the process did to messages.
+fn last_kind(rows: &Rows, pid: Pid) -> Kind
+    ensures { (event : EventValue) → last_of rows.now.events pid.0 ≡ Some event → result ≡ kind_done event.exchange }
+{
+    match rows.last(pid) {
+        Some(event) => kind_of(event.exchange()),
+        None => Kind::Local,
     }
 }
 
@@ -154,12 +166,13 @@ impl Past {
         requires few { length (slice_index_or self.old.kinds pid.0 []) < EVENTS }
         requires whole { IsWhole (with_kind self.old.kinds pid.0 (kind_done event.exchange)) }
         ensures appended { IsAppended self.old pid.0 event self.new }
+        ensures last { last_of self.new.events pid.0 ≡ Some event }
     {
-        let kind = kind_of(event.exchange());
+        self.rows.push(pid, event);
+        let kind = last_kind(&self.rows, pid);
         let (source, n) = cause(&self.tally, pid, kind);
         self.clocks.push_joined(pid, source, n);
         self.tally.note(pid, kind);
-        self.rows.push(pid, event);
     }
 
     /// Removes and returns the last event of the process. No other event may depend on it. If there is none, nothing changes. It does not
@@ -173,11 +186,11 @@ impl Past {
         ensures kinds { self.new.kinds ≡ without_kind self.old.kinds pid.0 }
         ensures clocks { IsSome result → self.new.clocks ≡ without_row self.old.clocks pid.0 }
     {
-        let Some(event) = self.rows.pop(pid) else {
+        if self.rows.len(pid) == 0 {
             return None;
-        };
+        }
         self.tally.unnote(pid);
         self.clocks.pop(pid);
-        Some(event)
+        self.rows.pop(pid)
     }
 }
