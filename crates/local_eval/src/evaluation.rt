@@ -3,6 +3,8 @@
 ghost use Rattle.std.specs.Prelude.{◌≡◌, pos, ◌-ℤ◌, slice_get};
 ghost use Rattle.std.specs.Option.{option_map};
 ghost use Rattle.dbg_base.specs.Trees.{tree_of};
+ghost use Rattle.dbg_base.specs.Trees as tree;
+ghost use Rattle.dbg_base.specs.declared.expr.Operator.{Operator};
 ghost use Rattle.dbg_base.specs.LocalStates.{counts_of};
 ghost use Rattle.dbg_base.specs.Evaluation as model;
 ghost use Rattle.dbg_base.specs.Evaluation.{Num, ranged, on_numbers};
@@ -69,7 +71,9 @@ fn calculate(operator: Operator, x: i64, y: i64) -> Result<Value, EvalFault>
     }
 }
 
-// The value of the expression, as `eval` has it.
+// The value of the expression, as `eval` has it. Each kind with operands has a function of its own, so that the many expressions without
+// operands need no room for the values of operands.
+#[cycle(evaluation)]
 pub(crate) fn evaluate<L: Local>(expr: &Expr, local: &L) -> Result<Value, EvalFault>
     ensures { outcome value_of result ≡ model.evaluate (tree_of expr.now) (L.state local.now) }
 {
@@ -79,8 +83,38 @@ pub(crate) fn evaluate<L: Local>(expr: &Expr, local: &L) -> Result<Value, EvalFa
         Expr::Truth(truth) => Ok(Value::Truth(*truth)),
         Expr::Sent(pid) => count(local, Direction::Sent, *pid),
         Expr::Got(pid) => count(local, Direction::Got, *pid),
-        Expr::Not(operand) => Ok(Value::Truth(!truth(evaluate(operand, local)?)?)),
-        Expr::Negate(operand) => negate(number(evaluate(operand, local)?)?),
+        Expr::Not(operand) => opposite(operand, local),
+        Expr::Negate(operand) => negative(operand, local),
+        Expr::Binary(_, _, _) => binary(expr, local),
+    }
+}
+
+// The opposite of a truth.
+#[cycle(evaluation)]
+#[inline(never)]
+fn opposite<L: Local>(operand: &Expr, local: &L) -> Result<Value, EvalFault>
+    ensures { outcome value_of result ≡ model.evaluate (tree.Not (tree_of operand.now)) (L.state local.now) }
+{
+    Ok(Value::Truth(!truth(evaluate(operand, local)?)?))
+}
+
+// The negative of a number.
+#[cycle(evaluation)]
+#[inline(never)]
+fn negative<L: Local>(operand: &Expr, local: &L) -> Result<Value, EvalFault>
+    ensures { outcome value_of result ≡ model.evaluate (tree.Negate (tree_of operand.now)) (L.state local.now) }
+{
+    negate(number(evaluate(operand, local)?)?)
+}
+
+// The value of an expression with two operands.
+#[cycle(evaluation)]
+#[inline(never)]
+fn binary<L: Local>(expr: &Expr, local: &L) -> Result<Value, EvalFault>
+    requires { (operator : Operator) × (left : tree.Tree) × (right : tree.Tree) × (tree_of expr.now ≡ tree.Binary operator left right) }
+    ensures { outcome value_of result ≡ model.evaluate (tree_of expr.now) (L.state local.now) }
+{
+    match expr {
         Expr::Binary(Operator::And, left, right) => {
             if truth(evaluate(left, local)?)? {
                 evaluate(right, local)
@@ -100,6 +134,7 @@ pub(crate) fn evaluate<L: Local>(expr: &Expr, local: &L) -> Result<Value, EvalFa
             let y = number(evaluate(right, local)?)?;
             calculate(*operator, x, y)
         }
+        _ => unreachable!(),
     }
 }
 
