@@ -1,6 +1,6 @@
 -- Parsed command lines of the code, in terms of the model.
 use Rattle.std.specs.Prelude.{◌≡◌, ◌⊎◌, ℕ, ◌≤◌, Bool, true, false, ◌==◌, ◌&&◌, not, nat_le, if◌then◌else◌, List, ◌∷◌, length, map}
-use Rattle.std.specs.Prelude.{Option, Some, None, is_some, Result, Ok, Err, codes, Vec}
+use Rattle.std.specs.Prelude.{Option, Some, None, is_some, Result, Ok, Err, IfOk, codes, Vec}
 use Rattle.std.specs.declared.alloc.Global.{Global}
 use Rattle.std.specs.Bool.{MatchBool}
 use Rattle.std.specs.List.{list_any, list_all, AllByRecursion}
@@ -46,14 +46,6 @@ IsLineRefusal line refusal = ⊥
 abbrev pub IsCommandParsed : Program → List ℕ → Result call.Call Refusal → Type 0
 IsCommandParsed P bytes result = AsksCall P bytes (map_ok call_of result) ⊎ (MayTakeMemory bytes × (result ≡ Err Memory))
 
--- the same for a single command
-abbrev pub IsOneParsed : Program → List ℕ → Result call.Call Refusal → Type 0
-IsOneParsed P bytes result = AsksOne P bytes (map_ok call_of result) ⊎ ((next_word bytes ≡ codes "break") × (result ≡ Err Memory))
-
--- the same for a batch, from the bytes after its word
-abbrev pub IsBatchParsed : Program → List ℕ → Result call.Call Refusal → Type 0
-IsBatchParsed P bytes result = AsksBatch P bytes (map_ok call_of result) ⊎ (result ≡ Err Memory)
-
 -- A batch that may be given: it has 1 to 32 commands, and each is a single command.
 abbrev pub MayBeBatch : List plan.Plan → Type 0
 MayBeBatch made = (1 ≤ length made) × (length made ≤ BATCH) × AllByRecursion (λ p. ¬ IsBatch (order_of p)) made
@@ -61,6 +53,23 @@ MayBeBatch made = (1 ≤ length made) × (length made ≤ BATCH) × AllByRecursi
 -- a call that may be given: if it gives a batch, that is such a batch
 abbrev pub IsGivable : call.Call → Type 0
 IsGivable given = (batch : Vec plan.Plan Global) → given ≡ calls.Give (plans.Batch batch) → MayBeBatch batch.items
+
+-- the line of a seat with this call, or why the call is refused
+abbrev pub seat_line : ℕ → Result call.Call Refusal → Result (Option Line) Refusal
+seat_line seat call = map_ok (λ made. Some (record { seat = seat; call = made })) call
+
+-- the line is the seat's, with what the command asks for
+abbrev pub IsLineRead : Program → ℕ → List ℕ → Result (Option Line) Refusal → Type 0
+IsLineRead P seat bytes result =
+    (call : Result call.Call Refusal) × (result ≡ seat_line seat call) × IsCommandParsed P bytes call × IfOk call IsGivable
+
+-- the same for a single command
+abbrev pub IsOneParsed : Program → List ℕ → Result call.Call Refusal → Type 0
+IsOneParsed P bytes result = AsksOne P bytes (map_ok call_of result) ⊎ ((next_word bytes ≡ codes "break") × (result ≡ Err Memory))
+
+-- the same for a batch, from the bytes after its word
+abbrev pub IsBatchParsed : Program → List ℕ → Result call.Call Refusal → Type 0
+IsBatchParsed P bytes result = AsksBatch P bytes (map_ok call_of result) ⊎ (result ≡ Err Memory)
 
 abbrev pub IsLineGivable : Option Line → Type 0
 IsLineGivable None = Unit {0}

@@ -1,9 +1,9 @@
 //! Batches: commands with the word `;` between neighbours. Which commands a line may give.
 
-ghost use Rattle.std.specs.Prelude.{◌≡◌, ◌⊎◌, ◌<◌, ◌+◌, ◌∷◌, [], Err, IfOk, IsTrue, MatchOption, drop, length, take};
+ghost use Rattle.std.specs.Prelude.{◌≡◌, ◌⊎◌, ◌<◌, ◌+◌, ℕ, List, ◌∷◌, [], Err, IfOk, IsTrue, MatchOption, drop, length, take};
 ghost use Rattle.std.specs.List.{list_all};
 ghost use Rattle.dbg_base.specs.declared.refusal.Refusal.TheVariants.{Memory};
-ghost use Rattle.dbg_base.specs.CommandLines.{map_ok, is_separator, parentheses_after, spot_after, sets_break, commands_of};
+ghost use Rattle.dbg_base.specs.CommandLines.{map_ok, is_separator, parentheses_after, spot_after, sets_break, commands_of, next_word, after_word};
 ghost use Rattle.proc_lang.specs.Programs.{program_of};
 ghost use Rattle.shell_parse.specs.Lines.{depth_of, spot_of, has_shape, are_commands, IsMember, AreRead, IsBatchParsed, IsCommandParsed, IsGivable};
 
@@ -154,12 +154,16 @@ fn parse_batch(alloc: Global, program: &Program, bytes: &[u8]) -> Result<Call, R
     Ok(Call::Give(Plan::Batch(plans)))
 }
 
-/// Parses a command: a line without its seat.
-pub(crate) fn parse_command(alloc: Global, program: &Program, bytes: &[u8]) -> Result<Call, Refusal>
-    ensures asks { IsCommandParsed (program_of program.now) bytes.now result }
-    ensures fits { IfOk result IsGivable }
+/// Parses a command, a line without its seat, from its command word and the bytes after the word.
+pub(crate) fn parse_command(
+    alloc: Global,
+    program: &Program,
+    word: &[u8],
+    rest: &[u8],
+) -> Result<Call, Refusal>
+    ensures { (bytes : List ℕ) → next_word bytes ≡ word.now → after_word bytes ≡ rest.now
+        → IsCommandParsed (program_of program.now) bytes result × IfOk result IsGivable }
 {
-    let (word, rest) = next_word(bytes);
     if word == b"batch".as_slice() {
         return parse_batch(alloc, program, rest);
     }

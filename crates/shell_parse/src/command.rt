@@ -3,15 +3,18 @@
 //! The functions that every line goes through are inlined, except the two that make most calls: `call_with` and `call_with_two`. If these
 //! were inlined too, the calls of all command words would be put together field by field in one place, which takes longer.
 
-ghost use Rattle.std.specs.Prelude.{◌≡◌, ℕ, List, ◌∷◌, [], Result};
+ghost use Rattle.std.specs.Prelude.{◌≡◌, ℕ, List, ◌∷◌, [], Result, Ok, Err, IfSome, MatchOption};
+ghost use Rattle.dbg_base.specs.declared.call.Call.TheVariants.{Give, Ask};
 ghost use Rattle.std.specs.Option.{option_map};
 ghost use Rattle.dbg_base.specs.Calls.{call_of};
 ghost use Rattle.dbg_base.specs.CommandLines.{words_of, map_ok, process_call, break_call, step_call, rollback_call, chan_call, lone_call};
 ghost use Rattle.dbg_base.specs.CommandLines.{call_of_words, with_word, name_word, next_word, after_word};
+ghost use Rattle.dbg_base.specs.Trees as model;
 ghost use Rattle.dbg_base.specs.declared.refusal.Refusal.{Refusal};
+ghost use Rattle.dbg_base.specs.declared.refusal.Refusal.TheVariants.{BadLine};
 ghost use Rattle.proc_lang.specs.Programs.{program_of};
 ghost use Rattle.shell_parse.specs.Lines.{IsOneParsed, has_shape};
-ghost use Rattle.shell_parse.specs.Words.{process_word_call, call_by_process, break_word_call};
+ghost use Rattle.shell_parse.specs.Words.{process_spelling, plan_word_call, query_word_call, process_word_call, call_by_process, break_word_call};
 
 use crate::break_line::{is_break, parse_break};
 use crate::words::{first_word, name_word, named_process, next_word, number_word, process_word};
@@ -19,32 +22,74 @@ use dbg_base::{Call, Choice, Name, Pid, Plan, Query, Refusal};
 use proc_lang::Program;
 use std::alloc::Global;
 
-// A command word about a process.
+/// The word of a command that names a process.
 #[derive(Clone, Copy)]
-enum ProcessWord {
+pub(crate) enum PlanWord {
     Next,
     Undo,
     Redo,
+}
+
+impl PlanWord {
+    /// The command of the word for this process.
+    #[inline(always)]
+    pub(crate) fn plan(self, process: Pid) -> Plan
+        ensures { call_of (Give result) ≡ plan_word_call self process.0 }
+    {
+        match self {
+            PlanWord::Next => Plan::Next(process),
+            PlanWord::Undo => Plan::Undo(process),
+            PlanWord::Redo => Plan::Redo(process),
+        }
+    }
+}
+
+/// The word of a query that names a process.
+#[derive(Clone, Copy)]
+pub(crate) enum QueryWord {
     Vars,
     Clock,
     Place,
     Can,
 }
 
-impl ProcessWord {
-    // The command word of these bytes, if they are one.
+impl QueryWord {
+    /// The query of the word for this process.
     #[inline(always)]
-    fn read(word: &[u8]) -> Option<ProcessWord>
-        ensures { (process : Result ℕ Refusal) → process_call word.now process ≡ call_by_process result process }
+    pub(crate) fn query(self, process: Pid) -> Query
+        ensures { call_of (Ask result) ≡ query_word_call self process.0 }
+    {
+        match self {
+            QueryWord::Vars => Query::Vars(process),
+            QueryWord::Clock => Query::Clock(process),
+            QueryWord::Place => Query::Place(process),
+            QueryWord::Can => Query::Can(process),
+        }
+    }
+}
+
+/// A command word about a process.
+#[derive(Clone, Copy)]
+pub(crate) enum ProcessWord {
+    Plan(PlanWord),
+    Query(QueryWord),
+}
+
+impl ProcessWord {
+    /// The command word of these bytes, if they are one.
+    #[inline(always)]
+    pub(crate) fn read(word: &[u8]) -> Option<ProcessWord>
+        ensures call { (process : Result ℕ Refusal) → process_call word.now process ≡ call_by_process result process }
+        ensures spelling { IfSome result (λ known. word.now ≡ process_spelling known) }
     {
         match word {
-            b"next" => Some(ProcessWord::Next),
-            b"undo" => Some(ProcessWord::Undo),
-            b"redo" => Some(ProcessWord::Redo),
-            b"vars" => Some(ProcessWord::Vars),
-            b"clock" => Some(ProcessWord::Clock),
-            b"place" => Some(ProcessWord::Place),
-            b"can" => Some(ProcessWord::Can),
+            b"next" => Some(ProcessWord::Plan(PlanWord::Next)),
+            b"undo" => Some(ProcessWord::Plan(PlanWord::Undo)),
+            b"redo" => Some(ProcessWord::Plan(PlanWord::Redo)),
+            b"vars" => Some(ProcessWord::Query(QueryWord::Vars)),
+            b"clock" => Some(ProcessWord::Query(QueryWord::Clock)),
+            b"place" => Some(ProcessWord::Query(QueryWord::Place)),
+            b"can" => Some(ProcessWord::Query(QueryWord::Can)),
             _ => None,
         }
     }
@@ -55,13 +100,8 @@ impl ProcessWord {
         ensures { call_of result ≡ process_word_call self process.0 }
     {
         match self {
-            ProcessWord::Next => Call::Give(Plan::Next(process)),
-            ProcessWord::Undo => Call::Give(Plan::Undo(process)),
-            ProcessWord::Redo => Call::Give(Plan::Redo(process)),
-            ProcessWord::Vars => Call::Ask(Query::Vars(process)),
-            ProcessWord::Clock => Call::Ask(Query::Clock(process)),
-            ProcessWord::Place => Call::Ask(Query::Place(process)),
-            ProcessWord::Can => Call::Ask(Query::Can(process)),
+            ProcessWord::Plan(word) => Call::Give(word.plan(process)),
+            ProcessWord::Query(word) => Call::Ask(word.query(process)),
         }
     }
 }
@@ -164,22 +204,53 @@ fn lone_call(word: &[u8]) -> Result<Call, Refusal>
     }
 }
 
-// The call of a command word with one argument.
-#[inline(never)]
-fn call_with(program: &Program, word: &[u8], argument: &[u8]) -> Result<Call, Refusal>
-    ensures { map_ok call_of result ≡ call_of_words (program_of program.now) word.now (argument.now ∷ []) }
+// The only word, or None if there is none, or more than one.
+#[inline(always)]
+fn only_word(bytes: &[u8]) -> Option<&[u8]>
+    ensures { MatchOption result ((P : model.Program) (word : ProcessWord) → call_of_words P (process_spelling word) (words_of bytes.now) ≡ Err BadLine)
+        (λ found. words_of bytes.now ≡ found.now ∷ []) }
 {
-    if let Some(word) = BreakWord::read(word) {
-        return match name_word(argument) {
-            Some(name) => Ok(word.call(name)),
-            None => Err(Refusal::BadLine),
-        };
+    let (word, rest) = first_word(bytes)?;
+    if first_word(rest).is_some() {
+        return None;
     }
-    let Some(word) = ProcessWord::read(word) else {
+    Some(word)
+}
+
+/// The process that is named by the only word, or None if there is no such word or process. It does not allocate.
+#[inline(always)]
+pub(crate) fn only_process(program: &Program, bytes: &[u8]) -> Option<Pid>
+    ensures { IfSome result (λ process. (word : ProcessWord)
+        → call_of_words (program_of program.now) (process_spelling word) (words_of bytes.now) ≡ Ok (process_word_call word process.0)) }
+{
+    let name = name_word(only_word(bytes)?)?;
+    program.find_process(name)
+}
+
+// The call of a command word about a process, from the bytes after the word.
+fn process_call(program: &Program, word: ProcessWord, bytes: &[u8]) -> Result<Call, Refusal>
+    ensures { map_ok call_of result ≡ call_of_words (program_of program.now) (process_spelling word) (words_of bytes.now) }
+{
+    let Some(name) = only_word(bytes) else {
         return Err(Refusal::BadLine);
     };
-    let process = process_word(program, argument)?;
+    let process = process_word(program, name)?;
     Ok(word.call(process))
+}
+
+// The call of a command word with one argument, if the word is not about a process.
+#[inline(never)]
+fn call_with(word: &[u8], argument: &[u8]) -> Result<Call, Refusal>
+    requires { (process : Result ℕ Refusal) → process_call word.now process ≡ Err BadLine }
+    ensures { (P : model.Program) → map_ok call_of result ≡ call_of_words P word.now (argument.now ∷ []) }
+{
+    let Some(word) = BreakWord::read(word) else {
+        return Err(Refusal::BadLine);
+    };
+    match name_word(argument) {
+        Some(name) => Ok(word.call(name)),
+        None => Err(Refusal::BadLine),
+    }
 }
 
 // The call of a command word with two arguments.
@@ -208,11 +279,14 @@ fn call_with_two(
 pub(crate) fn parse_words(program: &Program, word: &[u8], bytes: &[u8]) -> Result<Call, Refusal>
     ensures { map_ok call_of result ≡ call_of_words (program_of program.now) word.now (words_of bytes.now) }
 {
+    if let Some(word) = ProcessWord::read(word) {
+        return process_call(program, word, bytes);
+    }
     let Some((first, rest)) = first_word(bytes) else {
         return lone_call(word);
     };
     let Some((second, rest)) = first_word(rest) else {
-        return call_with(program, word, first);
+        return call_with(word, first);
     };
     match first_word(rest) {
         None => call_with_two(program, word, first, second),

@@ -4,8 +4,8 @@ use Rattle.shell_parse.specs.Lines.{IsParsed}
 use Rattle.shell_parse.proofs.LineRefusals.{line_refused}
 use Rattle.shell_parse.proofs.line.parse_line.Goals as goal
 
-pub returns-in_err-call-clause-refuses : goal.returns-in_err-call-clause-refuses
-returns-in_err-call-clause-refuses c =
+pub returns-clause-refuses : goal.returns-clause-refuses
+returns-clause-refuses c =
     let P = program_of c.args.program.now in
-    let parsed : IsParsed P c.args.bytes.now c.from_residual-in_err-call.result = search rules in
-    line_refused P c.args.bytes.now c.from_residual-in_err-call.result parsed
+    let parsed : IsParsed P c.args.bytes.now c.parse_asked.result = search rules in
+    line_refused P c.args.bytes.now c.parse_asked.result parsed
