@@ -2,3 +2,4 @@ pub mod WriteLemmas
 pub mod PairLemmas
 pub mod CountLemmas
 pub mod QuestionLemmas
+pub mod DigitLemmas

@@ -1,5 +1,5 @@
 -- Names, and names with their values.
-use Rattle.std.proofs.Common.{◌≡◌, ℕ, zero, suc, ◌≤◌, length, List, [], ◌∷◌, Some, None, refl, arith}
+use Rattle.std.proofs.Common.{◌≡◌, ℕ, zero, suc, ◌<◌, ◌≤◌, length, List, [], ◌∷◌, Some, None, refl, arith}
 use Rattle.std.specs.Prelude.{slice_get}
 use Rattle.std.specs.Option.{option_map}
 use Rattle.dbg_base.specs.Trees.{Program}
@@ -37,3 +37,9 @@ pub unnamed : (P : Program) (p : ℕ) → None ≡ option_map (λ process. proce
 unnamed [] p h = refl
 unnamed (process ∷ P) zero h = cc
 unnamed (process ∷ P) (suc p) h = unnamed P p h
+
+-- there is a text at each position
+pub text_at : (texts : List (List ℕ)) (i : ℕ) → i < length texts → (text : List ℕ) × (slice_get texts i ≡ Some text)
+text_at [] i h = absurd (omega arith)
+text_at (text ∷ texts) zero h = (text, refl)
+text_at (text ∷ texts) (suc i) h = text_at texts i (omega arith)

@@ -7,6 +7,7 @@ mod parts;
 mod pieces;
 mod reply;
 mod text;
+mod words;
 
 pub use notices::{
     hand_on, print_differs, print_settled, tell_fault, tell_no_end_line, tell_size, tell_too_long,

@@ -1,10 +1,9 @@
 //! Lines, composed word by word and then written.
 
-ghost use Rattle.std.specs.Prelude.{◌≡◌, ◌≤◌, ◌+◌, ◌++◌, [], ◌∷◌, map, length, slice_get, codes, IfOk, IfSome};
-ghost use Rattle.std.specs.Option.{option_map};
+ghost use Rattle.std.specs.Prelude.{◌≡◌, ◌<◌, ◌≤◌, ◌+◌, ◌++◌, ℕ, List, [], ◌∷◌, Some, map, length, slice_get, codes, IfOk};
 ghost use Rattle.std.specs.Fmt.{decimal, signed_decimal};
 ghost use Rattle.dbg_base.specs.Trees.{process_of, names_of};
-ghost use Rattle.dbg_base.specs.Replies.{joined, spaced, pair_words, mark_word, halted_words, name_of};
+ghost use Rattle.dbg_base.specs.Replies.{joined, spaced, pair_words, mark_word, halted_words};
 ghost use Rattle.dbg_base.specs.Shell.{as_line};
 ghost use Rattle.proc_lang.specs.Programs.{program_of};
 ghost use Rattle.shell_print.specs.Writing.{Writes, Puts, in_a_row};
@@ -14,8 +13,8 @@ ghost use Rattle.shell_print.specs.Pieces.{item_text, word_texts, names_in, amou
 use crate::outcome::ServeFault;
 use crate::pieces::{Amounts, Item, Names, Piece, Term, Words};
 use crate::text::Text;
-use dbg_base::{Head, Name, Pid};
-use itoa::Buffer;
+use crate::words::{append_count, append_head, append_item, append_name, append_number};
+use dbg_base::{Name, Pid};
 use proc_lang::Program;
 use shell_io::Sink;
 
@@ -62,48 +61,6 @@ fn make_room<W: Sink>(text: &mut Text<LINE>, writer: &mut W) -> Result<(), Serve
     write_composed(text, writer)
 }
 
-// Appends the name of a process.
-#[inline]
-pub(crate) fn append_process<const ROOM: usize>(text: &mut Text<ROOM>, program: &Program, pid: Pid)
-    requires { length text.old + 32 ≤ ROOM }
-    ensures text { text.new ≡ text.old ++ name_of (program_of program.now) pid.0 }
-    ensures short { length text.new ≤ length text.old + 32 }
-{
-    if let Some(name) = program.process_name(pid) {
-        text.append(name.bytes());
-    }
-}
-
-// Appends a count. Most counts have one digit.
-#[inline]
-pub(crate) fn append_count<const ROOM: usize>(text: &mut Text<ROOM>, count: u32)
-    requires { length text.old + 40 ≤ ROOM }
-    ensures text { text.new ≡ text.old ++ decimal count }
-    ensures short { length text.new ≤ length text.old + 40 }
-{
-    if count < 10 {
-        text.push(b'0' + count as u8);
-        return;
-    }
-    text.append(Buffer::new().format(count).as_bytes());
-}
-
-// Appends an item.
-#[inline(always)]
-fn append_item(text: &mut Text<LINE>, item: &Item<'_>)
-    requires { length text.old + 40 ≤ LINE }
-    ensures { text.new ≡ text.old ++ item_text item.now }
-{
-    match item {
-        Item::Term(term) => text.append(term.text()),
-        Item::Name(name) => text.append(name.bytes()),
-        Item::Process(program, pid) => append_process(text, program, *pid),
-        Item::Count(count) => append_count(text, *count),
-        Item::Size(size) => text.append(Buffer::new().format(*size).as_bytes()),
-        Item::Number(number) => text.append(Buffer::new().format(*number).as_bytes()),
-    }
-}
-
 // Puts a space and an item.
 fn put_item<W: Sink>(
     item: &Item<'_>,
@@ -115,35 +72,6 @@ fn put_item<W: Sink>(
     make_room(text, writer)?;
     text.push(b' ');
     append_item(text, item);
-    Ok(())
-}
-
-// Appends a space, a name, a sign and an item.
-#[inline(always)]
-fn append_pair(text: &mut Text<LINE>, name: &Name, sign: u8, item: &Item<'_>)
-    requires { length text.old + PAIR ≤ LINE }
-    ensures { text.new ≡ text.old ++ (codes " " ++ name.now ++ (sign ∷ []) ++ item_text item.now) }
-{
-    text.push(b' ');
-    text.append(name.bytes());
-    text.push(sign);
-    append_item(text, item);
-}
-
-// Puts a space, a name, a sign and an item.
-#[inline(always)]
-fn put_pair<W: Sink>(
-    name: &Name,
-    sign: u8,
-    item: &Item<'_>,
-    text: &mut Text<LINE>,
-    writer: &mut W,
-) -> Result<(), ServeFault>
-    ensures { Puts (W.seen writer.old) text.old (W.seen writer.new) text.new result
-        (codes " " ++ name.now ++ (sign ∷ []) ++ item_text item.now) }
-{
-    make_room(text, writer)?;
-    append_pair(text, name, sign, item);
     Ok(())
 }
 
@@ -177,17 +105,28 @@ impl Names<'_> {
 }
 
 impl Amounts<'_> {
-    // The value at this position.
-    fn item_at(&self, place: usize) -> Option<Item<'static>>
-        ensures { option_map item_text result ≡ slice_get (amount_texts self.now) place }
+    // Appends the value at this position, if there is one.
+    #[inline(always)]
+    fn append_at(&self, place: usize, text: &mut Text<LINE>)
+        requires { length text.old + 40 ≤ LINE }
+        ensures { (amount : List ℕ) → slice_get (amount_texts self.now) place ≡ Some amount → text.new ≡ text.old ++ amount }
     {
         match self {
-            Amounts::Counts(counts) => Some(Item::Count(*counts.get(place)?)),
-            Amounts::Numbers(numbers) => Some(Item::Number(*numbers.get(place)?)),
-            Amounts::Heads(heads) => match heads.get(place)? {
-                Head::At(count) => Some(Item::Count(*count)),
-                Head::Past => Some(Item::Term(Term::Past)),
-            },
+            Amounts::Counts(counts) => {
+                if let Some(count) = counts.get(place) {
+                    append_count(text, *count);
+                }
+            }
+            Amounts::Numbers(numbers) => {
+                if let Some(number) = numbers.get(place) {
+                    append_number(text, *number);
+                }
+            }
+            Amounts::Heads(heads) => {
+                if let Some(head) = heads.get(place) {
+                    append_head(text, *head);
+                }
+            }
         }
     }
 
@@ -200,6 +139,24 @@ impl Amounts<'_> {
             Amounts::Heads(heads) => heads.len(),
         }
     }
+}
+
+// Puts a space, a name, `=` and the value at this position, if there is one.
+#[inline(always)]
+fn put_pair<W: Sink>(
+    name: &Name,
+    amounts: &Amounts<'_>,
+    place: usize,
+    text: &mut Text<LINE>,
+    writer: &mut W,
+) -> Result<(), ServeFault>
+    ensures { (amount : List ℕ) → slice_get (amount_texts amounts.now) place ≡ Some amount
+        → Puts (W.seen writer.old) text.old (W.seen writer.new) text.new result (codes " " ++ name.now ++ codes "=" ++ amount) }
+{
+    make_room(text, writer)?;
+    append_name(text, name, b'=');
+    amounts.append_at(place, text);
+    Ok(())
 }
 
 // Puts each name with its value, as long as there are both.
@@ -216,10 +173,7 @@ fn put_pairs<W: Sink>(
         let Some(name) = names.at(place) else {
             break;
         };
-        let Some(amount) = amounts.item_at(place) else {
-            break;
-        };
-        put_pair(&name, b'=', &amount, text, writer)?;
+        put_pair(&name, amounts, place, text, writer)?;
     }
     Ok(())
 }
@@ -258,7 +212,10 @@ fn put_mark<W: Sink>(
     ensures { Puts (W.seen writer.old) text.old (W.seen writer.new) text.new result (codes " " ++ mark_word mark.now) }
 {
     let armed = if mark.1 { Term::On } else { Term::Off };
-    put_pair(&mark.0, b' ', &Item::Term(armed), text, writer)
+    make_room(text, writer)?;
+    append_name(text, &mark.0, b' ');
+    text.append(armed.text());
+    Ok(())
 }
 
 // Puts the breakpoints, each with its mark.

@@ -17,9 +17,10 @@ ghost use Rattle.shell_print.specs.declared.reply.TheConstants.{EVENT};
 ghost use Rattle.shell_print.specs.Pieces.{item_text, names_in, amount_texts, piece_words};
 
 use crate::outcome::ServeFault;
-use crate::parts::{append_count, append_process, write_line, write_whole};
+use crate::parts::{write_line, write_whole};
 use crate::pieces::{Amounts, Item, Names, Piece, Term, Words};
 use crate::text::Text;
+use crate::words::{append_count, append_process};
 use dbg_base::{Answer, Call, Choice, Cut, Done, Name, Pid, Query, Refusal, Reply, Said};
 use proc_lang::Program;
 use shell_io::Sink;
@@ -52,7 +53,8 @@ fn append_halted(text: &mut Text<EVENT>, halted: &Option<Name>)
     }
 }
 
-// Writes the line for an event that a command made or undid. Most replies are such lines, so it is composed without pieces.
+// Writes the line for an event that a command made or undid. Most replies are such lines. The words are appended to the text one by one,
+// which takes less time than a list of pieces.
 fn print_event<'a, W: Sink>(
     program: &'a Program,
     pid: Pid,

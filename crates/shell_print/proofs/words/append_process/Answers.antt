@@ -2,7 +2,7 @@ use Rattle.std.proofs.Common.{◌++◌, List, ℕ, sym, ◌∙◌, ap}
 use Rattle.std.proofs.lemmas.List.{append-nil}
 use Rattle.proc_lang.specs.Programs.{program_of}
 use Rattle.shell_print.proofs.PairLemmas.{unnamed}
-use Rattle.shell_print.proofs.parts.append_process.Goals as goal
+use Rattle.shell_print.proofs.words.append_process.Goals as goal
 
 pub returns-in_default-clause-text : goal.returns-in_default-clause-text
 returns-in_default-clause-text g c =
