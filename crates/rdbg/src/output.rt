@@ -1,14 +1,15 @@
 //! The program's output: a writer with a buffer. A write that failed is not tried again, and dropping the output writes nothing.
 
-ghost use Rattle.std.specs.Prelude.{◌≡◌, [], OnOk, IfOk};
+ghost use Rattle.std.specs.Prelude.{◌≡◌, ◌<◌, ◌≤◌, ◌++◌, [], length, take, OnOk, IfOk};
 ghost use Rattle.std.specs.Io.{WritesAtMost};
 ghost use Rattle.std.specs.Io.KnownBytes.{Keeps, WriteAppends};
 ghost use Rattle.shell_io.specs.declared.health.Health.TheVariants.{Fine};
 ghost use Rattle.shell_io.specs.Healths.{health_after};
+ghost use Rattle.rdbg.specs.declared.buffer.TheConstants.{ROOM};
 ghost use Rattle.rdbg.specs.Outputs.{output_contents, output_seen};
 
 use crate::buffer::Buffer;
-use shell_io::{Noted, Sink};
+use shell_io::{Health, Noted, Sink};
 use std::io::{Result, Write};
 
 #[derive(Drop)]
@@ -37,10 +38,42 @@ impl<W: Write> Output<W> {
         ensures health { self.new.inner.health ≡ health_after Fine result }
     {
         while !self.buffer.bytes().is_empty() {
-            let count = self.inner.write(self.buffer.bytes())?;
+            let count = match self.inner.write(self.buffer.bytes()) {
+                Ok(count) => count,
+                Err(error) => return Err(error),
+            };
             self.buffer.drop_prefix(count);
         }
         Ok(())
+    }
+
+    // Keeps as many bytes as there is room for, and returns how many.
+    fn keep(&mut self, bytes: &[u8]) -> usize
+        requires { length self.old.buffer < ROOM }
+        ensures inner { self.new.inner ≡ self.old.inner }
+        ensures few { result ≤ length bytes.now }
+        ensures bytes { self.new.buffer ≡ self.old.buffer ++ take result bytes.now }
+        ensures takes { result ≡ 0 → bytes.now ≡ [] }
+    {
+        let count = bytes.len().min(self.buffer.room());
+        self.buffer.append(&bytes[..count]);
+        count
+    }
+
+    // Writes the buffer if it is full, and then keeps bytes.
+    #[cold]
+    #[inline(never)]
+    fn make_room_and_keep(&mut self, bytes: &[u8]) -> Result<usize>
+        ensures bound { WritesAtMost result bytes.now }
+        ensures bytes { WriteAppends (output_contents W.contents self.old) (output_contents W.contents self.new) result bytes.now }
+        ensures takes { IfOk result (λ count. count ≡ 0 → bytes.now ≡ []) }
+        ensures health { self.new.inner.health ≡ health_after self.old.inner.health result }
+    {
+        self.inner.go_on()?;
+        if self.buffer.room() == 0 {
+            self.hand_on()?;
+        }
+        Ok(self.keep(bytes))
     }
 }
 
@@ -54,13 +87,10 @@ impl<W: Write> Sink for Output<W> {
         ensures takes { IfOk result (λ count. count ≡ 0 → bytes.now ≡ []) }
         ensures health { self.new.inner.health ≡ health_after self.old.inner.health result }
     {
-        self.inner.go_on()?;
-        if self.buffer.room() == 0 {
-            self.hand_on()?;
+        if self.inner.health() == Health::Fine && self.buffer.room() > 0 {
+            return Ok(self.keep(bytes));
         }
-        let count = bytes.len().min(self.buffer.room());
-        self.buffer.append(&bytes[..count]);
-        Ok(count)
+        self.make_room_and_keep(bytes)
     }
 
     fn flush(&mut self) -> Result<()>
@@ -68,8 +98,12 @@ impl<W: Write> Sink for Output<W> {
         ensures empty { OnOk result (self.new.buffer ≡ []) }
         ensures health { self.new.inner.health ≡ health_after self.old.inner.health result }
     {
-        self.inner.go_on()?;
-        self.hand_on()?;
-        self.inner.flush()
+        if self.inner.health() != Health::Fine {
+            return self.inner.go_on();
+        }
+        match self.hand_on() {
+            Ok(()) => self.inner.flush(),
+            Err(error) => Err(error),
+        }
     }
 }

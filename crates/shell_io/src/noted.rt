@@ -3,7 +3,7 @@
 ghost use Rattle.std.specs.Prelude.{◌≡◌, [], IfOk, OnOk};
 ghost use Rattle.std.specs.Io.{ReadsAtMost, WritesAtMost};
 ghost use Rattle.std.specs.Io.KnownBytes.{Keeps, ReadConsumes, WriteAppends};
-ghost use Rattle.shell_io.specs.declared.health.Health.TheVariants.{Fine, Failed};
+ghost use Rattle.shell_io.specs.declared.health.Health.TheVariants.{Fine, Failed, TriedAgain};
 ghost use Rattle.shell_io.specs.Healths.{health_after};
 ghost use Rattle.shell_io.specs.Seen.{seen_noted};
 
@@ -61,8 +61,18 @@ impl<D> Noted<D> {
         if self.health == Health::Fine {
             return Ok(());
         }
+        Err(self.tried_again())
+    }
+
+    // Notes that a further call was made after the device has failed, and returns its error.
+    #[cold]
+    #[inline(never)]
+    fn tried_again(&mut self) -> Error
+        ensures device { self.new.device ≡ self.old.device }
+        ensures health { self.new.health ≡ TriedAgain }
+    {
         self.health = Health::TriedAgain;
-        Err(Error::from(ErrorKind::Other))
+        Error::from(ErrorKind::Other)
     }
 
     // Notes that a call of the device failed, with this error.
@@ -86,7 +96,9 @@ impl<R: Read> Source for Noted<R> {
         ensures bytes { ReadConsumes (R.remaining self.old.device) (R.remaining self.new.device) result bytes.new }
         ensures health { self.new.health ≡ health_after self.old.health result }
     {
-        self.go_on()?;
+        if self.health != Health::Fine {
+            return Err(self.tried_again());
+        }
         match self.device.read(bytes) {
             Ok(count) => Ok(count),
             Err(error) => Err(self.failed(error)),
@@ -103,7 +115,9 @@ impl<W: Write> Sink for Noted<W> {
         ensures takes { IfOk result (λ count. count ≡ 0 → bytes.now ≡ []) }
         ensures health { self.new.health ≡ health_after self.old.health result }
     {
-        self.go_on()?;
+        if self.health != Health::Fine {
+            return Err(self.tried_again());
+        }
         match self.device.write(bytes) {
             Ok(0) if !bytes.is_empty() => Err(self.failed(Error::from(ErrorKind::WriteZero))),
             Ok(count) => Ok(count),
@@ -115,7 +129,9 @@ impl<W: Write> Sink for Noted<W> {
         ensures bytes { Keeps (W.contents self.old.device) (W.contents self.new.device) }
         ensures health { self.new.health ≡ health_after self.old.health result }
     {
-        self.go_on()?;
+        if self.health != Health::Fine {
+            return Err(self.tried_again());
+        }
         match self.device.flush() {
             Ok(()) => Ok(()),
             Err(error) => Err(self.failed(error)),
