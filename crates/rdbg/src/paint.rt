@@ -1,5 +1,7 @@
 //! Text and colours for a terminal.
 
+ghost use Rattle.std.specs.Io.{WritesAtMost};
+
 use crate::held::{Held, plain_length, write_fully};
 use std::alloc::{AllocError, Global};
 use std::io;
@@ -288,6 +290,19 @@ impl<W: Write> Painted<W> {
         Ok(())
     }
 
+    // Writes bytes for a person. It has a function of its own because most bytes are written as they are.
+    #[inline(never)]
+    fn write_text(&mut self, bytes: &[u8]) -> io::Result<usize>
+        ensures { WritesAtMost result bytes.now }
+    {
+        if self.look == Look::Coloured {
+            self.write_coloured(bytes)?;
+        } else {
+            self.write_visible(bytes)?;
+        }
+        Ok(bytes.len())
+    }
+
     // Writes the bytes of a character that did not come to its end.
     fn write_rest(&mut self) -> io::Result<()> {
         let held = self.held;
@@ -302,11 +317,9 @@ impl<W: Write> Painted<W> {
 impl<W: Write> Write for Painted<W> {
     fn write(&mut self, bytes: &[u8]) -> io::Result<usize> {
         match self.look {
-            Look::Raw => return self.inner.write(bytes),
-            Look::Visible => self.write_visible(bytes)?,
-            Look::Coloured => self.write_coloured(bytes)?,
+            Look::Raw => self.inner.write(bytes),
+            Look::Visible | Look::Coloured => self.write_text(bytes),
         }
-        Ok(bytes.len())
     }
 
     fn flush(&mut self) -> io::Result<()> {
