@@ -110,9 +110,13 @@ impl<C: Command> Session<C> {
     {
         let mut command = command;
         self.stack.reserve(1)?;
-        let reply = command.apply(alloc, &self.program, &mut self.table, scan)?;
-        self.stack.push_reserved(Stacked { seat, command });
-        Ok(reply)
+        match command.apply(alloc, &self.program, &mut self.table, scan) {
+            Ok(reply) => {
+                self.stack.push_reserved(Stacked { seat, command });
+                Ok(reply)
+            }
+            Err(refusal) => Err(refusal),
+        }
     }
 
     /// Takes back, for the seat, the last command that counts: the session is as if that command had never been given. On an error nothing
