@@ -1,10 +1,11 @@
 -- The meaning of small records.
-use Rattle.std.specs.Prelude.{Bool, true, None, Ok}
+use Rattle.std.specs.Prelude.{◌≡◌, Bool, true, false, Option, Some, None, Ok}
 use Rattle.dbg_base.specs.declared.said.Said.{Said}
 use Rattle.dbg_base.specs.declared.said.Said.TheVariants.{Accepted, Answered}
 use Rattle.dbg_base.specs.declared.said.Done.{Done}
 use Rattle.dbg_base.specs.declared.said.Done.TheVariants as done
 use Rattle.dbg_base.specs.declared.said.Answer.TheVariants as answer
+use Rattle.dbg_base.specs.declared.call.Call as call
 use Rattle.dbg_base.specs.Calls as model
 use Rattle.dbg_base.specs.Calls.{Call, Give, Back, Ask, One, call_of}
 use Rattle.dbg_calls.specs.declared.small_call.SmallCall.{SmallCall}
@@ -32,6 +33,22 @@ small_call_of (calls.Apart call) = call_of call.value
 abbrev pub is_flat_small : SmallCall → Bool
 is_flat_small (calls.Apart call) = is_flat_call call.value
 is_flat_small other = true
+
+-- the call is stored in a box
+abbrev pub is_apart : SmallCall → Bool
+is_apart (calls.Apart call) = true
+is_apart other = false
+
+-- there is a copy of a call that is stored in a box
+abbrev pub HasAgain : SmallCall → Option call.Call → Type 0
+HasAgain small None = is_apart small ≡ false
+HasAgain small (Some again) = (call_of again ≡ small_call_of small) × (is_flat_call again ≡ true)
+
+-- the call in few bytes, and a copy of it if those are a box
+pub record IsGiven (given : Call) (small : SmallCall) (again : Option call.Call) : Type 0 where
+  pub of : small_call_of small ≡ given
+  pub flat : is_flat_small small ≡ true
+  pub has : HasAgain small again
 
 -- the command was accepted, and no breakpoint halts
 abbrev pub accepted : Done → Said

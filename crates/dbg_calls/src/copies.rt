@@ -39,7 +39,7 @@ fn add_copies(plans: &Vec<Plan>, ones: Vec<Plan>) -> Result<Vec<Plan>, Refusal>
 }
 
 /// The call that gives this command, without a batch within a batch. Error: `Memory`, if an allocation fails.
-pub fn call_that_gives(plan: &Plan) -> Result<Call, Refusal>
+pub(crate) fn call_that_gives(plan: &Plan) -> Result<Call, Refusal>
     ensures copies { IsCopy result (λ made. call_of made ≡ Give (order_of plan.now)) }
     ensures flat { IfOk result (λ made. is_flat_call made ≡ true) }
 {

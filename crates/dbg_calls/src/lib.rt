@@ -8,7 +8,6 @@ mod same_said;
 mod small_call;
 mod small_said;
 
-pub use copies::call_that_gives;
 pub use same_said::is_same_said;
-pub use small_call::SmallCall;
+pub use small_call::{GivenCall, SmallCall};
 pub use small_said::SmallSaid;

@@ -1,9 +1,10 @@
 -- The answer to a call, and the value under the lock after it.
-use Rattle.std.proofs.Common.{◌≡◌, inl, inr, ℕ, suc, ◌<◌, List, [], ◌∷◌, ◌++◌, length, map, Result, Ok, Err, sym, ap}
-use Rattle.std.proofs.Common.{◌∙◌, subst, arith}
-use Rattle.std.specs.Prelude.{◌⊎◌}
+use Rattle.std.proofs.Common.{◌≡◌, inl, inr, ℕ, suc, ◌-◌, ◌<◌, List, [], ◌∷◌, ◌++◌, length, map, Result, Ok, Err, Some, refl, sym, ap}
+use Rattle.std.proofs.Common.{◌∙◌, subst, arith, get_or}
+use Rattle.std.specs.Prelude.{◌⊎◌, slice_get}
 use Rattle.std.specs.List.{AllByRecursion}
-use Rattle.std.proofs.lemmas.List.{length-map, map_push, length_push}
+use Rattle.std.proofs.lemmas.List.{length-map, map_push, length_push, get_or_push}
+use Rattle.std.proofs.lemmas.Option.{slice_get_read}
 use Rattle.dbg_base.specs.declared.limits.TheConstants.{CALLS}
 use Rattle.dbg_base.specs.declared.refusal.Refusal.{Refusal}
 use Rattle.dbg_base.specs.declared.refusal.Refusal.TheVariants.{Memory}
@@ -12,9 +13,10 @@ use Rattle.dbg_base.specs.declared.said.Reply.{Reply}
 use Rattle.dbg_base.specs.declared.said.Said.{Said}
 use Rattle.dbg_base.specs.declared.said.Said.TheVariants.{Refused}
 use Rattle.dbg_base.specs.Trees.{Program}
+use Rattle.dbg_base.specs.Fits.{FitsCall}
 use Rattle.dbg_base.specs.Calls.{Order, Query, Call, Give, Back, Ask, call_of}
 use Rattle.dbg_base.specs.ModelStates.{ModelState, IsHaltPlace}
-use Rattle.dbg_base.specs.Journals.{Entry, Given, Journal, LeadsTo, IsDue, AnswersBack, IsLegal, counting, effective, last_given}
+use Rattle.dbg_base.specs.Journals.{Entry, Given, Journal, LeadsTo, IsDue, AnswersBack, Enters, Makes, IsLegal, counting, effective, last_given}
 use Rattle.dbg_laws.proofs.LegalJournalLemmas.{effective_more, legal_more}
 use Rattle.dbg_calls.specs.Small.{small_call_of, small_said_of}
 use Rattle.dbg_board.specs.declared.glance.Glance.{Glance}
@@ -24,6 +26,7 @@ use Rattle.dbg_session.specs.Sessions.{SessionState}
 use Rattle.dbg_desk.specs.declared.entry.Entry as entry
 use Rattle.dbg_desk.specs.declared.entry.RecordedCall as own
 use Rattle.dbg_desk.specs.Desks.{RecordedCall, Standing, SeatState, IsAmong, Shows, ArePairs, IsLocked, Notes, entry_of, own_of}
+use Rattle.dbg_desk.specs.Desks.{last_said, said_in}
 use Rattle.dbg_desk.proofs.BoardPairLemmas.{pairs_more, all_more}
 
 -- the answer to the call is due to it, if memory did not run out
@@ -56,7 +59,25 @@ due_asked P given seat query M result leads_to (inr memory) there = absurd (ther
 pub record IsEntered (P : Program) (seats : ℕ) (call : Call) (said : Said) (old : Standing) (was : SeatState) (after : SessionState)
     (J : Journal) (reported : List Glance) (now : SeatState) : Type 0 where
   pub locked : IsLocked P seats after J reported
+  pub few : length old.journal < CALLS
+  pub last : last_said J ≡ said
+  pub enters : Enters P old.journal was.number call said J
   pub notes : Notes P old was call said (record { journal = J; pairs = reported }) now
+
+-- what contracts say of a call that was entered
+module _ {P : Program} {seats : ℕ} {call : Call} {said : Said} {old : Standing} {was : SeatState} {after : SessionState} {J : Journal}
+    {reported : List Glance} {now : SeatState} (e : IsEntered P seats call said old was after J reported now) where
+  pub enters_last : Enters P old.journal was.number call (last_said J) J
+  enters_last = subst (λ (s : Said). Enters P old.journal was.number call s J) (sym e.last) e.enters
+
+  pub makes_last : Makes P old.journal was.number call (last_said J) J
+  makes_last = inl (e.few, inl enters_last)
+
+  pub notes_last : Notes P old was call (last_said J) (record { journal = J; pairs = reported }) now
+  notes_last = subst (λ (s : Said). Notes P old was call s (record { journal = J; pairs = reported }) now) (sym e.last) e.notes
+
+  pub fits_last : FitsCall P call said → FitsCall P call (last_said J)
+  fits_last fits = subst (FitsCall P call) (sym e.last) fits
 
 -- a session that was not called has the same state
 pub leads_to_still : (P : Program) (seats : ℕ) (session : SessionState) (J : Journal) (pairs : List Glance)
@@ -64,6 +85,14 @@ pub leads_to_still : (P : Program) (seats : ℕ) (session : SessionState) (J : J
 leads_to_still P seats session J pairs locked =
     subst (λ (Q : Program). LeadsTo Q session.effective session.state) (sym locked.program)
     (subst (λ (given : List Given). LeadsTo P given session.state) (sym locked.effective) locked.leads_to)
+
+-- the last entry of a journal to which one was appended
+pub last_pushed : (J : Journal) (one : Entry) → slice_get (J ++ one ∷ []) (length (J ++ one ∷ []) - 1) ≡ Some one
+last_pushed J one =
+    let more = length_push J one in
+    let last : length (J ++ one ∷ []) - 1 ≡ length J = omega (arith, more) in
+    slice_get_read (J ++ one ∷ []) (length (J ++ one ∷ [])) (length (J ++ one ∷ []) - 1) one refl (omega (arith, more))
+    (sym (ap (λ (n : ℕ). get_or (J ++ one ∷ []) n one) last ∙ get_or_push J one one (length J) refl))
 
 module _ (P : Program) (seats : ℕ) (session : SessionState) (items : List entry.Entry) (pairs : List Glance)
     (locked : IsLocked P seats session (map entry_of items) pairs) (seat : ℕ) (call : Call) (said : Said) (few : length items < CALLS)
@@ -140,6 +169,13 @@ module _ (P : Program) (seats : ℕ) (session : SessionState) (items : List entr
             omega (arith, more, one_more, before) in
             record {
               locked = locked_more among;
+              few = let before = ap (λ (s : Standing). length s.journal) of in let l = length-map items entry_of in omega (arith, few, before, l);
+              last = ap last_said longer ∙ ap said_in (last_pushed J one);
+              enters = record {
+                due = subst (λ (K : Journal). IsDue P (effective K) was.number call said) (ap (λ (s : Standing). s.journal) of)
+                    (subst (λ (n : ℕ). IsDue P (effective J) n call said) (ap (λ (s : SeatState). s.number) was_seat) due);
+                entered = longer ∙ (λ i. (of i).journal ++ record { seat = (was_seat i).number; call = call; said = said } ∷ []);
+              };
               notes = inl (
                 size,
                 record {

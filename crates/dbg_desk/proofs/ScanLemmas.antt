@@ -1,13 +1,16 @@
--- The scan that was made for a command in the present state is the scan of its conjuncts, in whatever state the journal leads to.
+-- What was computed in the present state holds in whatever state the journal leads to: the scan of a command's conjuncts, and the answer to
+-- a query.
 use Rattle.std.proofs.Common.{◌≡◌, Option, Some, None, sym, subst}
 use Rattle.std.specs.Prelude.{ℕ, IfSome, IfOk, List, Result, Ok, Err}
 use Rattle.dbg_base.specs.declared.refusal.Refusal.{Refusal}
 use Rattle.dbg_base.specs.Trees.{Program}
-use Rattle.dbg_base.specs.Calls.{Order}
+use Rattle.dbg_base.specs.declared.said.Answer.{Answer}
+use Rattle.dbg_base.specs.Calls.{Order, Query}
 use Rattle.dbg_base.specs.ModelStates.{ModelState}
 use Rattle.dbg_base.specs.Journals.{Given, Journal, LeadsTo, effective}
 use Rattle.dbg_laws.proofs.EffectiveOrderLemmas.{leads_to_once}
 use Rattle.least_cut.specs.Watches.{TruthLine}
+use Rattle.dbg_command.specs.Tables.{AnswersOrRefuses}
 use Rattle.dbg_command.specs.Boxes.{IsScanFor, ScansFor}
 use Rattle.dbg_board.specs.declared.glance.Glance.{Glance}
 use Rattle.dbg_command.proofs.Scans.{scan_for}
@@ -34,3 +37,14 @@ scans_anywhere P seats session shown pairs J order by_plan (Ok found) locked is 
     let leads_to : LeadsTo P (effective shown.journal) session.state =
     subst (λ (s : Standing). LeadsTo P (effective s.journal) session.state) is locked.leads_to in
     anywhere P (effective shown.journal) order session.state found leads_to (scan_for order P session.state found here)
+
+pub answers_anywhere : (P : Program) (seats : ℕ) (session : SessionState) (shown : Standing) (pairs : List Glance) (J : Journal)
+    (query : Query) (answered : Result Answer Refusal) → IsLocked P seats session J pairs → record { journal = J; pairs = pairs } ≡ shown
+    → AnswersOrRefuses session.program session.state query answered → (N : ModelState) → LeadsTo P (effective shown.journal) N
+    → AnswersOrRefuses P N query answered
+answers_anywhere P seats session shown pairs J query answered locked is answers N other =
+    let leads_to : LeadsTo P (effective shown.journal) session.state =
+    subst (λ (s : Standing). LeadsTo P (effective s.journal) session.state) is locked.leads_to in
+    subst (λ (M : ModelState). AnswersOrRefuses P M query answered)
+    (sym (leads_to_once P (effective shown.journal) session.state N leads_to other))
+    (subst (λ (Q : Program). AnswersOrRefuses Q session.state query answered) locked.program answers)

@@ -1,9 +1,11 @@
 -- What contracts see of a journal under its lock, and of a seat, and how a seat's call changes both.
-use Rattle.std.specs.Prelude.{◌≡◌, ◌⊎◌, ℕ, zero, suc, ◌<◌, ◌≤◌, Bool, true, false, List, [], ◌∷◌, ◌++◌, length}
+use Rattle.std.specs.Prelude.{◌≡◌, ◌⊎◌, ℕ, zero, suc, ◌-◌, ◌<◌, ◌≤◌, Bool, true, false, List, [], ◌∷◌, ◌++◌, length, slice_get}
+use Rattle.std.specs.Prelude.{Option, Some, None, Result, Ok, Err}
 use Rattle.std.specs.Bool.{MatchBool}
 use Rattle.std.specs.List.{AllByRecursion}
 use Rattle.dbg_base.specs.declared.said.Said.{Said}
 use Rattle.dbg_base.specs.declared.said.Said.TheVariants.{Refused}
+use Rattle.dbg_base.specs.declared.refusal.Refusal.{Refusal}
 use Rattle.dbg_base.specs.declared.refusal.Refusal.TheVariants.{JournalFull, Memory}
 use Rattle.dbg_base.specs.Trees.{Program}
 use Rattle.dbg_base.specs.Calls.{Call, call_of}
@@ -113,6 +115,35 @@ is_left_out said = false
 -- the state of the seat after its call
 abbrev pub Records : SeatState → Call → Said → SeatState → Type 0
 Records seat call said after = MatchBool (is_left_out said) (after ≡ seat) (IsRecorded seat call said after)
+
+-- the entries with one more at the end, of this call
+pub record IsLonger (old new : List entry.Entry) (seat : ℕ) (call : Call) (said : Said) : Type 0 where
+  pub last : entry.Entry
+  pub pushed : new ≡ old ++ last ∷ []
+  pub of_seat : last.seat ≡ seat
+  pub of_call : call_of last.call ≡ call
+  pub of_said : last.said ≡ said
+
+-- the seat's own calls with one more at the end
+pub record IsOneMore (old new : List own.RecordedCall) (call : Call) (said : Said) : Type 0 where
+  pub last : own.RecordedCall
+  pub pushed : new ≡ old ++ last ∷ []
+  pub of_call : small_call_of last.call ≡ call
+  pub of_said : small_said_of last.said ≡ said
+
+-- the answer in this entry, if there is one
+abbrev pub said_in : Option model.Entry → Said
+said_in None = Refused Memory
+said_in (Some last) = last.said
+
+-- the answer to the last call of the journal
+abbrev pub last_said : Journal → Said
+last_said J = said_in (slice_get J (length J - 1))
+
+-- the answer to a call after which this is the journal: that of the last entry, or why the call was not entered
+abbrev pub said_noted : Result (Unit {0}) Refusal → Journal → Said
+said_noted (Ok done) J = last_said J
+said_noted (Err refusal) J = Refused refusal
 
 -- a seat that made no call yet
 abbrev pub new_seat : ℕ → SeatState

@@ -1,22 +1,24 @@
 //! The value under a session's lock.
 
-ghost use Rattle.std.specs.Prelude.{◌≡◌, ◌≤◌, [], length, replicate, slice_get, Some, IfOk, IfErr, IfSome, OnOk, MatchOption};
+ghost use Rattle.std.specs.Prelude.{◌≡◌, ◌≤◌, ◌<◌, ◌-◌, [], length, replicate, slice_get, Some, IfOk, IfErr, IfSome, OnOk, MatchOption};
+ghost use Rattle.std.specs.Vec.{vec_capacity};
 ghost use Rattle.dbg_base.specs.declared.refusal.Refusal.TheVariants.{Memory};
 ghost use Rattle.dbg_base.specs.declared.limits.TheConstants.{SEATS};
 ghost use Rattle.dbg_base.specs.Calls as model;
 ghost use Rattle.dbg_base.specs.Calls.{query_of};
 ghost use Rattle.dbg_base.specs.ModelStates.{ModelState};
-ghost use Rattle.dbg_base.specs.Journals.{Makes, LeadsTo, IsLegal, effective};
+ghost use Rattle.dbg_base.specs.Journals.{Makes, Enters, LeadsTo, IsLegal, effective};
 ghost use Rattle.dbg_base.specs.Fits.{FitsCall};
 ghost use Rattle.proc_lang.specs.Programs.{program_of};
-ghost use Rattle.dbg_command.specs.Tables.{said_of, reported_of, state_of};
+ghost use Rattle.dbg_command.specs.Tables.{AnswersOrRefuses, said_of, reported_of, state_of};
 ghost use Rattle.dbg_command.specs.Boxes.{IsScanFor};
 ghost use Rattle.dbg_board.specs.Boards.{listing};
 ghost use Rattle.std.specs.List.{AllByRecursion};
-ghost use Rattle.dbg_desk.specs.Desks.{entry_of, ArePairs, Notes, new_seats};
+ghost use Rattle.dbg_desk.specs.Desks.{entry_of, ArePairs, Notes, new_seats, last_said, said_noted};
+ghost use Rattle.dbg_desk.specs.Reserved.{IsUnready};
 ghost use Rattle.dbg_desk.specs.Settling.{IsKeptIn, IsRunJournal, HasOther};
 
-use crate::copies::{ran_out, said_to_question};
+use crate::copies::{outcome_again, outcome_of, ran_out, said_to_command, said_to_query};
 use crate::entry::{Entry, RecordedCall};
 use crate::log::CallLog;
 use crate::rooms::Reserved;
@@ -26,7 +28,7 @@ use crate::settling::{Closing, Mismatch, are_kept};
 use dbg_base::limits::CALLS;
 use dbg_base::{Answer, Call, Gate, Query, Refusal, Reply};
 use dbg_board::{Publisher, SeatView};
-use dbg_calls::{SmallCall, SmallSaid, call_that_gives};
+use dbg_calls::{GivenCall, SmallCall, SmallSaid};
 use dbg_command::{Command, SessionView};
 use dbg_session::Session;
 use least_cut::Scan;
@@ -159,9 +161,158 @@ impl<L: Run, C: Command> Locked<L, C> {
         self.log.journal.get(place)
     }
 
-    /// Gives a command for a seat, and enters the call with its answer. The command may be given the scan of its conjuncts in the present
-    /// state. Error: `JournalFull`, if the journal is full, and `Memory`, if an allocation fails. Then the call is not entered, and nothing
-    /// changes.
+    /// The last call that was entered. It does not allocate.
+    pub fn last_entry(&self) -> &Entry
+        requires { 0 < length self.now.journal }
+        ensures { slice_get self.now.journal (length self.now.journal - 1) ≡ Some (entry_of result.now) }
+    {
+        &self.log.journal[self.log.journal.len() - 1]
+    }
+
+    /// Gives a command for a seat, and enters the call with its answer, in the last entry then. The command may be given the scan of its
+    /// conjuncts in the present state. Error: `JournalFull`, if the journal is full, and `Memory`, if an allocation fails. Then the call is
+    /// not entered, and nothing changes.
+    pub fn log_command(
+        &mut self,
+        alloc: Global,
+        seat: &mut Seat<L>,
+        command: C,
+        scan: Option<Scan>,
+    ) -> Result<(), Refusal>
+        requires fresh { C.IsFresh command }
+        requires scan { IfSome scan (λ scan. (M : ModelState) → LeadsTo L.program (effective self.old.journal) M
+            → IsScanFor (C.order command) L.program M scan) }
+        ensures makes { Makes L.program self.old.journal seat.old.number (model.Give (C.order command))
+            (said_noted result self.new.journal) self.new.journal }
+        ensures notes { Notes L.program self.old seat.old (model.Give (C.order command)) (said_noted result self.new.journal) self.new
+            seat.new }
+        ensures fits { FitsCall L.program (model.Give (C.order command)) (said_noted result self.new.journal) }
+        ensures enters { OnOk result (Enters L.program self.old.journal seat.old.number (model.Give (C.order command))
+            (last_said self.new.journal) self.new.journal) }
+    {
+        let Locked {
+            session,
+            log,
+            rooms,
+        } = self;
+        let Seat {
+            number,
+            own,
+            share,
+            view,
+        } = seat;
+        log.make_room(own)?;
+        rooms.make(session.program())?;
+        let given = GivenCall::new(alloc, command.plan())?;
+        let outcome = session.perform(alloc, *number, command, scan);
+        if ran_out(&outcome) {
+            return Err(Refusal::Memory);
+        }
+        let own_said = rooms.say(&outcome);
+        let halt = session.halt_at();
+        log.enter_command(own, share, view, *number, given, outcome, own_said, halt);
+        Ok(())
+    }
+
+    /// Takes back, for a seat, the last command that counts, and enters the call with its answer, in the last entry then. Error:
+    /// `JournalFull`, if the journal is full, and `Memory`, if an allocation fails. Then the call is not entered, and nothing changes.
+    pub fn log_back(&mut self, seat: &mut Seat<L>) -> Result<(), Refusal>
+        ensures makes { Makes L.program self.old.journal seat.old.number model.Back (said_noted result self.new.journal) self.new.journal }
+        ensures notes { Notes L.program self.old seat.old model.Back (said_noted result self.new.journal) self.new seat.new }
+        ensures fits { FitsCall L.program model.Back (said_noted result self.new.journal) }
+        ensures enters { OnOk result (Enters L.program self.old.journal seat.old.number model.Back
+            (last_said self.new.journal) self.new.journal) }
+    {
+        let Locked {
+            session,
+            log,
+            rooms,
+        } = self;
+        let Seat {
+            number,
+            own,
+            share,
+            view,
+        } = seat;
+        log.make_room(own)?;
+        rooms.make(session.program())?;
+        let taken = session.back(*number);
+        if ran_out(&taken) {
+            return Err(Refusal::Memory);
+        }
+        let kept = RecordedCall::new(SmallCall::Back, rooms.say(&taken));
+        let entry = Entry::new(*number, Call::Back, said_to_command(taken));
+        log.enter(own, share, view, entry, kept, session.halt_at());
+        Ok(())
+    }
+
+    // Enters the call of a seat that has this answer to a query.
+    fn log_answer(
+        &mut self,
+        alloc: Global,
+        seat: &mut Seat<L>,
+        query: Query,
+        answered: Result<Answer, Refusal>,
+    ) -> Result<(), Refusal>
+        requires answers { (M : ModelState) → LeadsTo L.program (effective self.old.journal) M
+            → AnswersOrRefuses L.program M (query_of query) answered }
+        requires fits { FitsCall L.program (model.Ask (query_of query)) (reported_of answered) }
+        ensures makes { Makes L.program self.old.journal seat.old.number (model.Ask (query_of query)) (said_noted result self.new.journal) self.new.journal }
+        ensures notes { Notes L.program self.old seat.old (model.Ask (query_of query)) (said_noted result self.new.journal) self.new seat.new }
+        ensures fits { FitsCall L.program (model.Ask (query_of query)) (said_noted result self.new.journal) }
+        ensures enters { OnOk result (Enters L.program self.old.journal seat.old.number (model.Ask (query_of query))
+            (last_said self.new.journal) self.new.journal) }
+        ensures says { OnOk result (last_said self.new.journal ≡ reported_of answered) }
+    {
+        let Locked { session, log, .. } = self;
+        let Seat {
+            number,
+            own,
+            share,
+            view,
+        } = seat;
+        log.make_room(own)?;
+        let said = said_to_query(answered)?;
+        let own_call = SmallCall::ask(alloc, &query)?;
+        let own_said = SmallSaid::new(alloc, &said)?;
+        let entry = Entry::new(*number, Call::Ask(query), said);
+        let kept = RecordedCall::new(own_call, own_said);
+        log.enter(own, share, view, entry, kept, session.halt_at());
+        Ok(())
+    }
+
+    /// Answers a query of a seat, and enters the call with its answer, in the last entry then. Error: `JournalFull`, if the journal is full,
+    /// and `Memory`, if an allocation fails. Then the call is not entered, and nothing changes.
+    pub fn log_query(
+        &mut self,
+        alloc: Global,
+        seat: &mut Seat<L>,
+        query: Query,
+    ) -> Result<(), Refusal>
+        ensures makes { Makes L.program self.old.journal seat.old.number (model.Ask (query_of query)) (said_noted result self.new.journal) self.new.journal }
+        ensures notes { Notes L.program self.old seat.old (model.Ask (query_of query)) (said_noted result self.new.journal) self.new seat.new }
+        ensures fits { FitsCall L.program (model.Ask (query_of query)) (said_noted result self.new.journal) }
+        ensures enters { OnOk result (Enters L.program self.old.journal seat.old.number (model.Ask (query_of query))
+            (last_said self.new.journal) self.new.journal) }
+    {
+        let answered = self.session.ask(alloc, &query);
+        self.log_answer(alloc, seat, query, answered)
+    }
+
+    // Memory for a place of each process, in a reply. Error: as for a call that is not entered.
+    fn reply_room(&self) -> Result<Vec<u32>, Refusal>
+        ensures empty { IfOk result (λ room. room.items ≡ []) }
+        ensures room { IfOk result (λ room. length L.program ≤ vec_capacity room) }
+        ensures refuses { IfErr result (IsUnready (length self.now.journal)) }
+    {
+        if self.calls() >= CALLS {
+            return Err(Refusal::JournalFull);
+        }
+        let places = self.program().processes() as usize;
+        Ok(Vec::with_capacity(*self.log.journal.allocator(), places)?)
+    }
+
+    /// As `log_command`, and returns the answer.
     pub fn enter(
         &mut self,
         alloc: Global,
@@ -177,29 +328,43 @@ impl<L: Run, C: Command> Locked<L, C> {
         ensures notes { Notes L.program self.old seat.old (model.Give (C.order command)) (said_of result) self.new seat.new }
         ensures fits { FitsCall L.program (model.Give (C.order command)) (said_of result) }
     {
-        let Locked {
-            session,
-            log,
-            rooms,
-        } = self;
-        let Seat {
-            number,
-            own,
-            share,
-            view,
-        } = seat;
-        log.make_room(own)?;
-        rooms.make(session.program())?;
-        let call = call_that_gives(command.plan())?;
-        let own_call = SmallCall::new(alloc, &call)?;
-        let outcome = session.perform(alloc, *number, command, scan);
-        if ran_out(&outcome) {
-            return outcome;
+        let room = self.reply_room()?;
+        self.log_command(alloc, seat, command, scan)?;
+        outcome_of(&self.last_entry().said, room)
+    }
+
+    /// As `log_back`, and returns the answer.
+    pub fn enter_back(&mut self, seat: &mut Seat<L>) -> Result<Reply, Refusal>
+        ensures makes { Makes L.program self.old.journal seat.old.number model.Back (said_of result) self.new.journal }
+        ensures notes { Notes L.program self.old seat.old model.Back (said_of result) self.new seat.new }
+        ensures fits { FitsCall L.program model.Back (said_of result) }
+    {
+        let room = self.reply_room()?;
+        self.log_back(seat)?;
+        outcome_of(&self.last_entry().said, room)
+    }
+
+    /// As `log_query`, and returns the answer.
+    pub fn enter_ask(
+        &mut self,
+        alloc: Global,
+        seat: &mut Seat<L>,
+        query: Query,
+    ) -> Result<Answer, Refusal>
+        ensures makes { Makes L.program self.old.journal seat.old.number (model.Ask (query_of query)) (reported_of result) self.new.journal }
+        ensures notes { Notes L.program self.old seat.old (model.Ask (query_of query)) (reported_of result) self.new seat.new }
+        ensures fits { FitsCall L.program (model.Ask (query_of query)) (reported_of result) }
+    {
+        let answered = self.session.ask(alloc, &query);
+        match outcome_again(&answered) {
+            Ok(again) => {
+                self.log_answer(alloc, seat, query, answered)?;
+                again
+            }
+            // A full journal is reported also if memory ran out.
+            Err(_) if self.calls() >= CALLS => Err(Refusal::JournalFull),
+            Err(refusal) => Err(refusal),
         }
-        let entry = Entry::new(*number, call, rooms.say(&outcome));
-        let kept = RecordedCall::new(own_call, rooms.say_own(&outcome));
-        log.enter(own, share, view, entry, kept, session.halt_at());
-        outcome
     }
 
     // The scan of the command's conjuncts in the present state, made by several threads.
@@ -250,67 +415,5 @@ impl<L: Run, C: Command> Locked<L, C> {
         Ok(Closing {
             calls: self.log.journal.len(),
         })
-    }
-
-    /// Takes back, for a seat, the last command that counts, and enters the call with its answer. Error: `JournalFull`, if the journal is
-    /// full, and `Memory`, if an allocation fails. Then the call is not entered, and nothing changes.
-    pub fn enter_back(&mut self, seat: &mut Seat<L>) -> Result<Reply, Refusal>
-        ensures makes { Makes L.program self.old.journal seat.old.number model.Back (said_of result) self.new.journal }
-        ensures notes { Notes L.program self.old seat.old model.Back (said_of result) self.new seat.new }
-        ensures fits { FitsCall L.program model.Back (said_of result) }
-    {
-        let Locked {
-            session,
-            log,
-            rooms,
-        } = self;
-        let Seat {
-            number,
-            own,
-            share,
-            view,
-        } = seat;
-        log.make_room(own)?;
-        rooms.make(session.program())?;
-        let taken = session.back(*number);
-        if ran_out(&taken) {
-            return taken;
-        }
-        let entry = Entry::new(*number, Call::Back, rooms.say(&taken));
-        let kept = RecordedCall::new(SmallCall::Back, rooms.say_own(&taken));
-        log.enter(own, share, view, entry, kept, session.halt_at());
-        taken
-    }
-
-    /// Answers a query of a seat, and enters the call with its answer. Error: `JournalFull`, if the journal is full, and `Memory`, if an
-    /// allocation fails. Then the call is not entered, and nothing changes.
-    pub fn enter_ask(
-        &mut self,
-        alloc: Global,
-        seat: &mut Seat<L>,
-        query: Query,
-    ) -> Result<Answer, Refusal>
-        ensures makes { Makes L.program self.old.journal seat.old.number (model.Ask (query_of query)) (reported_of result)
-            self.new.journal }
-        ensures notes { Notes L.program self.old seat.old (model.Ask (query_of query)) (reported_of result) self.new seat.new }
-        ensures fits { FitsCall L.program (model.Ask (query_of query)) (reported_of result) }
-    {
-        let Locked { session, log, .. } = self;
-        let Seat {
-            number,
-            own,
-            share,
-            view,
-        } = seat;
-        log.make_room(own)?;
-        let answered = session.ask(alloc, &query);
-        let said = said_to_question(&answered)?;
-        let asked = Call::Ask(query);
-        let own_call = SmallCall::new(alloc, &asked)?;
-        let own_said = SmallSaid::new(alloc, &said)?;
-        let entry = Entry::new(*number, asked, said);
-        let kept = RecordedCall::new(own_call, own_said);
-        log.enter(own, share, view, entry, kept, session.halt_at());
-        answered
     }
 }

@@ -3,15 +3,22 @@
 ghost use Rattle.std.specs.Prelude.{◌≡◌, ◌+◌, ◌<◌, ◌≤◌, ◌++◌, ◌∷◌, [], length, OnOk, IfErr};
 ghost use Rattle.std.specs.Vec.{vec_len, vec_capacity};
 ghost use Rattle.dbg_base.specs.declared.limits.TheConstants.{BREAKPOINTS, CALLS};
+ghost use Rattle.std.specs.Option.{option_map};
+ghost use Rattle.dbg_base.specs.Calls.{Call};
+ghost use Rattle.dbg_command.specs.Tables.{said_of};
+ghost use Rattle.dbg_calls.specs.Small.{small_call_of, small_said_of, IsGiven};
 ghost use Rattle.dbg_board.specs.Pairs.{Begins};
 ghost use Rattle.dbg_board.specs.Boards.{listing};
+ghost use Rattle.dbg_desk.specs.Desks.{IsLonger, IsOneMore};
 ghost use Rattle.dbg_desk.specs.Reserved.{IsUnready};
 
+use crate::copies::said_to_command;
 use crate::entry::{Entry, RecordedCall};
 use crate::run::Run;
-use dbg_base::Refusal;
 use dbg_base::limits::CALLS;
+use dbg_base::{Refusal, Reply};
 use dbg_board::{Publisher, SeatView};
+use dbg_calls::{GivenCall, SmallSaid};
 use std::sync::ledger::{Book, Share};
 
 /// The journal, the ledger's book that counts its entries, and the publisher that shows each. All three advance together.
@@ -60,6 +67,39 @@ impl<L: Run> CallLog<L> {
         self.journal.reserve(1)?;
         own.reserve(1)?;
         Ok(())
+    }
+
+    /// Enters a command with its outcome, as `enter` does. It is not inlined, so that the entry is put together in one place.
+    #[inline(never)]
+    pub(crate) fn enter_command(
+        &mut self,
+        own: &mut Vec<RecordedCall>,
+        share: &mut Share<L>,
+        view: &mut SeatView,
+        number: u32,
+        given: GivenCall,
+        outcome: Result<Reply, Refusal>,
+        own_said: SmallSaid,
+        halt: u32,
+    )
+        requires room { (vec_len self.old.journal < CALLS) × (vec_len self.old.journal < vec_capacity self.old.journal)
+            × (vec_len own.old < vec_capacity own.old) }
+        requires part { 0 < share.old.parts }
+        requires board { view.old.board ≡ L.board }
+        requires halt { halt ≤ BREAKPOINTS }
+        requires given { (call : Call) × IsGiven call given.small (option_map (λ again. again.value) given.again) }
+        ensures journal { IsLonger self.old.journal.items self.new.journal.items number (small_call_of given.small) (said_of outcome) }
+        ensures own { IsOneMore own.old.items own.new.items (small_call_of given.small) (small_said_of own_said) }
+        ensures counts { (share.new.parts ≡ share.old.parts) × (share.new.amount ≡ share.old.amount + 1)
+            × (share.new.amount ≤ vec_len self.new.journal) }
+        ensures pairs { self.new.publisher.pairs
+            ≡ self.old.publisher.pairs ++ record { calls = vec_len self.new.journal; halt = halt } ∷ [] }
+        ensures seen { (view.new ≡ self.new.publisher) × Begins view.old.pairs view.new.pairs }
+    {
+        let GivenCall { small, again } = given;
+        let entry = Entry::new(number, small.in_full(again), said_to_command(outcome));
+        let kept = RecordedCall::new(small, own_said);
+        self.enter(own, share, view, entry, kept, halt);
     }
 
     /// Enters a call in the journal and in the record of the seat that made it. Shows the call and the breakpoint that halts the session,

@@ -1,13 +1,12 @@
 //! Memory that is reserved for the answer to a command.
 
-ghost use Rattle.std.specs.Prelude.{◌≡◌, ◌≤◌, [], IfOk, IfErr, IfSome, IsSome, OnOk};
+ghost use Rattle.std.specs.Prelude.{◌≡◌, ◌≤◌, [], length, IfOk, IfErr, IfSome, IsSome, OnOk};
 ghost use Rattle.std.specs.Vec.{vec_capacity};
 ghost use Rattle.dbg_base.specs.declared.refusal.Refusal.TheVariants.{Memory};
 ghost use Rattle.dbg_base.specs.Copies.{counts_in};
 ghost use Rattle.proc_lang.specs.Programs.{program_of};
 ghost use Rattle.dbg_command.specs.Tables.{said_of};
 ghost use Rattle.dbg_calls.specs.Small.{small_said_of};
-ghost use Rattle.dbg_desk.specs.Reserved.{HaveRoom};
 
 use dbg_base::{Done, Refusal, Reply, Said};
 use dbg_calls::SmallSaid;
@@ -15,15 +14,13 @@ use proc_lang::Program;
 use std::alloc::Global;
 use std::mem;
 
-/// Memory for the places in the answer to a command, for the journal and for the seat's own record, and memory for an answer that the
-/// record keeps in a box of its own. If an answer has no places, or needs no box, the memory stays for the next command.
+/// Memory for the places in the answer to a command, and for a box that keeps an answer apart, for the seat's own record. If an answer has
+/// no places, or needs no box, the memory stays for the next command.
 #[derive(Drop)]
 pub(crate) struct Reserved {
-    pub(crate) entry: Vec<u32>,
-    pub(crate) own: Vec<u32>,
+    pub(crate) places: Vec<u32>,
     pub(crate) apart: Option<Box<Said>>,
-    ghost empty: { entry.items ≡ [] },
-    ghost own_empty: { own.items ≡ [] },
+    ghost empty: { places.items ≡ [] },
 }
 
 // A copy of the reply. If the reply has places, the copy has them in the memory of this list, which is then left without memory.
@@ -67,41 +64,29 @@ impl Reserved {
     /// No memory yet.
     pub(crate) fn new(alloc: Global) -> Reserved {
         Reserved {
-            entry: Vec::new(alloc),
-            own: Vec::new(alloc),
+            places: Vec::new(alloc),
             apart: None,
         }
     }
 
-    /// Makes room for a place of each process, twice, and for a box of its own. Error: `Memory`, if an allocation fails.
+    /// Makes room for a place of each process, and for a box. Error: `Memory`, if an allocation fails.
     pub(crate) fn make(&mut self, program: &Program) -> Result<(), Refusal>
-        ensures room { OnOk result (HaveRoom (program_of program.now) (vec_capacity self.new.entry) (vec_capacity self.new.own)) }
+        ensures room { OnOk result (length (program_of program.now) ≤ vec_capacity self.new.places) }
         ensures apart { OnOk result (IsSome self.new.apart) }
         ensures refuses { IfErr result (λ refusal. refusal ≡ Memory) }
     {
         let places = program.processes() as usize;
-        self.entry.reserve(places)?;
-        self.own.reserve(places)?;
+        self.places.reserve(places)?;
         if self.apart.is_none() {
             let unsaid = Said::Refused(Refusal::Memory);
-            self.apart = Some(Box::new(*self.entry.allocator(), unsaid)?);
+            self.apart = Some(Box::new(*self.places.allocator(), unsaid)?);
         }
         Ok(())
     }
 
-    /// The answer to a command, for the journal. It does not allocate.
-    pub(crate) fn say(&mut self, outcome: &Result<Reply, Refusal>) -> Said
-        requires { IfOk outcome.now (λ reply. counts_in reply.done ≤ vec_capacity self.old.entry) }
-        ensures said { result ≡ said_of outcome.now }
-        ensures own { self.new.own ≡ self.old.own }
-        ensures apart { self.new.apart ≡ self.old.apart }
-    {
-        said_again(outcome, &mut self.entry)
-    }
-
-    /// The same answer, for the seat's own record. It does not allocate.
-    pub(crate) fn say_own(&mut self, outcome: &Result<Reply, Refusal>) -> SmallSaid
-        requires room { IfOk outcome.now (λ reply. counts_in reply.done ≤ vec_capacity self.old.own) }
+    /// The answer to a command, for the seat's own record. It does not allocate.
+    pub(crate) fn say(&mut self, outcome: &Result<Reply, Refusal>) -> SmallSaid
+        requires room { IfOk outcome.now (λ reply. counts_in reply.done ≤ vec_capacity self.old.places) }
         requires apart { IsSome self.old.apart }
         ensures { small_said_of result ≡ said_of outcome.now }
     {
@@ -110,7 +95,7 @@ impl Reserved {
         }
         match self.apart.take() {
             Some(mut place) => {
-                *place = said_again(outcome, &mut self.own);
+                *place = said_again(outcome, &mut self.places);
                 SmallSaid::Apart(place)
             }
             None => unreachable!(),

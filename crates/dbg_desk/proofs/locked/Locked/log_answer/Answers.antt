@@ -1,20 +1,19 @@
 use Rattle.std.proofs.Common.{◌≡◌, ◌<◌, List, [], ◌∷◌, ◌++◌, length, map, vec_len, refl, ap, ◌∙◌, subst, rules}
 use Rattle.dbg_base.specs.declared.limits.TheConstants.{CALLS}
-use Rattle.dbg_base.specs.Trees.{Program}
 use Rattle.dbg_base.specs.Calls.{Ask, query_of, call_of}
-use Rattle.dbg_base.specs.Journals.{effective}
+use Rattle.dbg_base.specs.Journals.{LeadsTo, effective}
 use Rattle.dbg_board.specs.declared.glance.Glance.{Glance}
 use Rattle.dbg_board.specs.Boards.{Listing}
 use Rattle.dbg_command.specs.Tables.{AnswersOrRefuses, reported_of}
 use Rattle.dbg_calls.specs.Small.{small_call_of, small_said_of}
 use Rattle.dbg_desk.specs.declared.entry.Entry as entry
 use Rattle.dbg_desk.specs.declared.entry.RecordedCall as own
-use Rattle.dbg_desk.specs.Desks.{entry_of, own_of}
-use Rattle.dbg_desk.proofs.EnteredCallLemmas.{IsEntered, due_asked, leads_to_still, entered}
-use Rattle.dbg_desk.proofs.locked.Locked.enter_ask.Goals as goal
+use Rattle.dbg_desk.specs.Desks.{Standing, entry_of, own_of}
+use Rattle.dbg_desk.proofs.EnteredCallLemmas.{IsEntered, due_asked, leads_to_still, entered, notes_last, makes_last, enters_last, fits_last}
+use Rattle.dbg_desk.proofs.locked.Locked.log_answer.Goals as goal
 
 here : (g : _) (c : goal.After-enter g)
-    → IsEntered g.L.Run.program g.L.Run.seats (Ask (query_of c.args.query)) (reported_of c.ask-answered.result) c.args.self.now c.args.seat.now
+    → IsEntered g.L.Run.program g.L.Run.seats (Ask (query_of c.args.query)) (reported_of c.args.answered) c.args.self.now c.args.seat.now
     c.self.inside.session (map entry_of c.enter.new.self.journal.items) c.enter.new.self.publisher.pairs
     (record { number = c.seat.inside.number; own = map own_of c.enter.new.own.items; seen = c.enter.new.view.pairs })
 here g c =
@@ -25,13 +24,13 @@ here g c =
     let pair : Glance = record { calls = vec_len c.enter.new.self.journal; halt = c.halt_at.result } in
     let few : length items < CALLS = search rules in
     let long : vec_len c.enter.new.self.journal ≡ length c.enter.new.self.journal.items = search rules in
-    let answers : AnswersOrRefuses g.L.Run.program session.state (query_of c.args.query) c.ask-answered.result =
-    subst (λ (P : Program). AnswersOrRefuses P session.state (query_of c.args.query) c.ask-answered.result) c.self.invariant.program
-    c.ask-answered.ensures.answers in
+    let answers : AnswersOrRefuses g.L.Run.program session.state (query_of c.args.query) c.args.answered =
+    c.requires.answers session.state
+    (subst (λ (s : Standing). LeadsTo g.L.Run.program (effective s.journal) session.state) c.self.view_is c.self.invariant.leads_to) in
     let due = due_asked g.L.Run.program (effective (map entry_of items)) c.seat.inside.number (query_of c.args.query) session.state
-    c.ask-answered.result c.self.invariant.leads_to answers c.in_ok-said.ensures.there in
+    c.args.answered c.self.invariant.leads_to answers c.in_ok-said.ensures.there in
     entered g.L.Run.program g.L.Run.seats session items c.self.inside.log.publisher.pairs c.self.invariant c.seat.inside.number
-    (Ask (query_of c.args.query)) (reported_of c.ask-answered.result) few due
+    (Ask (query_of c.args.query)) (reported_of c.args.answered) few due
     kept c.new-entry.ensures.seat (ap call_of c.new-entry.ensures.call) (c.new-entry.ensures.said ∙ c.in_ok-said.ensures.said)
     c.enter.new.self.journal.items
     (c.enter.ensures.journal ∙ ap (λ (l : List entry.Entry). l ++ kept ∷ []) c.make_room.ensures.journal)
@@ -49,4 +48,17 @@ pub invariant_of-self-2 : goal.invariant_of-self-2
 invariant_of-self-2 g c = (here g c).locked
 
 pub returns-clause-notes : goal.returns-clause-notes
-returns-clause-notes g c = (here g c).notes
+returns-clause-notes g c = notes_last (here g c)
+
+pub returns-clause-makes : goal.returns-clause-makes
+returns-clause-makes g c = makes_last (here g c)
+
+pub returns-clause-enters : goal.returns-clause-enters
+returns-clause-enters g c = enters_last (here g c)
+
+pub returns-clause-fits : goal.returns-clause-fits
+returns-clause-fits g c =
+    fits_last (here g c) (c.requires.fits)
+
+pub returns-clause-says : goal.returns-clause-says
+returns-clause-says g c = (here g c).last

@@ -2,6 +2,7 @@ use Rattle.std.proofs.Common.{◌≡◌, ◌<◌, List, [], ◌∷◌, ◌++◌,
 use Rattle.dbg_base.specs.declared.limits.TheConstants.{CALLS}
 use Rattle.dbg_base.specs.declared.refusal.Refusal.TheVariants.{Memory}
 use Rattle.dbg_base.specs.Trees.{Program}
+use Rattle.dbg_base.specs.Fits.{FitsCall}
 use Rattle.std.specs.Prelude.{◌⊎◌, IsTrue}
 use Rattle.dbg_base.specs.Calls.{Back, call_of}
 use Rattle.dbg_base.specs.Journals.{Given, AnswersBack, effective, last_given}
@@ -12,8 +13,8 @@ use Rattle.dbg_calls.specs.Small.{small_call_of, small_said_of}
 use Rattle.dbg_desk.specs.declared.entry.Entry as entry
 use Rattle.dbg_desk.specs.declared.entry.RecordedCall as own
 use Rattle.dbg_desk.specs.Desks.{entry_of, own_of}
-use Rattle.dbg_desk.proofs.EnteredCallLemmas.{IsEntered, due_back, entered}
-use Rattle.dbg_desk.proofs.locked.Locked.enter_back.Goals as goal
+use Rattle.dbg_desk.proofs.EnteredCallLemmas.{IsEntered, due_back, entered, notes_last, makes_last, enters_last, fits_last}
+use Rattle.dbg_desk.proofs.locked.Locked.log_back.Goals as goal
 
 here : (g : _) (c : goal.After-enter g)
     → IsEntered g.L.Run.program g.L.Run.seats Back (said_of c.back-taken.result) c.args.self.now
@@ -43,14 +44,14 @@ here g c =
     entered P g.L.Run.seats session items c.self.inside.log.publisher.pairs c.self.invariant c.seat.inside.number
     Back (said_of result) few due
     kept c.new-entry.ensures.seat (ap call_of c.new-entry.ensures.call)
-    (c.new-entry.ensures.said ∙ c.say.ensures.said) c.enter.new.self.journal.items
+    (c.new-entry.ensures.said ∙ c.said_to_command.ensures) c.enter.new.self.journal.items
     (c.enter.ensures.journal ∙ ap (λ (l : List entry.Entry). l ++ kept ∷ []) c.make_room.ensures.journal)
     after c.back-taken.ensures.program c.back-taken.ensures.effective c.back-taken.ensures.leads_to c.halt_at.result
     c.halt_at.ensures.place (vec_len c.enter.new.self.journal) long c.enter.new.self.publisher.pairs
     (c.enter.ensures.pairs ∙ ap (λ (l : Listing). l.pairs ++ pair ∷ []) c.make_room.ensures.publisher)
     c.seat.invariant.among c.args.self.now c.args.seat.now mine c.seat.inside.own.items c.enter.new.own.items c.seat.inside.view.pairs
     c.enter.new.view.pairs c.self.view_is c.seat.view_is
-    (ap small_call_of c.new-kept.ensures.call) (ap small_said_of c.new-kept.ensures.said ∙ c.say_own.ensures)
+    (ap small_call_of c.new-kept.ensures.call) (ap small_said_of c.new-kept.ensures.said ∙ c.say.ensures)
     (c.enter.ensures.own ∙ ap (λ (l : List own.RecordedCall). l ++ mine ∷ []) c.make_room.ensures.own)
     (ap (λ (l : Listing). l.pairs) c.enter.ensures.seen.0)
     c.enter.ensures.seen.1
@@ -59,4 +60,14 @@ pub invariant_of-self-2 : goal.invariant_of-self-2
 invariant_of-self-2 g c = (here g c).locked
 
 pub returns-clause-notes : goal.returns-clause-notes
-returns-clause-notes g c = (here g c).notes
+returns-clause-notes g c = notes_last (here g c)
+
+pub returns-clause-makes : goal.returns-clause-makes
+returns-clause-makes g c = makes_last (here g c)
+
+pub returns-clause-enters : goal.returns-clause-enters
+returns-clause-enters g c = enters_last (here g c)
+
+pub returns-clause-fits : goal.returns-clause-fits
+returns-clause-fits g c =
+    fits_last (here g c) (subst (λ (Q : Program). FitsCall Q Back (said_of c.back-taken.result)) c.self.invariant.program c.back-taken.ensures.fits)
