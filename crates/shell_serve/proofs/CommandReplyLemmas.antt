@@ -1,47 +1,38 @@
 -- The output for a command line.
-use Rattle.std.proofs.Common.{◌≡◌, ℕ, List, [], Some, None, Result, Ok, Err, refl, ap}
+use Rattle.std.proofs.Common.{◌≡◌, ℕ, ◌-◌, List, [], length, Some, None, Result, Ok, Err, refl, sym, ap, ◌∙◌, subst, arith, get_or, ◌∷◌, ◌++◌}
 use Rattle.std.specs.Prelude.{IsErrAnd}
+use Rattle.std.proofs.lemmas.List.{length_push, get_or_push}
+use Rattle.std.proofs.lemmas.Option.{same_Some, slice_get_read}
 use Rattle.shell_io.proofs.AppendLemmas.{appended_none}
 use Rattle.dbg_base.specs.declared.said.Said.{Said}
 use Rattle.dbg_base.specs.declared.refusal.Refusal.{Refusal}
-use Rattle.dbg_base.specs.Calls.{call_of}
+use Rattle.dbg_base.specs.declared.said.Said.TheVariants.{Refused}
+use Rattle.dbg_base.specs.Calls.{Call, Give, Back, Ask, call_of}
+use Rattle.dbg_base.specs.Fits.{FitsCall, FitsRefusal}
 use Rattle.dbg_base.specs.Trees.{Program}
-use Rattle.dbg_base.specs.Journals.{Journal, Makes}
+use Rattle.dbg_base.specs.Journals.{Journal, Entry, Makes, Enters}
 use Rattle.dbg_base.specs.Replies.{reply_text, refusal_text}
 use Rattle.dbg_base.specs.Shell.{as_line}
 use Rattle.shell_io.specs.Seen.{Seen}
 use Rattle.shell_print.specs.Writing.{Writes}
-use Rattle.shell_print.proofs.WriteLemmas.{writes_then, stopped}
-use Rattle.shell_serve.specs.Sessions.{Manner, MayBeQuiet, WritesForm, WritesReply}
+use Rattle.shell_print.proofs.WriteLemmas.{writes_then, writes_same, stopped}
+use Rattle.shell_serve.specs.Sessions.{Manner, MayBeQuiet, IsExplained, WritesForm, WritesReply}
+use Rattle.shell_serve.specs.Answering.{IsLast, HasLast}
 use Rattle.shell_print.specs.declared.outcome.ServeFault.{ServeFault}
 use Rattle.shell_parse.specs.declared.line.Line.{Line}
 use Rattle.shell_parse.specs.Lines.{IsParsed, requested}
 
 module _ (M : Manner) (P : Program) (bytes : List ℕ) (J : Journal) where
-  -- the answer to a call was written, and then an explanation or none
-  pub call_replied : {A B : Type 0} {u : A} {r : Result B ServeFault} (line : Line) (said : Said) (after : Journal) (a b c : Seen)
-      (text : List ℕ) → IsParsed P bytes (Ok (Some line)) → Makes P J line.seat (call_of line.call) said after
-      → text ≡ reply_text P (call_of line.call) said → Writes {A = A} a b (Ok u) (as_line text) → WritesForm M.explains b r c
-      → WritesReply M P bytes J a r c after
-  call_replied line said after a b c text parsed makes is wrote reported = record {
-    reply = as_line text;
-    reported = reported.text;
-    answers = (Ok (Some (requested line)), parsed, (said, makes, ap as_line is));
-    explains = reported.form;
-    written = writes_then wrote reported.written;
-  }
-
-  -- or the answer was not written in full
-  pub call_stopped : {A B : Type 0} {e : ServeFault} {r : Result B ServeFault} (line : Line) (said : Said) (after : Journal) (a b : Seen)
-      (text : List ℕ) → MayBeQuiet M → IsParsed P bytes (Ok (Some line)) → Makes P J line.seat (call_of line.call) said after
-      → text ≡ reply_text P (call_of line.call) said → Writes {A = A} a b (Err e) (as_line text) → IsErrAnd r (λ f. f ≡ e)
-      → WritesReply M P bytes J a r b after
-  call_stopped line said after a b text quiet parsed makes is wrote same = record {
-    reply = as_line text;
-    reported = [];
-    answers = (Ok (Some (requested line)), parsed, (said, makes, ap as_line is));
-    explains = quiet.explains;
-    written = stopped [] wrote same;
+  -- the answer to a call and an explanation were written, or a prefix of them
+  pub call_told : {B : Type 0} {r : Result B ServeFault} (line : Line) (said : Said) (after : Journal) (a c : Seen)
+      → IsParsed P bytes (Ok (Some line)) → Makes P J line.seat (call_of line.call) said after
+      → WritesForm (IsExplained M (as_line (reply_text P (call_of line.call) said))) a r c → WritesReply M P bytes J a r c after
+  call_told line said after a c parsed makes told = record {
+    reply = as_line (reply_text P (call_of line.call) said);
+    reported = told.form.0;
+    answers = (Ok (Some (requested line)), parsed, (said, makes, refl));
+    explains = told.form.1;
+    written = writes_same told.form.2 told.written;
   }
 
   -- the line makes no call, and nothing was written
@@ -75,4 +66,39 @@ module _ (M : Manner) (P : Program) (bytes : List ℕ) (J : Journal) where
     answers = (Err refusal, parsed, (refl, refl));
     explains = quiet.explains;
     written = stopped [] wrote same;
+  }
+
+-- what was written for an entry was written for the same entry
+pub told_same : {B : Type 0} {r : Result B ServeFault} {a c : Seen} (M : Manner) (P : Program) (own entry : Entry) → own ≡ entry
+    → WritesForm (IsExplained M (as_line (reply_text P own.call own.said))) a r c
+    → WritesForm (IsExplained M (as_line (reply_text P entry.call entry.said))) a r c
+told_same {r = r} {a = a} {c = c} M P own entry same told =
+    subst (λ (e : Entry). WritesForm (IsExplained M (as_line (reply_text P e.call e.said))) a r c) same told
+
+-- a refusal that fits a call
+pub fits_refusal : (P : Program) (call : Call) (refusal : Refusal) → FitsCall P call (Refused refusal) → FitsRefusal P refusal
+fits_refusal P (Give order) refusal fits = fits
+fits_refusal P Back refusal fits = fits
+fits_refusal P (Ask query) refusal fits = fits
+
+-- the last entry of a journal to which one was appended
+last_pushed : (J : Journal) (one : Entry) → IsLast (J ++ one ∷ []) one
+last_pushed J one =
+    let more = length_push J one in
+    let last : length (J ++ one ∷ []) - 1 ≡ length J = omega (arith, more) in
+    slice_get_read (J ++ one ∷ []) (length (J ++ one ∷ [])) (length (J ++ one ∷ []) - 1) one refl (omega (arith, more))
+    (sym (ap (λ (n : ℕ). get_or (J ++ one ∷ []) n one) last ∙ get_or_push J one one (length J) refl))
+
+-- The call that was entered last.
+module _ {P : Program} {J after : Journal} {seat : ℕ} {call : Call} {said : Said} (enters : Enters P J seat call said after) where
+  abbrev one : Entry
+  one = record { seat = seat; call = call; said = said }
+
+  pub is_last : IsLast after one
+  is_last = subst (λ (K : Journal). IsLast K one) (sym enters.entered) (last_pushed J one)
+
+  pub has_last : FitsCall P call said → HasLast P after
+  has_last fits = record {
+    some = let more = ap (λ (K : Journal). length K) enters.entered ∙ length_push J one in omega (arith, more);
+    fits = λ entry last. subst (λ (e : Entry). FitsCall P e.call e.said) (same_Some one entry (sym is_last ∙ last)) fits;
   }

@@ -3,21 +3,24 @@
 ghost use Rattle.std.specs.Prelude.{◌≡◌, ◌≤◌, ◌++◌, not, length, codes, IfOk, IfErr};
 ghost use Rattle.std.specs.Vec.{vec_capacity};
 ghost use Rattle.dbg_base.specs.declared.limits.TheConstants.{LINE_BYTES};
-ghost use Rattle.dbg_base.specs.Journals.{IsLegal};
+ghost use Rattle.dbg_base.specs.Journals.{IsLegal, Entry};
+ghost use Rattle.dbg_base.specs.Fits.{FitsRefusal};
+ghost use Rattle.dbg_base.specs.Replies.{reply_text, refusal_text};
+ghost use Rattle.dbg_base.specs.Shell.{as_line};
 ghost use Rattle.shell_print.specs.declared.outcome.ServeFault.TheVariants.{Write};
 ghost use Rattle.shell_serve.specs.declared.line.TheConstants.{ROOM};
-ghost use Rattle.shell_serve.specs.Answering.{IsMaker, AreAllSeats};
-ghost use Rattle.shell_serve.specs.Sessions.{MayBeQuiet, WritesLine, WritesReply};
+ghost use Rattle.shell_serve.specs.Answering.{IsMaker, AreAllSeats, IsLast, HasLast};
+ghost use Rattle.shell_serve.specs.Sessions.{MayBeQuiet, IsExplained, WritesForm, WritesLine, WritesReply};
 
 use crate::observer::Observer;
 use crate::session::answer;
-use dbg_base::Refusal;
 use dbg_base::limits::LINE_BYTES;
+use dbg_base::{Refusal, Said};
 use dbg_command::{Command, Givable};
 use dbg_desk::{Locked, Run, Seat};
 use shell_io::Sink;
 use shell_parse::parse_line;
-use shell_print::{ServeFault, hand_on, print_refusal, print_said, question};
+use shell_print::{ServeFault, hand_on, print_refusal, print_reply};
 use std::alloc::{AllocError, Global};
 
 // Room for the longest line of a command, with a seat.
@@ -51,6 +54,42 @@ impl Room {
     }
 }
 
+// Writes the reply to the call that was entered last, and the explanation. The reply is flushed before it is explained.
+fn tell_entered<L: Run, C: Command, T: Observer<R>, R, W: Sink>(
+    alloc: Global,
+    observer: &mut T,
+    locked: &Locked<L, C>,
+    writer: &mut W,
+) -> Result<(), ServeFault>
+    requires quiet { MayBeQuiet T.manner }
+    requires last { HasLast L.program locked.now.journal }
+    ensures { (entry : Entry) → IsLast locked.now.journal entry → WritesForm
+        (IsExplained T.manner (as_line (reply_text L.program entry.call entry.said))) (W.seen writer.old) result (W.seen writer.new) }
+{
+    let entry = locked.last_entry();
+    let written = print_reply(locked.program(), &entry.call, &entry.said, writer);
+    hand_on(written, writer)?;
+    observer.explain_call(alloc, locked.view(), &entry.said, writer)
+}
+
+// Writes the reply to a call that was not entered, and the explanation.
+fn tell_left_out<L: Run, C: Command, T: Observer<R>, R, W: Sink>(
+    alloc: Global,
+    observer: &mut T,
+    locked: &Locked<L, C>,
+    refusal: Refusal,
+    writer: &mut W,
+) -> Result<(), ServeFault>
+    requires quiet { MayBeQuiet T.manner }
+    requires fits { FitsRefusal L.program refusal }
+    ensures { WritesForm (IsExplained T.manner (as_line (refusal_text L.program refusal))) (W.seen writer.old) result
+        (W.seen writer.new) }
+{
+    let written = print_refusal(locked.program(), &refusal, writer);
+    hand_on(written, writer)?;
+    observer.explain_call(alloc, locked.view(), &Said::Refused(refusal), writer)
+}
+
 // Answers a command line, which has its seat. The reply is flushed before it is explained.
 fn answer_command<
     L: Run,
@@ -79,11 +118,11 @@ fn answer_command<
         Ok(Some(line)) => {
             let seat = &mut seats[line.seat as usize - 1];
             observer.prepare(alloc, locked.view(), &line.call);
-            let asked = question(&line.call);
-            let said = answer(locked, alloc, make, seat, line.call);
-            let written = print_said(locked.program(), &asked, &said, writer);
-            hand_on(written, writer)?;
-            observer.explain_call(alloc, locked.view(), &said, writer)
+            let entered = answer(locked, alloc, make, seat, line.call);
+            match entered {
+                Ok(()) => tell_entered(alloc, observer, locked, writer),
+                Err(refusal) => tell_left_out(alloc, observer, locked, refusal, writer),
+            }
         }
         Ok(None) => Ok(()),
         Err(refusal) => {
