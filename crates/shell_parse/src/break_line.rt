@@ -138,7 +138,7 @@ fn read_part(
     ensures { ReadsNamed (program_of program.now) (has_part made.now) (named_process (program_of program.now) name) text.now
         (map_ok conjunct_of result) ⊎ (result ≡ Err Memory) }
 {
-    let pid = named_process(program, name)?;
+    let pid = named_process(program, name.bytes())?;
     let expr = match parse_predicate(alloc, program, pid, text) {
         Ok(expr) => expr,
         Err(ProgError::Bad(_)) => return Err(Refusal::BadPredicate),

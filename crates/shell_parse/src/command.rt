@@ -17,7 +17,9 @@ ghost use Rattle.shell_parse.specs.Lines.{IsOneParsed, has_shape};
 ghost use Rattle.shell_parse.specs.Words.{process_spelling, plan_word_call, query_word_call, process_word_call, call_by_process, break_word_call};
 
 use crate::break_line::{is_break, parse_break};
-use crate::words::{first_word, name_word, named_process, next_word, number_word, process_word};
+use crate::words::{
+    first_word, name_bytes, name_word, named_process, next_word, number_word, process_word,
+};
 use dbg_base::{Call, Choice, Name, Pid, Plan, Query, Refusal};
 use proc_lang::Program;
 use std::alloc::Global;
@@ -182,7 +184,7 @@ fn chan_call(program: &Program, source: &[u8], target: &[u8]) -> Result<Call, Re
     ensures { map_ok call_of result ≡ with_word (name_word source.now)
         (λ name. chan_call (program_of program.now) name target.now) }
 {
-    let Some(target) = name_word(target) else {
+    let Some(target) = name_bytes(target) else {
         return Err(Refusal::BadLine);
     };
     let source = process_word(program, source)?;
@@ -223,8 +225,8 @@ pub(crate) fn only_process(program: &Program, bytes: &[u8]) -> Option<Pid>
     ensures { IfSome result (λ process. (word : ProcessWord)
         → call_of_words (program_of program.now) (process_spelling word) (words_of bytes.now) ≡ Ok (process_word_call word process.0)) }
 {
-    let name = name_word(only_word(bytes)?)?;
-    program.find_process(name)
+    let name = name_bytes(only_word(bytes)?)?;
+    program.find_process_by(name)
 }
 
 // The call of a command word about a process, from the bytes after the word.

@@ -2,6 +2,7 @@
 
 ghost use Rattle.std.specs.Prelude.{◌≡◌, ◌<◌, ◌≤◌, ◌∷◌, [], not, length, MatchOption, IfOk, IfSome};
 ghost use Rattle.std.specs.List.{list_all, prefix_len};
+ghost use Rattle.std.specs.Option.{option_map};
 ghost use Rattle.dbg_base.specs.declared.limits.TheConstants.{SEATS};
 ghost use Rattle.dbg_base.specs.Tokens.{is_letter, is_word_byte};
 ghost use Rattle.dbg_base.specs.CommandLines.{is_blank, words_of, without_blanks, next_word, after_word, number_word, seat_word, name_word};
@@ -9,7 +10,7 @@ ghost use Rattle.dbg_base.specs.CommandLines.{map_ok, named_process};
 ghost use Rattle.proc_lang.specs.Programs.{program_of};
 ghost use Rattle.shell_parse.specs.Words.{process_word};
 
-use dbg_base::limits::SEATS;
+use dbg_base::limits::{NAME_BYTES, SEATS};
 use dbg_base::{Name, Pid, Refusal};
 use proc_lang::Program;
 
@@ -111,24 +112,31 @@ fn are_word_bytes(bytes: &[u8]) -> bool
     bytes.iter().all(|b| is_word_byte(*b))
 }
 
-// A name: a letter, and then letters, digits and `_`, at most 32 bytes.
+// The bytes of a name: a letter, and then letters, digits and `_`, at most 32 bytes.
+pub(crate) fn name_bytes(word: &[u8]) -> Option<&[u8]>
+    ensures { option_map (λ name. name.now) result ≡ name_word word.now }
+{
+    let (first, others) = word.split_first()?;
+    if !is_letter(*first) || !are_word_bytes(others) || word.len() > NAME_BYTES {
+        return None;
+    }
+    Some(word)
+}
+
+// A name.
 pub(crate) fn name_word(word: &[u8]) -> Option<Name>
     ensures { result ≡ name_word word.now }
 {
-    let (first, others) = word.split_first()?;
-    if !is_letter(*first) || !are_word_bytes(others) {
-        return None;
-    }
-    Name::new(word)
+    Name::new(name_bytes(word)?)
 }
 
 // A process by its name.
 #[inline(always)]
-pub(crate) fn named_process(program: &Program, name: Name) -> Result<Pid, Refusal>
-    ensures place { map_ok (λ pid. pid.0) result ≡ named_process (program_of program.now) name }
+pub(crate) fn named_process(program: &Program, name: &[u8]) -> Result<Pid, Refusal>
+    ensures place { map_ok (λ pid. pid.0) result ≡ named_process (program_of program.now) name.now }
     ensures known { IfOk result (λ pid. pid.0 < length (program_of program.now)) }
 {
-    match program.find_process(name) {
+    match program.find_process_by(name) {
         Some(pid) => Ok(pid),
         None => Err(Refusal::UnknownProcess),
     }
@@ -139,7 +147,7 @@ pub(crate) fn named_process(program: &Program, name: Name) -> Result<Pid, Refusa
 pub(crate) fn process_word(program: &Program, word: &[u8]) -> Result<Pid, Refusal>
     ensures { map_ok (λ pid. pid.0) result ≡ process_word (program_of program.now) (name_word word.now) }
 {
-    match name_word(word) {
+    match name_bytes(word) {
         Some(name) => named_process(program, name),
         None => Err(Refusal::BadLine),
     }
