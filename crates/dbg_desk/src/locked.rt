@@ -1,7 +1,7 @@
 //! The value under a session's lock.
 
-ghost use Rattle.std.specs.Prelude.{◌≡◌, ◌≤◌, ◌<◌, ◌-◌, [], length, replicate, slice_get, Some, IfOk, IfErr, IfSome, OnOk, MatchOption};
-ghost use Rattle.std.specs.Vec.{vec_capacity};
+ghost use Rattle.std.specs.Prelude.{◌≡◌, ◌≤◌, ◌<◌, ◌-◌, [], length, replicate, slice_get, Some};
+ghost use Rattle.std.specs.Prelude.{IfOk, IfErr, IfSome, OnOk, MatchOption};
 ghost use Rattle.dbg_base.specs.declared.refusal.Refusal.TheVariants.{Memory};
 ghost use Rattle.dbg_base.specs.declared.limits.TheConstants.{SEATS};
 ghost use Rattle.dbg_base.specs.Calls as model;
@@ -15,10 +15,11 @@ ghost use Rattle.dbg_command.specs.Boxes.{IsScanFor};
 ghost use Rattle.dbg_board.specs.Boards.{listing};
 ghost use Rattle.std.specs.List.{AllByRecursion};
 ghost use Rattle.dbg_desk.specs.Desks.{entry_of, ArePairs, Notes, new_seats, last_said, said_noted};
-ghost use Rattle.dbg_desk.specs.Reserved.{IsUnready};
 ghost use Rattle.dbg_desk.specs.Settling.{IsKeptIn, IsRunJournal, HasOther};
 
-use crate::copies::{outcome_again, outcome_of, ran_out, said_to_command, said_to_query};
+mod returning;
+
+use crate::copies::{ran_out, said_to_command, said_to_query};
 use crate::entry::{Entry, RecordedCall};
 use crate::log::CallLog;
 use crate::rooms::Reserved;
@@ -257,8 +258,10 @@ impl<L: Run, C: Command> Locked<L, C> {
         requires answers { (M : ModelState) → LeadsTo L.program (effective self.old.journal) M
             → AnswersOrRefuses L.program M (query_of query) answered }
         requires fits { FitsCall L.program (model.Ask (query_of query)) (reported_of answered) }
-        ensures makes { Makes L.program self.old.journal seat.old.number (model.Ask (query_of query)) (said_noted result self.new.journal) self.new.journal }
-        ensures notes { Notes L.program self.old seat.old (model.Ask (query_of query)) (said_noted result self.new.journal) self.new seat.new }
+        ensures makes { Makes L.program self.old.journal seat.old.number (model.Ask (query_of query))
+            (said_noted result self.new.journal) self.new.journal }
+        ensures notes { Notes L.program self.old seat.old (model.Ask (query_of query)) (said_noted result self.new.journal) self.new
+            seat.new }
         ensures fits { FitsCall L.program (model.Ask (query_of query)) (said_noted result self.new.journal) }
         ensures enters { OnOk result (Enters L.program self.old.journal seat.old.number (model.Ask (query_of query))
             (last_said self.new.journal) self.new.journal) }
@@ -289,82 +292,16 @@ impl<L: Run, C: Command> Locked<L, C> {
         seat: &mut Seat<L>,
         query: Query,
     ) -> Result<(), Refusal>
-        ensures makes { Makes L.program self.old.journal seat.old.number (model.Ask (query_of query)) (said_noted result self.new.journal) self.new.journal }
-        ensures notes { Notes L.program self.old seat.old (model.Ask (query_of query)) (said_noted result self.new.journal) self.new seat.new }
+        ensures makes { Makes L.program self.old.journal seat.old.number (model.Ask (query_of query))
+            (said_noted result self.new.journal) self.new.journal }
+        ensures notes { Notes L.program self.old seat.old (model.Ask (query_of query)) (said_noted result self.new.journal) self.new
+            seat.new }
         ensures fits { FitsCall L.program (model.Ask (query_of query)) (said_noted result self.new.journal) }
         ensures enters { OnOk result (Enters L.program self.old.journal seat.old.number (model.Ask (query_of query))
             (last_said self.new.journal) self.new.journal) }
     {
         let answered = self.session.ask(alloc, &query);
         self.log_answer(alloc, seat, query, answered)
-    }
-
-    // Memory for a place of each process, in a reply. Error: as for a call that is not entered.
-    fn reply_room(&self) -> Result<Vec<u32>, Refusal>
-        ensures empty { IfOk result (λ room. room.items ≡ []) }
-        ensures room { IfOk result (λ room. length L.program ≤ vec_capacity room) }
-        ensures refuses { IfErr result (IsUnready (length self.now.journal)) }
-    {
-        if self.calls() >= CALLS {
-            return Err(Refusal::JournalFull);
-        }
-        let places = self.program().processes() as usize;
-        Ok(Vec::with_capacity(*self.log.journal.allocator(), places)?)
-    }
-
-    /// As `log_command`, and returns the answer.
-    pub fn enter(
-        &mut self,
-        alloc: Global,
-        seat: &mut Seat<L>,
-        command: C,
-        scan: Option<Scan>,
-    ) -> Result<Reply, Refusal>
-        requires fresh { C.IsFresh command }
-        requires scan { IfSome scan (λ scan. (M : ModelState) → LeadsTo L.program (effective self.old.journal) M
-            → IsScanFor (C.order command) L.program M scan) }
-        ensures makes { Makes L.program self.old.journal seat.old.number (model.Give (C.order command)) (said_of result)
-            self.new.journal }
-        ensures notes { Notes L.program self.old seat.old (model.Give (C.order command)) (said_of result) self.new seat.new }
-        ensures fits { FitsCall L.program (model.Give (C.order command)) (said_of result) }
-    {
-        let room = self.reply_room()?;
-        self.log_command(alloc, seat, command, scan)?;
-        outcome_of(&self.last_entry().said, room)
-    }
-
-    /// As `log_back`, and returns the answer.
-    pub fn enter_back(&mut self, seat: &mut Seat<L>) -> Result<Reply, Refusal>
-        ensures makes { Makes L.program self.old.journal seat.old.number model.Back (said_of result) self.new.journal }
-        ensures notes { Notes L.program self.old seat.old model.Back (said_of result) self.new seat.new }
-        ensures fits { FitsCall L.program model.Back (said_of result) }
-    {
-        let room = self.reply_room()?;
-        self.log_back(seat)?;
-        outcome_of(&self.last_entry().said, room)
-    }
-
-    /// As `log_query`, and returns the answer.
-    pub fn enter_ask(
-        &mut self,
-        alloc: Global,
-        seat: &mut Seat<L>,
-        query: Query,
-    ) -> Result<Answer, Refusal>
-        ensures makes { Makes L.program self.old.journal seat.old.number (model.Ask (query_of query)) (reported_of result) self.new.journal }
-        ensures notes { Notes L.program self.old seat.old (model.Ask (query_of query)) (reported_of result) self.new seat.new }
-        ensures fits { FitsCall L.program (model.Ask (query_of query)) (reported_of result) }
-    {
-        let answered = self.session.ask(alloc, &query);
-        match outcome_again(&answered) {
-            Ok(again) => {
-                self.log_answer(alloc, seat, query, answered)?;
-                again
-            }
-            // A full journal is reported also if memory ran out.
-            Err(_) if self.calls() >= CALLS => Err(Refusal::JournalFull),
-            Err(refusal) => Err(refusal),
-        }
     }
 
     // The scan of the command's conjuncts in the present state, made by several threads.
