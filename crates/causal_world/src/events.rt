@@ -46,10 +46,9 @@ pub(crate) fn happen(envs: &mut Vec<Env>, grid: &mut Grid, past: &mut Past, pid:
     ensures appended { IsAppended past.old pid.0 event past.new }
     ensures ways { (i j : ℕ) → room_at grid.old.room i j ≤ room_at grid.new.room i j + puts_after pid.0 event.exchange i j }
 {
-    past.push(pid, event);
-    let event = past.last(pid).unwrap();
     event.redo(&mut envs[pid.0 as usize]);
     go_after(grid, pid, event.exchange());
+    past.push(pid, event);
 }
 
 /// Undoes the event of the process, which was its last.

@@ -165,8 +165,7 @@ impl Past {
         requires room { HasRoomFor self.old pid.0 1 }
         requires few { length (slice_index_or self.old.kinds pid.0 []) < EVENTS }
         requires whole { IsWhole (with_kind self.old.kinds pid.0 (kind_done event.exchange)) }
-        ensures appended { IsAppended self.old pid.0 event self.new }
-        ensures last { last_of self.new.events pid.0 ≡ Some event }
+        ensures { IsAppended self.old pid.0 event self.new }
     {
         self.rows.push(pid, event);
         let kind = last_kind(&self.rows, pid);

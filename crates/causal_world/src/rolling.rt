@@ -21,7 +21,7 @@ use crate::past::Past;
 use crate::rolled::Taken;
 use cut_core::Tally;
 use dbg_base::{Pid, Refusal, count_of};
-use event_rows::{Event, Exchange};
+use event_rows::Exchange;
 use fifo_grid::Grid;
 use local_eval::Env;
 use std::alloc::AllocError;
@@ -86,16 +86,18 @@ pub(crate) fn last_exchange(grid: &Grid, past: &Past, pid: Pid) -> Result<Exchan
 }
 
 /// Undoes the last event of the process, which may be undone. The caller changes lines and places.
-pub(crate) fn take_back(envs: &mut Vec<Env>, grid: &mut Grid, past: &mut Past, pid: Pid) -> Event
+pub(crate) fn take_back(envs: &mut Vec<Env>, grid: &mut Grid, past: &mut Past, pid: Pid) -> Taken
     requires { CanTakeFrom envs.old.items grid.old past.old pid.0 }
-    ensures was { last_of past.old.events pid.0 ≡ Some result }
+    ensures of { result.pid ≡ pid }
+    ensures was { last_of past.old.events pid.0 ≡ Some result.event }
     ensures left { (state : SystemState) → scene (after_undo state pid.0) envs.new.items grid.new.channels past.new
-        ≡ unmade (scene state envs.old.items grid.old.channels past.old) pid.0 result }
-    ensures ways { (i j : ℕ) → room_at grid.old.room i j ≤ room_at grid.new.room i j + puts_before pid.0 result.exchange i j }
+        ≡ unmade (scene state envs.old.items grid.old.channels past.old) pid.0 result.event }
+    ensures ways { (i j : ℕ) → room_at grid.old.room i j ≤ room_at grid.new.room i j + puts_before pid.0 result.event.exchange i j }
 {
     let event = past.pop(pid).unwrap();
-    revert(envs, grid, pid, &event);
-    event
+    let taken = Taken { pid, event };
+    revert(envs, grid, pid, &taken.event);
+    taken
 }
 
 // Whether the process has events beyond the cut, and its last event may be undone.
@@ -142,6 +144,18 @@ fn next_back(
     None
 }
 
+// The process that is most likely next after the last of these events, which was of this process: the sender of the message that returned,
+// or the process itself.
+fn likely_next(taken: &[Taken], pid: Pid) -> Pid {
+    match taken {
+        [.., last] => match last.event.exchange() {
+            Exchange::Took { source, .. } => source,
+            _ => pid,
+        },
+        [] => pid,
+    }
+}
+
 /// Undoes all events beyond the cut, and notes them in that order.
 pub(crate) fn roll_back(
     lines: &mut ChoiceLines,
@@ -163,13 +177,8 @@ pub(crate) fn roll_back(
 {
     let mut first = Pid(0);
     while let Some(pid) = next_back(lines, envs.as_slice(), grid, past, cut, first) {
-        let event = take_back(envs, grid, past, pid);
+        taken.push_reserved(take_back(envs, grid, past, pid));
         lines.retreat(pid);
-        // Most likely the sender of a returned message is next.
-        first = match event.exchange() {
-            Exchange::Took { source, .. } => source,
-            _ => pid,
-        };
-        taken.push_reserved(Taken { pid, event });
+        first = likely_next(taken.as_slice(), pid);
     }
 }

@@ -16,7 +16,7 @@ use crate::rolled::{Cutoff, Rolled, Taken};
 use crate::rolling::{beyond, last_exchange, make_room_back, roll_back, take_back};
 use crate::world::World;
 use dbg_base::{Cut, Pid, Refusal};
-use event_rows::{Event, Exchange};
+use event_rows::Exchange;
 use std::alloc::Global;
 
 impl World {
@@ -38,17 +38,18 @@ impl World {
     }
 
     // Removes the last event of the process, if it may be undone. If an allocation fails, nothing changes.
-    fn pop_event(&mut self, pid: Pid) -> Result<Event, Refusal>
-        ensures took { IfOk result (λ event. TakesOut self.old pid.0 event self.new) }
+    fn pop_event(&mut self, pid: Pid) -> Result<Taken, Refusal>
+        ensures of { IfOk result (λ taken. taken.pid ≡ pid) }
+        ensures took { IfOk result (λ taken. TakesOut self.old pid.0 taken.event self.new) }
         ensures refuses { IfErr result (λ refusal.
             ((P : tree.Program) → IsWorldOf P self.old → CannotUndo P self.old.state pid.0 refusal) ⊎ (refusal ≡ Memory)) }
         ensures kept { OnErr result (self.new ≡ self.old) }
     {
         let exchange = self.undoable(pid)?;
         make_room_before(&mut self.grid, pid, exchange)?;
-        let event = take_back(&mut self.envs, &mut self.grid, &mut self.past, pid);
+        let taken = take_back(&mut self.envs, &mut self.grid, &mut self.past, pid);
         self.lines.retreat(pid);
-        Ok(event)
+        Ok(taken)
     }
 
     /// Undoes the last event of the process. Its variables get their old values. A message that it sent leaves the tail of its channel, and
@@ -63,10 +64,10 @@ impl World {
             ((P : tree.Program) → IsWorldOf P self.old → CannotUndo P self.old.state pid.0 refusal) ⊎ (refusal ≡ Memory)) }
         ensures kept { OnErr result (self.new ≡ self.old) }
     {
-        let event = self.pop_event(pid)?;
+        let last = self.pop_event(pid)?;
         Ok(Rolled {
             taken: Vec::new(alloc),
-            last: Some(Taken { pid, event }),
+            last: Some(last),
         })
     }
 
@@ -79,7 +80,7 @@ impl World {
         ensures kept { OnErr result (self.new ≡ self.old) }
     {
         match self.pop_event(pid) {
-            Ok(_event) => Ok(()),
+            Ok(_taken) => Ok(()),
             Err(refusal) => Err(refusal),
         }
     }

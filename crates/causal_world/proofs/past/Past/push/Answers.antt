@@ -42,9 +42,9 @@ invariant_of-self c =
     let at = goal.at.invariant_of-self c in
     after at.After-note (is_kind at.After-last_kind-kind)
 
-pub returns-clause-appended : goal.returns-clause-appended
-returns-clause-appended c =
-    let at = goal.at.returns-clause-appended c in
+pub returns : goal.returns
+returns c =
+    let at = goal.at.returns c in
     let same = is_kind at.After-last_kind-kind in
     record {
       starts = search rules;
@@ -54,11 +54,3 @@ returns-clause-appended c =
       own = grind (arith, common_steps);
       others = search rules;
     }
-
-pub returns-clause-last : goal.returns-clause-last
-returns-clause-last c =
-    let inside = c.self.inside in
-    let p = c.args.pid.0 in
-    ap (λ (events : List (List EventValue)). last_of events p) c.push.ensures.events
-    ∙ pushed_last inside.rows.events inside.tally.kinds inside.clocks.rows p c.args.event (rw (← c.self.view_is) at c.requires.here)
-    c.self.invariant

@@ -32,7 +32,7 @@ back : (c : After-drop-cutoff-inside) → (P : Program) (s : IsStepped P c.args.
 back c P s =
     let inside = c.self.inside in
     let p = c.args.pid.0 in
-    let event = c.take_back.result in
+    let event = c.take_back.result.event in
     let now : List (List (List ℤ)) → Scene = λ channels. scene inside.lines inside.envs.items channels inside.past in
     let same : now c.make_room_before.new.grid.channels ≡ c.args.self.now = ap now c.in-Ok-make_room_before.ensures.kept ∙ c.self.view_is in
     let was : last_event c.args.self.now p ≡ Some event =
