@@ -1,13 +1,13 @@
 -- What is kept of a command undoes it: from the state to which it led, to the state in which it was given.
-use Rattle.std.proofs.Common.{◌≡◌, ℕ, ◌<◌, ◌≤◌, Bool, true, false, List, [], ◌∷◌, ◌++◌, length, insert, Option, Some, None}
-use Rattle.std.proofs.Common.{refl, sym, ap, ◌∙◌, subst, arith}
+use Rattle.std.proofs.Common.{◌≡◌, ℕ, zero, suc, ◌+◌, ◌-◌, ◌<◌, ◌≤◌, Bool, true, false, List, [], ◌∷◌, ◌++◌, length, get_or, set, insert}
+use Rattle.std.proofs.Common.{Option, Some, None, refl, sym, ap, ◌∙◌, subst, arith}
 use Rattle.std.specs.Prelude.{slice_get, Result, Ok, Err, OnOk, IfSome}
 use Rattle.dbg_base.specs.declared.refusal.Refusal.{Refusal}
-use Rattle.std.proofs.lemmas.List.{length-map}
+use Rattle.std.proofs.lemmas.List.{length-map, set-set, set-get_or, get_or-set_same}
 use Rattle.dbg_base.specs.declared.limits.TheConstants.{BREAKPOINTS}
 use Rattle.dbg_base.specs.Trees.{Program}
 use Rattle.dbg_base.specs.SystemStates.{SystemState, line_of, place_at, redo_line, after_choice, after_redo, after_undo}
-use Rattle.dbg_base.specs.SystemStates.{after_rollback}
+use Rattle.dbg_base.specs.SystemStates.{after_rollback, choice_before, last_choice, IsStateOf}
 use Rattle.dbg_base.specs.Predicates.{Conjunct}
 use Rattle.dbg_base.specs.Breakpoints.{Breakpoint, named, without, with_mark}
 use Rattle.dbg_base.specs.ModelStates.{ModelState}
@@ -21,8 +21,8 @@ use Rattle.least_cut.specs.Watches.{TruthLine, scan_of}
 use Rattle.least_cut.specs.Detectors.{IsDetectorOf}
 use Rattle.break_book.specs.Books.{Kept, Entry, breakpoint_of, breakpoints_of, AreDetectorsOf}
 use Rattle.dbg_command.specs.Tables.{TableState, IsTableOf, state_of}
-use Rattle.dbg_command.specs.Boxes.{LeadsBack, HasStepped, HasRedone, HasRolled, HasNamed, HasUnarmed, HasCleared, IsScanFor}
-use Rattle.dbg_command.specs.Boxes.{unstepped, unredone, unrolled, unset, marked, uncleared}
+use Rattle.dbg_command.specs.Boxes.{LeadsBack, HasStepped, HasRedone, HasRolled, HasUndone, HasNamed, HasUnarmed, HasCleared, IsScanFor}
+use Rattle.dbg_command.specs.Boxes.{unstepped, unredone, unrolled, remade, unset, marked, uncleared}
 use Rattle.break_book.proofs.BookUndoLemmas.{detector_taken, breakpoints_inserted}
 use Rattle.dbg_command.proofs.BreakpointListLemmas.{set_named, set_without, marked_named, marked_back}
 
@@ -57,6 +57,24 @@ pub redo_undone : (P : Program) (before : Scene) (M : SystemState) (p : ℕ) →
     → M ≡ after_redo before.state p → after_undo M p ≡ before.state
 redo_undone P before M p of here state =
     ap (λ (N : SystemState). after_undo N p) state ∙ place_back before.state p (omega (arith, here, of.state.places))
+
+-- a process with a last choice has a place beyond the start
+has_event : (n k : ℕ) (line : List ℕ) → choice_before n line ≡ Some k → 0 < n
+has_event zero k line was = cc
+has_event (suc n) k line was = omega arith
+
+-- a place that moved back is as before
+undo_undone : (P : Program) (before : Scene) (M : SystemState) (p k : ℕ) → IsWorldOf P before → p < length P
+    → last_choice before.state p ≡ Some k → M ≡ after_undo before.state p → after_redo M p ≡ before.state
+undo_undone P before M p k of here was state =
+    let n = place_at before.state p in
+    let places = before.state.places in
+    let some = has_event n k (line_of before.state p) was in
+    let lower : get_or (set places p (n - 1)) p 0 ≡ n - 1 = get_or-set_same places p (n - 1) 0 (omega (arith, here, of.state.places)) in
+    let back : get_or (set places p (n - 1)) p 0 + 1 ≡ n = omega (arith, lower, some) in
+    let same : set (set places p (n - 1)) p (get_or (set places p (n - 1)) p 0 + 1) ≡ places =
+    set-set places p (n - 1) (get_or (set places p (n - 1)) p 0 + 1) ∙ ap (set places p) back ∙ set-get_or places p 0 in
+    ap (λ (N : SystemState). after_redo N p) state ∙ (λ i. record { lines = before.state.lines; places = same i })
 
 module _ (P : Program) (old new : TableState) (of : IsWorldOf P old.world) (same : breakpoints_of new.book ≡ breakpoints_of old.book) where
   pub stepped : (p k : ℕ) (cutoff : List ℕ) → p < length P → new.world.state ≡ after_choice old.world.state p k
@@ -94,6 +112,26 @@ module _ (P : Program) (old new : TableState) (of : IsWorldOf P old.world) (same
         leads = λ i. record { system = back i; breakpoints = same i };
       }
 
+  pub undone : (p k : ℕ) (taken : List Taken) → p < length P → last_choice old.world.state p ≡ Some k → IsWorldOf P new.world
+      → IsRolledFrom P old.world taken new.world → new.world.state ≡ after_undo old.world.state p
+      → LeadsBack (HasUndone P p taken) (remade p) (state_of old) (state_of new)
+  undone p k taken here was now from state =
+      let back = undo_undone P old.world new.world.state p k of here was state in
+      record {
+        may = record {
+          here = here;
+          rolled = record {
+            before = old.world;
+            now = new.world;
+            of = now;
+            from = from;
+            state = refl;
+            was = sym back;
+          };
+        };
+        leads = λ i. record { system = back i; breakpoints = same i };
+      }
+
 -- What the inverses of a world require.
 
 abbrev pub is_stepped : (P : Program) (t : TableState) (p : ℕ) (cutoff : List ℕ) → IsTableOf P t → HasStepped P p cutoff (state_of t)
@@ -126,6 +164,18 @@ is_rolled P w breakpoints taken places of has = record {
   before = has.before;
   from = subst (IsRolledFrom P has.before taken) (same_world P has.now w has.of of has.state) has.from;
 }
+
+-- an event that was undone can be made again: it is on the line
+pub undone_more : (P : Program) (M : ModelState) (p : ℕ) (taken : List Taken) → IsStateOf P M.system → HasUndone P p taken M
+    → place_at M.system p < length (line_of M.system p)
+undone_more P M p taken is has =
+    let was = has.rolled.was in
+    let here = has.here in
+    let within : place_at (after_redo M.system p) p ≤ length (line_of M.system p) =
+    subst (λ (N : SystemState). place_at N p ≤ length (line_of N p)) was (has.rolled.from.of.state.within p) in
+    let higher : get_or (set M.system.places p (place_at M.system p + 1)) p 0 ≡ place_at M.system p + 1 =
+    get_or-set_same M.system.places p (place_at M.system p + 1) 0 (omega (arith, here, is.places)) in
+    omega (arith, within, higher)
 
 -- Breakpoints that were changed.
 module _ (system : SystemState) (old new : List Breakpoint) (name : List ℕ) where

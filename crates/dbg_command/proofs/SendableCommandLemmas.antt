@@ -14,6 +14,7 @@ use Rattle.dbg_base.proofs.ids.Cut.TheSendSync as cut_sent
 use Rattle.dbg_base.proofs.name.Name.TheSendSync as name_sent
 use Rattle.dbg_base.proofs.elimination.Elimination.TheSendSync as elimination_sent
 use Rattle.dbg_base.proofs.sequence.Sequence.TheSendSync as sequence_sent
+use Rattle.causal_world.proofs.rolled.Rolled.TheSendSync as rolled_sent
 use Rattle.causal_world.proofs.world.World.TheSendSync as world_sent
 use Rattle.least_cut.proofs.scan.Truths.TheSendSync as truths_sent
 use Rattle.dbg_command.proofs.undoing.TakenBack.TheSendSync as taken_sent
@@ -56,7 +57,7 @@ plan_send =
     ) depth 20
 
 pub undo_send : IsSend undo.the_row
-undo_send = declared_send undo.the_type (plan_send, (pid_sent.the_send, (option_sent.the_send _ taken_sent.the_send, tt)))
+undo_send = declared_send undo.the_type (plan_send, (pid_sent.the_send, (option_sent.the_send _ rolled_sent.the_send, tt)))
 
 watch_fields : IsSend watch_inside.the_row
 watch_fields = declared_send watch_inside.the_type (truths_sent.the_send, (expr_send, ((search (sendable, crosses) depth 20), tt)))

@@ -77,6 +77,18 @@ pub record HasRolled (P : Program) (taken : List Taken) (places : List ℕ) (M :
 abbrev pub unrolled : List ℕ → ModelState → ModelState
 unrolled places M = with_system M (after_rollback M.system places)
 
+-- the places before the last event of process p was undone
+abbrev pub places_before : ℕ → ModelState → List ℕ
+places_before p M = (after_redo M.system p).places
+
+-- Process p exists, and its last event was undone, which led to M.
+pub record HasUndone (P : Program) (p : ℕ) (taken : List Taken) (M : ModelState) : Type 0 where
+  pub here : p < length P
+  pub rolled : HasRolled P taken (places_before p M) M
+
+abbrev pub remade : ℕ → ModelState → ModelState
+remade p M = unrolled (places_before p M) M
+
 -- there is a breakpoint of this name
 abbrev pub HasNamed : List ℕ → ModelState → Type 0
 HasNamed name M = (b : Breakpoint) × (named name M.breakpoints ≡ Some b)

@@ -4,13 +4,13 @@ ghost use Rattle.std.specs.Prelude.{◌≡◌, false, true, IfErr, OnOk, OnErr};
 ghost use Rattle.dbg_base.specs.declared.refusal.Refusal.TheVariants.{Memory};
 ghost use Rattle.dbg_base.specs.Trees as tree;
 ghost use Rattle.dbg_command.specs.Tables.{IsTableOf, shown, state_of};
-ghost use Rattle.dbg_command.specs.Boxes.{HasStepped, HasRedone, HasRolled, HasNamed, HasUnarmed, HasCleared};
-ghost use Rattle.dbg_command.specs.Boxes.{unstepped, unredone, unrolled, unset, marked, uncleared};
+ghost use Rattle.dbg_command.specs.Boxes.{HasStepped, HasRedone, HasRolled, HasUndone, HasNamed, HasUnarmed, HasCleared};
+ghost use Rattle.dbg_command.specs.Boxes.{unstepped, unredone, unrolled, remade, unset, marked, uncleared};
 
 use crate::table::Table;
 use crate::undoing::TakenBack;
 use break_book::Breakpoint;
-use causal_world::Cutoff;
+use causal_world::{Cutoff, Rolled};
 use dbg_base::{Name, Pid, Refusal};
 
 impl Table {
@@ -53,6 +53,21 @@ impl Table {
         self.book.reserve_to(&self.world, &taken.places)?;
         self.world.forth(&mut taken.rolled)?;
         self.book.follow(&self.world);
+        Ok(())
+    }
+
+    // Makes the last event that was undone of this process again. If an allocation fails, it is still in `rolled`.
+    pub(crate) fn remake(&mut self, pid: Pid, rolled: &mut Rolled) -> Result<(), Refusal>
+        requires { (P : tree.Program) × IsTableOf P self.old × HasUndone P pid.0 rolled.old (state_of self.old) }
+        ensures of { (P : tree.Program) → IsTableOf P self.old → HasUndone P pid.0 rolled.old (state_of self.old) → IsTableOf P self.new }
+        ensures back { OnOk result (state_of self.new ≡ remade pid.0 (state_of self.old)) }
+        ensures refuses { IfErr result (λ refusal. refusal ≡ Memory) }
+        ensures kept { OnErr result (shown self.new ≡ shown self.old) }
+        ensures left { OnErr result (rolled.new ≡ rolled.old) }
+    {
+        self.book.reserve(&self.world, pid)?;
+        self.world.forth(rolled)?;
+        self.book.grow(pid, &self.world);
         Ok(())
     }
 

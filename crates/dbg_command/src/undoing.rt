@@ -6,7 +6,7 @@ ghost use Rattle.dbg_base.specs.Calls as model;
 ghost use Rattle.proc_lang.specs.Programs.{program_of};
 ghost use Rattle.cut_core.specs.ConsistentCuts.{IsConsistentCut};
 ghost use Rattle.dbg_command.specs.Tables.{IsTableOf, ActsOrRefuses, GoesBack, shown, state_of};
-ghost use Rattle.dbg_command.specs.Boxes.{LeadsBackBy, HasRolled, unrolled};
+ghost use Rattle.dbg_command.specs.Boxes.{LeadsBackBy, HasRolled, HasUndone, unrolled, remade};
 
 use crate::table::{Table, known};
 use causal_world::Rolled;
@@ -28,21 +28,20 @@ impl Table {
         alloc: Global,
         program: &Program,
         pid: Pid,
-        kept: &mut Option<TakenBack>,
+        kept: &mut Option<Rolled>,
     ) -> Result<Reply, Refusal>
         requires { IsTableOf (program_of program.now) self.old }
         ensures of { IsTableOf (program_of program.now) self.new }
         ensures acts { ActsOrRefuses (program_of program.now) (model.Undo pid.0) (state_of self.old) result (state_of self.new) }
-        ensures leads { OnOk result (LeadsBackBy kept.new (λ taken. HasRolled (program_of program.now) taken.rolled taken.places)
-            (λ taken. unrolled taken.places) (state_of self.old) (state_of self.new)) }
+        ensures leads { OnOk result (LeadsBackBy kept.new (HasUndone (program_of program.now) pid.0) (λ rolled. remade pid.0)
+            (state_of self.old) (state_of self.new)) }
         ensures refused { OnErr result ((shown self.new ≡ shown self.old) × (kept.new ≡ kept.old)) }
     {
         known(program, pid)?;
         let choice = self.world.last(pid).ok_or(Refusal::NothingToUndo)?;
-        let places = self.world.places(alloc)?;
         let rolled = self.world.undo(alloc, pid)?;
         self.book.shrink(pid, &self.world);
-        *kept = Some(TakenBack { rolled, places });
+        *kept = Some(rolled);
         Ok(self.reply(Done::Undone(pid, choice)))
     }
 

@@ -3,11 +3,11 @@
 ghost use Rattle.std.specs.Prelude.{◌≡◌, None};
 ghost use Rattle.dbg_base.specs.declared.call.Plan.TheVariants as plans;
 ghost use Rattle.dbg_base.specs.Calls.{One, Undo};
-ghost use Rattle.dbg_command.specs.Boxes.{IfKept, undone_by, HasRolled, unrolled};
+ghost use Rattle.dbg_command.specs.Boxes.{IfKept, undone_by, HasUndone, remade};
 
 use crate::command::Command;
 use crate::table::Table;
-use crate::undoing::TakenBack;
+use causal_world::Rolled;
 use dbg_base::{Pid, Plan, Refusal, Reply};
 use least_cut::Scan;
 use proc_lang::Program;
@@ -18,7 +18,7 @@ use std::alloc::Global;
 pub struct UndoCmd {
     plan: Plan,
     pid: Pid,
-    taken: Option<TakenBack>,
+    taken: Option<Rolled>,
     ghost of: { plan ≡ plans.Undo pid },
 }
 
@@ -41,9 +41,9 @@ impl Command for UndoCmd {
 
     ghost IsFresh = { λ it. it.taken ≡ None };
 
-    ghost MayGoBack = { λ it P M. IfKept it.taken (λ taken. HasRolled P taken.rolled taken.places M) };
+    ghost MayGoBack = { λ it P M. IfKept it.taken (λ rolled. HasUndone P it.pid.0 rolled M) };
 
-    ghost before = { λ it. undone_by it.taken (λ taken. unrolled taken.places) };
+    ghost before = { λ it. undone_by it.taken (λ rolled. remade it.pid.0) };
 
     fn plan(&self) -> &Plan {
         &self.plan
@@ -64,9 +64,9 @@ impl Command for UndoCmd {
     }
 
     fn revert(&mut self, table: &mut Table) -> Result<(), Refusal> {
-        let Some(taken) = self.taken.as_mut() else {
+        let Some(rolled) = self.taken.as_mut() else {
             unreachable!()
         };
-        table.forth(taken)
+        table.remake(self.pid, rolled)
     }
 }

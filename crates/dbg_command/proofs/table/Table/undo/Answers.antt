@@ -4,12 +4,12 @@ use Rattle.dbg_base.specs.Trees.{Program}
 use Rattle.dbg_base.specs.Choices.{CannotUndo}
 use Rattle.dbg_base.specs.Calls as model
 use Rattle.causal_world.specs.Scenes.{Scene, IsWorldOf}
-use Rattle.dbg_base.specs.SystemStates.{SystemState, last_choice}
+use Rattle.dbg_base.specs.SystemStates.{last_choice}
 use Rattle.proc_lang.specs.Programs.{program_of}
 use Rattle.break_book.proofs.BookCallLemmas.{book_shrunk}
 use Rattle.dbg_command.specs.Tables.{TableState, IsTableOf, ActsOrRefuses, state_of}
 use Rattle.dbg_command.proofs.CommandAnswerLemmas.{taken_back, not_taken_back, system_changed}
-use Rattle.dbg_command.proofs.CommandUndoLemmas.{leads_from, rolled}
+use Rattle.dbg_command.proofs.CommandUndoLemmas.{leads_from, undone}
 use Rattle.dbg_command.proofs.table.Table.undo.Goals as goal
 
 pub shrink-requires : goal.shrink-requires
@@ -39,11 +39,13 @@ returns-clause-leads c =
     let own = subst (IsTableOf P) (sym c.self.view_is) c.requires in
     let before : TableState = record { world = c.self.inside.world; book = c.self.inside.book } in
     let after : TableState = record { world = c.undo.new.self; book = c.shrink.new.self } in
+    let chosen : c.ok_or.result ≡ Ok c.in_ok-choice.choice = c.in_ok-choice.was in
+    let was : last_choice c.self.inside.world.state c.args.pid.0 ≡ Some c.in_ok-choice.choice.0 = search (rules, chosen) in
     let did = c.in_ok-rolled.ensures in (
       (λ is. cc),
       leads_from _ _ (state_of before) (state_of after) (state_of c.args.self.now) (state_of after) (ap state_of c.self.view_is) refl
-          (rolled P before after own.world c.shrink.ensures.same c.in_ok-rolled.rolled c.in_ok-places.places (did.of P own.world)
-          (did.back P own.world) c.in_ok-places.ensures (ap (λ (M : SystemState). M.lines) did.moves)),
+          (undone P before after own.world c.shrink.ensures.same c.args.pid.0 c.in_ok-choice.choice.0 c.in_ok-rolled.rolled
+          c.in_ok-known.ensures.here was (did.of P own.world) (did.back P own.world) did.moves),
     )
 
 pub returns-in_err-rolled-clause-acts : goal.returns-in_err-rolled-clause-acts
