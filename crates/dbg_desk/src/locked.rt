@@ -202,16 +202,14 @@ impl<L: Run, C: Command> Locked<L, C> {
             share,
             view,
         } = seat;
-        log.make_room(own)?;
-        rooms.make(session.program())?;
+        log.make_ready(own, rooms, session.program())?;
         let given = GivenCall::new(alloc, command.plan())?;
         let outcome = session.perform(alloc, *number, command, scan);
         if ran_out(&outcome) {
             return Err(Refusal::Memory);
         }
-        let own_said = rooms.say(&outcome);
         let halt = session.halt_at();
-        log.enter_command(own, share, view, *number, given, outcome, own_said, halt);
+        log.enter_command(rooms, own, share, view, *number, given, outcome, halt);
         Ok(())
     }
 
@@ -235,8 +233,7 @@ impl<L: Run, C: Command> Locked<L, C> {
             share,
             view,
         } = seat;
-        log.make_room(own)?;
-        rooms.make(session.program())?;
+        log.make_ready(own, rooms, session.program())?;
         let taken = session.back(*number);
         if ran_out(&taken) {
             return Err(Refusal::Memory);

@@ -1,12 +1,14 @@
 //! The calls that were entered, with their count and the board that shows it.
 
-ghost use Rattle.std.specs.Prelude.{◌≡◌, ◌+◌, ◌<◌, ◌≤◌, ◌++◌, ◌∷◌, [], length, OnOk, IfErr};
+ghost use Rattle.std.specs.Prelude.{◌≡◌, ◌↔◌, ◌+◌, ◌<◌, ◌≤◌, ◌++◌, ◌∷◌, [], length, OnOk, IfOk, IfErr, IsSome, IsTrue};
 ghost use Rattle.std.specs.Vec.{vec_len, vec_capacity};
 ghost use Rattle.dbg_base.specs.declared.limits.TheConstants.{BREAKPOINTS, CALLS};
 ghost use Rattle.std.specs.Option.{option_map};
 ghost use Rattle.dbg_base.specs.Calls.{Call};
+ghost use Rattle.dbg_base.specs.Copies.{counts_in};
+ghost use Rattle.proc_lang.specs.Programs.{program_of};
 ghost use Rattle.dbg_command.specs.Tables.{said_of};
-ghost use Rattle.dbg_calls.specs.Small.{small_call_of, small_said_of, IsGiven};
+ghost use Rattle.dbg_calls.specs.Small.{small_call_of, IsGiven};
 ghost use Rattle.dbg_board.specs.Pairs.{Begins};
 ghost use Rattle.dbg_board.specs.Boards.{listing};
 ghost use Rattle.dbg_desk.specs.Desks.{IsLonger, IsOneMore};
@@ -14,11 +16,13 @@ ghost use Rattle.dbg_desk.specs.Reserved.{IsUnready};
 
 use crate::copies::said_to_command;
 use crate::entry::{Entry, RecordedCall};
+use crate::rooms::Reserved;
 use crate::run::Run;
 use dbg_base::limits::CALLS;
 use dbg_base::{Refusal, Reply};
 use dbg_board::{Publisher, SeatView};
-use dbg_calls::{GivenCall, SmallSaid};
+use dbg_calls::GivenCall;
+use proc_lang::Program;
 use std::sync::ledger::{Book, Share};
 
 /// The journal, the ledger's book that counts its entries, and the publisher that shows each. All three advance together.
@@ -69,33 +73,93 @@ impl<L: Run> CallLog<L> {
         Ok(())
     }
 
-    /// Enters a command with its outcome, as `enter` does. It is not inlined, so that the entry is put together in one place.
+    // Whether there is room for one more call already, in the journal and in a seat's own record.
+    #[inline(always)]
+    fn has_room(&self, own: &Vec<RecordedCall>) -> bool
+        ensures { IsTrue result ↔ ((vec_len self.now.journal < CALLS) × (vec_len self.now.journal < vec_capacity self.now.journal)
+            × (vec_len own.now < vec_capacity own.now)) }
+    {
+        let calls = self.journal.len();
+        calls < CALLS && calls < self.journal.capacity() && own.len() < own.capacity()
+    }
+
+    // As `make_ready`, if there is not yet room for all.
+    #[cold]
+    #[inline(never)]
+    fn prepare(
+        &mut self,
+        own: &mut Vec<RecordedCall>,
+        rooms: &mut Reserved,
+        program: &Program,
+    ) -> Result<(), Refusal>
+        ensures journal { self.new.journal.items ≡ self.old.journal.items }
+        ensures publisher { self.new.publisher ≡ self.old.publisher }
+        ensures own { own.new.items ≡ own.old.items }
+        ensures few { OnOk result (vec_len self.new.journal < CALLS) }
+        ensures room { OnOk result (vec_len self.new.journal < vec_capacity self.new.journal) }
+        ensures record_room { OnOk result (vec_len own.new < vec_capacity own.new) }
+        ensures places { OnOk result (length (program_of program.now) ≤ vec_capacity rooms.new.places) }
+        ensures apart { OnOk result (IsSome rooms.new.apart) }
+        ensures refuses { IfErr result (IsUnready (vec_len self.old.journal)) }
+    {
+        self.make_room(own)?;
+        rooms.make(program)
+    }
+
+    /// Makes room for one more call, as `make_room` does, and for the answer to a command. Error: as that of `make_room`. There is almost
+    /// always room already, so this is tested in the caller, and a function is called only if there is none.
+    #[inline(always)]
+    pub(crate) fn make_ready(
+        &mut self,
+        own: &mut Vec<RecordedCall>,
+        rooms: &mut Reserved,
+        program: &Program,
+    ) -> Result<(), Refusal>
+        ensures journal { self.new.journal.items ≡ self.old.journal.items }
+        ensures publisher { self.new.publisher ≡ self.old.publisher }
+        ensures own { own.new.items ≡ own.old.items }
+        ensures few { OnOk result (vec_len self.new.journal < CALLS) }
+        ensures room { OnOk result (vec_len self.new.journal < vec_capacity self.new.journal) }
+        ensures record_room { OnOk result (vec_len own.new < vec_capacity own.new) }
+        ensures places { OnOk result (length (program_of program.now) ≤ vec_capacity rooms.new.places) }
+        ensures apart { OnOk result (IsSome rooms.new.apart) }
+        ensures refuses { IfErr result (IsUnready (vec_len self.old.journal)) }
+    {
+        if self.has_room(own) && rooms.has_room(program) {
+            return Ok(());
+        }
+        self.prepare(own, rooms, program)
+    }
+
+    /// Enters a command with its outcome, as `enter` does. The record has the outcome in the reserved memory. It is not inlined, so that
+    /// the entry is put together in one place.
     #[inline(never)]
     pub(crate) fn enter_command(
         &mut self,
+        rooms: &mut Reserved,
         own: &mut Vec<RecordedCall>,
         share: &mut Share<L>,
         view: &mut SeatView,
         number: u32,
         given: GivenCall,
         outcome: Result<Reply, Refusal>,
-        own_said: SmallSaid,
         halt: u32,
     )
         requires room { (vec_len self.old.journal < CALLS) × (vec_len self.old.journal < vec_capacity self.old.journal)
-            × (vec_len own.old < vec_capacity own.old) }
+            × (vec_len own.old < vec_capacity own.old)
+            × IfOk outcome (λ reply. counts_in reply.done ≤ vec_capacity rooms.old.places) × IsSome rooms.old.apart }
         requires part { 0 < share.old.parts }
-        requires board { view.old.board ≡ L.board }
-        requires halt { halt ≤ BREAKPOINTS }
+        requires board { (view.old.board ≡ L.board) × (halt ≤ BREAKPOINTS) }
         requires given { (call : Call) × IsGiven call given.small (option_map (λ again. again.value) given.again) }
         ensures journal { IsLonger self.old.journal.items self.new.journal.items number (small_call_of given.small) (said_of outcome) }
-        ensures own { IsOneMore own.old.items own.new.items (small_call_of given.small) (small_said_of own_said) }
+        ensures own { IsOneMore own.old.items own.new.items (small_call_of given.small) (said_of outcome) }
         ensures counts { (share.new.parts ≡ share.old.parts) × (share.new.amount ≡ share.old.amount + 1)
             × (share.new.amount ≤ vec_len self.new.journal) }
         ensures pairs { self.new.publisher.pairs
             ≡ self.old.publisher.pairs ++ record { calls = vec_len self.new.journal; halt = halt } ∷ [] }
         ensures seen { (view.new ≡ self.new.publisher) × Begins view.old.pairs view.new.pairs }
     {
+        let own_said = rooms.say(&outcome);
         let GivenCall { small, again } = given;
         let entry = Entry::new(number, small.in_full(again), said_to_command(outcome));
         let kept = RecordedCall::new(small, own_said);

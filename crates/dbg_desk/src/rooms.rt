@@ -1,6 +1,6 @@
 //! Memory that is reserved for the answer to a command.
 
-ghost use Rattle.std.specs.Prelude.{◌≡◌, ◌≤◌, [], length, IfOk, IfErr, IfSome, IsSome, OnOk};
+ghost use Rattle.std.specs.Prelude.{◌≡◌, ◌↔◌, ◌≤◌, [], length, IfOk, IfErr, IfSome, IsSome, IsTrue, OnOk};
 ghost use Rattle.std.specs.Vec.{vec_capacity};
 ghost use Rattle.dbg_base.specs.declared.refusal.Refusal.TheVariants.{Memory};
 ghost use Rattle.dbg_base.specs.Copies.{counts_in};
@@ -67,6 +67,14 @@ impl Reserved {
             places: Vec::new(alloc),
             apart: None,
         }
+    }
+
+    /// Whether there is room for a place of each process, and for a box, already.
+    #[inline(always)]
+    pub(crate) fn has_room(&self, program: &Program) -> bool
+        ensures { IsTrue result ↔ ((length (program_of program.now) ≤ vec_capacity self.now.places) × IsSome self.now.apart) }
+    {
+        program.processes() as usize <= self.places.capacity() && self.apart.is_some()
     }
 
     /// Makes room for a place of each process, and for a box. Error: `Memory`, if an allocation fails.

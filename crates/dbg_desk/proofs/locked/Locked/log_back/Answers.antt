@@ -45,14 +45,14 @@ here g c =
     Back (said_of result) few due
     kept c.new-entry.ensures.seat (ap call_of c.new-entry.ensures.call)
     (c.new-entry.ensures.said ∙ c.said_to_command.ensures) c.enter.new.self.journal.items
-    (c.enter.ensures.journal ∙ ap (λ (l : List entry.Entry). l ++ kept ∷ []) c.make_room.ensures.journal)
+    (c.enter.ensures.journal ∙ ap (λ (l : List entry.Entry). l ++ kept ∷ []) c.make_ready.ensures.journal)
     after c.back-taken.ensures.program c.back-taken.ensures.effective c.back-taken.ensures.leads_to c.halt_at.result
     c.halt_at.ensures.place (vec_len c.enter.new.self.journal) long c.enter.new.self.publisher.pairs
-    (c.enter.ensures.pairs ∙ ap (λ (l : Listing). l.pairs ++ pair ∷ []) c.make_room.ensures.publisher)
+    (c.enter.ensures.pairs ∙ ap (λ (l : Listing). l.pairs ++ pair ∷ []) c.make_ready.ensures.publisher)
     c.seat.invariant.among c.args.self.now c.args.seat.now mine c.seat.inside.own.items c.enter.new.own.items c.seat.inside.view.pairs
     c.enter.new.view.pairs c.self.view_is c.seat.view_is
     (ap small_call_of c.new-kept.ensures.call) (ap small_said_of c.new-kept.ensures.said ∙ c.say.ensures)
-    (c.enter.ensures.own ∙ ap (λ (l : List own.RecordedCall). l ++ mine ∷ []) c.make_room.ensures.own)
+    (c.enter.ensures.own ∙ ap (λ (l : List own.RecordedCall). l ++ mine ∷ []) c.make_ready.ensures.own)
     (ap (λ (l : Listing). l.pairs) c.enter.ensures.seen.0)
     c.enter.ensures.seen.1
 

@@ -43,15 +43,15 @@ here g c =
     logged.last logged.of_seat
     (logged.of_call ∙ c.in_ok-given.ensures.gives.of ∙ ap (λ (o : Order). Give o) c.plan.ensures)
     logged.of_said c.enter_command.new.self.journal.items
-    (logged.pushed ∙ ap (λ (l : List entry.Entry). l ++ logged.last ∷ []) c.make_room.ensures.journal)
+    (logged.pushed ∙ ap (λ (l : List entry.Entry). l ++ logged.last ∷ []) c.make_ready.ensures.journal)
     after c.perform-outcome.ensures.program c.perform-outcome.ensures.effective c.perform-outcome.ensures.leads_to c.halt_at-halt.result
     c.halt_at-halt.ensures.place (vec_len c.enter_command.new.self.journal) long c.enter_command.new.self.publisher.pairs
-    (c.enter_command.ensures.pairs ∙ ap (λ (l : Listing). l.pairs ++ pair ∷ []) c.make_room.ensures.publisher)
+    (c.enter_command.ensures.pairs ∙ ap (λ (l : Listing). l.pairs ++ pair ∷ []) c.make_ready.ensures.publisher)
     c.seat.invariant.among c.args.self.now c.args.seat.now recorded.last c.seat.inside.own.items c.enter_command.new.own.items c.seat.inside.view.pairs
     c.enter_command.new.view.pairs c.self.view_is c.seat.view_is
     (recorded.of_call ∙ c.in_ok-given.ensures.gives.of ∙ ap (λ (o : Order). Give o) c.plan.ensures)
-    (recorded.of_said ∙ c.say-own_said.ensures)
-    (recorded.pushed ∙ ap (λ (l : List own.RecordedCall). l ++ recorded.last ∷ []) c.make_room.ensures.own)
+    recorded.of_said
+    (recorded.pushed ∙ ap (λ (l : List own.RecordedCall). l ++ recorded.last ∷ []) c.make_ready.ensures.own)
     (ap (λ (l : Listing). l.pairs) c.enter_command.ensures.seen.0)
     c.enter_command.ensures.seen.1
 

@@ -17,5 +17,5 @@ returns-clause-own g c = record {
   last = c.new-kept.result;
   pushed = c.enter.ensures.own;
   of_call = ap small_call_of c.new-kept.ensures.call;
-  of_said = ap small_said_of c.new-kept.ensures.said;
+  of_said = ap small_said_of c.new-kept.ensures.said ∙ c.say-own_said.ensures;
 }
