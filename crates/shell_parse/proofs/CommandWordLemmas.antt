@@ -1,5 +1,5 @@
 -- A single command, by its command word and the bytes after it.
-use Rattle.std.proofs.Common.{◌≡◌, ℕ, Bool, true, false, List, Result, Ok, refl, sym, ap, ◌∙◌, subst, inl, inr}
+use Rattle.std.proofs.Common.{◌≡◌, ℕ, Bool, true, false, List, Result, sym, ap, ◌∙◌, subst, inl, inr}
 use Rattle.std.specs.Prelude.{codes}
 use Rattle.std.specs.Bool.{MatchBool}
 use Rattle.std.specs.Str.{bytes_eq}
@@ -9,13 +9,7 @@ use Rattle.dbg_base.specs.declared.refusal.Refusal.{Refusal}
 use Rattle.dbg_base.specs.Calls.{call_of}
 use Rattle.dbg_base.specs.Trees.{Program}
 use Rattle.dbg_base.specs.CommandLines.{map_ok, call_of_words, words_of, next_word, after_word, sets_break}
-use Rattle.shell_parse.specs.Lines.{IsOneParsed, IsBreakParsed, IsCommandParsed, IsLineRead, seat_line}
-use Rattle.shell_parse.proofs.GivableBatchLemmas.{one_fits}
-use Rattle.shell_parse.specs.declared.command.PlanWord.TheVariants as plan
-use Rattle.shell_parse.specs.declared.command.QueryWord.TheVariants as query
-use Rattle.shell_parse.specs.declared.command.ProcessWord.{ProcessWord}
-use Rattle.shell_parse.specs.declared.command.ProcessWord.TheVariants as process
-use Rattle.shell_parse.specs.Words.{process_spelling, process_word_call}
+use Rattle.shell_parse.specs.Lines.{IsOneParsed, IsBreakParsed, IsCommandParsed}
 
 where_true : (A B : Type 0) (t : Bool) → t ≡ true → A → MatchBool t A B
 where_true A B true e a = a
@@ -52,32 +46,3 @@ module _ (P : Program) (bytes word rest : List ℕ) (result : Result call.Call R
       let none : bytes_eq (next_word bytes) (codes "batch") ≡ false = ap (λ (w : List ℕ). bytes_eq w (codes "batch")) first ∙ e in
       inl (where_false _ _ (bytes_eq (next_word bytes) (codes "batch")) none asks)
   by_one e (inr no_memory) = inr (inl no_memory.0, no_memory.1)
-
--- a command word about a process is another one than `break` and `batch`
-no_break : (word : ProcessWord) → bytes_eq (process_spelling word) (codes "break") ≡ false
-no_break (process.Plan plan.Next) = refl
-no_break (process.Plan plan.Undo) = refl
-no_break (process.Plan plan.Redo) = refl
-no_break (process.Query query.Vars) = refl
-no_break (process.Query query.Clock) = refl
-no_break (process.Query query.Place) = refl
-no_break (process.Query query.Can) = refl
-
-no_batch : (word : ProcessWord) → bytes_eq (process_spelling word) (codes "batch") ≡ false
-no_batch (process.Plan plan.Next) = refl
-no_batch (process.Plan plan.Undo) = refl
-no_batch (process.Plan plan.Redo) = refl
-no_batch (process.Query query.Vars) = refl
-no_batch (process.Query query.Clock) = refl
-no_batch (process.Query query.Place) = refl
-no_batch (process.Query query.Can) = refl
-
--- the line of a command about a process
-pub process_read : (P : Program) (seat : ℕ) (bytes rest : List ℕ) (word : ProcessWord) (p : ℕ) (made : call.Call)
-    → next_word bytes ≡ process_spelling word → after_word bytes ≡ rest
-    → call_of_words P (process_spelling word) (words_of rest) ≡ Ok (process_word_call word p) → call_of made ≡ process_word_call word p
-    → IsLineRead P seat bytes (seat_line seat (Ok made))
-process_read P seat bytes rest word p made first after asked is =
-    let same : map_ok call_of (Ok made) ≡ call_of_words P (process_spelling word) (words_of rest) = ap Ok is ∙ sym asked in
-    let one = by_words P bytes (process_spelling word) rest (Ok made) first after (no_break word) same in
-    (Ok made, refl, by_one P bytes (process_spelling word) rest (Ok made) first after (no_batch word) one, one_fits P bytes (Ok made) one)

@@ -1,6 +1,6 @@
 -- Parsed command lines of the code, in terms of the model.
 use Rattle.std.specs.Prelude.{◌≡◌, ◌⊎◌, ℕ, ◌≤◌, Bool, true, false, ◌==◌, ◌&&◌, not, nat_le, if◌then◌else◌, List, ◌∷◌, length, map}
-use Rattle.std.specs.Prelude.{Option, Some, None, is_some, Result, Ok, Err, IfOk, codes, Vec}
+use Rattle.std.specs.Prelude.{Option, Some, None, is_some, Result, Ok, Err, codes, Vec}
 use Rattle.std.specs.declared.alloc.Global.{Global}
 use Rattle.std.specs.Bool.{MatchBool}
 use Rattle.std.specs.List.{list_any, list_all, AllByRecursion}
@@ -25,10 +25,16 @@ use Rattle.dbg_base.specs.Requests.{TakesMemory, AsksOrRefuses}
 use Rattle.shell_parse.specs.declared.batch_line.Spot as spot
 use Rattle.shell_parse.specs.declared.batch_line.Spot.TheVariants as spots
 use Rattle.shell_parse.specs.declared.line.Line.{Line}
+use Rattle.shell_parse.specs.declared.line.ProcessLine.{ProcessLine}
+use Rattle.shell_parse.specs.Words.{process_word_call}
 
 -- the model's request for a line of the code
 abbrev pub requested : Line → Request
 requested line = record { seat = line.seat; call = call_of line.call }
+
+-- the request of a command line about a process
+abbrev pub process_request : ProcessLine → Request
+process_request line = record { seat = line.seat; call = process_word_call line.word line.process.0 }
 
 -- the line asks for this
 abbrev pub IsParsed : Program → List ℕ → Result (Option Line) Refusal → Type 0
@@ -57,11 +63,6 @@ IsGivable given = (batch : Vec plan.Plan Global) → given ≡ calls.Give (plans
 -- the line of a seat with this call, or why the call is refused
 abbrev pub seat_line : ℕ → Result call.Call Refusal → Result (Option Line) Refusal
 seat_line seat call = map_ok (λ made. Some (record { seat = seat; call = made })) call
-
--- the line is the seat's, with what the command asks for
-abbrev pub IsLineRead : Program → ℕ → List ℕ → Result (Option Line) Refusal → Type 0
-IsLineRead P seat bytes result =
-    (call : Result call.Call Refusal) × (result ≡ seat_line seat call) × IsCommandParsed P bytes call × IfOk call IsGivable
 
 -- the same for a single command
 abbrev pub IsOneParsed : Program → List ℕ → Result call.Call Refusal → Type 0

@@ -25,8 +25,8 @@ use proc_lang::Program;
 use std::alloc::Global;
 
 /// The word of a command that names a process.
-#[derive(Clone, Copy)]
-pub(crate) enum PlanWord {
+#[derive(Clone, Copy, Debug)]
+pub enum PlanWord {
     Next,
     Undo,
     Redo,
@@ -47,8 +47,8 @@ impl PlanWord {
 }
 
 /// The word of a query that names a process.
-#[derive(Clone, Copy)]
-pub(crate) enum QueryWord {
+#[derive(Clone, Copy, Debug)]
+pub enum QueryWord {
     Vars,
     Clock,
     Place,
@@ -71,8 +71,8 @@ impl QueryWord {
 }
 
 /// A command word about a process.
-#[derive(Clone, Copy)]
-pub(crate) enum ProcessWord {
+#[derive(Clone, Copy, Debug)]
+pub enum ProcessWord {
     Plan(PlanWord),
     Query(QueryWord),
 }
@@ -96,9 +96,9 @@ impl ProcessWord {
         }
     }
 
-    // The call of the word for this process.
+    /// The call of the word for this process.
     #[inline(always)]
-    fn call(self, process: Pid) -> Call
+    pub(crate) fn call(self, process: Pid) -> Call
         ensures { call_of result ≡ process_word_call self process.0 }
     {
         match self {

@@ -8,5 +8,6 @@ mod command;
 mod line;
 mod words;
 
-pub use line::{Line, parse_line, without_return};
+pub use command::{PlanWord, ProcessWord, QueryWord};
+pub use line::{Line, ProcessLine, parse_line, parse_process_line, without_return};
 pub use words::next_word;

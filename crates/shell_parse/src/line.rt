@@ -1,13 +1,12 @@
 //! Parses command lines into calls.
 
-ghost use Rattle.std.specs.Prelude.{◌≡◌, ◌<◌, ◌≤◌, ℕ, List, Ok, IfErr, IfOk, IfSome};
+ghost use Rattle.std.specs.Prelude.{◌≡◌, ◌<◌, ◌≤◌, Ok, Some, IfErr, IfOk, IfSome};
 ghost use Rattle.dbg_base.specs.declared.limits.TheConstants.{SEATS};
-ghost use Rattle.dbg_base.specs.CommandLines.{without_return, next_word, after_word};
+ghost use Rattle.dbg_base.specs.CommandLines.{without_return};
 ghost use Rattle.proc_lang.specs.Programs.{program_of};
-ghost use Rattle.shell_parse.specs.Lines.{seat_line, IsLineRead, IsParsed, IsLineRefusal, IsLineGivable};
+ghost use Rattle.shell_parse.specs.Lines.{seat_line, requested, process_request, IsParsed, IsGivable, IsLineRefusal, IsLineGivable};
 ghost use Rattle.shell_parse.specs.Words.{process_word_call};
-ghost use Rattle.dbg_base.specs.Calls.{call_of};
-ghost use Rattle.dbg_base.specs.declared.call.Call as call;
+ghost use Rattle.dbg_base.specs.Requests.{Asks, AsksCall};
 
 use crate::batch_line::parse_command;
 use crate::command::{ProcessWord, only_process};
@@ -22,6 +21,33 @@ use std::alloc::Global;
 pub struct Line {
     pub seat: u32,
     pub call: Call,
+}
+
+/// What a command line about a process asks for: its seat, its word and the process.
+#[derive(Clone, Copy, Debug)]
+pub struct ProcessLine {
+    pub seat: u32,
+    pub word: ProcessWord,
+    pub process: Pid,
+}
+
+impl ProcessLine {
+    /// The same with the call of the word. It does not allocate.
+    #[inline(always)]
+    pub fn line(self) -> Line
+        ensures asks { requested result ≡ process_request self }
+        ensures givable { IsGivable result.call }
+    {
+        let ProcessLine {
+            seat,
+            word,
+            process,
+        } = self;
+        Line {
+            seat,
+            call: word.call(process),
+        }
+    }
 }
 
 /// The line without the carriage return at its end, if it has one.
@@ -45,57 +71,35 @@ fn seat_line(seat: u32, call: Result<Call, Refusal>) -> Result<Option<Line>, Ref
     }
 }
 
-// The seat's line with a command about this process. It makes the line of a command and that of a query apart, which takes less time.
+// The command about a process that these bytes are, after the seat, or None if they are another command.
 #[inline(always)]
-fn process_line(seat: u32, word: ProcessWord, process: Pid) -> Result<Option<Line>, Refusal>
-    ensures { (made : call.Call) × (result ≡ seat_line seat (Ok made)) × (call_of made ≡ process_word_call word process.0) }
-{
-    match word {
-        ProcessWord::Plan(word) => {
-            let call = Call::Give(word.plan(process));
-            return Ok(Some(Line { seat, call }));
-        }
-        ProcessWord::Query(word) => {
-            let call = Call::Ask(word.query(process));
-            return Ok(Some(Line { seat, call }));
-        }
-    }
-}
-
-// Parses the line of any command.
-#[inline(never)]
-fn any_line(
-    alloc: Global,
-    program: &Program,
-    seat: u32,
-    word: &[u8],
-    rest: &[u8],
-) -> Result<Option<Line>, Refusal>
-    ensures { (bytes : List ℕ) → next_word bytes ≡ word.now → after_word bytes ≡ rest.now
-        → IsLineRead (program_of program.now) seat bytes result }
-{
-    seat_line(seat, parse_command(alloc, program, word, rest))
-}
-
-// Parses what a seat asks for, from the bytes after the seat.
-#[inline(always)]
-fn parse_asked(
-    alloc: Global,
-    program: &Program,
-    seat: u32,
-    bytes: &[u8],
-) -> Result<Option<Line>, Refusal>
-    ensures { IsLineRead (program_of program.now) seat bytes.now result }
+fn process_command(program: &Program, bytes: &[u8]) -> Option<(ProcessWord, Pid)>
+    ensures { IfSome result (λ found. AsksCall (program_of program.now) bytes.now (Ok (process_word_call found.0 found.1.0))) }
 {
     let (word, rest) = next_word(bytes);
-    // Most lines are of this kind.
-    if let Some(word) = ProcessWord::read(word) {
-        if let Some(process) = only_process(program, rest) {
-            return process_line(seat, word, process);
-        }
+    let word = ProcessWord::read(word)?;
+    let process = only_process(program, rest)?;
+    Some((word, process))
+}
+
+/// Parses a command line about a process, as most lines are. It gives what `parse_line` gives, in few bytes, or None for any other line. It
+/// does not allocate.
+pub fn parse_process_line(program: &Program, bytes: &[u8]) -> Option<ProcessLine>
+    ensures asks { IfSome result (λ line. Asks (program_of program.now) bytes.now (Ok (Some (process_request line)))) }
+    ensures seat { IfSome result (λ line. (0 < line.seat) × (line.seat ≤ SEATS)) }
+{
+    let (seat, command) = next_word(without_return(bytes));
+    let seat = seat_word(seat)?;
+    let (word, process) = process_command(program, command)?;
+    if bytes.len() <= LINE_BYTES {
+        Some(ProcessLine {
+            seat,
+            word,
+            process,
+        })
+    } else {
+        None
     }
-    let line = any_line(alloc, program, seat, word, rest);
-    line
 }
 
 /// Parses a command line into a seat and its call, or None for a blank line. The bytes are the line without its line end, and may have a
@@ -117,5 +121,6 @@ pub fn parse_line(alloc: Global, program: &Program, bytes: &[u8]) -> Result<Opti
     let Some(seat) = seat_word(seat) else {
         return Err(Refusal::BadLine);
     };
-    parse_asked(alloc, program, seat, rest)
+    let (word, rest) = next_word(rest);
+    seat_line(seat, parse_command(alloc, program, word, rest))
 }

@@ -1,12 +1,13 @@
 //! One line of a session.
 
-ghost use Rattle.std.specs.Prelude.{◌≡◌, ◌≤◌, ◌++◌, not, length, codes, IfOk, IfErr};
+ghost use Rattle.std.specs.Prelude.{◌≡◌, ◌<◌, ◌≤◌, ◌++◌, ℕ, List, Ok, Some, not, length, codes, IfOk, IfErr};
 ghost use Rattle.std.specs.Vec.{vec_capacity};
-ghost use Rattle.dbg_base.specs.declared.limits.TheConstants.{LINE_BYTES};
+ghost use Rattle.dbg_base.specs.declared.limits.TheConstants.{LINE_BYTES, SEATS};
 ghost use Rattle.dbg_base.specs.Journals.{IsLegal, Entry};
 ghost use Rattle.dbg_base.specs.Fits.{FitsRefusal};
 ghost use Rattle.dbg_base.specs.Replies.{reply_text, refusal_text};
 ghost use Rattle.dbg_base.specs.Shell.{as_line};
+ghost use Rattle.shell_parse.specs.Lines.{IsParsed, IsGivable};
 ghost use Rattle.shell_print.specs.declared.outcome.ServeFault.TheVariants.{Write};
 ghost use Rattle.shell_serve.specs.declared.line.TheConstants.{ROOM};
 ghost use Rattle.shell_serve.specs.Answering.{IsMaker, AreAllSeats, IsLast, HasLast};
@@ -19,7 +20,7 @@ use dbg_base::{Refusal, Said};
 use dbg_command::{Command, Givable};
 use dbg_desk::{Locked, Run, Seat};
 use shell_io::Sink;
-use shell_parse::parse_line;
+use shell_parse::{Line, parse_line, parse_process_line};
 use shell_print::{ServeFault, hand_on, print_refusal, print_reply};
 use std::alloc::{AllocError, Global};
 
@@ -90,6 +91,43 @@ fn tell_left_out<L: Run, C: Command, T: Observer<R>, R, W: Sink>(
     observer.explain_call(alloc, locked.view(), &Said::Refused(refusal), writer)
 }
 
+// Makes the call that a command line asks for. The reply is flushed before it is explained.
+#[inline(always)]
+fn answer_call<
+    L: Run,
+    C: Command,
+    M: Fn(Givable) -> Result<C, Refusal>,
+    T: Observer<R>,
+    R,
+    W: Sink,
+>(
+    alloc: Global,
+    make: &M,
+    observer: &mut T,
+    locked: &mut Locked<L, C>,
+    seats: &mut [Seat<L>],
+    asked: Line,
+    writer: &mut W,
+) -> Result<(), ServeFault>
+    requires makes { (M.IsAlwaysCallable make.now) × IsMaker (M.post make.now) C.IsFresh C.order }
+    requires seats { AreAllSeats seats.old }
+    requires quiet { MayBeQuiet T.manner }
+    requires seat { (0 < asked.seat) × (asked.seat ≤ SEATS) }
+    requires givable { IsGivable asked.call }
+    ensures seats { AreAllSeats seats.new }
+    ensures answers { (line : List ℕ) → IsParsed L.program line (Ok (Some asked))
+        → WritesReply T.manner L.program line locked.old.journal (W.seen writer.old) result (W.seen writer.new) locked.new.journal }
+{
+    let Line { seat, call } = asked;
+    let seat = &mut seats[seat as usize - 1];
+    observer.prepare(alloc, locked.view(), &call);
+    let entered = answer(locked, alloc, make, seat, call);
+    match entered {
+        Ok(()) => tell_entered(alloc, observer, locked, writer),
+        Err(refusal) => tell_left_out(alloc, observer, locked, refusal, writer),
+    }
+}
+
 // Answers a command line, which has its seat. The reply is flushed before it is explained.
 fn answer_command<
     L: Run,
@@ -114,16 +152,12 @@ fn answer_command<
     ensures answers { WritesReply T.manner L.program line.now locked.old.journal (W.seen writer.old) result (W.seen writer.new)
         locked.new.journal }
 {
+    // Most lines are of this kind.
+    if let Some(short) = parse_process_line(locked.program(), line) {
+        return answer_call(alloc, make, observer, locked, seats, short.line(), writer);
+    }
     match parse_line(alloc, locked.program(), line) {
-        Ok(Some(line)) => {
-            let seat = &mut seats[line.seat as usize - 1];
-            observer.prepare(alloc, locked.view(), &line.call);
-            let entered = answer(locked, alloc, make, seat, line.call);
-            match entered {
-                Ok(()) => tell_entered(alloc, observer, locked, writer),
-                Err(refusal) => tell_left_out(alloc, observer, locked, refusal, writer),
-            }
-        }
+        Ok(Some(asked)) => answer_call(alloc, make, observer, locked, seats, asked, writer),
         Ok(None) => Ok(()),
         Err(refusal) => {
             let written = print_refusal(locked.program(), &refusal, writer);
