@@ -21,14 +21,13 @@ use Rattle.cut_core.specs.ConsistentCuts.{IsConsistentCut, places}
 use Rattle.event_rows.specs.declared.exchange.Exchange.{Exchange}
 use Rattle.event_rows.specs.EventValues.{EventValue}
 use Rattle.fifo_grid.specs.Grids.{GridState}
-use Rattle.dbg_laws.proofs.Lists.{push_same}
 use Rattle.dbg_laws.proofs.PrefixLemmas.{one_more}
 use Rattle.dbg_laws.proofs.ConsistentCutLemmas.{line_at}
 use Rattle.dbg_laws.proofs.LineStates.{length_cut, history_choice, history_redo, state_choice, state_redo}
 use Rattle.causal_world.specs.Scenes.{Scene, scene, IsWorldOf, made, unmade, with_done}
-use Rattle.causal_world.specs.Worlds.{IsSomeWorld, Makes, CanMake, UndoableBy, last_event, last_of}
+use Rattle.causal_world.specs.Worlds.{IsSomeWorld, Makes, CanMake, UndoableBy, last_event}
 use Rattle.causal_world.specs.Pasts.{PastState, kind_at, kinds_of, kind_done, with_kind, without_kind, IsWhole, AreClocksOf, row_at}
-use Rattle.causal_world.specs.Pasts.{IsClockOf, IsPast}
+use Rattle.causal_world.specs.Pasts.{IsClockOf}
 use Rattle.causal_world.specs.Room.{HasRoomBefore}
 use Rattle.causal_world.specs.Rollings.{CanTakeBack}
 use Rattle.causal_world.proofs.HistoryRecordLemmas.{length_kinds, kinds_at, kind_event, kinds_more, kinds_less, whole_kinds, clock_kinds, rolled_back}
@@ -240,13 +239,3 @@ is_rollback P w p n places top cut kinds of same same_kinds top_is here within c
     rolled_back P H p n cut top (subst (λ (k : List (List Kind)). IsConsistentCut k cut) are consistent) below
     (λ c is most. greatest c (subst (λ (k : List (List Kind)). IsConsistentCut k c) (sym are) is) most)
     (top_is ∙ ap (λ (l : List ℕ). set l p n) (same ∙ sym (lengths P w.state of.state))) there (omega (arith, within, events))
-
--- the event that was appended is the last one
-pub pushed_last : (events : List (List EventValue)) (kinds : List (List Kind)) (clocks : List (List (List ℕ))) (p : ℕ) (event : EventValue)
-    → p < length kinds → IsPast events kinds clocks → last_of (set events p (get_or events p [] ++ event ∷ [])) p ≡ Some event
-pushed_last events kinds clocks p event here past =
-    let counts : length (map (λ (own : List EventValue). length own) events) ≡ length (places kinds) =
-    ap (λ (sizes : List ℕ). length sizes) past.sizes in
-    let inside : p < length events =
-    omega (arith, here, counts, length-map events (λ (own : List EventValue). length own), length-map kinds (λ (own : List Kind). length own)) in
-    ap (λ (own : List EventValue). slice_get own (length own - 1)) (push_same events p event inside) ∙ get_last (get_or events p []) event

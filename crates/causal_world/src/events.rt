@@ -10,7 +10,7 @@ ghost use Rattle.fifo_grid.specs.Grids.{room_at};
 ghost use Rattle.causal_world.specs.Room.{HasRoomAfter, HasRoomBefore, IsAppended, puts_after, puts_before};
 
 use crate::channels::{go_after, go_before, make_room_after};
-use crate::past::Past;
+use crate::past::{Past, kind_of};
 use dbg_base::Pid;
 use event_rows::{Event, Exchange};
 use fifo_grid::Grid;
@@ -48,7 +48,8 @@ pub(crate) fn happen(envs: &mut Vec<Env>, grid: &mut Grid, past: &mut Past, pid:
 {
     event.redo(&mut envs[pid.0 as usize]);
     go_after(grid, pid, event.exchange());
-    past.push(pid, event);
+    let kind = kind_of(event.exchange());
+    past.push(pid, kind, event);
 }
 
 /// Undoes the event of the process, which was its last.

@@ -10,8 +10,6 @@ ghost use Rattle.causal_world.specs.Scenes.{with_event, without_event};
 ghost use Rattle.causal_world.specs.Pasts.{kind_done, with_kind, without_kind, without_row, row_at};
 ghost use Rattle.causal_world.specs.Pasts.{IsWhole, AreClocksOf, IsSamePast, HasRoomFor, IsCause};
 ghost use Rattle.causal_world.specs.Room.{IsAppended};
-ghost use Rattle.causal_world.specs.Worlds.{last_of};
-ghost use Rattle.event_rows.specs.EventValues.{EventValue};
 
 use clock_rows::Clocks;
 use cut_core::{Kind, Tally};
@@ -47,24 +45,14 @@ impl Model for Past {
     ghost invariant = { λ past. IsPast past.rows.events past.tally.kinds past.clocks.rows };
 }
 
-// What the exchange does to messages.
-fn kind_of(exchange: Exchange) -> Kind
+/// What the exchange does to messages.
+pub(crate) fn kind_of(exchange: Exchange) -> Kind
     ensures { result ≡ kind_done exchange }
 {
     match exchange {
         Exchange::Nothing => Kind::Local,
         Exchange::Sent { target, .. } => Kind::Sent(target),
         Exchange::Took { source, .. } => Kind::Got(source),
-    }
-}
-
-// What the last event of the process did to messages.
-fn last_kind(rows: &Rows, pid: Pid) -> Kind
-    ensures { (event : EventValue) → last_of rows.now.events pid.0 ≡ Some event → result ≡ kind_done event.exchange }
-{
-    match rows.last(pid) {
-        Some(event) => kind_of(event.exchange()),
-        None => Kind::Local,
     }
 }
 
@@ -158,17 +146,17 @@ impl Past {
         self.clocks.reserve(pid, more)
     }
 
-    /// Appends the event to those of the process. There must be room, and the cause of the event must be among the others. It does not
-    /// allocate.
-    pub(crate) fn push(&mut self, pid: Pid, event: Event)
+    /// Appends the event, which is of this kind, to those of the process. There must be room, and the cause of the event must be among the
+    /// others. It does not allocate.
+    pub(crate) fn push(&mut self, pid: Pid, kind: Kind, event: Event)
         requires here { pid.0 < length self.old.kinds }
         requires room { HasRoomFor self.old pid.0 1 }
         requires few { length (slice_index_or self.old.kinds pid.0 []) < EVENTS }
+        requires kind { kind ≡ kind_done event.exchange }
         requires whole { IsWhole (with_kind self.old.kinds pid.0 (kind_done event.exchange)) }
         ensures { IsAppended self.old pid.0 event self.new }
     {
         self.rows.push(pid, event);
-        let kind = last_kind(&self.rows, pid);
         let (source, n) = cause(&self.tally, pid, kind);
         self.clocks.push_joined(pid, source, n);
         self.tally.note(pid, kind);
