@@ -7,6 +7,7 @@ mod detector;
 mod room;
 mod scan;
 mod watch;
+mod watches;
 
 pub use checking::check_why;
 pub use dbg_base::{Cause, Elimination};

@@ -2,8 +2,8 @@ use Rattle.std.proofs.Common.{◌<◌, length, refl, sym, ◌∙◌, arith}
 use Rattle.std.proofs.lemmas.Bool.{eqb-false}
 use Rattle.least_cut.proofs.ListLoopLemmas.{became_more, became_less}
 use Rattle.least_cut.proofs.WatchLoopLemmas.{IsRoomier, roomier, all_room_at}
-use Rattle.least_cut.proofs.detector.reserve_at.Goals as goal
-use Rattle.least_cut.proofs.detector.reserve_at.Goals.{then-eq+in_ok-reserve_to, else-eq}
+use Rattle.least_cut.proofs.watches.reserve_at.Goals as goal
+use Rattle.least_cut.proofs.watches.reserve_at.Goals.{then-eq+in_ok-reserve_to, else-eq}
 
 pub loop-i-preserved : goal.loop-i-preserved
 loop-i-preserved c =

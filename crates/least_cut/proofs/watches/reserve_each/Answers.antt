@@ -2,7 +2,7 @@ use Rattle.std.proofs.Common.{◌≡◌, ℕ, get_or, ap, sym, ◌∙◌, arith}
 use Rattle.least_cut.specs.Watches.{WatchState}
 use Rattle.least_cut.proofs.ListLoopLemmas.{became_more, became_less}
 use Rattle.least_cut.proofs.WatchLoopLemmas.{IsRoomier, roomier, all_room_for}
-use Rattle.least_cut.proofs.detector.reserve_each.Goals as goal
+use Rattle.least_cut.proofs.watches.reserve_each.Goals as goal
 
 pub loop-i-preserved : goal.loop-i-preserved
 loop-i-preserved c =

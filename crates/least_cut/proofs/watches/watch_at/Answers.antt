@@ -4,8 +4,8 @@ use Rattle.least_cut.specs.Watches.{WatchRoom, IsWatchOf, WasWatchOf}
 use Rattle.least_cut.specs.Detectors.{HasTruthRoom}
 use Rattle.least_cut.proofs.ListLoopLemmas.{became_more, at_turn}
 use Rattle.least_cut.proofs.WatchLoopLemmas.{all_watched}
-use Rattle.least_cut.proofs.detector.watch_at.Goals as goal
-use Rattle.least_cut.proofs.detector.watch_at.Goals.{then-eq, else-eq}
+use Rattle.least_cut.proofs.watches.watch_at.Goals as goal
+use Rattle.least_cut.proofs.watches.watch_at.Goals.{then-eq, else-eq}
 
 pub follow-requires-clause-was : goal.follow-requires-clause-was
 follow-requires-clause-was c =

@@ -3,7 +3,7 @@ use Rattle.least_cut.specs.Watches.{WatchRoom, WasWatchOf}
 use Rattle.least_cut.specs.Detectors.{HasTruthRoom}
 use Rattle.least_cut.proofs.ListLoopLemmas.{became_more, at_turn}
 use Rattle.least_cut.proofs.WatchLoopLemmas.{all_watched}
-use Rattle.least_cut.proofs.detector.watch_each.Goals as goal
+use Rattle.least_cut.proofs.watches.watch_each.Goals as goal
 
 pub follow-requires-clause-was : goal.follow-requires-clause-was
 follow-requires-clause-was c =

@@ -1,6 +1,6 @@
 use Rattle.least_cut.proofs.ListLoopLemmas.{Became}
 use Rattle.least_cut.proofs.WatchLoopLemmas.{IsWatchedAgain}
-use Rattle.least_cut.proofs.detector.watch_each.Given as goal
+use Rattle.least_cut.proofs.watches.watch_each.Given as goal
 
 abbrev pub invariant-loop-i : goal.invariant-loop-i
 invariant-loop-i l = Became (IsWatchedAgain l.world) l.fn.watches.items l.watches.items l.i

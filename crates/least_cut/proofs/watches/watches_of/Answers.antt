@@ -3,7 +3,7 @@ use Rattle.std.specs.Vec.{vec_len}
 use Rattle.dbg_base.specs.declared.call.Conjunct.{Conjunct}
 use Rattle.least_cut.specs.Watches.{TruthsState, WatchRoom}
 use Rattle.least_cut.proofs.WatchPairLemmas.{ArePaired, paired_none, paired_all, next_here, next_line, paired_more}
-use Rattle.least_cut.proofs.detector.watches_of.Goals as goal
+use Rattle.least_cut.proofs.watches.watches_of.Goals as goal
 
 pub loop-conjunct-init : goal.loop-conjunct-init
 loop-conjunct-init c =

@@ -1,6 +1,6 @@
 use Rattle.std.proofs.Common.{◌≡◌, length}
 use Rattle.least_cut.proofs.WatchPairLemmas.{ArePaired}
-use Rattle.least_cut.proofs.detector.watches_of.Given as goal
+use Rattle.least_cut.proofs.watches.watches_of.Given as goal
 
 abbrev pub invariant-loop-conjunct : goal.invariant-loop-conjunct
 invariant-loop-conjunct l = record {
