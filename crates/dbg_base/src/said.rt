@@ -10,7 +10,7 @@ use crate::refusal::Refusal;
 use crate::sequence::Sequence;
 
 /// What an accepted command did.
-#[derive(Debug, Drop)]
+#[derive(Debug, Drop, PartialEq, Eq)]
 pub enum Done {
     /// The process made this command.
     Played(Pid, Choice),
@@ -51,7 +51,7 @@ impl Done {
 }
 
 /// The answer to an accepted command.
-#[derive(Debug, Drop)]
+#[derive(Debug, Drop, PartialEq, Eq)]
 pub struct Reply {
     pub done: Done,
     /// The breakpoint that halts the session after the command, if any.
@@ -94,7 +94,7 @@ pub enum Head {
 }
 
 /// The answer to a query.
-#[derive(Debug, Drop)]
+#[derive(Debug, Drop, PartialEq, Eq)]
 pub enum Answer {
     /// The values of a process's variables, in program order.
     Values(Sequence<i64>),
@@ -137,7 +137,7 @@ impl Answer {
 }
 
 /// The answer of a session to a call.
-#[derive(Debug, Drop)]
+#[derive(Debug, Drop, PartialEq, Eq)]
 pub enum Said {
     /// The command was accepted.
     Accepted(Reply),

@@ -21,6 +21,24 @@ impl<T> Model for Sequence<T> {
     ghost view = { λ sequence. sequence.items.items };
 }
 
+impl<T: PartialEq> PartialEq for Sequence<T> {
+    ghost use Rattle.std.specs.Cmp.Lexicographic.{pointwise, lists_per};
+
+    ghost eq = { λ one other. pointwise T.eq one other };
+
+    ghost laws = { lists_per T.laws };
+
+    fn eq(&self, other: &Self) -> bool {
+        self.items() == other.items()
+    }
+}
+
+impl<T: Eq> Eq for Sequence<T> {
+    ghost use Rattle.std.specs.Cmp.Lexicographic.{lists_equiv};
+
+    ghost laws = { lists_equiv T.Eq.laws };
+}
+
 impl<T> Sequence<T> {
     /// The sequence of these items. It does not allocate.
     pub fn new(items: Vec<T>) -> Self

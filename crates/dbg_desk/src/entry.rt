@@ -1,11 +1,12 @@
 //! Calls, as the journal and the seats record them.
 
 ghost use Rattle.std.specs.Prelude.{◌≡◌, true};
-ghost use Rattle.dbg_calls.specs.Flat.{is_flat_call};
-ghost use Rattle.dbg_calls.specs.Small.{is_flat_small};
+ghost use Rattle.dbg_desk.specs.Flat.{is_flat_call};
+ghost use Rattle.dbg_desk.specs.Small.{is_flat_small};
 
+use crate::small_call::SmallCall;
+use crate::small_said::SmallSaid;
 use dbg_base::{Call, Refusal, Said};
-use dbg_calls::{SmallCall, SmallSaid};
 
 /// A call that was entered: the seat that made it, the call, and its answer.
 #[derive(Debug, Drop)]

@@ -10,13 +10,18 @@ mod begin;
 mod copies;
 mod desk;
 mod entry;
+mod flat_call;
 mod locked;
 mod log;
 mod opening;
 mod rooms;
 mod run;
+mod same_call;
+mod same_expr;
 mod seat;
 mod settling;
+mod small_call;
+mod small_said;
 
 pub use desk::Desk;
 pub use entry::{Entry, RecordedCall};

@@ -10,7 +10,6 @@ use crate::desk_trial::{MEMORY, THREE, enter, give, make_opening};
 use crate::expecting::{expect_same, expect_true};
 use crate::plans::set_break;
 use dbg_base::{Call, OpenGate, Pid, Plan, Query, Refusal, Said};
-use dbg_calls::is_same_said;
 use dbg_command::{BatchCmd, BreakCmd, Command, NextCmd, RollbackCmd, UndoCmd};
 use dbg_desk::{Closing, Desk, Entry, Locked, Opening, Run, Seat};
 use std::alloc::Global;
@@ -306,7 +305,7 @@ fn expect_said_again<L: Run, C: Command, M: Fn(Plan) -> Result<C, Refusal>>(
     let place = seat.saturating_sub(1) as usize;
     let seat = seats.get_mut(place).expect(rt, "a seat");
     let again = enter(alloc, locked, seat, make, call).expect(rt, "an answer");
-    expect_true(rt, is_same_said(&again, &said));
+    expect_true(rt, again == said);
 }
 
 // Expects the same answers if the same calls are given in order on one thread.

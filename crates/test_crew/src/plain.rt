@@ -9,7 +9,6 @@ use crate::expecting::{expect_same, expect_true};
 use crate::plans::set_break;
 use crate::reported::said_to;
 use dbg_base::{Call, OpenGate, Pid, Plan, Refusal, Said};
-use dbg_calls::is_same_said;
 use dbg_command::{BreakCmd, Command, NextCmd};
 use dbg_desk::{Desk, Locked, Opening, Run, Seat};
 use std::alloc::Global;
@@ -112,7 +111,7 @@ fn said_under_the_lock<L: Run, C: Command, M: Fn(Plan) -> Result<C, Refusal>>(
 fn expect_alike(rt: &impl Abort, reported: &[Said], want: &[Said], count: usize) {
     expect_same(rt, [reported.len(), want.len()], [count, count]);
     for (one, other) in reported.iter().zip(want) {
-        expect_true(rt, is_same_said(one, other));
+        expect_true(rt, one == other);
     }
 }
 

@@ -3,15 +3,14 @@
 ghost use Rattle.std.specs.Prelude.{◌≡◌, ◌↔◌, IsTrue, IfSome};
 ghost use Rattle.dbg_base.specs.declared.said.Said.TheVariants.{Accepted, Answered};
 ghost use Rattle.dbg_base.specs.Copies.{IsCopy};
-ghost use Rattle.dbg_calls.specs.Small.{accepted, small_said_of};
+ghost use Rattle.dbg_desk.specs.Small.{accepted, small_said_of};
 
-use crate::same_said::{are_same_heads, are_same_numbers, is_same_cut, is_same_said};
 use dbg_base::{Answer, Choice, Cut, Done, Head, Pid, Refusal, Reply, Said, Sequence};
 use std::alloc::Global;
 
 /// An answer in 32 bytes: frequent answers are stored in place, others in a box.
 #[derive(Debug, Drop)]
-pub enum SmallSaid {
+pub(crate) enum SmallSaid {
     /// The command was accepted, no breakpoint halts, and the process made this command.
     Played(Pid, Choice),
     /// The same, and the process undid this command.
@@ -76,7 +75,7 @@ fn small_answer(alloc: Global, answer: &Answer) -> Result<SmallSaid, Refusal>
 
 impl SmallSaid {
     /// The reply to an accepted command, or None if it needs a box. It does not allocate.
-    pub fn of_reply(reply: &Reply) -> Option<SmallSaid>
+    pub(crate) fn of_reply(reply: &Reply) -> Option<SmallSaid>
         ensures { IfSome result (λ small. small_said_of small ≡ Accepted reply.now) }
     {
         match (&reply.done, reply.halted) {
@@ -88,7 +87,7 @@ impl SmallSaid {
     }
 
     /// This answer. Error: `Memory`, if an allocation fails.
-    pub fn new(alloc: Global, said: &Said) -> Result<SmallSaid, Refusal>
+    pub(crate) fn new(alloc: Global, said: &Said) -> Result<SmallSaid, Refusal>
         ensures { IsCopy result (λ made. small_said_of made ≡ said.now) }
     {
         match said {
@@ -102,7 +101,7 @@ impl SmallSaid {
     }
 
     /// A copy of the answer. Error: `Memory`, if an allocation fails.
-    pub fn said(&self) -> Result<Said, Refusal>
+    pub(crate) fn said(&self) -> Result<Said, Refusal>
         ensures { IsCopy result (λ made. made ≡ small_said_of self.now) }
     {
         match self {
@@ -125,7 +124,7 @@ impl SmallSaid {
     }
 
     /// Whether it is this answer. It does not allocate.
-    pub fn is_said(&self, said: &Said) -> bool
+    pub(crate) fn is_said(&self, said: &Said) -> bool
         ensures { IsTrue result ↔ (small_said_of self.now ≡ said.now) }
     {
         match (self, said) {
@@ -156,17 +155,13 @@ impl SmallSaid {
                     },
                 ),
             ) => true,
-            (SmallSaid::Values(one), Said::Answered(Answer::Values(other))) => are_same_numbers(
-                one,
-                other.items(),
-            ),
-            (SmallSaid::Messages(one), Said::Answered(Answer::Messages(other))) => are_same_numbers(
-                one,
-                other.items(),
-            ),
-            (SmallSaid::Counts(one), Said::Answered(Answer::Counts(other))) => is_same_cut(
-                one, other,
-            ),
+            (SmallSaid::Values(one), Said::Answered(Answer::Values(other))) => {
+                one.as_slice() == other.items()
+            }
+            (SmallSaid::Messages(one), Said::Answered(Answer::Messages(other))) => {
+                one.as_slice() == other.items()
+            }
+            (SmallSaid::Counts(one), Said::Answered(Answer::Counts(other))) => one == other,
             (
                 SmallSaid::PlaceOf { at, line },
                 Said::Answered(
@@ -177,11 +172,10 @@ impl SmallSaid {
                 ),
             ) => at == other && line == other_line,
             (SmallSaid::MayUndo, Said::Answered(Answer::CanUndo(Ok(())))) => true,
-            (SmallSaid::Frontier(one), Said::Answered(Answer::Frontier(other))) => are_same_heads(
-                one,
-                other.items(),
-            ),
-            (SmallSaid::Apart(one), other) => is_same_said(one, other),
+            (SmallSaid::Frontier(one), Said::Answered(Answer::Frontier(other))) => {
+                one.as_slice() == other.items()
+            }
+            (SmallSaid::Apart(one), other) => *one.as_ref() == *other,
             _ => false,
         }
     }

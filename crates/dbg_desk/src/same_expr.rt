@@ -6,7 +6,7 @@ ghost use Rattle.dbg_base.specs.Trees.{tree_of};
 use dbg_base::Expr;
 
 /// Whether two expressions are the same. It does not allocate.
-pub fn is_same_expr(left: &Expr, right: &Expr) -> bool
+pub(crate) fn is_same_expr(left: &Expr, right: &Expr) -> bool
     ensures { IsTrue result ↔ (tree_of left.now ≡ tree_of right.now) }
 {
     match (left, right) {
