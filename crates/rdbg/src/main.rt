@@ -1,7 +1,6 @@
 //! The program `rdbg`: passes its arguments to `asked` and its streams to `serve`, `check` or `run_crew`, and ends with their status.
 #![tactic(auto)]
 
-mod buffer;
 mod held;
 mod output;
 mod paint;

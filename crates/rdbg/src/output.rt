@@ -5,17 +5,19 @@ ghost use Rattle.std.specs.Io.{WritesAtMost};
 ghost use Rattle.std.specs.Io.KnownBytes.{Keeps, WriteAppends};
 ghost use Rattle.shell_io.specs.declared.health.Health.TheVariants.{Fine};
 ghost use Rattle.shell_io.specs.Healths.{health_after};
-ghost use Rattle.rdbg.specs.declared.buffer.TheConstants.{ROOM};
+ghost use Rattle.rdbg.specs.declared.output.TheConstants.{ROOM};
 ghost use Rattle.rdbg.specs.Outputs.{output_contents, output_seen};
 
-use crate::buffer::Buffer;
-use shell_io::{Health, Noted, Sink};
+use shell_io::{FixedBuffer, Health, Noted, Sink};
 use std::io::{Result, Write};
+
+// The bytes that are kept before they are written.
+const ROOM: usize = 8_192;
 
 #[derive(Drop)]
 pub(crate) struct Output<W> {
     inner: Noted<W>,
-    buffer: Buffer,
+    buffer: FixedBuffer<ROOM>,
 }
 
 impl<W: Write> Output<W> {
@@ -26,7 +28,7 @@ impl<W: Write> Output<W> {
     {
         Output {
             inner: Noted::new(inner),
-            buffer: Buffer::new(),
+            buffer: FixedBuffer::new(),
         }
     }
 

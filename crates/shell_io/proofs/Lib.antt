@@ -1,2 +1,3 @@
 pub mod AppendLemmas
+mod BufferLemmas
 pub mod ClosedLineLemmas

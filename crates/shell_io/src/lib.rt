@@ -2,11 +2,13 @@
 #![tactic(auto)]
 
 mod closed_lines;
+mod fixed_buffer;
 mod health;
 mod noted;
 mod streams;
 
 pub use closed_lines::{ClosedLines, one_after_the_other};
+pub use fixed_buffer::FixedBuffer;
 pub use health::Health;
 pub use noted::Noted;
 pub use streams::{Sink, Source};

@@ -6,7 +6,6 @@ mod outcome;
 mod parts;
 mod pieces;
 mod reply;
-mod text;
 mod words;
 
 pub use notices::{

@@ -12,11 +12,10 @@ ghost use Rattle.shell_print.specs.Pieces.{item_text, word_texts, names_in, amou
 
 use crate::outcome::ServeFault;
 use crate::pieces::{Amounts, Item, Names, Piece, Term, Words};
-use crate::text::Text;
 use crate::words::{append_count, append_head, append_item, append_name, append_number};
 use dbg_base::{Name, Pid};
 use proc_lang::Program;
-use shell_io::Sink;
+use shell_io::{FixedBuffer, Sink};
 
 // Room for a space, a name, a sign and a number.
 const PAIR: usize = 80;
@@ -40,7 +39,7 @@ pub fn write_whole<W: Sink>(writer: &mut W, bytes: &[u8]) -> Result<(), ServeFau
 // Writes what is composed.
 #[cold]
 #[inline(never)]
-fn write_composed<W: Sink>(text: &mut Text<LINE>, writer: &mut W) -> Result<(), ServeFault>
+fn write_composed<W: Sink>(text: &mut FixedBuffer<LINE>, writer: &mut W) -> Result<(), ServeFault>
     ensures puts { Puts (W.seen writer.old) text.old (W.seen writer.new) text.new result [] }
     ensures empty { IfOk result (λ _. text.new ≡ []) }
 {
@@ -51,7 +50,7 @@ fn write_composed<W: Sink>(text: &mut Text<LINE>, writer: &mut W) -> Result<(), 
 
 // Makes room for a pair. If there is less, it writes what is composed.
 #[inline(always)]
-fn make_room<W: Sink>(text: &mut Text<LINE>, writer: &mut W) -> Result<(), ServeFault>
+fn make_room<W: Sink>(text: &mut FixedBuffer<LINE>, writer: &mut W) -> Result<(), ServeFault>
     ensures puts { Puts (W.seen writer.old) text.old (W.seen writer.new) text.new result [] }
     ensures room { IfOk result (λ _. length text.new + PAIR ≤ LINE) }
 {
@@ -64,7 +63,7 @@ fn make_room<W: Sink>(text: &mut Text<LINE>, writer: &mut W) -> Result<(), Serve
 // Puts a space and an item.
 fn put_item<W: Sink>(
     item: &Item<'_>,
-    text: &mut Text<LINE>,
+    text: &mut FixedBuffer<LINE>,
     writer: &mut W,
 ) -> Result<(), ServeFault>
     ensures { Puts (W.seen writer.old) text.old (W.seen writer.new) text.new result (codes " " ++ item_text item.now) }
@@ -107,7 +106,7 @@ impl Names<'_> {
 impl Amounts<'_> {
     // Appends the value at this position, if there is one.
     #[inline(always)]
-    fn append_at(&self, place: usize, text: &mut Text<LINE>)
+    fn append_at(&self, place: usize, text: &mut FixedBuffer<LINE>)
         requires { length text.old + 40 ≤ LINE }
         ensures { (amount : List ℕ) → slice_get (amount_texts self.now) place ≡ Some amount → text.new ≡ text.old ++ amount }
     {
@@ -147,7 +146,7 @@ fn put_pair<W: Sink>(
     name: &Name,
     amounts: &Amounts<'_>,
     place: usize,
-    text: &mut Text<LINE>,
+    text: &mut FixedBuffer<LINE>,
     writer: &mut W,
 ) -> Result<(), ServeFault>
     ensures { (amount : List ℕ) → slice_get (amount_texts amounts.now) place ≡ Some amount
@@ -163,7 +162,7 @@ fn put_pair<W: Sink>(
 fn put_pairs<W: Sink>(
     names: &Names<'_>,
     amounts: &Amounts<'_>,
-    text: &mut Text<LINE>,
+    text: &mut FixedBuffer<LINE>,
     writer: &mut W,
 ) -> Result<(), ServeFault>
     ensures { Puts (W.seen writer.old) text.old (W.seen writer.new) text.new result
@@ -181,7 +180,7 @@ fn put_pairs<W: Sink>(
 // Puts a space and a number.
 fn put_number<W: Sink>(
     number: &i64,
-    text: &mut Text<LINE>,
+    text: &mut FixedBuffer<LINE>,
     writer: &mut W,
 ) -> Result<(), ServeFault>
     ensures { Puts (W.seen writer.old) text.old (W.seen writer.new) text.new result (codes " " ++ signed_decimal number.now) }
@@ -192,7 +191,7 @@ fn put_number<W: Sink>(
 // Puts the numbers.
 fn put_numbers<W: Sink>(
     numbers: &[i64],
-    text: &mut Text<LINE>,
+    text: &mut FixedBuffer<LINE>,
     writer: &mut W,
 ) -> Result<(), ServeFault>
     ensures { Puts (W.seen writer.old) text.old (W.seen writer.new) text.new result (spaced (map signed_decimal numbers.now)) }
@@ -206,7 +205,7 @@ fn put_numbers<W: Sink>(
 // Puts a breakpoint, with its mark.
 fn put_mark<W: Sink>(
     mark: &(Name, bool),
-    text: &mut Text<LINE>,
+    text: &mut FixedBuffer<LINE>,
     writer: &mut W,
 ) -> Result<(), ServeFault>
     ensures { Puts (W.seen writer.old) text.old (W.seen writer.new) text.new result (codes " " ++ mark_word mark.now) }
@@ -221,7 +220,7 @@ fn put_mark<W: Sink>(
 // Puts the breakpoints, each with its mark.
 fn put_marks<W: Sink>(
     marks: &[(Name, bool)],
-    text: &mut Text<LINE>,
+    text: &mut FixedBuffer<LINE>,
     writer: &mut W,
 ) -> Result<(), ServeFault>
     ensures { Puts (W.seen writer.old) text.old (W.seen writer.new) text.new result (spaced (map mark_word marks.now)) }
@@ -236,7 +235,7 @@ fn put_marks<W: Sink>(
 fn put_both<W: Sink>(
     first: &Item<'_>,
     second: &Item<'_>,
-    text: &mut Text<LINE>,
+    text: &mut FixedBuffer<LINE>,
     writer: &mut W,
 ) -> Result<(), ServeFault>
     ensures { Puts (W.seen writer.old) text.old (W.seen writer.new) text.new result
@@ -250,7 +249,7 @@ fn put_both<W: Sink>(
 fn put_counts<W: Sink>(
     first: u32,
     second: u32,
-    text: &mut Text<LINE>,
+    text: &mut FixedBuffer<LINE>,
     writer: &mut W,
 ) -> Result<(), ServeFault>
     ensures { Puts (W.seen writer.old) text.old (W.seen writer.new) text.new result (spaced (decimal first ∷ decimal second ∷ [])) }
@@ -261,7 +260,7 @@ fn put_counts<W: Sink>(
 // Puts the breakpoint that halts the session, if any.
 fn put_halted<W: Sink>(
     halted: &Option<Name>,
-    text: &mut Text<LINE>,
+    text: &mut FixedBuffer<LINE>,
     writer: &mut W,
 ) -> Result<(), ServeFault>
     ensures { Puts (W.seen writer.old) text.old (W.seen writer.new) text.new result (spaced (halted_words halted.now)) }
@@ -274,7 +273,7 @@ fn put_halted<W: Sink>(
 
 fn put_piece<W: Sink>(
     piece: &Piece<'_>,
-    text: &mut Text<LINE>,
+    text: &mut FixedBuffer<LINE>,
     writer: &mut W,
 ) -> Result<(), ServeFault>
     ensures { Puts (W.seen writer.old) text.old (W.seen writer.new) text.new result (spaced (piece_words piece.now)) }
@@ -292,7 +291,7 @@ fn put_piece<W: Sink>(
 
 fn put_pieces<W: Sink>(
     pieces: &[Piece<'_>],
-    text: &mut Text<LINE>,
+    text: &mut FixedBuffer<LINE>,
     writer: &mut W,
 ) -> Result<(), ServeFault>
     ensures { Puts (W.seen writer.old) text.old (W.seen writer.new) text.new result (spaced (in_a_row piece_words pieces.now)) }
@@ -313,7 +312,7 @@ pub(crate) fn write_line<W: Sink>(
     ensures { Writes (W.seen writer.old) (W.seen writer.new) result
         (as_line (joined (first.now ∷ in_a_row piece_words pieces.now))) }
 {
-    let mut text: Text<LINE> = Text::new();
+    let mut text: FixedBuffer<LINE> = FixedBuffer::new();
     text.append(first);
     put_pieces(pieces, &mut text, writer)?;
     make_room(&mut text, writer)?;

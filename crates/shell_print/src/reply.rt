@@ -19,11 +19,10 @@ ghost use Rattle.shell_print.specs.Pieces.{item_text, names_in, amount_texts, pi
 use crate::outcome::ServeFault;
 use crate::parts::{write_line, write_whole};
 use crate::pieces::{Amounts, Item, Names, Piece, Term, Words};
-use crate::text::Text;
 use crate::words::{append_count, append_process};
 use dbg_base::{Answer, Call, Choice, Cut, Done, Name, Pid, Query, Refusal, Reply, Said};
 use proc_lang::Program;
-use shell_io::Sink;
+use shell_io::{FixedBuffer, Sink};
 
 // Room for the line of an event: `ok`, a process, a count, `halted` with a breakpoint, and the line end.
 const EVENT: usize = 120;
@@ -42,7 +41,7 @@ fn carried<'a>(program: &'a Program, refusal: &'a Refusal) -> Piece<'a>
 }
 
 // Appends the breakpoint that halts the session, if any.
-fn append_halted(text: &mut Text<EVENT>, halted: &Option<Name>)
+fn append_halted(text: &mut FixedBuffer<EVENT>, halted: &Option<Name>)
     requires { length text.old + 40 ≤ EVENT }
     ensures text { text.new ≡ text.old ++ spaced (halted_words halted.now) }
     ensures short { length text.new ≤ length text.old + 40 }
@@ -65,7 +64,7 @@ fn print_event<'a, W: Sink>(
     ensures { Writes (W.seen writer.old) (W.seen writer.new) result
         (as_line (joined (codes "ok" ∷ name_of (program_of program.now) pid.0 ∷ decimal choice.0 ∷ halted_words halted.now))) }
 {
-    let mut text: Text<EVENT> = Text::new();
+    let mut text: FixedBuffer<EVENT> = FixedBuffer::new();
     text.append(b"ok ");
     append_process(&mut text, program, pid);
     text.push(b' ');

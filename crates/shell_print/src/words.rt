@@ -7,14 +7,18 @@ ghost use Rattle.proc_lang.specs.Programs.{program_of};
 ghost use Rattle.shell_print.specs.Pieces.{item_text};
 
 use crate::pieces::Item;
-use crate::text::Text;
 use dbg_base::{Head, Name, Pid};
 use itoa::Buffer;
 use proc_lang::Program;
+use shell_io::FixedBuffer;
 
 /// Appends the name of a process.
 #[inline]
-pub(crate) fn append_process<const ROOM: usize>(text: &mut Text<ROOM>, program: &Program, pid: Pid)
+pub(crate) fn append_process<const ROOM: usize>(
+    text: &mut FixedBuffer<ROOM>,
+    program: &Program,
+    pid: Pid,
+)
     requires { length text.old + 32 ≤ ROOM }
     ensures text { text.new ≡ text.old ++ name_of (program_of program.now) pid.0 }
     ensures short { length text.new ≤ length text.old + 32 }
@@ -26,7 +30,7 @@ pub(crate) fn append_process<const ROOM: usize>(text: &mut Text<ROOM>, program: 
 
 // Appends a digit.
 #[inline(always)]
-fn append_digit<const ROOM: usize>(text: &mut Text<ROOM>, digit: u32)
+fn append_digit<const ROOM: usize>(text: &mut FixedBuffer<ROOM>, digit: u32)
     requires digit { digit < 10 }
     requires room { length text.old < ROOM }
     ensures { text.new ≡ text.old ++ (48 + digit) ∷ [] }
@@ -36,7 +40,7 @@ fn append_digit<const ROOM: usize>(text: &mut Text<ROOM>, digit: u32)
 
 // Appends a number of two digits.
 #[inline(always)]
-fn append_two_digits<const ROOM: usize>(text: &mut Text<ROOM>, number: u32)
+fn append_two_digits<const ROOM: usize>(text: &mut FixedBuffer<ROOM>, number: u32)
     requires number { (10 ≤ number) × (number < 100) }
     requires room { length text.old + 2 ≤ ROOM }
     ensures text { text.new ≡ text.old ++ decimal number }
@@ -48,7 +52,7 @@ fn append_two_digits<const ROOM: usize>(text: &mut Text<ROOM>, number: u32)
 
 /// Appends a count. Most counts have at most three digits, which are appended one by one.
 #[inline]
-pub(crate) fn append_count<const ROOM: usize>(text: &mut Text<ROOM>, count: u32)
+pub(crate) fn append_count<const ROOM: usize>(text: &mut FixedBuffer<ROOM>, count: u32)
     requires { length text.old + 40 ≤ ROOM }
     ensures text { text.new ≡ text.old ++ decimal count }
     ensures short { length text.new ≤ length text.old + 40 }
@@ -70,7 +74,7 @@ pub(crate) fn append_count<const ROOM: usize>(text: &mut Text<ROOM>, count: u32)
 }
 
 /// Appends a number.
-pub(crate) fn append_number<const ROOM: usize>(text: &mut Text<ROOM>, number: i64)
+pub(crate) fn append_number<const ROOM: usize>(text: &mut FixedBuffer<ROOM>, number: i64)
     requires { length text.old + 40 ≤ ROOM }
     ensures { text.new ≡ text.old ++ signed_decimal number }
 {
@@ -79,7 +83,7 @@ pub(crate) fn append_number<const ROOM: usize>(text: &mut Text<ROOM>, number: i6
 
 /// Appends a component of a frontier.
 #[inline(always)]
-pub(crate) fn append_head<const ROOM: usize>(text: &mut Text<ROOM>, head: Head)
+pub(crate) fn append_head<const ROOM: usize>(text: &mut FixedBuffer<ROOM>, head: Head)
     requires { length text.old + 40 ≤ ROOM }
     ensures { text.new ≡ text.old ++ head_text head }
 {
@@ -91,7 +95,7 @@ pub(crate) fn append_head<const ROOM: usize>(text: &mut Text<ROOM>, head: Head)
 
 /// Appends an item.
 #[inline(always)]
-pub(crate) fn append_item<const ROOM: usize>(text: &mut Text<ROOM>, item: &Item<'_>)
+pub(crate) fn append_item<const ROOM: usize>(text: &mut FixedBuffer<ROOM>, item: &Item<'_>)
     requires { length text.old + 40 ≤ ROOM }
     ensures { text.new ≡ text.old ++ item_text item.now }
 {
@@ -107,7 +111,7 @@ pub(crate) fn append_item<const ROOM: usize>(text: &mut Text<ROOM>, item: &Item<
 
 /// Appends a space, a name and a sign.
 #[inline(always)]
-pub(crate) fn append_name<const ROOM: usize>(text: &mut Text<ROOM>, name: &Name, sign: u8)
+pub(crate) fn append_name<const ROOM: usize>(text: &mut FixedBuffer<ROOM>, name: &Name, sign: u8)
     requires { length text.old + 40 ≤ ROOM }
     ensures text { text.new ≡ text.old ++ (codes " " ++ name.now ++ (sign ∷ [])) }
     ensures short { length text.new ≤ length text.old + 40 }

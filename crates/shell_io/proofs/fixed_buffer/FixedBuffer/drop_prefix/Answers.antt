@@ -1,9 +1,9 @@
 use Rattle.std.proofs.Common.{◌≡◌, ◌-◌, length, take, drop, sym, ap, ◌∙◌, arith, length-take-le}
-use Rattle.rdbg.proofs.BufferLemmas.{take-moved}
-use Rattle.rdbg.proofs.buffer.Buffer.drop_prefix.Goals as goal
+use Rattle.shell_io.proofs.BufferLemmas.{take-moved}
+use Rattle.shell_io.proofs.fixed_buffer.FixedBuffer.drop_prefix.Goals as goal
 
 pub returns : goal.returns
-returns c =
+returns g c =
     let all = c.self.inside.bytes in
     let used = c.self.inside.used in
     let count = c.args.count in
