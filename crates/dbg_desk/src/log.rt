@@ -12,7 +12,7 @@ ghost use Rattle.dbg_desk.specs.Small.{small_call_of, IsGiven};
 ghost use Rattle.dbg_board.specs.Pairs.{Begins};
 ghost use Rattle.dbg_board.specs.Boards.{listing};
 ghost use Rattle.dbg_desk.specs.Desks.{IsLonger, IsOneMore};
-ghost use Rattle.dbg_desk.specs.Reserved.{IsUnready};
+ghost use Rattle.dbg_desk.specs.Reserved.{IsUnready, IsReady};
 
 use crate::copies::said_to_command;
 use crate::entry::{Entry, RecordedCall};
@@ -92,15 +92,8 @@ impl<L: Run> CallLog<L> {
         rooms: &mut Reserved,
         program: &Program,
     ) -> Result<(), Refusal>
-        ensures journal { self.new.journal.items ≡ self.old.journal.items }
-        ensures publisher { self.new.publisher ≡ self.old.publisher }
-        ensures own { own.new.items ≡ own.old.items }
-        ensures few { OnOk result (vec_len self.new.journal < CALLS) }
-        ensures room { OnOk result (vec_len self.new.journal < vec_capacity self.new.journal) }
-        ensures record_room { OnOk result (vec_len own.new < vec_capacity own.new) }
-        ensures places { OnOk result (length (program_of program.now) ≤ vec_capacity rooms.new.places) }
-        ensures apart { OnOk result (IsSome rooms.new.apart) }
-        ensures refuses { IfErr result (IsUnready (vec_len self.old.journal)) }
+        ensures { IsReady (program_of program.now) self.old.journal self.new.journal self.old.publisher self.new.publisher own.old own.new
+            rooms.new result }
     {
         self.make_room(own)?;
         rooms.make(program)
@@ -115,15 +108,8 @@ impl<L: Run> CallLog<L> {
         rooms: &mut Reserved,
         program: &Program,
     ) -> Result<(), Refusal>
-        ensures journal { self.new.journal.items ≡ self.old.journal.items }
-        ensures publisher { self.new.publisher ≡ self.old.publisher }
-        ensures own { own.new.items ≡ own.old.items }
-        ensures few { OnOk result (vec_len self.new.journal < CALLS) }
-        ensures room { OnOk result (vec_len self.new.journal < vec_capacity self.new.journal) }
-        ensures record_room { OnOk result (vec_len own.new < vec_capacity own.new) }
-        ensures places { OnOk result (length (program_of program.now) ≤ vec_capacity rooms.new.places) }
-        ensures apart { OnOk result (IsSome rooms.new.apart) }
-        ensures refuses { IfErr result (IsUnready (vec_len self.old.journal)) }
+        ensures { IsReady (program_of program.now) self.old.journal self.new.journal self.old.publisher self.new.publisher own.old own.new
+            rooms.new result }
     {
         if self.has_room(own) && rooms.has_room(program) {
             return Ok(());

@@ -71,7 +71,7 @@ fn seat_line(seat: u32, call: Result<Call, Refusal>) -> Result<Option<Line>, Ref
     }
 }
 
-// The command about a process that these bytes are, after the seat, or None if they are another command.
+// The command about a process that these bytes are, after the seat. None says nothing of them.
 #[inline(always)]
 fn process_command(program: &Program, bytes: &[u8]) -> Option<(ProcessWord, Pid)>
     ensures { IfSome result (λ found. AsksCall (program_of program.now) bytes.now (Ok (process_word_call found.0 found.1.0))) }
@@ -82,8 +82,8 @@ fn process_command(program: &Program, bytes: &[u8]) -> Option<(ProcessWord, Pid)
     Some((word, process))
 }
 
-/// Parses a command line about a process, as most lines are. It gives what `parse_line` gives, in few bytes, or None for any other line. It
-/// does not allocate.
+/// Parses a command line about a process, as most lines are. It gives what `parse_line` gives, in few bytes. None says nothing of the line:
+/// `parse_line` tells what it asks for. It does not allocate.
 pub fn parse_process_line(program: &Program, bytes: &[u8]) -> Option<ProcessLine>
     ensures asks { IfSome result (λ line. Asks (program_of program.now) bytes.now (Ok (Some (process_request line)))) }
     ensures seat { IfSome result (λ line. (0 < line.seat) × (line.seat ≤ SEATS)) }

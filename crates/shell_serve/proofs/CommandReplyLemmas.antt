@@ -23,14 +23,18 @@ use Rattle.shell_parse.specs.declared.line.Line.{Line}
 use Rattle.shell_parse.specs.Lines.{IsParsed, requested}
 
 module _ (M : Manner) (P : Program) (bytes : List ℕ) (J : Journal) where
-  -- the answer to a call and an explanation were written, or a prefix of them
-  pub call_told : {B : Type 0} {r : Result B ServeFault} (line : Line) (said : Said) (after : Journal) (a c : Seen)
-      → IsParsed P bytes (Ok (Some line)) → Makes P J line.seat (call_of line.call) said after
+  -- the answer to a call of the seat with this number and an explanation were written, or a prefix of them
+  pub call_told : {B : Type 0} {r : Result B ServeFault} (line : Line) (seat : ℕ) (said : Said) (after : Journal) (a c : Seen)
+      → seat ≡ line.seat → IsParsed P bytes (Ok (Some line)) → Makes P J seat (call_of line.call) said after
       → WritesForm (IsExplained M (as_line (reply_text P (call_of line.call) said))) a r c → WritesReply M P bytes J a r c after
-  call_told line said after a c parsed makes told = record {
+  call_told line seat said after a c number parsed makes told = record {
     reply = as_line (reply_text P (call_of line.call) said);
     reported = told.form.0;
-    answers = (Ok (Some (requested line)), parsed, (said, makes, refl));
+    answers = (
+      Ok (Some (requested line)),
+      parsed,
+      (said, subst (λ (n : ℕ). Makes P J n (call_of line.call) said after) number makes, refl),
+    );
     explains = told.form.1;
     written = writes_same told.form.2 told.written;
   }
