@@ -65,6 +65,16 @@ fn is_seat(word: &[u8]) -> bool {
     1 <= number && number <= SEATS as usize
 }
 
+// The seat that a command line names, and the bytes after it. A line that does not begin with a digit names none.
+fn named_seat(line: &[u8]) -> Option<(&[u8], &[u8])> {
+    let (word, rest) = next_word(line);
+    if word.first()?.is_ascii_digit() {
+        Some((word, rest))
+    } else {
+        None
+    }
+}
+
 /// The process of this name.
 pub(crate) fn process_named(program: &Program, word: &[u8]) -> Option<Pid> {
     program.find_process(Name::new(word)?)
@@ -138,7 +148,7 @@ impl SourceView<'_> {
         Ok(())
     }
 
-    /// Says why a command line, which begins with its seat, is refused without a call.
+    /// Says why a command line is refused without a call. A line that names no seat is one of the first seat.
     pub fn tell_bad_line(
         &self,
         alloc: Global,
@@ -147,10 +157,14 @@ impl SourceView<'_> {
         refusal: &Refusal,
     ) -> Result<(), Refusal> {
         notes.say(&[Part::Text(meaning(refusal.number()))])?;
-        if line.len() > LINE_BYTES {
+        let (seat, rest, length) = match named_seat(line) {
+            Some((seat, rest)) => (seat, rest, line.len()),
+            // The seat and a blank count.
+            None => (b"1".as_slice(), line, line.len().saturating_add(2)),
+        };
+        if length > LINE_BYTES {
             return Ok(notes.say(&[Part::Text("a line has at most 1024 bytes")])?);
         }
-        let (seat, rest) = next_word(line);
         let (command, arguments) = next_word(rest);
         match refusal {
             Refusal::BadLine => self.tell_form_of(notes, seat, command, arguments)?,
