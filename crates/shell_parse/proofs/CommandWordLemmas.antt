@@ -15,7 +15,7 @@ where_true : (A B : Type 0) (t : Bool) → t ≡ true → A → MatchBool t A B
 where_true A B true e a = a
 where_true A B false e a = cc
 
-where_false : (A B : Type 0) (t : Bool) → t ≡ false → B → MatchBool t A B
+pub where_false : (A B : Type 0) (t : Bool) → t ≡ false → B → MatchBool t A B
 where_false A B true e b = cc
 where_false A B false e b = b
 

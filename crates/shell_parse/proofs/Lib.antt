@@ -12,3 +12,4 @@ pub mod Separators
 pub mod Batches
 pub mod LineRefusals
 pub mod GivableBatchLemmas
+mod SeatlessLines

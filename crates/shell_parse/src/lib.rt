@@ -9,5 +9,7 @@ mod line;
 mod words;
 
 pub use command::{PlanWord, ProcessWord, QueryWord};
-pub use line::{Line, ProcessLine, parse_line, parse_process_line, without_return};
+pub use line::{
+    Line, ProcessLine, parse_line, parse_process_line, parse_seatless_line, without_return,
+};
 pub use words::next_word;

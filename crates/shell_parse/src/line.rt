@@ -1,6 +1,6 @@
 //! Parses command lines into calls.
 
-ghost use Rattle.std.specs.Prelude.{◌≡◌, ◌<◌, ◌≤◌, Ok, Some, IfErr, IfOk, IfSome};
+ghost use Rattle.std.specs.Prelude.{◌≡◌, ◌<◌, ◌≤◌, ◌++◌, codes, Ok, Some, IfErr, IfOk, IfSome};
 ghost use Rattle.dbg_base.specs.declared.limits.TheConstants.{SEATS};
 ghost use Rattle.dbg_base.specs.CommandLines.{without_return};
 ghost use Rattle.proc_lang.specs.Programs.{program_of};
@@ -123,4 +123,22 @@ pub fn parse_line(alloc: Global, program: &Program, bytes: &[u8]) -> Result<Opti
     };
     let (word, rest) = next_word(rest);
     seat_line(seat, parse_command(alloc, program, word, rest))
+}
+
+/// Parses a command line that names no seat: `parse_line` of the first seat, a blank and these bytes. Errors: as those of `parse_line`.
+pub fn parse_seatless_line(
+    alloc: Global,
+    program: &Program,
+    bytes: &[u8],
+) -> Result<Option<Line>, Refusal>
+    ensures asks { IsParsed (program_of program.now) (codes "1 " ++ bytes.now) result }
+    ensures refuses { IfErr result (IsLineRefusal (codes "1 " ++ bytes.now)) }
+    ensures fits { IfOk result IsLineGivable }
+    ensures seat { IfOk result (λ line. IfSome line (λ line. (0 < line.seat) × (line.seat ≤ SEATS))) }
+{
+    if bytes.len() + 2 > LINE_BYTES {
+        return Err(Refusal::BadLine);
+    }
+    let (word, rest) = next_word(without_return(bytes));
+    seat_line(1, parse_command(alloc, program, word, rest))
 }

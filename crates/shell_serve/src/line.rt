@@ -1,59 +1,25 @@
 //! One line of a session.
 
-ghost use Rattle.std.specs.Prelude.{◌≡◌, ◌<◌, ◌≤◌, ◌++◌, ℕ, List, Ok, Some, not, length, codes, IfOk, IfErr};
-ghost use Rattle.std.specs.Vec.{vec_capacity};
-ghost use Rattle.dbg_base.specs.declared.limits.TheConstants.{LINE_BYTES, SEATS};
+ghost use Rattle.std.specs.Prelude.{◌≡◌, ◌<◌, ◌≤◌, ◌++◌, ℕ, List, Ok, Some, not, codes, IfOk, IfErr, IfSome};
+ghost use Rattle.dbg_base.specs.declared.limits.TheConstants.{SEATS};
 ghost use Rattle.dbg_base.specs.Journals.{IsLegal, Entry};
 ghost use Rattle.dbg_base.specs.Fits.{FitsRefusal};
 ghost use Rattle.dbg_base.specs.Replies.{reply_text, refusal_text};
 ghost use Rattle.dbg_base.specs.Shell.{as_line};
-ghost use Rattle.shell_parse.specs.Lines.{IsParsed, IsGivable};
+ghost use Rattle.shell_parse.specs.Lines.{IsParsed, IsGivable, IsLineGivable, IsLineRefusal};
 ghost use Rattle.shell_print.specs.declared.outcome.ServeFault.TheVariants.{Write};
-ghost use Rattle.shell_serve.specs.declared.line.TheConstants.{ROOM};
 ghost use Rattle.shell_serve.specs.Answering.{IsMaker, AreAllSeats, IsLast, HasLast};
 ghost use Rattle.shell_serve.specs.Sessions.{MayBeQuiet, IsExplained, WritesForm, WritesLine, WritesReply};
 
 use crate::observer::Observer;
 use crate::session::answer;
-use dbg_base::limits::LINE_BYTES;
 use dbg_base::{Refusal, Said};
 use dbg_command::{Command, Givable};
 use dbg_desk::{Locked, Run, Seat};
 use shell_io::Sink;
-use shell_parse::{Line, parse_line, parse_process_line};
+use shell_parse::{Line, parse_line, parse_process_line, parse_seatless_line};
 use shell_print::{ServeFault, hand_on, print_refusal, print_reply};
-use std::alloc::{AllocError, Global};
-
-// Room for the longest line of a command, with a seat.
-const ROOM: usize = 1_026;
-
-const _: () = prove!(ROOM == LINE_BYTES + 2);
-
-/// Room for a line with a seat.
-#[derive(Drop)]
-pub(crate) struct Room {
-    bytes: Vec<u8>,
-    ghost room: { ROOM ≤ vec_capacity bytes },
-}
-
-impl Room {
-    pub(crate) fn new(alloc: Global) -> Result<Room, AllocError> {
-        Ok(Room {
-            bytes: Vec::with_capacity(alloc, ROOM)?,
-        })
-    }
-
-    /// The line with the first seat.
-    pub(crate) fn first_seat(&mut self, line: &[u8]) -> &[u8]
-        requires { length line.now ≤ LINE_BYTES }
-        ensures { result.now ≡ codes "1 " ++ line.now }
-    {
-        self.bytes.clear();
-        self.bytes.extend_from_slice(b"1 ").unwrap();
-        self.bytes.extend_from_slice(line).unwrap();
-        self.bytes.as_slice()
-    }
-}
+use std::alloc::Global;
 
 // Writes the reply to the call that was entered last, and the explanation. The reply is flushed before it is explained.
 fn tell_entered<L: Run, C: Command, T: Observer<R>, R, W: Sink>(
@@ -128,7 +94,47 @@ fn answer_call<
     }
 }
 
-// Answers a command line, which has its seat. The reply is flushed before it is explained.
+// Answers a command line of which this was parsed. The reply is flushed before it is explained.
+#[inline(always)]
+fn answer_parsed<
+    L: Run,
+    C: Command,
+    M: Fn(Givable) -> Result<C, Refusal>,
+    T: Observer<R>,
+    R,
+    W: Sink,
+>(
+    alloc: Global,
+    make: &M,
+    observer: &mut T,
+    locked: &mut Locked<L, C>,
+    seats: &mut [Seat<L>],
+    line: &[u8],
+    parsed: Result<Option<Line>, Refusal>,
+    writer: &mut W,
+) -> Result<(), ServeFault>
+    requires makes { (M.IsAlwaysCallable make.now) × IsMaker (M.post make.now) C.IsFresh C.order }
+    requires seats { AreAllSeats seats.old }
+    requires quiet { MayBeQuiet T.manner }
+    requires fits { IfOk parsed IsLineGivable }
+    requires seat { IfOk parsed (λ line. IfSome line (λ asked. (0 < asked.seat) × (asked.seat ≤ SEATS))) }
+    requires refuses { (bytes : List ℕ) × IfErr parsed (IsLineRefusal bytes) }
+    ensures seats { AreAllSeats seats.new }
+    ensures answers { (bytes : List ℕ) → IsParsed L.program bytes parsed
+        → WritesReply T.manner L.program bytes locked.old.journal (W.seen writer.old) result (W.seen writer.new) locked.new.journal }
+{
+    match parsed {
+        Ok(Some(asked)) => answer_call(alloc, make, observer, locked, seats, asked, writer),
+        Ok(None) => Ok(()),
+        Err(refusal) => {
+            let written = print_refusal(locked.program(), &refusal, writer);
+            hand_on(written, writer)?;
+            observer.explain_refusal(alloc, locked.view(), line, &refusal, writer)
+        }
+    }
+}
+
+// Answers a command line, which names its seat.
 fn answer_command<
     L: Run,
     C: Command,
@@ -156,15 +162,36 @@ fn answer_command<
     if let Some(short) = parse_process_line(locked.program(), line) {
         return answer_call(alloc, make, observer, locked, seats, short.line(), writer);
     }
-    match parse_line(alloc, locked.program(), line) {
-        Ok(Some(asked)) => answer_call(alloc, make, observer, locked, seats, asked, writer),
-        Ok(None) => Ok(()),
-        Err(refusal) => {
-            let written = print_refusal(locked.program(), &refusal, writer);
-            hand_on(written, writer)?;
-            observer.explain_refusal(alloc, locked.view(), line, &refusal, writer)
-        }
-    }
+    let parsed = parse_line(alloc, locked.program(), line);
+    answer_parsed(alloc, make, observer, locked, seats, line, parsed, writer)
+}
+
+// Answers a command line that names no seat, as one of the first seat.
+fn answer_seatless<
+    L: Run,
+    C: Command,
+    M: Fn(Givable) -> Result<C, Refusal>,
+    T: Observer<R>,
+    R,
+    W: Sink,
+>(
+    alloc: Global,
+    make: &M,
+    observer: &mut T,
+    locked: &mut Locked<L, C>,
+    seats: &mut [Seat<L>],
+    line: &[u8],
+    writer: &mut W,
+) -> Result<(), ServeFault>
+    requires makes { (M.IsAlwaysCallable make.now) × IsMaker (M.post make.now) C.IsFresh C.order }
+    requires seats { AreAllSeats seats.old }
+    requires quiet { MayBeQuiet T.manner }
+    ensures seats { AreAllSeats seats.new }
+    ensures answers { WritesReply T.manner L.program (codes "1 " ++ line.now) locked.old.journal (W.seen writer.old) result
+        (W.seen writer.new) locked.new.journal }
+{
+    let parsed = parse_seatless_line(alloc, locked.program(), line);
+    answer_parsed(alloc, make, observer, locked, seats, line, parsed, writer)
 }
 
 /// Answers a line, and returns whether the session continues. The output is flushed before the next line is read.
@@ -181,7 +208,6 @@ pub(crate) fn answer_line<
     observer: &mut T,
     locked: &mut Locked<L, C>,
     seats: &mut [Seat<L>],
-    room: &mut Room,
     line: &[u8],
     reader: &R,
     writer: &mut W,
@@ -202,8 +228,7 @@ pub(crate) fn answer_line<
         return Ok(goes_on);
     }
     if observer.needs_seat(line) {
-        let line = room.first_seat(line);
-        answer_command(alloc, make, observer, locked, seats, line, writer)?;
+        answer_seatless(alloc, make, observer, locked, seats, line, writer)?;
     } else {
         answer_command(alloc, make, observer, locked, seats, line, writer)?;
     }

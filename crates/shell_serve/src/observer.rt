@@ -1,8 +1,7 @@
 //! The observer of a session, who may write explanations.
 
-ghost use Rattle.std.specs.Prelude.{◌≡◌, ◌≤◌, ◌++◌, Bool, length, codes};
+ghost use Rattle.std.specs.Prelude.{◌≡◌, ◌++◌, Bool, codes};
 ghost use Rattle.std.specs.Bool.{MatchBool};
-ghost use Rattle.dbg_base.specs.declared.limits.TheConstants.{LINE_BYTES};
 ghost use Rattle.shell_serve.specs.Sessions.{Manner, WritesForm};
 
 use dbg_base::{Call, Refusal, Said};
@@ -37,8 +36,7 @@ pub trait Observer<R> {
 
     /// Whether the line is taken as one of the first seat.
     fn needs_seat(&self, line: &[u8]) -> bool
-        ensures { MatchBool result ((manner.seated line.now ≡ codes "1 " ++ line.now) × (length line.now ≤ LINE_BYTES))
-            (manner.seated line.now ≡ line.now) };
+        ensures { MatchBool result (manner.seated line.now ≡ codes "1 " ++ line.now) (manner.seated line.now ≡ line.now) };
 
     /// Writes the output that comes before the answer to the line.
     fn before<W: Sink>(

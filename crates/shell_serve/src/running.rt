@@ -16,7 +16,7 @@ ghost use Rattle.shell_input.specs.Spans.{EndsWith, ReadsOn};
 ghost use Rattle.shell_serve.specs.Sessions.{MayBeQuiet, IsExplained, WritesForm, AnswersOn, ReportsFaults, Plays};
 ghost use Rattle.shell_serve.specs.Answering.{IsMaker, AreAllSeats};
 
-use crate::line::{Room, answer_line};
+use crate::line::answer_line;
 use crate::observer::Observer;
 use dbg_base::limits::SEATS;
 use dbg_base::{Plan, Refusal};
@@ -59,7 +59,6 @@ fn answer_lines<
     observer: &mut T,
     locked: Locked<L, C>,
     seats: Vec<Seat<L>>,
-    room: Room,
     input: &mut Input,
     reader: &mut R,
     writer: &mut W,
@@ -77,7 +76,6 @@ fn answer_lines<
         result }
 {
     let mut locked = locked;
-    let mut room = room;
     let mut seats = seats;
     loop {
         match input.next_line(reader)? {
@@ -89,7 +87,6 @@ fn answer_lines<
                     observer,
                     &mut locked,
                     &mut seats,
-                    &mut room,
                     line,
                     &*reader,
                     writer,
@@ -142,10 +139,9 @@ fn begin<
     ensures faults { ReportsFaults (R.health reader.old) (R.health reader.new) (W.seen writer.old).health (W.seen writer.new).health
         result }
 {
-    let room = Room::new(alloc)?;
     match opening.lock::<L, C>(alloc) {
         Ok((locked, seats)) => answer_lines(
-            alloc, make, observer, locked, seats, room, input, reader, writer,
+            alloc, make, observer, locked, seats, input, reader, writer,
         ),
         Err(_) => Err(ServeFault::Memory),
     }

@@ -1,8 +1,7 @@
 -- The manner of an interactive session.
-use Rattle.std.specs.Prelude.{◌≡◌, ◌⊎◌, ◌==◌, ◌&&◌, ◌||◌, ℕ, Bool, true, false, nat_le, not, List, [], ◌∷◌, ◌++◌, length, codes, if◌then◌else◌}
+use Rattle.std.specs.Prelude.{◌≡◌, ◌⊎◌, ◌==◌, ◌&&◌, ◌||◌, ℕ, Bool, true, false, not, List, [], ◌∷◌, ◌++◌, codes, if◌then◌else◌}
 use Rattle.std.specs.List.{AllByRecursion, list_any, flat_map}
 use Rattle.std.specs.Str.{bytes_eq}
-use Rattle.dbg_base.specs.declared.limits.TheConstants.{LINE_BYTES}
 use Rattle.dbg_base.specs.Tokens.{is_digit}
 use Rattle.dbg_base.specs.CommandLines.{next_word, after_word, without_return}
 use Rattle.dbg_base.specs.Shell.{as_line}
@@ -35,7 +34,7 @@ is_seat (byte ∷ bytes) = is_digit byte
 
 -- the line may be that of a command, and has no seat
 abbrev pub needs_seat : List ℕ → Bool
-needs_seat line = not (is_seat (first_word line)) && nat_le (length line) LINE_BYTES
+needs_seat line = not (is_seat (first_word line))
 
 -- the line with its own seat, or with the first seat if it has none
 abbrev pub with_seat : List ℕ → List ℕ

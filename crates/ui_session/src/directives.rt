@@ -6,7 +6,6 @@ ghost use Rattle.std.specs.Str.{bytes_eq};
 ghost use Rattle.ui_session.specs.Dialogues.{is_remark, first_word, is_directive, is_quit, is_seat, needs_seat, directive_words, quit_words};
 ghost use Rattle.ui_session.specs.Verbs.{is_quit_verb};
 
-use dbg_base::limits::LINE_BYTES;
 use shell_parse::{next_word, without_return};
 use ui_explain::Directive;
 
@@ -129,5 +128,5 @@ fn is_seat(word: &[u8]) -> bool
 pub(crate) fn needs_seat(line: &[u8]) -> bool
     ensures { result ≡ needs_seat line.now }
 {
-    !is_seat(first_word(line)) && line.len() <= LINE_BYTES
+    !is_seat(first_word(line))
 }

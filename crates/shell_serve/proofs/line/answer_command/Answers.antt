@@ -1,9 +1,7 @@
-use Rattle.std.proofs.Common.{Option, Some, Ok, Result, sym, subst, inl}
-use Rattle.dbg_base.specs.declared.refusal.Refusal.{Refusal}
+use Rattle.std.proofs.Common.{Some, Ok, sym, subst, inl}
 use Rattle.dbg_base.specs.CommandLines.{Request}
 use Rattle.dbg_base.specs.Requests.{Asks}
 use Rattle.dbg_base.specs.Trees.{Program}
-use Rattle.shell_parse.specs.declared.line.Line.{Line}
 use Rattle.shell_parse.specs.Lines.{IsParsed, process_request}
 use Rattle.shell_serve.proofs.line.answer_command.Goals as goal
 
