@@ -9,7 +9,8 @@ ghost use Rattle.rdbg.specs.declared.output.TheConstants.{ROOM};
 ghost use Rattle.rdbg.specs.Outputs.{output_contents, output_seen};
 
 use shell_io::{FixedBuffer, Health, Noted, Sink};
-use std::io::{Result, Write};
+use std::io::{Error, ErrorKind, Result, Write};
+use std::result;
 
 // The bytes that are kept before they are written.
 const ROOM: usize = 8_192;
@@ -32,8 +33,8 @@ impl<W: Write> Output<W> {
         }
     }
 
-    // Writes all bytes of the buffer. A failure of the writer ends the output for good.
-    fn hand_on(&mut self) -> Result<()>
+    // Writes all bytes of the buffer. Error: of which kind the failure of the writer is. It ends the output for good.
+    fn hand_on(&mut self) -> result::Result<(), ErrorKind>
         requires { self.old.inner.health ≡ Fine }
         ensures bytes { Keeps (output_contents W.contents self.old) (output_contents W.contents self.new) }
         ensures empty { OnOk result (self.new.buffer ≡ []) }
@@ -42,7 +43,7 @@ impl<W: Write> Output<W> {
         while !self.buffer.bytes().is_empty() {
             let count = match self.inner.write(self.buffer.bytes()) {
                 Ok(count) => count,
-                Err(error) => return Err(error),
+                Err(error) => return Err(error.kind()),
             };
             self.buffer.drop_prefix(count);
         }
@@ -73,7 +74,9 @@ impl<W: Write> Output<W> {
     {
         self.inner.go_on()?;
         if self.buffer.room() == 0 {
-            self.hand_on()?;
+            if let Err(kind) = self.hand_on() {
+                return Err(Error::from(kind));
+            }
         }
         Ok(self.keep(bytes))
     }
@@ -105,7 +108,7 @@ impl<W: Write> Sink for Output<W> {
         }
         match self.hand_on() {
             Ok(()) => self.inner.flush(),
-            Err(error) => Err(error),
+            Err(kind) => Err(Error::from(kind)),
         }
     }
 }
