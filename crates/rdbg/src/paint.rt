@@ -107,7 +107,7 @@ fn value_length(bytes: &[u8]) -> usize {
 
 // A line about an event, or about a process in a cut: the blanks before the name, the name, and the rest, which begins with the number.
 #[derive(Clone, Copy)]
-struct ProcessLine<'a> {
+struct NamedLine<'a> {
     blanks: &'a [u8],
     name: &'a [u8],
     rest: &'a [u8],
@@ -124,8 +124,8 @@ fn is_numbered(bytes: &[u8]) -> bool {
     rest.is_empty() || rest.starts_with(b"  ") || is_part
 }
 
-impl<'a> ProcessLine<'a> {
-    fn of(line: &'a [u8]) -> Option<ProcessLine<'a>> {
+impl<'a> NamedLine<'a> {
+    fn of(line: &'a [u8]) -> Option<NamedLine<'a>> {
         let (blanks, begun) = split(line, blank_length(line));
         let (name, rest) = split(begun, name_length(begun));
         let (_, number) = split(rest, blank_length(rest));
@@ -136,7 +136,7 @@ impl<'a> ProcessLine<'a> {
         {
             return None;
         }
-        Some(ProcessLine { blanks, name, rest })
+        Some(NamedLine { blanks, name, rest })
     }
 }
 
@@ -185,7 +185,7 @@ impl<W: Write> Painted<W> {
     fn put_process_line(
         &mut self,
         text: &mut Vec<u8>,
-        line: ProcessLine<'_>,
+        line: NamedLine<'_>,
     ) -> Result<(), AllocError> {
         let hue = self.hue(line.name)?;
         text.extend_from_slice(line.blanks)?;
@@ -201,7 +201,7 @@ impl<W: Write> Painted<W> {
     // A line, coloured.
     fn painted(&mut self, line: &[u8]) -> Result<Vec<u8>, AllocError> {
         let mut text = Vec::new(*self.line.allocator());
-        if let Some(found) = ProcessLine::of(line) {
+        if let Some(found) = NamedLine::of(line) {
             self.put_process_line(&mut text, found)?;
         } else if line.starts_with(b"no ") || line.starts_with(b"program refused") {
             put(&mut text, RED, line)?;
