@@ -7,7 +7,7 @@ ghost use Rattle.local_eval.specs.Changes.{Gives};
 use crate::env::Env;
 use crate::evaluation::evaluate;
 use crate::fault::EvalError;
-use crate::local::{Local, Received};
+use crate::local::{Local, LocalAfterReceive};
 use crate::value::number;
 use proc_lang::{Action, Assignment, Guarded};
 use smallvec::SmallVec;
@@ -60,7 +60,7 @@ pub fn effect(
         }
         (Action::Receive { variable, .. }, Some(message)) => {
             sets.push((*variable, message))?;
-            let local = Received {
+            let local = LocalAfterReceive {
                 env,
                 variable: *variable,
                 message,

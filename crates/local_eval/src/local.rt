@@ -35,13 +35,13 @@ impl Local for Env {
 
 /// A local state with a received message in a variable. The local state itself is not copied.
 #[derive(Clone, Copy)]
-pub(crate) struct Received<'a> {
+pub(crate) struct LocalAfterReceive<'a> {
     pub(crate) env: &'a Env,
     pub(crate) variable: u32,
     pub(crate) message: i64,
 }
 
-impl Local for Received<'_> {
+impl Local for LocalAfterReceive<'_> {
     ghost state = { λ local. with_set local.env.now ((local.variable, local.message) ∷ []) };
 
     fn variable(&self, index: u32) -> Option<i64> {
