@@ -19,7 +19,7 @@ use proc_lang::Program;
 use serde_json::{Map, Value};
 use std::alloc::{AllocError, Global};
 use ui_explain::{Echo, Explainer};
-use ui_text::{Notes, ProgramText};
+use ui_text::{Notes, ProgramText, Transcript};
 
 // The kind of a call, as far as a page needs it.
 #[derive(Clone, Copy)]
@@ -251,12 +251,11 @@ impl<'a> Recorder<'a> {
         self.note(ended);
     }
 
-    /// What was recorded: the program, what each line did, and the lines with their replies. The replies are in this text, one after the
-    /// other.
-    pub fn session(self, replies: &[u8]) -> Result<PageData, Incomplete>
+    /// What was recorded: the program, what each line did, and the lines with their replies, which are those of this output.
+    pub fn session(self, output: &Transcript) -> Result<PageData, Incomplete>
         ensures lines { IfOk result (λ page. ∥ ArePageLines page.bytes.items ∥₁) }
     {
-        self.lines.with_replies(self.alloc, replies)
+        self.lines.with_replies(self.alloc, output)
     }
 }
 

@@ -1,11 +1,12 @@
 //! Plays a session and draws it.
 
+use crate::expanding::write_text;
 use crate::first_lines::FirstLines;
 use crate::model::{Model, ProgramKind};
 use crate::model_faults::refuse;
 use crate::session_input::Beginning;
 use shell_io::{Noted, Sink, Source};
-use shell_print::{ServeFault, Served, hand_on, status, tell_too_long, write_whole};
+use shell_print::{ServeFault, Served, status, tell_too_long};
 use shell_serve::play;
 use std::alloc::Global;
 use std::cell::Cell;
@@ -13,7 +14,7 @@ use std::io::Read;
 use ui_diagram::{Moment, Picture, PictureForm};
 use ui_page::{Artist, Recorder, write_page};
 use ui_session::{Dialogue, Typed};
-use ui_text::{Notes, Part};
+use ui_text::{Notes, Part, Transcript};
 
 /// How a drawing ended if nothing failed.
 #[derive(Clone, Copy, Debug, PartialEq, Eq)]
@@ -44,11 +45,10 @@ fn report<E: Sink>(alloc: Global, why: &[Part<'_>], errors: &mut E) -> Result<()
     notes.say(&[Part::Text("error: ")])?;
     notes.add(why)?;
     notes.add(&[Part::Text("\n")])?;
-    let written = match notes.lines().first() {
-        Some(line) => write_whole(errors, line.as_slice()),
+    match notes.lines().first() {
+        Some(line) => write_text(line.as_slice(), errors),
         None => Ok(()),
-    };
-    hand_on(written, errors)
+    }
 }
 
 // Whether a program was played.
@@ -66,21 +66,20 @@ fn draw_page<R: Source + Typed, W: Sink, E: Sink>(
 ) -> Result<Drawn, ServeFault> {
     let source = model.map(|model| model.source());
     let mut dialogue = Dialogue::new(Recorder::new(alloc, source), is_stopped);
-    let mut replies = Noted::new(Vec::new(alloc));
-    let served = play(alloc, &mut dialogue, reader, &mut replies)?;
+    let mut output = Noted::new(Transcript::new(alloc));
+    let served = play(alloc, &mut dialogue, reader, &mut output)?;
     let recorder = dialogue.into_explainer();
     if recorder.is_incomplete() {
         return Err(ServeFault::Memory);
     }
-    let replies = replies.into_inner();
+    let output = output.into_inner();
     if is_played(served) {
-        let Ok(data) = recorder.session(replies.as_slice()) else {
+        let Ok(data) = recorder.session(&output) else {
             return Err(ServeFault::Memory);
         };
         write_page(&data, writer)?;
     } else {
-        let written = write_whole(errors, replies.as_slice());
-        hand_on(written, errors)?;
+        write_text(output.text(), errors)?;
     }
     Ok(Drawn::Played(served))
 }
@@ -94,22 +93,20 @@ fn draw_state<R: Source + Typed, W: Sink, E: Sink>(
     errors: &mut E,
 ) -> Result<Drawn, ServeFault> {
     let mut dialogue = Dialogue::new(Artist::new(picture), is_stopped);
-    let mut replies = Noted::new(Vec::new(alloc));
-    let served = play(alloc, &mut dialogue, reader, &mut replies)?;
+    let mut output = Noted::new(Vec::new(alloc));
+    let served = play(alloc, &mut dialogue, reader, &mut output)?;
     let artist = dialogue.explainer();
     if artist.is_out_of_memory() {
         return Err(ServeFault::Memory);
     }
     if !is_played(served) {
-        let written = write_whole(errors, replies.into_inner().as_slice());
-        hand_on(written, errors)?;
+        write_text(output.into_inner().as_slice(), errors)?;
     } else if let Some(name) = artist.unknown_name() {
         let before = Part::Text("the program has no process `");
         report(alloc, &[before, Part::Bytes(name), Part::Text("`")], errors)?;
         return Ok(Drawn::NoProcess);
     } else if let Some(picture) = artist.picture() {
-        let written = write_whole(writer, picture);
-        hand_on(written, writer)?;
+        write_text(picture, writer)?;
     } else {
         report(
             alloc,

@@ -7,6 +7,7 @@ use crate::playing::{PlayedSession, wanted};
 use shell_io::Sink;
 use shell_print::{ServeFault, Served};
 use std::alloc::{AllocError, Global};
+use ui_text::Transcript;
 
 // Appends a line to the text.
 fn put_line(text: &mut Vec<u8>, begin: &[u8], line: &[u8]) -> Result<(), AllocError> {
@@ -22,17 +23,17 @@ fn put_lines(
     text: &mut Vec<u8>,
     model: Option<&Model>,
     lines: &[u8],
-    page: &[u8],
+    output: &Transcript,
 ) -> Result<(), AllocError> {
-    let mut rest = page;
+    let mut next = 0usize;
     for line in lines.split(|byte| *byte == b'\n') {
         if wanted(line).is_some() {
             continue;
         }
         put_line(text, b"", line)?;
-        let replies = replies_to(alloc, model, line, rest)?;
-        rest = replies.rest;
-        if let Some(reply) = replies.last {
+        let replies = replies_to(alloc, model, line, output, next)?;
+        next = replies.end;
+        if let Some(reply) = replies.last(output) {
             put_line(text, b"> ", reply)?;
         }
     }
@@ -51,7 +52,7 @@ pub fn fill_session<W: Sink, E: Sink>(
     match played.served() {
         Served::Done => {}
         Served::Refused => {
-            write_text(played.page(), errors)?;
+            write_text(played.output().text(), errors)?;
             return Ok(Served::Refused);
         }
         Served::TooLong => {
@@ -64,7 +65,7 @@ pub fn fill_session<W: Sink, E: Sink>(
     let mut text = Vec::from_slice(alloc, session.get(..program).unwrap_or(session))?;
     // (a last line end ends no further line)
     let lines = lines.strip_suffix(b"\n".as_slice()).unwrap_or(lines);
-    put_lines(alloc, &mut text, played.model(), lines, played.page())?;
+    put_lines(alloc, &mut text, played.model(), lines, played.output())?;
     write_text(text.as_slice(), writer)?;
     Ok(Served::Done)
 }

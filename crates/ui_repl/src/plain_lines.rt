@@ -1,12 +1,11 @@
 //! The plain lines of a line of a session.
 
 use crate::model::Model;
-use crate::playing::next_reply;
 use dbg_base::limits::{CALLS, LINE_BYTES};
 use shell_parse::{next_word, without_return};
 use std::alloc::{AllocError, Global};
 use ui_session::is_directive;
-use ui_text::whole_word;
+use ui_text::{Transcript, whole_word};
 
 // The most digits of a number of times.
 const DIGITS: usize = 6;
@@ -181,44 +180,45 @@ pub(crate) fn given_lines(
     Ok(given)
 }
 
-/// The replies to a line of a session: how many there are, the last one, and the output after them.
-#[derive(Clone, Copy)]
-pub(crate) struct Replies<'a> {
-    pub(crate) count: usize,
-    pub(crate) last: Option<&'a [u8]>,
-    pub(crate) rest: &'a [u8],
-}
-
 // Whether the reply to `next` refuses it, or shows that a breakpoint halts the session.
 fn stops(reply: &[u8]) -> bool {
     let mut words = reply.split(|byte| *byte == b' ');
     matches!(words.next(), Some(b"no")) || matches!(words.nth(2), Some(b"halted"))
 }
 
-impl<'a> Replies<'a> {
-    // No reply yet, before this output.
-    fn before(page: &'a [u8]) -> Replies<'a> {
-        Replies {
-            count: 0,
-            last: None,
-            rest: page,
+/// The replies to a line of a session, by their positions in the output: from `begin` up to `end`, without it.
+#[derive(Clone, Copy)]
+pub(crate) struct Replies {
+    pub(crate) begin: usize,
+    pub(crate) end: usize,
+}
+
+impl Replies {
+    /// The position of the last reply, if there is one.
+    pub(crate) fn last_position(self) -> Option<usize> {
+        if self.begin == self.end {
+            None
+        } else {
+            self.end.checked_sub(1)
         }
     }
 
-    // The same, and the replies to this line.
-    fn and_to(self, line: &GivenLine) -> Replies<'a> {
+    /// The last reply.
+    pub(crate) fn last(self, output: &Transcript) -> Option<&[u8]> {
+        output.reply(self.last_position()?)
+    }
+
+    // The same, and the replies to this line after them.
+    fn and_to(self, line: &GivenLine, output: &Transcript) -> Replies {
         let mut replies = self;
         if is_directive(line.text.as_slice()) {
             return replies;
         }
         for _ in 0..line.times {
-            if replies.rest.is_empty() {
+            let Some(reply) = output.reply(replies.end) else {
                 break;
-            }
-            let (reply, rest) = next_reply(replies.rest);
-            let count = replies.count.saturating_add(1);
-            let last = Some(reply);
-            replies = Replies { count, last, rest };
+            };
+            replies.end = replies.end.saturating_add(1);
             if line.times > 1 && stops(reply) {
                 break;
             }
@@ -227,17 +227,17 @@ impl<'a> Replies<'a> {
     }
 }
 
-/// The replies to a line of a session, at the start of this output.
-pub(crate) fn replies_to<'a>(
+/// The replies to a line of a session. The first of them is at this position of the output.
+pub(crate) fn replies_to(
     alloc: Global,
     model: Option<&Model>,
     line: &[u8],
-    page: &'a [u8],
-) -> Result<Replies<'a>, AllocError> {
-    let lines = given_lines(alloc, model, line)?;
-    let mut replies = Replies::before(page);
-    for given in &lines {
-        replies = replies.and_to(given);
+    output: &Transcript,
+    begin: usize,
+) -> Result<Replies, AllocError> {
+    let mut replies = Replies { begin, end: begin };
+    for given in &given_lines(alloc, model, line)? {
+        replies = replies.and_to(given, output);
     }
     Ok(replies)
 }

@@ -13,7 +13,7 @@ use std::io;
 use std::io::Read;
 use ui_diagram::WIDTH;
 use ui_session::Typed;
-use ui_text::first_line;
+use ui_text::Transcript;
 
 /// How many bytes of a session are read at most: one more than an input may have, which shows that it is too long.
 pub const SESSION_BYTES: u64 = 1_048_577;
@@ -50,11 +50,6 @@ pub(crate) fn wanted(line: &[u8]) -> Option<&[u8]> {
     }
 }
 
-/// Whether a line of output is one of an explanation.
-pub(crate) fn is_reported(line: &[u8]) -> bool {
-    matches!(line, [b' ', b' ', ..])
-}
-
 /// The lines of a session after its program, and the number of the first of them, from 1.
 pub(crate) fn command_lines(session: &[u8]) -> (usize, &[u8]) {
     let mut rest = session;
@@ -69,28 +64,15 @@ pub(crate) fn command_lines(session: &[u8]) -> (usize, &[u8]) {
     (number, rest)
 }
 
-/// The first reply, and the output after it.
-pub(crate) fn next_reply(page: &[u8]) -> (&[u8], &[u8]) {
-    let mut rest = page;
-    for _ in 0..page.len() {
-        let (line, after) = first_line(rest);
-        if !is_reported(line) {
-            return (line, after);
-        }
-        rest = after;
-    }
-    (&[], &[])
-}
-
 // Plays a session whose reader and writer cannot fail.
 fn talk_alone(
     alloc: Global,
     model: Option<&Model>,
     beginning: &Beginning,
     rest: SessionText<'_>,
-    page: &mut Noted<Vec<u8>>,
+    output: &mut Noted<Transcript>,
 ) -> Result<Served, ServeFault> {
-    match talk_from(alloc, model, WIDTH as usize, beginning, rest, page) {
+    match talk_from(alloc, model, WIDTH as usize, beginning, rest, output) {
         Ok(served) => Ok(served),
         Err(_) => Err(ServeFault::Memory),
     }
@@ -102,12 +84,12 @@ fn play_alone(
     kind: &ProgramKind,
     beginning: &Beginning,
     rest: SessionText<'_>,
-    page: &mut Noted<Vec<u8>>,
+    output: &mut Noted<Transcript>,
 ) -> Result<Served, ServeFault> {
     match kind {
-        ProgramKind::Plain => talk_alone(alloc, None, beginning, rest, page),
-        ProgramKind::Model(model) => talk_alone(alloc, Some(model), beginning, rest, page),
-        ProgramKind::Wrong(fault) => refuse(alloc, beginning.text(), fault, page),
+        ProgramKind::Plain => talk_alone(alloc, None, beginning, rest, output),
+        ProgramKind::Model(model) => talk_alone(alloc, Some(model), beginning, rest, output),
+        ProgramKind::Wrong(fault) => refuse(alloc, beginning.text(), fault, output),
     }
 }
 
@@ -117,21 +99,21 @@ pub(crate) struct PlayedSession<'a> {
     session: &'a [u8],
     kind: ProgramKind,
     served: Served,
-    page: Vec<u8>,
+    output: Transcript,
 }
 
 impl<'a> PlayedSession<'a> {
     /// Plays a session, which may be in the model notation.
     pub(crate) fn play(alloc: Global, session: &'a [u8]) -> Result<PlayedSession<'a>, ServeFault> {
-        let mut page = Noted::new(Vec::new(alloc));
+        let mut output = Noted::new(Transcript::new(alloc));
         let (beginning, rest) = Beginning::read(alloc, SessionText { rest: session })?;
         let kind = beginning.kind(alloc)?;
-        let served = play_alone(alloc, &kind, &beginning, rest, &mut page)?;
+        let served = play_alone(alloc, &kind, &beginning, rest, &mut output)?;
         Ok(PlayedSession {
             session,
             kind,
             served,
-            page: page.into_inner(),
+            output: output.into_inner(),
         })
     }
 
@@ -141,8 +123,8 @@ impl<'a> PlayedSession<'a> {
     }
 
     /// What was written.
-    pub(crate) fn page(&self) -> &[u8] {
-        self.page.as_slice()
+    pub(crate) fn output(&self) -> &Transcript {
+        &self.output
     }
 
     /// The model, if the program is one.

@@ -3,13 +3,13 @@
 use crate::comparing::{PlayedLine, compare};
 use crate::expanding::write_text;
 use crate::plain_lines::replies_to;
-use crate::playing::{PlayedSession, is_reported, next_reply, wanted};
+use crate::playing::{PlayedSession, wanted};
 use itoa::Buffer;
 use shell_io::Sink;
 use shell_parse::{next_word, without_return};
 use shell_print::{ServeFault, Served};
 use std::alloc::{AllocError, Global};
-use ui_text::first_line;
+use ui_text::Transcript;
 
 /// The result of a session in which a line `> REPLY` gives the expected reply to the command line before it.
 #[derive(Clone, Copy, Debug, PartialEq, Eq)]
@@ -20,11 +20,11 @@ pub enum Tested {
     Failed,
 }
 
-// A line of a session, and how many replies come before its last one, or before it if it has none.
+// A line of a session, and the position of its last reply in the output, if it has one.
 #[derive(Clone, Copy)]
 struct SessionLine<'a> {
     text: &'a [u8],
-    before: usize,
+    reply: Option<usize>,
 }
 
 // The lines of a session that was played: what they are for a comparison, and their texts. The first one has this number in the session.
@@ -45,10 +45,10 @@ impl<'a> SessionLines<'a> {
         &mut self,
         played: PlayedLine<'a>,
         text: &'a [u8],
-        before: usize,
+        reply: Option<usize>,
     ) -> Result<(), AllocError> {
         self.played.push(played)?;
-        Ok(self.lines.push(SessionLine { text, before })?)
+        Ok(self.lines.push(SessionLine { text, reply })?)
     }
 
     // The lines of a session. The reply to a line that is short for several lines is the last one.
@@ -59,22 +59,21 @@ impl<'a> SessionLines<'a> {
             played: Vec::new(alloc),
             lines: Vec::new(alloc),
         };
-        let mut rest = session.page();
-        let mut count = 0usize;
+        let output = session.output();
+        let mut next = 0usize;
         for line in text.split(|byte| *byte == b'\n') {
             if let Some(wanted) = wanted(line) {
-                lines.push(PlayedLine::Expected(wanted), line, count)?;
+                lines.push(PlayedLine::Expected(wanted), line, None)?;
             } else if is_remark(line) {
-                lines.push(PlayedLine::Remark, line, count)?;
+                lines.push(PlayedLine::Remark, line, None)?;
             } else {
-                let replies = replies_to(alloc, session.model(), line, rest)?;
-                rest = replies.rest;
-                count = count.saturating_add(replies.count);
-                let played = match replies.last {
+                let replies = replies_to(alloc, session.model(), line, output, next)?;
+                next = replies.end;
+                let played = match replies.last(output) {
                     Some(reply) => PlayedLine::Answered(reply),
                     None => PlayedLine::Unanswered,
                 };
-                lines.push(played, line, count.saturating_sub(1))?;
+                lines.push(played, line, replies.last_position())?;
             }
         }
         Ok(lines)
@@ -98,7 +97,7 @@ impl<'a> SessionLines<'a> {
         alloc: Global,
         name: &str,
         place: usize,
-        page: &[u8],
+        output: &Transcript,
     ) -> Result<Vec<u8>, AllocError> {
         let wanted = match self.played.as_slice().get(place) {
             Some(PlayedLine::Expected(wanted)) => *wanted,
@@ -109,50 +108,46 @@ impl<'a> SessionLines<'a> {
             return Ok(Vec::new(alloc));
         };
         let number = self.first.saturating_add(asked.unwrap_or(place));
-        if asked.is_some() {
-            tell_difference(alloc, name, number, *line, wanted, page)
-        } else {
-            tell_misplaced(alloc, name, number, line.text)
+        match (asked, line.reply) {
+            (Some(_), Some(position)) => {
+                let mut text = tell_difference(alloc, name, number, line.text, wanted)?;
+                put_reply(&mut text, output, position)?;
+                Ok(text)
+            }
+            _ => tell_misplaced(alloc, name, number, line.text),
         }
     }
 }
 
-// Reports a line whose reply is not the expected one, with the explanation of that reply.
+// Reports a line whose reply is not the expected one, up to that reply.
 fn tell_difference(
     alloc: Global,
     name: &str,
     number: usize,
-    line: SessionLine<'_>,
+    line: &[u8],
     wanted: &[u8],
-    page: &[u8],
 ) -> Result<Vec<u8>, AllocError> {
-    let mut text = Vec::new(alloc);
-    let mut rest = page;
-    let mut reply: &[u8] = &[];
-    for _ in 0..line.before.saturating_add(1) {
-        (reply, rest) = next_reply(rest);
-    }
-    text.extend_from_slice(name.as_bytes())?;
+    let mut text = Vec::from_slice(alloc, name.as_bytes())?;
     text.extend_from_slice(b":")?;
     text.extend_from_slice(Buffer::new().format(number).as_bytes())?;
     text.extend_from_slice(b": ")?;
-    text.extend_from_slice(line.text)?;
+    text.extend_from_slice(line)?;
     text.extend_from_slice(b"\n  expected: ")?;
     text.extend_from_slice(wanted)?;
+    Ok(text)
+}
+
+// Appends the reply at this position, and its explanation.
+fn put_reply(text: &mut Vec<u8>, output: &Transcript, position: usize) -> Result<(), AllocError> {
     text.extend_from_slice(b"\n  reply:    ")?;
-    text.extend_from_slice(reply)?;
+    text.extend_from_slice(output.reply(position).unwrap_or(&[]))?;
     text.extend_from_slice(b"\n")?;
-    for _ in 0..rest.len() {
-        let (line, after) = first_line(rest);
-        if !is_reported(line) {
-            break;
-        }
+    let explanation = output.explanation(position);
+    for line in explanation.split_inclusive(|byte| *byte == b'\n') {
         text.extend_from_slice(b"  ")?;
         text.extend_from_slice(line)?;
-        text.extend_from_slice(b"\n")?;
-        rest = after;
     }
-    Ok(text)
+    Ok(())
 }
 
 // Reports something about the session of this name.
@@ -198,11 +193,14 @@ fn tell_comparison(
     alloc: Global,
     name: &str,
     lines: &SessionLines<'_>,
-    page: &[u8],
+    output: &Transcript,
 ) -> Result<(Vec<u8>, Tested), AllocError> {
     let comparison = compare(lines.played.as_slice());
     match comparison.wrong {
-        Some(place) => Ok((lines.tell_wrong(alloc, name, place, page)?, Tested::Failed)),
+        Some(place) => Ok((
+            lines.tell_wrong(alloc, name, place, output)?,
+            Tested::Failed,
+        )),
         None if comparison.compared == 0 => {
             let what = b"no line `> REPLY` gives an expected reply\n";
             Ok((tell_named(alloc, name, what)?, Tested::Failed))
@@ -228,7 +226,7 @@ pub fn test_session<W: Sink>(
     match played.served() {
         Served::Done => {}
         Served::Refused => {
-            let text = tell_named(alloc, name, played.page())?;
+            let text = tell_named(alloc, name, played.output().text())?;
             write_text(text.as_slice(), writer)?;
             return Ok(Tested::Failed);
         }
@@ -239,7 +237,7 @@ pub fn test_session<W: Sink>(
         }
     }
     let lines = SessionLines::of(alloc, &played)?;
-    let (text, tested) = tell_comparison(alloc, name, &lines, played.page())?;
+    let (text, tested) = tell_comparison(alloc, name, &lines, played.output())?;
     write_text(text.as_slice(), writer)?;
     Ok(tested)
 }

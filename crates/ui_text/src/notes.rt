@@ -89,10 +89,3 @@ impl Notes {
         Ok(())
     }
 }
-
-/// The first line of a text, without its line end, and the text after it.
-pub fn first_line(text: &[u8]) -> (&[u8], &[u8]) {
-    let length = text.iter().take_while(|byte| **byte != b'\n').count();
-    let line = text.get(..length).unwrap_or(text);
-    (line, text.get(length.saturating_add(1)..).unwrap_or(&[]))
-}

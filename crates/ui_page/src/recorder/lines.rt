@@ -6,7 +6,7 @@ use serde_json::Value;
 use shell_parse::without_return;
 use std::alloc::{AllocError, Global};
 use std::mem;
-use ui_text::first_line;
+use ui_text::Transcript;
 
 // The end of a line's text in the texts of all lines, and whether the line has a reply.
 #[derive(Clone, Copy)]
@@ -77,11 +77,11 @@ impl RecordedLines {
         Ok(())
     }
 
-    /// The data, and after them the lines with their replies. The replies are in this text, one after the other.
+    /// The data, and after them the lines with their replies. The replies are those of this output, in order.
     pub(super) fn with_replies(
         self,
         alloc: Global,
-        replies: &[u8],
+        output: &Transcript,
     ) -> Result<PageData, Incomplete> {
         let RecordedLines {
             text,
@@ -89,12 +89,13 @@ impl RecordedLines {
             mut data,
             ..
         } = self;
-        let mut rest = replies;
         let mut from = 0usize;
+        let mut answered = 0usize;
         for end in &ends {
             let mut reply: &[u8] = &[];
             if end.is_answered {
-                (reply, rest) = first_line(rest);
+                reply = output.reply(answered).unwrap_or(&[]);
+                answered = answered.saturating_add(1);
             }
             let line = text.get(from..end.text).unwrap_or(&[]);
             if is_shown(line) {
