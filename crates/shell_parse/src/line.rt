@@ -136,6 +136,7 @@ pub fn parse_seatless_line(
     ensures fits { IfOk result IsLineGivable }
     ensures seat { IfOk result (λ line. IfSome line (λ line. (0 < line.seat) × (line.seat ≤ SEATS))) }
 {
+    // The seat and the blank after it are two more bytes of the line.
     if bytes.len() + 2 > LINE_BYTES {
         return Err(Refusal::BadLine);
     }
