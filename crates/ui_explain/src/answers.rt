@@ -3,7 +3,7 @@
 use crate::accepted::put_events;
 use crate::breakpoints::part_of;
 use crate::view::SourceView;
-use dbg_base::{Call, Cause, Choice, Elimination, Head, Name, Pid, Query, Refusal};
+use dbg_base::{Call, Cause, Choice, Elimination, Name, Pid, Query, Refusal};
 use least_cut::Detector;
 use std::alloc::{AllocError, Global};
 use ui_text::{Notes, Part};
@@ -126,22 +126,6 @@ impl SourceView<'_> {
         Ok(notes.add(&[Part::Text("; none of its commands can fire now")])?)
     }
 
-    // Says the same of all processes that have too few events.
-    fn tell_past(
-        &self,
-        alloc: Global,
-        notes: &mut Notes,
-        detector: &Detector,
-    ) -> Result<(), Refusal> {
-        let heads = detector.frontier(alloc)?;
-        for p in 0..self.session.program.processes() {
-            if let Some(Head::Past) = heads.items().get(p as usize) {
-                self.tell_further(alloc, notes, detector, Pid(p))?;
-            }
-        }
-        Ok(())
-    }
-
     // Says that the part of a process held too early, if it did: before what an event of another process depends on.
     fn tell_cause(
         &self,
@@ -177,22 +161,6 @@ impl SourceView<'_> {
             Part::Text(" of "),
             scope.name(),
         ])
-    }
-
-    // Says the same of all processes that have too few events.
-    fn tell_causes(
-        &self,
-        alloc: Global,
-        notes: &mut Notes,
-        detector: &Detector,
-    ) -> Result<(), Refusal> {
-        let heads = detector.frontier(alloc)?;
-        for p in 0..self.session.program.processes() {
-            if let Some(Head::Past) = heads.items().get(p as usize) {
-                self.tell_cause(notes, detector, Pid(p))?;
-            }
-        }
-        Ok(())
     }
 
     /// Explains the answer to a query. For `why`, says how the search for the cut went, which parts do not hold yet, which commands of
@@ -231,7 +199,13 @@ impl SourceView<'_> {
             notes.say(&[Part::Text("what is left is the earliest state:")])?;
             return Ok(self.tell_cut_state(notes, detector, cut)?);
         }
-        self.tell_past(alloc, notes, detector)?;
-        self.tell_causes(alloc, notes, detector)
+        let past = self.past_processes(alloc, detector)?;
+        for pid in &past {
+            self.tell_further(alloc, notes, detector, *pid)?;
+        }
+        for pid in &past {
+            self.tell_cause(notes, detector, *pid)?;
+        }
+        Ok(())
     }
 }

@@ -78,20 +78,20 @@ impl SourceView<'_> {
         }
     }
 
-    // Says which parts do not hold yet.
-    fn tell_false_parts(
+    /// The processes that have too few events: all of their states were ruled out.
+    pub(crate) fn past_processes(
         &self,
         alloc: Global,
-        notes: &mut Notes,
         detector: &Detector,
-    ) -> Result<(), Refusal> {
+    ) -> Result<Vec<Pid>, Refusal> {
         let heads = detector.frontier(alloc)?;
+        let mut pids = Vec::new(alloc);
         for p in 0..self.session.program.processes() {
             if let Some(Head::Past) = heads.items().get(p as usize) {
-                self.tell_not_yet(notes, detector, Pid(p))?;
+                pids.push(Pid(p))?;
             }
         }
-        Ok(())
+        Ok(pids)
     }
 
     /// Says what a breakpoint's predicate is, and what its cut is, or which parts do not hold yet.
@@ -107,10 +107,13 @@ impl SourceView<'_> {
         let detector = breakpoint.detector();
         notes.say(&[Part::Name(name), Part::Text(": ")])?;
         put_conjuncts(notes, self.session.program, detector)?;
-        match detector.cut() {
-            Some(cut) => Ok(tell_cut(notes, self.session.program, cut)?),
-            None => self.tell_false_parts(alloc, notes, detector),
+        if let Some(cut) = detector.cut() {
+            return Ok(tell_cut(notes, self.session.program, cut)?);
         }
+        for pid in &self.past_processes(alloc, detector)? {
+            self.tell_not_yet(notes, detector, *pid)?;
+        }
+        Ok(())
     }
 
     // Whether a process has events that are not in a cut.
