@@ -3,7 +3,7 @@
 ghost use Rattle.shell_input.specs.Spans.{EndsWith};
 
 use crate::plain_lines::{GivenLine, completed, given_lines};
-use crate::playing::command_lines;
+use crate::playing::copy_program;
 use dbg_base::limits::INPUT_BYTES;
 use notation::{Fault, NotationError, expand_session, message};
 use shell_input::{Input, Next};
@@ -40,9 +40,7 @@ fn write_lines<W: Sink>(lines: &[Vec<u8>], writer: &mut W) -> Result<(), ServeFa
 
 // The session with its command words completed.
 fn with_whole_words(alloc: Global, session: &[u8]) -> Result<Vec<u8>, AllocError> {
-    let (_, lines) = command_lines(session);
-    let program = session.len().saturating_sub(lines.len());
-    let mut text = Vec::from_slice(alloc, session.get(..program).unwrap_or(session))?;
+    let (mut text, lines) = copy_program(alloc, session)?;
     for (number, line) in lines.split(|byte| *byte == b'\n').enumerate() {
         if number > 0 {
             text.push(b'\n')?;
@@ -68,9 +66,7 @@ fn put_given(text: &mut Vec<u8>, line: &GivenLine) -> Result<bool, AllocError> {
 
 // The plain session whose lines may be repeated or have comments, each as a run takes it. None if it is too long.
 fn unrolled(alloc: Global, session: &[u8]) -> Result<Option<Vec<u8>>, AllocError> {
-    let (_, lines) = command_lines(session);
-    let program = session.len().saturating_sub(lines.len());
-    let mut text = Vec::from_slice(alloc, session.get(..program).unwrap_or(session))?;
+    let (mut text, lines) = copy_program(alloc, session)?;
     for (number, line) in lines.split(|byte| *byte == b'\n').enumerate() {
         if number > 0 {
             text.push(b'\n')?;

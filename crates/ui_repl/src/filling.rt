@@ -3,7 +3,7 @@
 use crate::expanding::write_text;
 use crate::model::Model;
 use crate::plain_lines::replies_to;
-use crate::playing::{PlayedSession, wanted};
+use crate::playing::{PlayedSession, copy_program, wanted};
 use shell_io::Sink;
 use shell_print::{ServeFault, Served};
 use std::alloc::{AllocError, Global};
@@ -60,9 +60,7 @@ pub fn fill_session<W: Sink, E: Sink>(
             return Ok(Served::TooLong);
         }
     }
-    let (_, lines) = played.command_lines();
-    let program = session.len().saturating_sub(lines.len());
-    let mut text = Vec::from_slice(alloc, session.get(..program).unwrap_or(session))?;
+    let (mut text, lines) = copy_program(alloc, session)?;
     // (a last line end ends no further line)
     let lines = lines.strip_suffix(b"\n".as_slice()).unwrap_or(lines);
     put_lines(alloc, &mut text, played.model(), lines, played.output())?;

@@ -8,7 +8,7 @@ use dbg_base::limits::INPUT_BYTES;
 use shell_io::Noted;
 use shell_parse::{next_word, without_return};
 use shell_print::{ServeFault, Served};
-use std::alloc::Global;
+use std::alloc::{AllocError, Global};
 use std::io;
 use std::io::Read;
 use ui_diagram::WIDTH;
@@ -62,6 +62,14 @@ pub(crate) fn command_lines(session: &[u8]) -> (usize, &[u8]) {
         }
     }
     (number, rest)
+}
+
+/// A copy of a session up to its command lines, and these.
+pub(crate) fn copy_program(alloc: Global, session: &[u8]) -> Result<(Vec<u8>, &[u8]), AllocError> {
+    let (_, lines) = command_lines(session);
+    let end = session.len().saturating_sub(lines.len());
+    let program = session.get(..end).unwrap_or(session);
+    Ok((Vec::from_slice(alloc, program)?, lines))
 }
 
 // Plays a session whose reader and writer cannot fail.

@@ -108,33 +108,39 @@ impl<'a> SessionLines<'a> {
             return Ok(Vec::new(alloc));
         };
         let number = self.first.saturating_add(asked.unwrap_or(place));
+        let mut text = begin_report(alloc, name, number, line.text)?;
         match (asked, line.reply) {
             (Some(_), Some(position)) => {
-                let mut text = tell_difference(alloc, name, number, line.text, wanted)?;
+                put_wanted(&mut text, wanted)?;
                 put_reply(&mut text, output, position)?;
-                Ok(text)
             }
-            _ => tell_misplaced(alloc, name, number, line.text),
+            _ => text.extend_from_slice(
+                b"\n  an expected reply follows the command line that it is for, once\n",
+            )?,
         }
+        Ok(text)
     }
 }
 
-// Reports a line whose reply is not the expected one, up to that reply.
-fn tell_difference(
+// The name of a session, and a line of it with its number.
+fn begin_report(
     alloc: Global,
     name: &str,
     number: usize,
     line: &[u8],
-    wanted: &[u8],
 ) -> Result<Vec<u8>, AllocError> {
     let mut text = Vec::from_slice(alloc, name.as_bytes())?;
     text.extend_from_slice(b":")?;
     text.extend_from_slice(Buffer::new().format(number).as_bytes())?;
     text.extend_from_slice(b": ")?;
-    text.extend_from_slice(line)?;
-    text.extend_from_slice(b"\n  expected: ")?;
-    text.extend_from_slice(wanted)?;
+    text.extend_from_slice(without_return(line))?;
     Ok(text)
+}
+
+// Appends the expected reply.
+fn put_wanted(text: &mut Vec<u8>, wanted: &[u8]) -> Result<(), AllocError> {
+    text.extend_from_slice(b"\n  expected: ")?;
+    text.extend_from_slice(wanted)
 }
 
 // Appends the reply at this position, and its explanation.
@@ -155,24 +161,6 @@ fn tell_named(alloc: Global, name: &str, what: &[u8]) -> Result<Vec<u8>, AllocEr
     let mut text = Vec::from_slice(alloc, name.as_bytes())?;
     text.extend_from_slice(b": ")?;
     text.extend_from_slice(what)?;
-    Ok(text)
-}
-
-// Reports a line with an expected reply, before which no command line is.
-fn tell_misplaced(
-    alloc: Global,
-    name: &str,
-    number: usize,
-    line: &[u8],
-) -> Result<Vec<u8>, AllocError> {
-    let mut text = Vec::from_slice(alloc, name.as_bytes())?;
-    text.extend_from_slice(b":")?;
-    text.extend_from_slice(Buffer::new().format(number).as_bytes())?;
-    text.extend_from_slice(b": ")?;
-    text.extend_from_slice(without_return(line))?;
-    text.extend_from_slice(
-        b"\n  an expected reply follows the command line that it is for, once\n",
-    )?;
     Ok(text)
 }
 
