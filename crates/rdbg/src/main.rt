@@ -56,19 +56,19 @@ fn job_from<R: Threads + Wait + Sync, I: Source, W: Sink>(
 
 // Does this work from this input to this writer, and returns the exit status.
 fn work_from<R: Threads + Wait + Sync, I: Read + Typed + Drop, W: Sink, E: Sink>(
-    rt: &R,
-    alloc: Global,
-    width: usize,
+    rt: &HostRuntime,
+    threads: &R,
     work: Work<'_>,
     input: I,
     writer: &mut W,
     errors: &mut E,
 ) -> u8 {
+    let alloc = rt.alloc();
     match work {
-        Work::Job(job) => job_from(rt, alloc, job, &mut Noted::new(input), writer),
+        Work::Job(job) => job_from(threads, alloc, job, &mut Noted::new(input), writer),
         Work::Explain => status(&explain(alloc, &mut Noted::new(input), writer)),
         Work::Expand => status(&expand(alloc, &mut Noted::new(input), writer, errors)),
-        Work::Talk(_) => status(&converse(alloc, width, input, writer)),
+        Work::Talk(_) => status(&converse(alloc, picture_width(rt), input, writer)),
         Work::Draw(picture) => draw_status(&draw(alloc, picture, input, writer, errors)),
     }
 }
@@ -99,15 +99,7 @@ fn work_with_file<R: Threads + Wait + Sync, W: Sink, E: Sink>(
     let is_typed = rt.stdin().is_terminal();
     if !reads_on(work, is_typed) {
         let input = FileInput::new(file);
-        return work_from(
-            threads,
-            rt.alloc(),
-            picture_width(rt),
-            work,
-            input,
-            writer,
-            errors,
-        );
+        return work_from(rt, threads, work, input, writer, errors);
     }
     // At a terminal, the program ends with the file.
     let (file, asks) = if is_typed_session(work, is_typed) {
@@ -116,15 +108,7 @@ fn work_with_file<R: Threads + Wait + Sync, W: Sink, E: Sink>(
         (FileInput::new(file), Asks::Nothing)
     };
     let input = one_after_the_other(file, Typing::new(rt, asks));
-    work_from(
-        threads,
-        rt.alloc(),
-        picture_width(rt),
-        work,
-        input,
-        writer,
-        errors,
-    )
+    work_from(rt, threads, work, input, writer, errors)
 }
 
 // Reports that a file cannot be read, and returns the status of a usage error.
@@ -197,15 +181,7 @@ fn do_work<R: Threads + Wait + Sync, W: Sink, E: Sink>(
                 _ => Asks::Nothing,
             };
             let input = Typing::new(rt, asks);
-            work_from(
-                threads,
-                rt.alloc(),
-                picture_width(rt),
-                work,
-                input,
-                writer,
-                errors,
-            )
+            work_from(rt, threads, work, input, writer, errors)
         }
     }
 }
