@@ -386,17 +386,16 @@ module _ (M : Manner) (P : Program) (line : List ℕ) (J : Journal) where
   }
 
   -- a command line was answered
-  pub command_said : {A B : Type 0} {u : A} {r : Result B ServeFault} (seated : List ℕ) (after : Journal) (a b c : Seen)
-      → M.is_directive line ≡ false → seated ≡ M.seated line → WritesForm {A = A} (M.before line) a (Ok u) b
-      → WritesReply M P seated J b r c after → WritesLine M P line J a r c after
-  command_said seated after a b c own is first answer = record {
+  pub command_said : {A B : Type 0} {u : A} {r : Result B ServeFault} (after : Journal) (a b c : Seen) → M.is_directive line ≡ false
+      → WritesForm {A = A} (M.before line) a (Ok u) b → WritesReply M P (M.seated line) J b r c after → WritesLine M P line J a r c after
+  command_said after a b c own first answer = record {
     text = first.text ++ (answer.reply ++ answer.reported);
     says = (
       first.text,
       answer.reply,
       answer.reported,
       first.form,
-      rw own (subst (λ (l : List ℕ). AnswersLine P l J answer.reply after) is answer.answers),
+      rw own answer.answers,
       answer.explains,
       refl,
     );

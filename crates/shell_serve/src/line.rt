@@ -1,12 +1,13 @@
 //! One line of a session.
 
-ghost use Rattle.std.specs.Prelude.{◌≡◌, ◌<◌, ◌≤◌, ◌++◌, ℕ, List, Ok, Some, not, codes, IfOk, IfErr, IfSome};
+ghost use Rattle.std.specs.Prelude.{◌≡◌, ◌<◌, ◌≤◌, ℕ, List, Ok, Some, not, IfOk, IfErr, IfSome};
 ghost use Rattle.dbg_base.specs.declared.limits.TheConstants.{SEATS};
 ghost use Rattle.dbg_base.specs.Journals.{IsLegal, Entry};
 ghost use Rattle.dbg_base.specs.Fits.{FitsRefusal};
 ghost use Rattle.dbg_base.specs.Replies.{reply_text, refusal_text};
 ghost use Rattle.dbg_base.specs.Shell.{as_line};
 ghost use Rattle.shell_parse.specs.Lines.{IsParsed, IsGivable, IsLineGivable, IsLineRefusal};
+ghost use Rattle.shell_print.specs.Writing.{Writes};
 ghost use Rattle.shell_print.specs.declared.outcome.ServeFault.TheVariants.{Write};
 ghost use Rattle.shell_serve.specs.Answering.{IsMaker, AreAllSeats, IsLast, HasLast};
 ghost use Rattle.shell_serve.specs.Sessions.{MayBeQuiet, IsExplained, WritesForm, WritesLine, WritesReply};
@@ -39,6 +40,19 @@ fn tell_entered<L: Run, C: Command, T: Observer<R>, R, W: Sink>(
     observer.explain_call(alloc, locked.view(), &entry.said, writer)
 }
 
+// Writes a refusal, and flushes it.
+fn write_refusal<L: Run, C: Command, W: Sink>(
+    locked: &Locked<L, C>,
+    refusal: &Refusal,
+    writer: &mut W,
+) -> Result<(), ServeFault>
+    requires { FitsRefusal L.program refusal.now }
+    ensures { Writes (W.seen writer.old) (W.seen writer.new) result (as_line (refusal_text L.program refusal.now)) }
+{
+    let written = print_refusal(locked.program(), refusal, writer);
+    hand_on(written, writer)
+}
+
 // Writes the reply to a call that was not entered, and the explanation.
 fn tell_left_out<L: Run, C: Command, T: Observer<R>, R, W: Sink>(
     alloc: Global,
@@ -52,8 +66,7 @@ fn tell_left_out<L: Run, C: Command, T: Observer<R>, R, W: Sink>(
     ensures { WritesForm (IsExplained T.manner (as_line (refusal_text L.program refusal))) (W.seen writer.old) result
         (W.seen writer.new) }
 {
-    let written = print_refusal(locked.program(), &refusal, writer);
-    hand_on(written, writer)?;
+    write_refusal(locked, &refusal, writer)?;
     observer.explain_call(alloc, locked.view(), &Said::Refused(refusal), writer)
 }
 
@@ -127,14 +140,13 @@ fn answer_parsed<
         Ok(Some(asked)) => answer_call(alloc, make, observer, locked, seats, asked, writer),
         Ok(None) => Ok(()),
         Err(refusal) => {
-            let written = print_refusal(locked.program(), &refusal, writer);
-            hand_on(written, writer)?;
+            write_refusal(locked, &refusal, writer)?;
             observer.explain_refusal(alloc, locked.view(), line, &refusal, writer)
         }
     }
 }
 
-// Answers a command line, which names its seat.
+// Answers a command line. One that names no seat is one of the first seat.
 fn answer_command<
     L: Run,
     C: Command,
@@ -155,42 +167,17 @@ fn answer_command<
     requires seats { AreAllSeats seats.old }
     requires quiet { MayBeQuiet T.manner }
     ensures seats { AreAllSeats seats.new }
-    ensures answers { WritesReply T.manner L.program line.now locked.old.journal (W.seen writer.old) result (W.seen writer.new)
-        locked.new.journal }
-{
-    // Most lines are of this kind.
-    if let Some(short) = parse_process_line(locked.program(), line) {
-        return answer_call(alloc, make, observer, locked, seats, short.line(), writer);
-    }
-    let parsed = parse_line(alloc, locked.program(), line);
-    answer_parsed(alloc, make, observer, locked, seats, line, parsed, writer)
-}
-
-// Answers a command line that names no seat, as one of the first seat.
-fn answer_seatless<
-    L: Run,
-    C: Command,
-    M: Fn(Givable) -> Result<C, Refusal>,
-    T: Observer<R>,
-    R,
-    W: Sink,
->(
-    alloc: Global,
-    make: &M,
-    observer: &mut T,
-    locked: &mut Locked<L, C>,
-    seats: &mut [Seat<L>],
-    line: &[u8],
-    writer: &mut W,
-) -> Result<(), ServeFault>
-    requires makes { (M.IsAlwaysCallable make.now) × IsMaker (M.post make.now) C.IsFresh C.order }
-    requires seats { AreAllSeats seats.old }
-    requires quiet { MayBeQuiet T.manner }
-    ensures seats { AreAllSeats seats.new }
-    ensures answers { WritesReply T.manner L.program (codes "1 " ++ line.now) locked.old.journal (W.seen writer.old) result
+    ensures answers { WritesReply T.manner L.program (T.manner.seated line.now) locked.old.journal (W.seen writer.old) result
         (W.seen writer.new) locked.new.journal }
 {
-    let parsed = parse_seatless_line(alloc, locked.program(), line);
+    let parsed = if observer.needs_seat(line) {
+        parse_seatless_line(alloc, locked.program(), line)
+    } else if let Some(short) = parse_process_line(locked.program(), line) {
+        // Most lines are of this kind.
+        return answer_call(alloc, make, observer, locked, seats, short.line(), writer);
+    } else {
+        parse_line(alloc, locked.program(), line)
+    };
     answer_parsed(alloc, make, observer, locked, seats, line, parsed, writer)
 }
 
@@ -227,10 +214,6 @@ pub(crate) fn answer_line<
         observer.direct(alloc, locked.view(), line, writer)?;
         return Ok(goes_on);
     }
-    if observer.needs_seat(line) {
-        answer_seatless(alloc, make, observer, locked, seats, line, writer)?;
-    } else {
-        answer_command(alloc, make, observer, locked, seats, line, writer)?;
-    }
+    answer_command(alloc, make, observer, locked, seats, line, writer)?;
     Ok(goes_on)
 }

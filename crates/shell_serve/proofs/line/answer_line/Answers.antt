@@ -17,24 +17,13 @@ returns-then-is_directive-clause-answers g c =
     λ legal. result_ok _ _ _ _ _ _ _ (directive_said g.T.Observer.manner g.L.Run.program c.args.line.now c.args.locked.now.journal _ _ _
     (sym c.if-is_directive.ensures) c.in_ok-before.ensures c.in_ok-direct.ensures)
 
-pub returns-in_err-answer_seatless-clause-answers : goal.returns-in_err-answer_seatless-clause-answers
-returns-in_err-answer_seatless-clause-answers g c =
-    λ legal. result_err _ _ _ _ _ _ _ (command_said g.T.Observer.manner g.L.Run.program c.args.line.now c.args.locked.now.journal _ _ _ _ _
-    (sym c.if-is_directive.ensures) (sym c.if-needs_seat.ensures) c.in_ok-before.ensures c.in_err-answer_seatless.ensures.answers)
-    c.from_residual-in_err-answer_seatless.ensures.1
-
-pub returns-in_ok-answer_seatless-clause-answers : goal.returns-in_ok-answer_seatless-clause-answers
-returns-in_ok-answer_seatless-clause-answers g c =
-    λ legal. result_ok _ _ _ _ _ _ _ (command_said g.T.Observer.manner g.L.Run.program c.args.line.now c.args.locked.now.journal _ _ _ _ _
-    (sym c.if-is_directive.ensures) (sym c.if-needs_seat.ensures) c.in_ok-before.ensures c.in_ok-answer_seatless.ensures.answers)
-
 pub returns-in_err-answer_command-clause-answers : goal.returns-in_err-answer_command-clause-answers
 returns-in_err-answer_command-clause-answers g c =
-    λ legal. result_err _ _ _ _ _ _ _ (command_said g.T.Observer.manner g.L.Run.program c.args.line.now c.args.locked.now.journal _ _ _ _ _
-    (sym c.if-is_directive.ensures) (sym c.if-needs_seat.ensures) c.in_ok-before.ensures c.in_err-answer_command.ensures.answers)
+    λ legal. result_err _ _ _ _ _ _ _ (command_said g.T.Observer.manner g.L.Run.program c.args.line.now c.args.locked.now.journal _ _ _ _
+    (sym c.if-is_directive.ensures) c.in_ok-before.ensures c.in_err-answer_command.ensures.answers)
     c.from_residual-in_err-answer_command.ensures.1
 
-pub returns-in_ok-answer_command-clause-answers : goal.returns-in_ok-answer_command-clause-answers
-returns-in_ok-answer_command-clause-answers g c =
-    λ legal. result_ok _ _ _ _ _ _ _ (command_said g.T.Observer.manner g.L.Run.program c.args.line.now c.args.locked.now.journal _ _ _ _ _
-    (sym c.if-is_directive.ensures) (sym c.if-needs_seat.ensures) c.in_ok-before.ensures c.in_ok-answer_command.ensures.answers)
+pub returns-clause-answers : goal.returns-clause-answers
+returns-clause-answers g c =
+    λ legal. result_ok _ _ _ _ _ _ _ (command_said g.T.Observer.manner g.L.Run.program c.args.line.now c.args.locked.now.journal _ _ _ _
+    (sym c.if-is_directive.ensures) c.in_ok-before.ensures c.in_ok-answer_command.ensures.answers)
