@@ -5,7 +5,7 @@ ghost use Rattle.std.specs.List.{AllByRecursion};
 ghost use Rattle.dbg_desk.specs.Openings.{IsOpeningOf};
 
 use crate::crew_gate::{BarringGate, CrewGate};
-use crate::desk_trial::{MEMORY, THREE, make_opening};
+use crate::desk_trial::make_opening;
 use crate::expecting::{expect_same, expect_true};
 use dbg_base::{Gate, OpenGate, Pid};
 use dbg_command::{Command, NextCmd};
@@ -17,6 +17,7 @@ use std::marker::Brand;
 use std::process::Abort;
 use std::sync::Wait;
 use std::thread::Threads;
+use test_programs::{MEMORY, THREE};
 
 // So many commands, each of which is `next` for this process.
 fn turns(alloc: Global, pid: Pid, count: u32) -> Result<VecDeque<NextCmd>, AllocError>

@@ -14,26 +14,7 @@ use std::alloc::Global;
 use std::process::Abort;
 use std::sync::Wait;
 use std::thread::Threads;
-
-/// What a failure shows if memory is not ample.
-pub const MEMORY: &str = "ample memory";
-
-/// A process that sends, one that receives, and one that counts by itself.
-pub const THREE: &str = "process a {
-  var x = 0;
-  when (x < 3) : send b (x + 1), x := (x + 1);
-}
-process b {
-  var y = 0;
-  var n = 0;
-  when true : recv a y, n := (n + 1);
-  when (n > 0) : n := (n - 1);
-}
-process c {
-  var z = 0;
-  when true : z := (z + 1);
-}
-";
+use test_programs::MEMORY;
 
 /// The opening of a run of this program with so many seats.
 pub fn make_opening(rt: &impl Abort, alloc: Global, text: &str, seats: u32) -> Opening

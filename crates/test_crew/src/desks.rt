@@ -2,7 +2,7 @@
 
 ghost use Rattle.dbg_desk.specs.Openings.{IsOpeningOf};
 
-use crate::desk_trial::{Pair, THREE, begin_pair, make_opening};
+use crate::desk_trial::{Pair, begin_pair, make_opening};
 use crate::expecting::{expect_same, expect_true};
 use crate::reported::{are_values, is_plain, said_to, said_to_question};
 use dbg_base::{Call, OpenGate, Pid, Query};
@@ -14,6 +14,7 @@ use std::marker::Brand;
 use std::process::Abort;
 use std::sync::Wait;
 use std::thread::Threads;
+use test_programs::THREE;
 
 const A: Pid = Pid(0);
 

@@ -2,7 +2,7 @@
 
 ghost use Rattle.dbg_desk.specs.Openings.{IsOpeningOf};
 
-use crate::desk_trial::{Pair, THREE, begin_pair, make_opening};
+use crate::desk_trial::{Pair, begin_pair, make_opening};
 use crate::expecting::{expect_same, expect_true};
 use dbg_base::{OpenGate, Pid};
 use dbg_command::NextCmd;
@@ -14,6 +14,7 @@ use std::sync::Wait;
 use std::test::Fail;
 use std::thread;
 use std::thread::Threads;
+use test_programs::THREE;
 
 // How many calls one seat makes, and how often the other one looks.
 const CALLS: usize = 100;

@@ -6,7 +6,7 @@ ghost use Rattle.dbg_base.specs.Calls.{AreCommands};
 ghost use Rattle.test_crew.specs.Runs.{MakesFresh};
 ghost use Rattle.dbg_desk.specs.Openings.{IsOpeningOf};
 
-use crate::desk_trial::{MEMORY, THREE, enter, give, make_opening};
+use crate::desk_trial::{enter, give, make_opening};
 use crate::expecting::{expect_same, expect_true};
 use crate::plans::set_break;
 use dbg_base::{Call, OpenGate, Pid, Plan, Query, Refusal, Said};
@@ -18,6 +18,7 @@ use std::process::Abort;
 use std::sync::Wait;
 use std::thread;
 use std::thread::Threads;
+use test_programs::{MEMORY, THREE};
 
 const A: Pid = Pid(0);
 

@@ -4,7 +4,7 @@ ghost use Rattle.std.specs.Prelude.{IfOk};
 ghost use Rattle.test_crew.specs.Runs.{MakesFresh};
 ghost use Rattle.dbg_desk.specs.Openings.{IsOpeningOf};
 
-use crate::desk_trial::{MEMORY, THREE, enter, give, make_opening};
+use crate::desk_trial::{enter, give, make_opening};
 use crate::expecting::{expect_same, expect_true};
 use crate::plans::set_break;
 use crate::reported::said_to;
@@ -16,6 +16,7 @@ use std::marker::Brand;
 use std::process::Abort;
 use std::sync::Wait;
 use std::thread::Threads;
+use test_programs::{MEMORY, THREE};
 
 // Commands: events of the first process (twice), the third and the second, and a breakpoint that halts at the last of their cuts.
 fn plans(rt: &impl Abort, alloc: Global) -> Vec<Plan> {

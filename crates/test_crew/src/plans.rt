@@ -1,9 +1,9 @@
 //! Commands that set breakpoints.
 
-use crate::desk_trial::MEMORY;
 use dbg_base::{Conjunct, Expr, Name, Operator, Pid, Plan, Sequence};
 use std::alloc::Global;
 use std::process::Abort;
+use test_programs::MEMORY;
 
 /// The name of this text.
 pub fn named(rt: &impl Abort, text: &str) -> Name {

@@ -4,7 +4,7 @@ ghost use Rattle.std.specs.Prelude.{IfOk};
 ghost use Rattle.test_crew.specs.Runs.{MakesFresh};
 ghost use Rattle.dbg_desk.specs.Openings.{IsOpeningOf};
 
-use crate::desk_trial::{Pair, THREE, begin_pair, give, make_opening};
+use crate::desk_trial::{Pair, begin_pair, give, make_opening};
 use crate::expecting::{expect_same, expect_true};
 use crate::plans::{named, set_break};
 use dbg_base::{OpenGate, Pid, Plan, Query, Refusal, Reply};
@@ -16,6 +16,7 @@ use std::marker::Brand;
 use std::process::Abort;
 use std::sync::Wait;
 use std::thread::Threads;
+use test_programs::THREE;
 
 const A: Pid = Pid(0);
 

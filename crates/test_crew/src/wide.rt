@@ -5,7 +5,7 @@ ghost use Rattle.test_crew.specs.Runs.{MakesFresh};
 ghost use Rattle.dbg_desk.specs.Openings.{IsOpeningOf};
 
 use crate::crew_gate::CrewGate;
-use crate::desk_trial::{THREE, give, make_opening};
+use crate::desk_trial::{give, make_opening};
 use crate::expecting::{expect_same, expect_true};
 use crate::plans::{named, set_break};
 use crate::reported::{is_cut, said_to_question};
@@ -17,6 +17,7 @@ use std::marker::Brand;
 use std::process::Abort;
 use std::sync::Wait;
 use std::thread::Threads;
+use test_programs::THREE;
 
 // One process makes its next command.
 fn play<L: Run, C: Command, M: Fn(Plan) -> Result<C, Refusal>, R: Threads + Wait + Abort + Sync>(

@@ -4,13 +4,14 @@ ghost use Rattle.dbg_desk.specs.Openings.{IsOpeningOf};
 
 use crate::beginning::TwoSeats;
 use crate::expecting::{expect_same, expect_true};
-use crate::trial::{DeskTrial, TWO, begin, make_beginning, next};
+use crate::trial::{DeskTrial, begin, make_beginning, next};
 use dbg_base::{Answer, Call, Choice, Done, Pid, Plan, Query, Refusal, Reply, Said};
 use dbg_command::NextCmd;
 use dbg_desk::{Entry, RecordedCall, Run};
 use std::alloc::Global;
 use std::marker::Brand;
 use std::process::Abort;
+use test_programs::{MEMORY, TWO};
 
 const A: Pid = Pid(0);
 
@@ -164,8 +165,8 @@ fn kind_of(call: &Call, said: &Said) -> AnswerKind {
 
 // Which call a seat has recorded.
 fn kind_recorded(rt: &impl Abort, own: &RecordedCall) -> AnswerKind {
-    let call = own.call().expect(rt, "ample memory");
-    let said = own.said().expect(rt, "ample memory");
+    let call = own.call().expect(rt, MEMORY);
+    let said = own.said().expect(rt, MEMORY);
     kind_of(&call, &said)
 }
 

@@ -4,7 +4,7 @@ ghost use Rattle.dbg_desk.specs.Openings.{IsOpeningOf};
 
 use crate::beginning::TwoSeats;
 use crate::expecting::{expect_same, expect_true};
-use crate::trial::{DeskTrial, TWO, begin, make_beginning, next};
+use crate::trial::{DeskTrial, begin, make_beginning, next};
 use dbg_base::limits::CALLS;
 use dbg_base::{Pid, Query, Refusal};
 use dbg_board::Glance;
@@ -13,6 +13,7 @@ use dbg_desk::Run;
 use std::alloc::Global;
 use std::marker::Brand;
 use std::process::Abort;
+use test_programs::TWO;
 
 const A: Pid = Pid(0);
 

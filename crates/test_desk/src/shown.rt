@@ -6,7 +6,7 @@ ghost use Rattle.dbg_desk.specs.Openings.{IsOpeningOf};
 
 use crate::beginning::TwoSeats;
 use crate::expecting::{expect_same, expect_true};
-use crate::trial::{DeskTrial, TWO, begin, make_beginning};
+use crate::trial::{DeskTrial, begin, make_beginning};
 use dbg_base::{Conjunct, Expr, Name, Operator, Pid, Plan, Query, Refusal, Reply, Sequence};
 use dbg_board::Glance;
 use dbg_command::{BreakCmd, Command, PassCmd, UndoCmd};
@@ -14,8 +14,7 @@ use dbg_desk::Run;
 use std::alloc::Global;
 use std::marker::Brand;
 use std::process::Abort;
-
-const MEMORY: &str = "ample memory";
+use test_programs::{MEMORY, TWO};
 
 const A: Pid = Pid(0);
 

@@ -12,19 +12,7 @@ use proc_lang::parse_program;
 use std::alloc::Global;
 use std::process::Abort;
 use std::sync::ledger::Blank;
-
-/// A process that sends, and one that receives.
-pub const TWO: &str = "process a {
-  var x = 0;
-  when (x < 3) : send b (x + 1), x := (x + 1);
-}
-process b {
-  var y = 0;
-  var n = 0;
-  when true : recv a y, n := (n + 1);
-  when (n > 0) : n := (n - 1);
-}
-";
+use test_programs::MEMORY;
 
 /// What a run of this program is made of.
 pub fn make_beginning(rt: &impl Abort, alloc: Global, text: &str) -> TwoSeats {
@@ -75,10 +63,8 @@ pub fn begin<L: Run, C: Command>(
         publisher,
         views,
     } = opening;
-    let (locked, seats) = Locked::new(alloc, blank, publisher, views, program).expect(
-        rt,
-        "ample memory",
-    );
+    let made = Locked::new(alloc, blank, publisher, views, program);
+    let (locked, seats) = made.expect(rt, MEMORY);
     let (one, two) = pair(rt, seats);
     DeskTrial {
         locked,

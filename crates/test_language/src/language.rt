@@ -16,6 +16,7 @@ use dbg_base::Pid;
 use proc_lang::{ProgError, Program, parse_program};
 use std::alloc::Global;
 use std::process::Abort;
+use test_programs::MEMORY;
 
 // What a case shows, and a text with its mark.
 type Case = (&'static str, &'static str);
@@ -28,8 +29,6 @@ struct Group {
     back: &'static str,
     cases: &'static [Case],
 }
-
-const MEMORY: &str = "ample memory";
 
 // Adds a part.
 fn add(rt: &impl Abort, text: &mut Vec<u8>, part: &str) {

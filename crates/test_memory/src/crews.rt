@@ -6,7 +6,6 @@ ghost use Rattle.dbg_desk.specs.Openings.{IsOpeningOf};
 
 use crate::beginning::{ThreeSeats, begin};
 use crate::report::tell;
-use crate::scripts::TWO;
 use dbg_base::{OpenGate, Pid, Refusal};
 use dbg_command::{Command, NextCmd};
 use dbg_crew::{Worker, crew};
@@ -16,6 +15,7 @@ use std::collections::VecDeque;
 use std::marker::Brand;
 use std::sync::Wait;
 use std::thread::Threads;
+use test_programs::TWO;
 
 // How often each of the three workers gives `next`.
 const TURNS: u32 = 4;

@@ -6,7 +6,6 @@ ghost use Rattle.dbg_desk.specs.Openings.{IsOpeningOf};
 
 use crate::beginning::{ThreeSeats, begin, program_of_text};
 use crate::report::tell;
-use crate::scripts::TWO;
 use dbg_base::{Answer, Call, OpenGate, Refusal, Reply};
 use dbg_command::{Command, Givable};
 use dbg_desk::{Desk, Locked, Run, Seat};
@@ -17,6 +16,7 @@ use std::io::Write;
 use std::marker::Brand;
 use std::sync::Wait;
 use std::thread::Threads;
+use test_programs::TWO;
 
 const LINES: [&str; 14] = [
     "1 next a",

@@ -5,7 +5,6 @@ ghost use Rattle.dbg_desk.specs.Openings.{IsOpeningOf};
 
 use crate::beginning::{ThreeSeats, begin};
 use crate::report::{tell, tell_text};
-use crate::scripts::TWO;
 use crate::trial::{MemoryTrial, begin_trial, say};
 use dbg_base::limits::CALLS;
 use dbg_base::{Pid, Query, Refusal};
@@ -14,6 +13,7 @@ use dbg_command::{Command, Givable};
 use dbg_desk::Run;
 use std::alloc::Global;
 use std::marker::Brand;
+use test_programs::TWO;
 
 // Lines that are given when the journal has room for only `LEFT` of them.
 const LINES: [&str; 16] = [

@@ -5,7 +5,6 @@ ghost use Rattle.proc_lang.specs.Programs.{program_of};
 
 use crate::beginning::program_of_text;
 use crate::report::tell;
-use crate::scripts::TWO;
 use causal_world::World;
 use dbg_base::{Call, Choice, Conjunct, OpenGate, Pid, Plan, Query, Refusal, Sequence};
 use dbg_board::Board;
@@ -17,6 +16,7 @@ use shell_parse::parse_line;
 use std::alloc::Global;
 use std::sync::Wait;
 use std::thread::Threads;
+use test_programs::TWO;
 
 const A: Pid = Pid(0);
 

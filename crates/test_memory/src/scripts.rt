@@ -1,34 +1,12 @@
 //! The scripts.
 
 use crate::script::Script;
-
-// A process that sends, and one that receives.
-pub(crate) const TWO: &str = "process a {
-  var x = 0;
-  when (x < 3) : send b (x + 1), x := (x + 1);
-}
-process b {
-  var y = 0;
-  var n = 0;
-  when true : recv a y, n := (n + 1);
-  when (n > 0) : n := (n - 1);
-}
-";
+use test_programs::TWO;
 
 // Three processes, of which one sends to another.
-const THREE: &str = "process a {
-  var x = 0;
-  when (x < 9) : send b (x + 1), x := (x + 1);
-}
-process b {
-  var y = 0;
-  var n = 0;
-  when true : recv a y, n := (n + 1);
-}
-process c {
-  var z = 0;
-  when true : z := (z + 1);
-}
+const THREE: &str = "process a { var x = 0; when (x < 9) : send b (x + 1), x := (x + 1); }
+process b { var y = 0; var n = 0; when true : recv a y, n := (n + 1); }
+process c { var z = 0; when true : z := (z + 1); }
 ";
 
 // Lines that ask for all that a session of the first program and its breakpoint shows.

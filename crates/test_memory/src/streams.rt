@@ -1,11 +1,11 @@
 //! `serve`, `check` and `run_crew`, from a text in memory to a buffer in memory.
 
-use crate::scripts::TWO;
 use dbg_shell::{Noted, check, crew_status, run_crew, serve, status};
 use std::alloc::{AllocError, Global};
 use std::io::Write;
 use std::sync::Wait;
 use std::thread::Threads;
+use test_programs::TWO;
 
 // The command lines.
 const LINES: &str = "1 break k a (x = 2) b (y = 1)

@@ -11,8 +11,7 @@ use crate::expecting::expect_same;
 use notation::{NotationError, expand, expand_program, line_and_column};
 use std::alloc::{AllocError, Global};
 use std::process::Abort;
-
-const MEMORY: &str = "ample memory";
+use test_programs::MEMORY;
 
 // What a case shows, a text, and what is expected.
 type ExpansionCase = (&'static str, &'static str, &'static str);

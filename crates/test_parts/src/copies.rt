@@ -9,8 +9,7 @@ use dbg_base::{
 use std::alloc::{AllocError, Global};
 use std::fmt::Debug;
 use std::process::Abort;
-
-const MEMORY: &str = "ample memory";
+use test_programs::MEMORY;
 
 fn shown<T: Debug>(alloc: Global, value: &T) -> Result<String, AllocError> {
     format!(in alloc; "{value:?}")

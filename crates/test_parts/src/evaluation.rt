@@ -7,8 +7,7 @@ use local_eval::{Env, EvalError, EvalFault, Value, effect, eval, guard};
 use proc_lang::{Action, Assignment, Guarded, parse_program};
 use std::alloc::Global;
 use std::process::Abort;
-
-const MEMORY: &str = "ample memory";
+use test_programs::MEMORY;
 
 // How the first process of a program begins.
 fn start(rt: &impl Abort, alloc: Global, text: &str) -> Env {

@@ -8,8 +8,7 @@ use local_eval::Env;
 use proc_lang::{Program, parse_program};
 use std::alloc::{AllocError, Global};
 use std::process::Abort;
-
-const MEMORY: &str = "ample memory";
+use test_programs::MEMORY;
 
 fn two_processes(rt: &impl Abort, alloc: Global) -> Program {
     let text = "process a { var x = 3; var y = 4; } process b { }";

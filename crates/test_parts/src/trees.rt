@@ -3,10 +3,11 @@
 use dbg_base::{Expr, Operator};
 use std::alloc::Global;
 use std::process::Abort;
+use test_programs::MEMORY;
 
 /// An expression in a box, as a part of another.
 pub fn boxed(rt: &impl Abort, alloc: Global, expr: Expr) -> Box<Expr> {
-    Box::new(alloc, expr).expect(rt, "ample memory")
+    Box::new(alloc, expr).expect(rt, MEMORY)
 }
 
 /// `(not E)`.

@@ -12,8 +12,7 @@ use std::process::Abort;
 use std::sync::Wait;
 use std::sync::atomic::{AtomicBool, Ordering};
 use std::thread::Threads;
-
-const MEMORY: &str = "ample memory";
+use test_programs::MEMORY;
 
 const A: Pid = Pid(0);
 

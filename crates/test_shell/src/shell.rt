@@ -29,21 +29,7 @@ use proc_lang::{Program, parse_program};
 use std::alloc::Global;
 use std::io::{Read, Write};
 use std::process::Abort;
-
-// A process that sends, and one that receives.
-const TWO: &str = "process a {
-  var x = 0;
-  when (x < 3) : send b (x + 1), x := (x + 1);
-}
-process b {
-  var y = 0;
-  var n = 0;
-  when true : recv a y, n := (n + 1);
-  when (n > 0) : n := (n - 1);
-}
-";
-
-const MEMORY: &str = "ample memory";
+use test_programs::{MEMORY, TWO};
 
 fn two(rt: &impl Abort, alloc: Global) -> Program {
     parse_program(alloc, TWO.as_bytes()).expect(rt, "a program")

@@ -16,8 +16,7 @@ use least_cut::{Cause, Detector, Elimination, Scan};
 use proc_lang::{Program, parse_program};
 use std::alloc::Global;
 use std::process::Abort;
-
-const MEMORY: &str = "ample memory";
+use test_programs::MEMORY;
 
 const A: Pid = Pid(0);
 

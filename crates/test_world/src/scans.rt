@@ -12,8 +12,7 @@ use std::alloc::{AllocError, Global};
 use std::process::Abort;
 use std::sync::Wait;
 use std::thread::Threads;
-
-const MEMORY: &str = "ample memory";
+use test_programs::MEMORY;
 
 const A: Pid = Pid(0);
 

@@ -13,8 +13,7 @@ use dbg_base::{Choice, Pid};
 use proc_lang::{Program, parse_program};
 use std::alloc::Global;
 use std::process::Abort;
-
-const MEMORY: &str = "ample memory";
+use test_programs::MEMORY;
 
 const A: Pid = Pid(0);
 

@@ -1,9 +1,10 @@
 //! Each kind of fault except for the grammar and the limits, at each place that may have it.
 
-use super::{Group, MEMORY, Outcome, add, between, expect_groups, outcome};
+use super::{Group, Outcome, add, between, expect_groups, outcome};
 use crate::expecting::expect_same;
 use std::alloc::Global;
 use std::process::Abort;
+use test_programs::MEMORY;
 
 const TOKENS: &[Group] = &[
     Group {

@@ -1,12 +1,12 @@
 //! Whether an expression fits a process, as a predicate.
 
-use super::MEMORY;
 use super::predicates::program;
 use crate::expecting::expect_same;
 use dbg_base::{Expr, Operator, Pid};
 use proc_lang::{Program, fits};
 use std::alloc::Global;
 use std::process::Abort;
+use test_programs::MEMORY;
 
 fn boxed(rt: &impl Abort, alloc: Global, expr: Expr) -> Box<Expr> {
     Box::new(alloc, expr).expect(rt, MEMORY)

@@ -1,9 +1,10 @@
 //! Texts at each limit, and one beyond it. Offsets are counted by hand, from the parts before.
 
-use super::{MEMORY, Outcome, add, add_nested, expect, outcome};
+use super::{Outcome, add, add_nested, expect, outcome};
 use crate::expecting::expect_same;
 use std::alloc::Global;
 use std::process::Abort;
+use test_programs::MEMORY;
 
 // A text that repeats a part, in which `#` is the part's number from 0, and the expected result.
 struct Repeated {

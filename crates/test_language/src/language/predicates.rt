@@ -1,11 +1,12 @@
 //! Predicates of one process.
 
-use super::{Case, MEMORY, add_nested, place_of, unmarked};
+use super::{Case, add_nested, place_of, unmarked};
 use crate::expecting::expect_same;
 use dbg_base::{Expr, Pid};
 use proc_lang::{ProgError, Program, fits, parse_predicate, parse_program};
 use std::alloc::Global;
 use std::process::Abort;
+use test_programs::MEMORY;
 
 const PROGRAM: &[u8] =
     b"process a { var x = 0; var y = 0; } process b { var z = 0; when true : send a z; } process c { }";

@@ -4,37 +4,13 @@ use super::{Outcome, between, outcome};
 use crate::expecting::{expect_same, expect_true};
 use std::alloc::Global;
 use std::process::Abort;
-
-// A process that sends to another one.
-const SENDS: &str = "process a {
-  var x = 0;
-  when (x < 3) : send b (x + 1), x := (x + 1);
-}
-process b {
-  var y = 0;
-  var n = 0;
-  when true : recv a y, n := (n + 1);
-  when (n > 0) : n := (n - 1);
-}
-";
+use test_programs::{COUNTS, PAIR, TWO};
 
 // Programs that need their last brace, and end with one line end after it.
 const PROGRAMS: [&str; 4] = [
-    SENDS,
-    "process s { var u = 0; when true : send r 5, u := 1; when true : send r 7, u := 2; }
-process r { var v = 0; when true : recv s v; }
-",
-    "process a {
-  var x = 0;
-  when (sent(b) < 2) : send b (sent(b) + 10);
-}
-process b {
-  var y = 0;
-  var z = 0;
-  when (got(a) = 0) : recv a y;
-  when (got(a) = 1) : recv a y, z := (y + got(a));
-}
-",
+    TWO,
+    PAIR,
+    COUNTS,
     "process first{var x=-12;var y_1 = 007;
   when ((x <= 3) and (not (y_1 != (- 2)))) : send second (x * 2), x := (x - 1), y_1 := ((x / 3) % 5);
   when ((true or false) or ((x > 1) or (x >= y_1))) : x := 1, y_1 := x;}
@@ -88,7 +64,7 @@ fn expect_replaced(rt: &impl Abort, alloc: Global, text: &mut [u8], at: usize) {
 
 #[test]
 fn each_byte_may_be_any_other(rt: HostRuntime) {
-    let mut text = between(&rt, rt.alloc(), SENDS, "", "");
+    let mut text = between(&rt, rt.alloc(), TWO, "", "");
     for at in 0..text.len() {
         expect_replaced(&rt, rt.alloc(), text.as_mut_slice(), at);
     }

@@ -1,8 +1,9 @@
 //! Which of several faults is reported.
 
-use super::{Group, MEMORY, add, expect_groups, expect_refused_at_mark};
+use super::{Group, add, expect_groups, expect_refused_at_mark};
 use std::alloc::Global;
 use std::process::Abort;
+use test_programs::MEMORY;
 
 // Two kinds at one offset.
 const KINDS: &[Group] = &[

@@ -1,9 +1,10 @@
 //! Texts that ask for much: each is expanded or has a fault, after bounded work.
 
-use super::{MEMORY, expanded, fault_of, own_fault};
+use super::{expanded, fault_of, own_fault};
 use crate::expecting::expect_same;
 use std::alloc::{AllocError, Global};
 use std::process::Abort;
+use test_programs::MEMORY;
 
 // So many times a part, between two others.
 fn repeated(

@@ -1,10 +1,11 @@
 //! Command lines, and the plain lines that they stand for.
 
-use super::{MEMORY, reported};
+use super::reported;
 use crate::expecting::expect_same;
 use notation::{Expansion, expand};
 use std::alloc::{AllocError, Global};
 use std::process::Abort;
+use test_programs::MEMORY;
 
 // The program of the lines.
 const MODEL: &str = "const quorum = 2;

@@ -1,11 +1,11 @@
 //! Where tokens come from, labels, and faults in words.
 
-use super::MEMORY;
 use crate::expecting::expect_same;
 use dbg_base::{Choice, Pid};
 use notation::{Expansion, NotationError, expand, expand_program, line_and_column, message};
 use std::alloc::{AllocError, Global};
 use std::process::Abort;
+use test_programs::MEMORY;
 
 const MODEL: &str = "const n = 2;
 let f(v) = v + n;

@@ -1,9 +1,10 @@
 //! Whole sessions.
 
-use super::{MEMORY, reported};
+use super::reported;
 use crate::expecting::expect_same;
 use notation::expand_session;
 use std::alloc::{AllocError, Global};
+use test_programs::MEMORY;
 
 // A session, and the plain session, or the fault.
 const SESSIONS: &[(&str, &str)] = &[

@@ -1,7 +1,8 @@
 //! Commands that are taken back: then the session shows the same as before them.
 
+use super::expect_rows;
 use super::views::{expect_all_unchanged, expect_unchanged};
-use super::{TWO, expect_rows};
+use test_programs::TWO;
 
 // A name, a program, the lines after it and the output for them.
 const ROWS: [(&str, &str, &str, &str); 5] = [

@@ -1,9 +1,10 @@
 //! Batches: commands that are given as one.
 
 use super::views::expect_all_unchanged;
-use super::{TWO, add, expect_rows, expect_served, joined, repeat};
+use super::{add, expect_rows, expect_served, joined, repeat};
 use std::alloc::Global;
 use std::process::Abort;
+use test_programs::TWO;
 
 // A name, a program, the lines after it and the output for them.
 const ROWS: [(&str, &str, &str, &str); 5] = [

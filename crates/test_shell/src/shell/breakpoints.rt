@@ -1,6 +1,5 @@
-use super::sessions::{COUNTS, PAIR};
-use super::undo::THREE;
-use super::{TWO, expect_rows};
+use super::expect_rows;
+use test_programs::{COUNTS, PAIR, THREE, TWO};
 
 // A name, a program, the lines after it and the output for them.
 const ROWS: [(&str, &str, &str, &str); 11] = [

@@ -1,12 +1,13 @@
 //! Inputs that break off, and devices that are interrupted.
 
-use super::{TWO, expect_served, joined, served};
+use super::{expect_served, joined, served};
 use crate::expecting::{expect_same, expect_true};
 use dbg_shell::{Health, Noted, check, serve, status};
 use std::alloc::Global;
 use std::io;
 use std::io::{Read, Write};
 use std::process::Abort;
+use test_programs::TWO;
 
 const LINES: &str = "%%
 1 break k a (x = 1) b (n = 1)

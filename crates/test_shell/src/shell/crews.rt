@@ -1,6 +1,6 @@
 //! Runs of workers. Each `next` is a call, accepted or refused, so there are as many calls as turns of all processes.
 
-use super::{MEMORY, TWO, add, joined};
+use super::{add, joined};
 use crate::expecting::{expect_same, expect_true};
 use dbg_shell::{Closing, Mismatch, Noted, crew_status, fits_turns, print_closing, run_crew};
 use std::alloc::{AllocError, Global};
@@ -9,6 +9,7 @@ use std::io::{Read, Write};
 use std::process::Abort;
 use std::sync::Wait;
 use std::thread::Threads;
+use test_programs::{MEMORY, TWO};
 
 // A process in addition to the two.
 const COUNTS: &str = "process c { var z = 0; when true : z := (z + 1); }\n";

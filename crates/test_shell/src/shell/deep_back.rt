@@ -1,12 +1,13 @@
 //! Many commands of three seats, all taken back.
 
+use super::served;
 use super::views::RELAY;
-use super::{MEMORY, served};
 use crate::expecting::expect_same;
 use std::alloc::{AllocError, Global};
 use std::fmt::Write;
 use std::process::Abort;
 use std::str;
+use test_programs::MEMORY;
 
 const ROUNDS: u32 = 50;
 

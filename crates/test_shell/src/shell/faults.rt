@@ -1,10 +1,11 @@
-use super::{TWO, check_between, joined, serve_between, served};
+use super::{check_between, joined, serve_between, served};
 use crate::expecting::{expect_same, expect_true};
 use std::alloc::Global;
 use std::cell::Cell;
 use std::io::{Read, Write};
 use std::process::Abort;
 use std::{io, str};
+use test_programs::TWO;
 
 const LINES: &str = "%%\n1 next a\n1 vars a\n1 next b\n\n1 next d\n1 vars b";
 

@@ -1,8 +1,9 @@
-use super::{TWO, add, serve_between};
+use super::{add, serve_between};
 use crate::expecting::expect_same;
 use shell_io::one_after_the_other;
 use std::alloc::Global;
 use std::process::Abort;
+use test_programs::TWO;
 
 // Expects this output of a run whose input begins with a file of these bytes, and continues with others.
 fn expect_replies(rt: &impl Abort, alloc: Global, file: &[u8], others: &[u8], want: &str) {

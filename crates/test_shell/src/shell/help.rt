@@ -1,7 +1,7 @@
-use super::MEMORY;
 use super::jobs::ArgumentList;
 use crate::expecting::expect_same;
 use dbg_shell::job;
+use test_programs::MEMORY;
 
 const HELP: &str =
     "A debugger for processes that send each other messages: steps them, undoes events, halts at bad global states

@@ -1,4 +1,5 @@
-use super::{TWO, expect_rows};
+use super::expect_rows;
+use test_programs::TWO;
 
 // The 65th is refused, until one is cleared.
 const MANY: (&str, &str, &str, &str) = (

@@ -1,6 +1,7 @@
-use super::{MEMORY, TWO, add, expect_checked, joined};
+use super::{add, expect_checked, joined};
 use std::alloc::Global;
 use std::process::Abort;
+use test_programs::{MEMORY, TWO};
 
 // Each text is followed by a line end and a line `%%`.
 pub(super) const REFUSED: [(&str, &str); 14] = [

@@ -1,5 +1,5 @@
 use super::fits::fits_call;
-use super::{MEMORY, two};
+use super::two;
 use crate::expecting::expect_same;
 use dbg_base::{
     Answer, Call, Choice, Cut, Done, Head, Name, Pid, Plan, Query, Refusal, Reply, Said, Sequence,
@@ -8,6 +8,7 @@ use dbg_shell::{Noted, print_reply};
 use proc_lang::Program;
 use std::alloc::Global;
 use std::process::Abort;
+use test_programs::MEMORY;
 
 fn name(rt: &impl Abort, text: &str) -> Name {
     Name::new(text.as_bytes()).expect(rt, "a name")

@@ -1,6 +1,5 @@
-use super::sessions::PAIR;
-use super::undo::THREE;
-use super::{TWO, add, expect_long, expect_rows, joined, repeat};
+use super::{add, expect_long, expect_rows, joined, repeat};
+use test_programs::{PAIR, THREE, TWO};
 
 // A process that sends, one that forwards, and one that receives.
 const CHAIN: &str = "process a { var x = 0; when true : send b 1; }

@@ -1,8 +1,9 @@
 use super::programs::REFUSED;
-use super::{MEMORY, TWO, add, expect_long, expect_rows, expect_served, joined, repeat};
+use super::{add, expect_long, expect_rows, expect_served, joined, repeat};
 use crate::expecting::expect_same;
 use std::alloc::Global;
 use std::process::Abort;
+use test_programs::{COUNTS, MEMORY, PAIR, TWO};
 
 pub(super) const NUMBER: &str =
     "process a { var x = 1; when true : x := (x + 9223372036854775807); }\n";
@@ -12,29 +13,12 @@ pub(super) const SWAP: &str =
 process q { var y = 0; var z = 0; when (z = 0) : recv p y, z := (y + z); }
 ";
 
-pub(super) const PAIR: &str =
-    "process s { var u = 0; when true : send r 5, u := 1; when true : send r 7, u := 2; }
-process r { var v = 0; when true : recv s v; }
-";
-
 pub(super) const LEAST: &str = "process a {
   var x = -9223372036854775807;
   when true : x := (x - 1);
   when true : x := (x / (- 1));
   when true : x := (x % (- 1));
   when true : x := (x / 2);
-}
-";
-
-pub(super) const COUNTS: &str = "process a {
-  var x = 0;
-  when (sent(b) < 2) : send b (sent(b) + 10);
-}
-process b {
-  var y = 0;
-  var z = 0;
-  when (got(a) = 0) : recv a y;
-  when (got(a) = 1) : recv a y, z := (y + got(a));
 }
 ";
 

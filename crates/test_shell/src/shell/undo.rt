@@ -1,23 +1,7 @@
-use super::sessions::{COUNTS, LEAST, NUMBER, PAIR, SWAP};
-use super::{TWO, add, expect_long, expect_rows, joined, repeat, served};
+use super::sessions::{LEAST, NUMBER, SWAP};
+use super::{add, expect_long, expect_rows, joined, repeat, served};
 use crate::expecting::expect_same;
-
-// The two processes of `TWO`, and one that has nothing to do with them.
-pub(super) const THREE: &str = "process a {
-  var x = 0;
-  when (x < 3) : send b (x + 1), x := (x + 1);
-}
-process b {
-  var y = 0;
-  var n = 0;
-  when true : recv a y, n := (n + 1);
-  when (n > 0) : n := (n - 1);
-}
-process c {
-  var z = 0;
-  when true : z := (z + 1);
-}
-";
+use test_programs::{COUNTS, PAIR, THREE, TWO};
 
 const COUNTER: &str = "process c { var z = 0; when true : z := (z + 1); }\n";
 
