@@ -11,7 +11,7 @@ use dbg_desk::{Entry, RecordedCall, Run};
 use std::alloc::Global;
 use std::marker::Brand;
 use std::process::Abort;
-use test_programs::{MEMORY, TWO};
+use test_programs::MEMORY;
 
 const A: Pid = Pid(0);
 
@@ -39,7 +39,7 @@ fn no_call_at_first<L: Run>(rt: &impl Abort, alloc: Global, beginning: TwoSeats)
 
 #[test]
 fn a_run_begins_with_no_call(rt: HostRuntime) {
-    let beginning = make_beginning(&rt, rt.alloc(), TWO);
+    let beginning = make_beginning(&rt, rt.alloc());
     no_call_at_first::<Brand>(&rt, rt.alloc(), beginning);
 }
 
@@ -207,6 +207,6 @@ fn calls_in_order<L: Run>(rt: &impl Abort, alloc: Global, beginning: TwoSeats)
 
 #[test]
 fn calls_are_entered_in_order(rt: HostRuntime) {
-    let beginning = make_beginning(&rt, rt.alloc(), TWO);
+    let beginning = make_beginning(&rt, rt.alloc());
     calls_in_order::<Brand>(&rt, rt.alloc(), beginning);
 }

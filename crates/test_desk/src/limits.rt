@@ -13,7 +13,6 @@ use dbg_desk::Run;
 use std::alloc::Global;
 use std::marker::Brand;
 use std::process::Abort;
-use test_programs::TWO;
 
 const A: Pid = Pid(0);
 
@@ -68,6 +67,6 @@ fn no_call_more<L: Run>(rt: &impl Abort, alloc: Global, beginning: TwoSeats)
 
 #[test]
 fn a_full_journal_takes_no_call_more(rt: HostRuntime) {
-    let beginning = make_beginning(&rt, rt.alloc(), TWO);
+    let beginning = make_beginning(&rt, rt.alloc());
     no_call_more::<Brand>(&rt, rt.alloc(), beginning);
 }

@@ -14,7 +14,7 @@ use dbg_desk::Run;
 use std::alloc::Global;
 use std::marker::Brand;
 use std::process::Abort;
-use test_programs::{MEMORY, TWO};
+use test_programs::MEMORY;
 
 const A: Pid = Pid(0);
 
@@ -37,6 +37,21 @@ fn is_zero(rt: &impl Abort, alloc: Global, pid: Pid, variable: u32) -> Sequence<
     Sequence::new(conjuncts)
 }
 
+// Commands of the second seat, each with its refusal, if it is refused, and what the display shows after it: the number of calls, and the
+// position of the breakpoint that halts.
+fn steps(rt: &impl Abort, alloc: Global) -> Vec<(Plan, Option<Refusal>, (u64, u64))> {
+    let set_first = Plan::Break(named(rt, "k"), is_zero(rt, alloc, A, 0));
+    let pass_first = Plan::Pass(named(rt, "k"));
+    let set_other = Plan::Break(named(rt, "m"), is_zero(rt, alloc, B, 1));
+    let steps = [
+        (set_first, None, (1, 1)),
+        (pass_first, None, (2, 0)),
+        (set_other, None, (3, 2)),
+        (Plan::Undo(A), Some(Refusal::NothingToUndo), (4, 2)),
+    ];
+    Vec::from_array(alloc, steps).expect(rt, MEMORY)
+}
+
 // The second seat gives this.
 fn give<L: Run, C: Command, M: Fn(Plan) -> Result<C, Refusal>>(
     trial: &mut DeskTrial<L, C>,
@@ -51,80 +66,17 @@ fn give<L: Run, C: Command, M: Fn(Plan) -> Result<C, Refusal>>(
     trial.locked.enter(alloc, &mut trial.two, command, None)
 }
 
-// The second seat gives this, which is accepted.
-fn expect_given<L: Run, C: Command, M: Fn(Plan) -> Result<C, Refusal>>(
+// Expects the display to show so many calls, and the position of the breakpoint that halts.
+fn expect_shown<L: Run, C: Command>(
     rt: &impl Abort,
     trial: &mut DeskTrial<L, C>,
-    alloc: Global,
-    make: &M,
-    plan: Plan,
-)
-    requires may { M.IsAlwaysCallable make.now }
-    requires fresh { MakesFresh (M.post make.now) C.IsFresh }
-{
-    let outcome = give(trial, alloc, make, plan);
-    expect_true(rt, outcome.is_ok());
-}
-
-// Expects the display to show so many calls, and the position of the breakpoint that halts.
-fn expect<L: Run, C: Command>(rt: &impl Abort, trial: &mut DeskTrial<L, C>, wanted: (u64, u64)) {
+    wanted: (u64, u64),
+) {
     let Glance { calls, halt } = trial.board.look(&mut trial.display);
     expect_same(rt, (calls, halt), wanted);
 }
 
-// A breakpoint that halts is set and passed.
-fn set_and_pass<L: Run, C: Command, M: Fn(Plan) -> Result<C, Refusal>>(
-    rt: &impl Abort,
-    alloc: Global,
-    make: &M,
-    trial: &mut DeskTrial<L, C>,
-)
-    requires may { M.IsAlwaysCallable make.now }
-    requires fresh { MakesFresh (M.post make.now) C.IsFresh }
-{
-    expect(rt, trial, (0, 0));
-    let halting = Plan::Break(named(rt, "k"), is_zero(rt, alloc, A, 0));
-    expect_given(rt, trial, alloc, make, halting);
-    expect(rt, trial, (1, 1));
-    expect_given(rt, trial, alloc, make, Plan::Pass(named(rt, "k")));
-    expect(rt, trial, (2, 0));
-}
-
-// Another one is set after it. A refused command and a query are shown, too.
-fn set_another<L: Run, C: Command, M: Fn(Plan) -> Result<C, Refusal>>(
-    rt: &impl Abort,
-    alloc: Global,
-    make: &M,
-    trial: &mut DeskTrial<L, C>,
-)
-    requires may { M.IsAlwaysCallable make.now }
-    requires fresh { MakesFresh (M.post make.now) C.IsFresh }
-{
-    let halting = Plan::Break(named(rt, "m"), is_zero(rt, alloc, B, 1));
-    expect_given(rt, trial, alloc, make, halting);
-    expect(rt, trial, (3, 2));
-    let refused = give(trial, alloc, make, Plan::Undo(A));
-    expect_same(rt, refused.err(), Some(Refusal::NothingToUndo));
-    expect(rt, trial, (4, 2));
-    let asked = trial.locked.enter_ask(alloc, &mut trial.two, Query::Breaks);
-    expect_true(rt, asked.is_ok());
-    expect(rt, trial, (5, 2));
-}
-
-// Each of these calls is shown.
-fn set_both<L: Run, C: Command, M: Fn(Plan) -> Result<C, Refusal>>(
-    rt: &impl Abort,
-    alloc: Global,
-    make: &M,
-    trial: &mut DeskTrial<L, C>,
-)
-    requires may { M.IsAlwaysCallable make.now }
-    requires fresh { MakesFresh (M.post make.now) C.IsFresh }
-{
-    set_and_pass(rt, alloc, make, trial);
-    set_another(rt, alloc, make, trial);
-}
-
+// Expects the display to show each call.
 fn each_call_is_shown<L: Run, C: Command, M: Fn(Plan) -> Result<C, Refusal>>(
     rt: &impl Abort,
     alloc: Global,
@@ -136,7 +88,15 @@ fn each_call_is_shown<L: Run, C: Command, M: Fn(Plan) -> Result<C, Refusal>>(
     requires run { IsOpeningOf L.program L.board L.name L.parts L.seats beginning.opening }
 {
     let mut trial = begin::<L, C>(rt, alloc, beginning);
-    set_both(rt, alloc, make, &mut trial);
+    expect_shown(rt, &mut trial, (0, 0));
+    for (plan, refusal, shown) in steps(rt, alloc) {
+        let outcome = give(&mut trial, alloc, make, plan);
+        expect_same(rt, outcome.err(), refusal);
+        expect_shown(rt, &mut trial, shown);
+    }
+    let asked = trial.locked.enter_ask(alloc, &mut trial.two, Query::Breaks);
+    expect_true(rt, asked.is_ok());
+    expect_shown(rt, &mut trial, (5, 2));
     drop(trial);
 }
 
@@ -154,6 +114,6 @@ fn the_board_shows_each_call_and_the_breakpoint_that_halts(rt: HostRuntime) {
         };
         Ok(command)
     };
-    let beginning = make_beginning(&rt, alloc, TWO);
+    let beginning = make_beginning(&rt, alloc);
     each_call_is_shown::<Brand, Box<dyn Command>, _>(&rt, alloc, &make, beginning);
 }

@@ -12,11 +12,11 @@ use proc_lang::parse_program;
 use std::alloc::Global;
 use std::process::Abort;
 use std::sync::ledger::Blank;
-use test_programs::MEMORY;
+use test_programs::{MEMORY, TWO};
 
-/// What a run of this program is made of.
-pub fn make_beginning(rt: &impl Abort, alloc: Global, text: &str) -> TwoSeats {
-    let program = parse_program(alloc, text.as_bytes()).expect(rt, "a program");
+/// What a run of the program is made of.
+pub fn make_beginning(rt: &impl Abort, alloc: Global) -> TwoSeats {
+    let program = parse_program(alloc, TWO.as_bytes()).expect(rt, "a program");
     let (board, publisher, mut views) = Board::new(alloc, 3).expect(rt, "a board");
     let display = views.pop().expect(rt, "a view");
     let opening = Opening {
