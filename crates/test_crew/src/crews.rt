@@ -17,7 +17,7 @@ use std::marker::Brand;
 use std::process::Abort;
 use std::sync::Wait;
 use std::thread::Threads;
-use test_programs::{MEMORY, THREE};
+use test_programs::MEMORY;
 
 // So many commands, each of which is `next` for this process.
 fn turns(alloc: Global, pid: Pid, count: u32) -> Result<VecDeque<NextCmd>, AllocError>
@@ -97,27 +97,33 @@ fn expect_crew<L: Run + Send + Sync, G: Gate, R: Threads + Wait + Abort + Sync>(
     drop(desk);
 }
 
+// Expects it at a new desk, where each worker has so many commands.
+fn expect_ended<G: Gate, R: Threads + Wait + Abort + Sync>(
+    rt: &R,
+    alloc: Global,
+    gate: &G,
+    count: u32,
+    wanted: (Result<(), CrewFault>, [usize; 3]),
+) {
+    let opening = make_opening(rt, alloc, 3);
+    expect_crew::<Brand, G, R>(rt, alloc, opening, gate, count, wanted);
+}
+
 #[test]
 fn a_crew_gives_all_its_commands(rt: HostRuntime) {
-    let opening = make_opening(&rt, rt.alloc(), THREE, 3);
-    let wanted = (Ok(()), [50; 3]);
-    expect_crew::<Brand, _, _>(&rt, rt.alloc(), opening, &OpenGate, 50, wanted);
+    expect_ended(&rt, rt.alloc(), &OpenGate, 50, (Ok(()), [50; 3]));
 }
 
 #[test]
 fn a_barred_worker_stops(rt: HostRuntime) {
-    let opening = make_opening(&rt, rt.alloc(), THREE, 3);
     let gate = BarringGate { worker: 1, turn: 0 };
     let fault = CrewFault::Gate { worker: 1, turn: 0 };
-    let wanted = (Err(fault), [2, 0, 2]);
-    expect_crew::<Brand, _, _>(&rt, rt.alloc(), opening, &gate, 2, wanted);
+    expect_ended(&rt, rt.alloc(), &gate, 2, (Err(fault), [2, 0, 2]));
 }
 
 #[test]
 fn crew_meets(rt: HostRuntime) {
-    let opening = make_opening(&rt, rt.alloc(), THREE, 3);
     let gate = CrewGate::new();
-    let wanted = (Ok(()), [2; 3]);
-    expect_crew::<Brand, _, _>(&rt, rt.alloc(), opening, &gate, 2, wanted);
+    expect_ended(&rt, rt.alloc(), &gate, 2, (Ok(()), [2; 3]));
     expect_true(&rt, gate.all_passed());
 }

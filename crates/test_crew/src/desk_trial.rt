@@ -14,13 +14,13 @@ use std::alloc::Global;
 use std::process::Abort;
 use std::sync::Wait;
 use std::thread::Threads;
-use test_programs::MEMORY;
+use test_programs::{MEMORY, THREE};
 
-/// The opening of a run of this program with so many seats.
-pub fn make_opening(rt: &impl Abort, alloc: Global, text: &str, seats: u32) -> Opening
+/// The opening of a run of the program with so many seats.
+pub fn make_opening(rt: &impl Abort, alloc: Global, seats: u32) -> Opening
     requires { (1 ≤ seats) × (seats ≤ SEATS) }
 {
-    let program = parse_program(alloc, text.as_bytes()).expect(rt, "a program");
+    let program = parse_program(alloc, THREE.as_bytes()).expect(rt, "a program");
     Opening::new(alloc, program, seats).expect(rt, MEMORY)
 }
 

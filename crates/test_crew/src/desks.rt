@@ -14,7 +14,6 @@ use std::marker::Brand;
 use std::process::Abort;
 use std::sync::Wait;
 use std::thread::Threads;
-use test_programs::THREE;
 
 const A: Pid = Pid(0);
 
@@ -83,7 +82,7 @@ fn one_sees_the_other<L: Run, R: Threads + Wait + Abort + Sync>(
 
 #[test]
 fn a_call_sees_what_was_answered_before(rt: HostRuntime) {
-    let opening = make_opening(&rt, rt.alloc(), THREE, 2);
+    let opening = make_opening(&rt, rt.alloc(), 2);
     one_sees_the_other::<Brand, _>(&rt, rt.alloc(), opening);
 }
 
@@ -117,7 +116,7 @@ fn each_sees_all<L: Run, R: Threads + Wait + Abort + Sync>(rt: &R, alloc: Global
 
 #[test]
 fn a_look_sees_the_calls_of_all_seats(rt: HostRuntime) {
-    let opening = make_opening(&rt, rt.alloc(), THREE, 2);
+    let opening = make_opening(&rt, rt.alloc(), 2);
     each_sees_all::<Brand, _>(&rt, rt.alloc(), opening);
 }
 
@@ -135,6 +134,6 @@ fn none_differs<L: Run, R: Threads + Wait + Abort + Sync>(rt: &R, alloc: Global,
 
 #[test]
 fn no_seats_settle(rt: HostRuntime) {
-    let opening = make_opening(&rt, rt.alloc(), THREE, 2);
+    let opening = make_opening(&rt, rt.alloc(), 2);
     none_differs::<Brand, _>(&rt, rt.alloc(), opening);
 }

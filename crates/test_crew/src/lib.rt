@@ -24,4 +24,6 @@ mod reported;
 #[cfg(test)]
 mod shown;
 #[cfg(test)]
+mod trials;
+#[cfg(test)]
 mod wide;

@@ -14,7 +14,6 @@ use std::sync::Wait;
 use std::test::Fail;
 use std::thread;
 use std::thread::Threads;
-use test_programs::THREE;
 
 // How many calls one seat makes, and how often the other one looks.
 const CALLS: usize = 100;
@@ -85,5 +84,5 @@ fn looks_beside_calls<L: Run + Send + Sync, R: Threads + Wait + Abort + Sync>(
 #[test]
 fn looks_are_made_beside_calls(rt: HostRuntime) -> Result<(), Fail> {
     let alloc = rt.alloc();
-    looks_beside_calls::<Brand, _>(&rt, alloc, make_opening(&rt, alloc, THREE, 2))
+    looks_beside_calls::<Brand, _>(&rt, alloc, make_opening(&rt, alloc, 2))
 }

@@ -9,8 +9,9 @@ ghost use Rattle.dbg_desk.specs.Openings.{IsOpeningOf};
 use crate::desk_trial::{enter, give, make_opening};
 use crate::expecting::{expect_same, expect_true};
 use crate::plans::set_break;
+use crate::trials::{Trial, run};
 use dbg_base::{Call, OpenGate, Pid, Plan, Query, Refusal, Said};
-use dbg_command::{BatchCmd, BreakCmd, Command, NextCmd, RollbackCmd, UndoCmd};
+use dbg_command::Command;
 use dbg_desk::{Closing, Desk, Entry, Locked, Opening, Run, Seat};
 use std::alloc::Global;
 use std::marker::Brand;
@@ -18,7 +19,7 @@ use std::process::Abort;
 use std::sync::Wait;
 use std::thread;
 use std::thread::Threads;
-use test_programs::{MEMORY, THREE};
+use test_programs::MEMORY;
 
 const A: Pid = Pid(0);
 
@@ -110,8 +111,8 @@ fn plan_at(rt: &impl Abort, alloc: Global, turn: u32) -> Plan {
     }
 }
 
-// The commands of each batch.
-fn two_commands(alloc: Global) -> Result<Vec<Plan>, Refusal>
+/// The commands of each batch.
+pub fn two_commands(alloc: Global) -> Result<Vec<Plan>, Refusal>
     ensures { IfOk result (λ plans. AreCommands plans.items) }
 {
     let mut plans = Vec::new(alloc);
@@ -329,11 +330,6 @@ fn expect_again<L: Run, C: Command, M: Fn(Plan) -> Result<C, Refusal>>(
     drop(locked);
 }
 
-// The parts of a desk for this play.
-fn opening_of(rt: &impl Abort, alloc: Global, play: Play) -> Opening {
-    make_opening(rt, alloc, THREE, seats_of(play))
-}
-
 // The play, at a new desk.
 fn play_once<
     C: Command,
@@ -343,7 +339,7 @@ fn play_once<
     requires may { M.IsAlwaysCallable make.now }
     requires fresh { MakesFresh (M.post make.now) C.IsFresh }
 {
-    let opening = opening_of(rt, alloc, play);
+    let opening = make_opening(rt, alloc, seats_of(play));
     many_calls::<Brand, C, M, R>(rt, alloc, make, opening, play)
 }
 
@@ -358,29 +354,27 @@ fn play_again<
 {
     let reported = play_once(rt, alloc, make, play);
     expect_same(rt, reported.len(), calls_of(play));
-    let opening = opening_of(rt, alloc, play);
+    let opening = make_opening(rt, alloc, seats_of(play));
     expect_again::<Brand, C, M>(rt, alloc, make, opening, reported);
+}
+
+/// Plays all plays: the first a hundred times, and the calls of the others again.
+pub fn play_all<
+    C: Command,
+    M: Fn(Plan) -> Result<C, Refusal> + Sync,
+    R: Threads + Wait + Abort + Sync,
+>(rt: &R, alloc: Global, make: &M)
+    requires may { M.IsAlwaysCallable make.now }
+    requires fresh { MakesFresh (M.post make.now) C.IsFresh }
+{
+    for _ in 0..ROUNDS {
+        play_once(rt, alloc, make, Play::Mixed);
+    }
+    play_again(rt, alloc, make, Play::Rivals);
+    play_again(rt, alloc, make, Play::AllRivals);
 }
 
 #[test]
 fn seats_on_threads_settle(rt: HostRuntime) {
-    let alloc = rt.alloc();
-    let make = |plan: Plan| -> Result<Box<dyn Command>, Refusal>
-        ensures { IfOk result (λ command. IsFresh command) }
-    {
-        let command: Box<dyn Command> = match plan {
-            Plan::Next(pid) => Box::new(alloc, NextCmd::new(pid))?,
-            Plan::Undo(pid) => Box::new(alloc, UndoCmd::new(pid))?,
-            Plan::Rollback(pid, place) => Box::new(alloc, RollbackCmd::new(pid, place))?,
-            Plan::Break(name, conjuncts) => Box::new(alloc, BreakCmd::new(name, conjuncts))?,
-            Plan::Batch(_) => Box::new(alloc, BatchCmd::new(two_commands(alloc)?))?,
-            _ => return Err(Refusal::BadLine),
-        };
-        Ok(command)
-    };
-    for _ in 0..ROUNDS {
-        play_once(&rt, alloc, &make, Play::Mixed);
-    }
-    play_again(&rt, alloc, &make, Play::Rivals);
-    play_again(&rt, alloc, &make, Play::AllRivals);
+    run(&rt, rt.alloc(), Trial::Many);
 }

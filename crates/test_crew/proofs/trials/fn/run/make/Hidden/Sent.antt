@@ -2,7 +2,7 @@
 use denote.Param.Send.{sendable}
 use denote.Param.Sent.{Sends}
 use Rattle.dbg_command.proofs.SendableCommandLemmas.{undo_send, rollback_send, batch_send}
-use Rattle.test_crew.proofs.many.fn.seats_on_threads_settle.make.Hides.{part-1-2, part-1-3, part-1-5}
+use Rattle.test_crew.proofs.trials.fn.run.make.Hides.{part-1-2, part-1-3, part-1-5}
 
 pub sends-part-1-2 : Sends part-1-2
 sends-part-1-2 = search (undo_send, sendable)

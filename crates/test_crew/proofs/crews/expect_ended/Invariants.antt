@@ -1,5 +1,5 @@
 use Rattle.proc_lang.specs.Programs.{program_of}
-use Rattle.test_crew.proofs.crews.a_crew_gives_all_its_commands.Given as goal
+use Rattle.test_crew.proofs.crews.expect_ended.Given as goal
 
 abbrev pub ghosts-expect_crew-L-Ledger : goal.ghosts-expect_crew-L-Ledger
 ghosts-expect_crew-L-Ledger g a = record { name = a.opening.blank.name; parts = a.opening.blank.parts }
