@@ -6,186 +6,133 @@ use std::alloc::Global;
 use std::process::Abort;
 use test_programs::MEMORY;
 
-// A text that repeats a part, in which `#` is the part's number from 0, and the expected result.
-struct Repeated {
-    name: &'static str,
-    prefix: &'static str,
-    part: &'static str,
-    count: u32,
-    back: &'static str,
-    want: Outcome,
-}
+// What a case shows, what is before the parts, how many parts there are, what is after them, and the expected result. In a part `#` is its
+// number from 0.
+type RepeatedRow = (&'static str, &'static str, u32, &'static str, Outcome);
 
-const PROCESSES: [Repeated; 6] = [
-    Repeated {
-        name: "32 processes",
-        prefix: "",
-        part: "process p# { } ",
-        count: 32,
-        back: "",
-        want: Ok((32, 0)),
-    },
-    Repeated {
-        name: "33 processes",
-        prefix: "",
-        part: "process p# { } ",
-        count: 33,
-        back: "",
-        // 10 parts of 15 bytes, 22 of 16, and `process ` of 8
-        want: Err((7, 510)),
-    },
-    Repeated {
-        name: "a 33rd process whose body has a fault",
-        prefix: "",
-        part: "process p# { } ",
-        count: 32,
-        back: "process p { when 1 : x := 1; }",
-        want: Err((7, 510)),
-    },
-    Repeated {
-        name: "a 33rd process whose name is taken",
-        prefix: "",
-        part: "process p# { } ",
-        count: 32,
-        back: "process p0 { }",
-        want: Err((4, 510)),
-    },
-    Repeated {
-        name: "a message to the 33rd process, which is known",
-        prefix: "process a { when true : send p31 1; } ",
-        part: "process p# { } ",
-        count: 32,
-        back: "",
-        // a beginning of 38 bytes, 10 parts of 15, 21 of 16, and `process ` of 8
-        want: Err((7, 532)),
-    },
-    Repeated {
-        name: "a fault before the 33rd process",
-        prefix: "process a { when 1 : x := 1; } ",
-        part: "process p# { } ",
-        count: 32,
-        back: "",
-        // `process a { when ` has 17 bytes
-        want: Err((6, 17)),
-    },
+const PROCESSES: [RepeatedRow; 6] = [
+    ("32 processes", "", 32, "", Ok((32, 0))),
+    // 10 parts of 15 bytes, 22 of 16, and `process ` of 8
+    ("33 processes", "", 33, "", Err((7, 510))),
+    (
+        "a 33rd process whose body has a fault",
+        "",
+        32,
+        "process p { when 1 : x := 1; }",
+        Err((7, 510)),
+    ),
+    (
+        "a 33rd process whose name is taken",
+        "",
+        32,
+        "process p0 { }",
+        Err((4, 510)),
+    ),
+    // a beginning of 38 bytes, 10 parts of 15, 21 of 16, and `process ` of 8
+    (
+        "a message to the 33rd process, which is known",
+        "process a { when true : send p31 1; } ",
+        32,
+        "",
+        Err((7, 532)),
+    ),
+    // `process a { when ` has 17 bytes
+    (
+        "a fault before the 33rd process",
+        "process a { when 1 : x := 1; } ",
+        32,
+        "",
+        Err((6, 17)),
+    ),
 ];
 
-const VARIABLES: [Repeated; 4] = [
-    Repeated {
-        name: "32 variables",
-        prefix: "process a { ",
-        part: "var v# = 0; ",
-        count: 32,
-        back: "} process b { var x = 0; }",
-        want: Ok((2, 0)),
-    },
-    Repeated {
-        name: "33 variables",
-        prefix: "process a { ",
-        part: "var v# = 0; ",
-        count: 33,
-        back: "}",
-        // a beginning of 12 bytes, 10 parts of 12, 22 of 13, and `var ` of 4
-        want: Err((7, 422)),
-    },
-    Repeated {
-        name: "a 33rd variable whose name is taken",
-        prefix: "process a { ",
-        part: "var v# = 0; ",
-        count: 32,
-        back: "var v31 = 0; }",
-        want: Err((4, 422)),
-    },
-    Repeated {
-        name: "a fault after the 33rd variable",
-        prefix: "process a { ",
-        part: "var v# = 0; ",
-        count: 33,
-        back: "when v32 : send a 1; }",
-        want: Err((7, 422)),
-    },
+const VARIABLES: [RepeatedRow; 4] = [
+    (
+        "32 variables",
+        "process a { ",
+        32,
+        "} process b { var x = 0; }",
+        Ok((2, 0)),
+    ),
+    // a beginning of 12 bytes, 10 parts of 12, 22 of 13, and `var ` of 4
+    ("33 variables", "process a { ", 33, "}", Err((7, 422))),
+    (
+        "a 33rd variable whose name is taken",
+        "process a { ",
+        32,
+        "var v31 = 0; }",
+        Err((4, 422)),
+    ),
+    (
+        "a fault after the 33rd variable",
+        "process a { ",
+        33,
+        "when v32 : send a 1; }",
+        Err((7, 422)),
+    ),
 ];
 
 // The parentheses of these are closed again: far more than 32 pairs.
-const COMMANDS: [Repeated; 5] = [
-    Repeated {
-        name: "64 commands",
-        prefix: "process a { var x = 0; ",
-        part: "when (x = #) : x := (x + 1); ",
-        count: 64,
-        back: "}",
-        want: Ok((1, 64)),
-    },
-    Repeated {
-        name: "64 commands of one process and one of another",
-        prefix: "process b { when true : send a 1; } process a { var x = 0; ",
-        part: "when (x = #) : x := (x + 1); ",
-        count: 64,
-        back: "}",
-        want: Ok((2, 65)),
-    },
-    Repeated {
-        name: "65 commands",
-        prefix: "process a { var x = 0; ",
-        part: "when (x = #) : x := (x + 1); ",
-        count: 65,
-        back: "}",
-        // a beginning of 23 bytes, 10 parts of 29 and 54 of 30
-        want: Err((7, 1933)),
-    },
-    Repeated {
-        name: "a 65th command that has a fault",
-        prefix: "process a { var x = 0; ",
-        part: "when (x = #) : x := (x + 1); ",
-        count: 64,
-        back: "when y : x := 1; }",
-        want: Err((7, 1933)),
-    },
-    Repeated {
-        name: "a fault before the 65th command",
-        prefix: "process a { var x = 0; when x : x := 1; ",
-        part: "when (x = #) : x := (x + 1); ",
-        count: 64,
-        back: "}",
-        // a beginning of 23 bytes, and `when ` of 5
-        want: Err((6, 28)),
-    },
+const COMMANDS: [RepeatedRow; 5] = [
+    (
+        "64 commands",
+        "process a { var x = 0; ",
+        64,
+        "}",
+        Ok((1, 64)),
+    ),
+    (
+        "64 commands of one process and one of another",
+        "process b { when true : send a 1; } process a { var x = 0; ",
+        64,
+        "}",
+        Ok((2, 65)),
+    ),
+    // a beginning of 23 bytes, 10 parts of 29 and 54 of 30
+    (
+        "65 commands",
+        "process a { var x = 0; ",
+        65,
+        "}",
+        Err((7, 1933)),
+    ),
+    (
+        "a 65th command that has a fault",
+        "process a { var x = 0; ",
+        64,
+        "when y : x := 1; }",
+        Err((7, 1933)),
+    ),
+    // a beginning of 23 bytes, and `when ` of 5
+    (
+        "a fault before the 65th command",
+        "process a { var x = 0; when x : x := 1; ",
+        64,
+        "}",
+        Err((6, 28)),
+    ),
 ];
 
-const WORDS: [Repeated; 4] = [
-    Repeated {
-        name: "a name of 32 letters",
-        prefix: "process ",
-        part: "a",
-        count: 32,
-        back: " { }",
-        want: Ok((1, 0)),
-    },
-    Repeated {
-        name: "a word of 33 letters",
-        prefix: "process ",
-        part: "a",
-        count: 33,
-        back: "",
-        want: Err((2, 8)),
-    },
-    Repeated {
-        name: "a number with 1,000 zeros before it",
-        prefix: "process a { var x = ",
-        part: "0",
-        count: 1_000,
-        back: "9223372036854775807; }",
-        want: Ok((1, 0)),
-    },
-    Repeated {
-        name: "a number of 1,000 digits",
-        prefix: "process a { var x = ",
-        part: "1",
-        count: 1_000,
-        back: "; }",
-        want: Err((2, 20)),
-    },
+const LETTERS: [RepeatedRow; 2] = [
+    ("a name of 32 letters", "process ", 32, " { }", Ok((1, 0))),
+    ("a word of 33 letters", "process ", 33, "", Err((2, 8))),
 ];
+
+const ZEROS: [RepeatedRow; 1] = [(
+    "a number with 1,000 zeros before it",
+    "process a { var x = ",
+    1_000,
+    "9223372036854775807; }",
+    Ok((1, 0)),
+)];
+
+const DIGITS: [RepeatedRow; 1] = [(
+    "a number of 1,000 digits",
+    "process a { var x = ",
+    1_000,
+    "; }",
+    Err((2, 20)),
+)];
 
 // Appends the part to the text, with its number in place of `#`.
 fn add_part(rt: &impl Abort, text: &mut Vec<u8>, part: &str, digits: &str) {
@@ -198,30 +145,34 @@ fn add_part(rt: &impl Abort, text: &mut Vec<u8>, part: &str, digits: &str) {
     }
 }
 
-fn text_of(rt: &impl Abort, alloc: Global, text: &Repeated) -> Vec<u8> {
+fn text_of(rt: &impl Abort, alloc: Global, part: &str, row: &RepeatedRow) -> Vec<u8> {
+    let (_, prefix, count, back, _) = row;
     let mut all = Vec::new(alloc);
-    add(rt, &mut all, text.prefix);
-    for number in 0..text.count {
+    add(rt, &mut all, prefix);
+    for number in 0..*count {
         let digits = format!(in alloc; "{number}").expect(rt, MEMORY);
-        add_part(rt, &mut all, text.part, digits.as_str());
+        add_part(rt, &mut all, part, digits.as_str());
     }
-    add(rt, &mut all, text.back);
+    add(rt, &mut all, back);
     all
 }
 
-fn expect_repeated(rt: &impl Abort, alloc: Global, rows: &[Repeated]) {
+fn expect_repeated(rt: &impl Abort, alloc: Global, part: &str, rows: &[RepeatedRow]) {
     for row in rows {
-        let text = text_of(rt, alloc, row);
-        expect(rt, alloc, row.name, text.as_slice(), row.want);
+        let text = text_of(rt, alloc, part, row);
+        let (name, _, _, _, want) = row;
+        expect(rt, alloc, name, text.as_slice(), *want);
     }
 }
 
 #[test]
 fn as_many_as_may_be_and_one_more(rt: HostRuntime) {
-    expect_repeated(&rt, rt.alloc(), &PROCESSES);
-    expect_repeated(&rt, rt.alloc(), &VARIABLES);
-    expect_repeated(&rt, rt.alloc(), &COMMANDS);
-    expect_repeated(&rt, rt.alloc(), &WORDS);
+    expect_repeated(&rt, rt.alloc(), "process p# { } ", &PROCESSES);
+    expect_repeated(&rt, rt.alloc(), "var v# = 0; ", &VARIABLES);
+    expect_repeated(&rt, rt.alloc(), "when (x = #) : x := (x + 1); ", &COMMANDS);
+    expect_repeated(&rt, rt.alloc(), "a", &LETTERS);
+    expect_repeated(&rt, rt.alloc(), "0", &ZEROS);
+    expect_repeated(&rt, rt.alloc(), "1", &DIGITS);
 }
 
 // What is repeated before the middle of a value, how often, the middle, and the expected result. After the middle as many parentheses
