@@ -2,6 +2,10 @@
 
 use crate::expecting::{expect_same, expect_true};
 use crate::trees::{binary, negate, not};
+use dbg_base::Operator::{
+    Add, And, Divide, Equal, Greater, GreaterOrEqual, Less, LessOrEqual, Multiply, NotEqual, Or,
+    Remainder, Subtract,
+};
 use dbg_base::{Direction, Expr, Operator, Pid, Sequence};
 use local_eval::{Env, EvalError, EvalFault, Value, effect, eval, guard};
 use proc_lang::{Action, Assignment, Guarded, parse_program};
@@ -55,10 +59,10 @@ fn make_counts(rt: &impl Abort, alloc: Global, sent: u32, got: u32) -> Env {
 // `((x = n) CONNECTIVE ((x / 0) = 1))` of the first variable x.
 fn beside_a_fault(rt: &impl Abort, alloc: Global, connective: Operator, n: i64) -> Expr {
     let (x, zero) = (Expr::Variable(0), Expr::Number(0));
-    let quotient = binary(rt, alloc, Operator::Divide, x, zero);
-    let right = binary(rt, alloc, Operator::Equal, quotient, Expr::Number(1));
+    let quotient = binary(rt, alloc, Divide, x, zero);
+    let right = binary(rt, alloc, Equal, quotient, Expr::Number(1));
     let (x, number) = (Expr::Variable(0), Expr::Number(n));
-    let left = binary(rt, alloc, Operator::Equal, x, number);
+    let left = binary(rt, alloc, Equal, x, number);
     binary(rt, alloc, connective, left, right)
 }
 
@@ -86,51 +90,33 @@ fn expect_guard(
 
 // A text, its operator, two numbers, and the value.
 const NUMBERS: [(&str, Operator, i64, i64, Result<Value, EvalFault>); 21] = [
-    ("2 + 3", Operator::Add, 2, 3, Ok(Value::Num(5))),
-    ("max + 1", Operator::Add, i64::MAX, 1, Err(EvalFault)),
-    ("min + -1", Operator::Add, i64::MIN, -1, Err(EvalFault)),
-    ("2 - 3", Operator::Subtract, 2, 3, Ok(Value::Num(-1))),
-    ("min - 1", Operator::Subtract, i64::MIN, 1, Err(EvalFault)),
-    ("-4 * 3", Operator::Multiply, -4, 3, Ok(Value::Num(-12))),
+    ("2 + 3", Add, 2, 3, Ok(Value::Num(5))),
+    ("max + 1", Add, i64::MAX, 1, Err(EvalFault)),
+    ("min + -1", Add, i64::MIN, -1, Err(EvalFault)),
+    ("2 - 3", Subtract, 2, 3, Ok(Value::Num(-1))),
+    ("min - 1", Subtract, i64::MIN, 1, Err(EvalFault)),
+    ("-4 * 3", Multiply, -4, 3, Ok(Value::Num(-12))),
     (
         "2^32 * 2^31",
-        Operator::Multiply,
+        Multiply,
         4294967296,
         2147483648,
         Err(EvalFault),
     ),
-    ("-7 / 2", Operator::Divide, -7, 2, Ok(Value::Num(-3))),
-    ("min / -1", Operator::Divide, i64::MIN, -1, Err(EvalFault)),
-    ("min / 0", Operator::Divide, i64::MIN, 0, Err(EvalFault)),
-    ("-7 % 2", Operator::Remainder, -7, 2, Ok(Value::Num(-1))),
-    (
-        "min % -1",
-        Operator::Remainder,
-        i64::MIN,
-        -1,
-        Err(EvalFault),
-    ),
-    ("min % 0", Operator::Remainder, i64::MIN, 0, Err(EvalFault)),
-    ("3 = 3", Operator::Equal, 3, 3, Ok(Value::Truth(true))),
-    ("3 != 3", Operator::NotEqual, 3, 3, Ok(Value::Truth(false))),
-    ("3 < 3", Operator::Less, 3, 3, Ok(Value::Truth(false))),
-    (
-        "3 <= 3",
-        Operator::LessOrEqual,
-        3,
-        3,
-        Ok(Value::Truth(true)),
-    ),
-    ("-3 > -4", Operator::Greater, -3, -4, Ok(Value::Truth(true))),
-    (
-        "-4 >= -3",
-        Operator::GreaterOrEqual,
-        -4,
-        -3,
-        Ok(Value::Truth(false)),
-    ),
-    ("1 and 1", Operator::And, 1, 1, Err(EvalFault)),
-    ("1 or 1", Operator::Or, 1, 1, Err(EvalFault)),
+    ("-7 / 2", Divide, -7, 2, Ok(Value::Num(-3))),
+    ("min / -1", Divide, i64::MIN, -1, Err(EvalFault)),
+    ("min / 0", Divide, i64::MIN, 0, Err(EvalFault)),
+    ("-7 % 2", Remainder, -7, 2, Ok(Value::Num(-1))),
+    ("min % -1", Remainder, i64::MIN, -1, Err(EvalFault)),
+    ("min % 0", Remainder, i64::MIN, 0, Err(EvalFault)),
+    ("3 = 3", Equal, 3, 3, Ok(Value::Truth(true))),
+    ("3 != 3", NotEqual, 3, 3, Ok(Value::Truth(false))),
+    ("3 < 3", Less, 3, 3, Ok(Value::Truth(false))),
+    ("3 <= 3", LessOrEqual, 3, 3, Ok(Value::Truth(true))),
+    ("-3 > -4", Greater, -3, -4, Ok(Value::Truth(true))),
+    ("-4 >= -3", GreaterOrEqual, -4, -3, Ok(Value::Truth(false))),
+    ("1 and 1", And, 1, 1, Err(EvalFault)),
+    ("1 or 1", Or, 1, 1, Err(EvalFault)),
 ];
 
 #[test]
@@ -189,27 +175,19 @@ fn expect_connected(
 fn operators_on_truths(rt: HostRuntime) {
     let env = make_env(&rt, rt.alloc(), &[]);
     let (truth, number) = (Expr::Truth(true), Expr::Number(5));
-    expect_connected(
-        &rt,
-        rt.alloc(),
-        &env,
-        Operator::Equal,
-        true,
-        truth,
-        Err(EvalFault),
-    );
+    expect_connected(&rt, rt.alloc(), &env, Equal, true, truth, Err(EvalFault));
     let five = Ok(Value::Num(5));
-    expect_connected(&rt, rt.alloc(), &env, Operator::And, true, number, five);
+    expect_connected(&rt, rt.alloc(), &env, And, true, number, five);
     let number = Expr::Number(5);
-    expect_connected(&rt, rt.alloc(), &env, Operator::Or, false, number, five);
+    expect_connected(&rt, rt.alloc(), &env, Or, false, number, five);
 }
 
 // A connective, the number that x is compared with, and the value.
 const CONNECTIVES: [(&str, Operator, i64, Result<bool, EvalFault>); 4] = [
-    ("true or a fault", Operator::Or, 0, Ok(true)),
-    ("false or a fault", Operator::Or, 1, Err(EvalFault)),
-    ("false and a fault", Operator::And, 1, Ok(false)),
-    ("true and a fault", Operator::And, 0, Err(EvalFault)),
+    ("true or a fault", Or, 0, Ok(true)),
+    ("false or a fault", Or, 1, Err(EvalFault)),
+    ("false and a fault", And, 1, Ok(false)),
+    ("true and a fault", And, 0, Err(EvalFault)),
 ];
 
 #[test]
@@ -252,7 +230,7 @@ fn swap_and_send(rt: &impl Abort, alloc: Global) -> Guarded {
         guard: Expr::Truth(true),
         action: Action::Send {
             target: Pid(1),
-            value: binary(rt, alloc, Operator::Add, x, y),
+            value: binary(rt, alloc, Add, x, y),
         },
         assignments: Sequence::new(assignments),
     }
@@ -260,7 +238,7 @@ fn swap_and_send(rt: &impl Abort, alloc: Global) -> Guarded {
 
 // `when true : recv SOURCE x, y := (x + OTHER);` of the variables x and y.
 fn receive_and_add(rt: &impl Abort, alloc: Global, source: Pid, other: Expr) -> Guarded {
-    let sum = binary(rt, alloc, Operator::Add, Expr::Variable(0), other);
+    let sum = binary(rt, alloc, Add, Expr::Variable(0), other);
     let assignments = Vec::from_array(alloc, [set_to(1, sum)]).expect(rt, MEMORY);
     Guarded {
         guard: Expr::Truth(true),
