@@ -12,8 +12,3 @@ pub fn expect_same<T: Debug + PartialEq + Drop>(rt: &impl Abort, reported: T, wa
 pub fn expect_true(rt: &impl Abort, holds: bool) {
     assert!(rt; holds);
 }
-
-/// Expects that something holds; a failure shows the name.
-pub fn expect_true_of(rt: &impl Abort, name: &str, holds: bool) {
-    assert!(rt; holds, "{name}");
-}

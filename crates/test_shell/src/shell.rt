@@ -14,7 +14,6 @@ mod full_journal;
 mod help;
 mod jobs;
 mod lines;
-mod many_breakpoints;
 mod pictures;
 mod programs;
 mod replies;
@@ -126,6 +125,24 @@ fn expect_rows(rt: &impl Abort, alloc: Global, rows: &[(&str, &str, &str, &str)]
         let input = joined(rt, alloc, program, lines);
         expect_served_of(rt, alloc, name, input.as_slice(), want);
     }
+}
+
+// Expects these replies to lines that are given so often after a program, and to the lines after them.
+fn expect_repeated(
+    rt: &impl Abort,
+    alloc: Global,
+    program: &str,
+    rounds: (&str, &str, u32),
+    after: (&str, &str),
+) {
+    let (lines, replies, count) = rounds;
+    let mut input = joined(rt, alloc, program, "%%\n");
+    let mut want = Vec::new(alloc);
+    repeat(rt, &mut input, lines, count);
+    repeat(rt, &mut want, replies, count);
+    add(rt, &mut input, after.0);
+    add(rt, &mut want, after.1);
+    expect_long(rt, alloc, input.as_slice(), want.as_slice(), 0);
 }
 
 // Expects so long an output of `serve`, with this exit status. A failure does not show it.

@@ -1,13 +1,8 @@
-use super::expect_rows;
-use test_programs::{COUNTS, PAIR, THREE, TWO};
+use super::{add, expect_long, expect_rows, joined, repeat};
+use test_programs::{COUNTS, MEMORY, PAIR, THREE, TWO};
 
-// A name, a program, the lines after it and the output for them.
-const ROWS: [(&str, &str, &str, &str); 11] = [
-    // The present state does not satisfy the breakpoint, since a has made another event; its cut does.
-    (
-        "the least cut is gone to",
-        TWO,
-        "%%
+// Lines whose present state does not satisfy the breakpoint, since a has made another event; its cut does.
+pub(super) const GOING: &str = "%%
 1 break k a (x = 1) b (n = 1)
 1 next a
 1 next a
@@ -20,8 +15,10 @@ const ROWS: [(&str, &str, &str, &str); 11] = [
 1 chan a b
 1 back
 1 place a
-",
-        "ok
+";
+
+// Their output.
+pub(super) const GONE: &str = "ok
 ok a 0
 ok a 0
 ok b 0 halted k
@@ -33,8 +30,11 @@ vars a x=1
 chan a b
 ok halted k
 place a 2 of 2
-",
-    ),
+";
+
+// A name, a program, the lines after it and the output for them.
+const ROWS: [(&str, &str, &str, &str); 11] = [
+    ("the least cut is gone to", TWO, GOING, GONE),
     // What b has received was sent, and after that send x is not 0.
     (
         "a breakpoint has no cut",
@@ -285,12 +285,8 @@ ok halted k
         "%%
 1 next a
 1 next a
-1 next a
-1 step a 0
-1 chan a b
 1 next b
 1 next b
-1 vars b
 1 break k a (sent(b) = 1) b (got(a) = 1)
 1 cut k
 1 undo b
@@ -303,12 +299,8 @@ ok halted k
 ",
         "ok a 0
 ok a 0
-no 24
-no 3
-chan a b 10 11
 ok b 0
 ok b 1
-vars b y=11 z=12
 ok halted k
 cut k a=1 b=1
 ok b 1 halted k
@@ -325,4 +317,19 @@ no 23
 #[test]
 fn sessions_halt_at_breakpoints(rt: HostRuntime) {
     expect_rows(&rt, rt.alloc(), &ROWS);
+}
+
+// The 65th is refused, until one is cleared.
+#[test]
+fn there_are_at_most_64_breakpoints(rt: HostRuntime) {
+    let mut input = joined(&rt, rt.alloc(), TWO, "%%\n");
+    for number in 0..65u32 {
+        let line = format!(in rt.alloc(); "1 break b{number} a (x = 5)\n").expect(&rt, MEMORY);
+        add(&rt, &mut input, line.as_str());
+    }
+    add(&rt, &mut input, "1 clear b0\n1 break b64 a (x = 5)\n");
+    let mut want = Vec::new(rt.alloc());
+    repeat(&rt, &mut want, "ok\n", 64);
+    add(&rt, &mut want, "no 19\nok\nok\n");
+    expect_long(&rt, rt.alloc(), input.as_slice(), want.as_slice(), 0);
 }

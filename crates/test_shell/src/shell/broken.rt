@@ -1,5 +1,6 @@
 //! Inputs that break off, and devices that are interrupted.
 
+use super::breakpoints::{GOING, GONE};
 use super::{expect_served, joined, served};
 use crate::expecting::{expect_same, expect_true};
 use dbg_shell::{Health, Noted, check, serve, status};
@@ -8,29 +9,6 @@ use std::io;
 use std::io::{Read, Write};
 use std::process::Abort;
 use test_programs::TWO;
-
-const LINES: &str = "%%
-1 break k a (x = 1) b (n = 1)
-1 next a
-1 next a
-1 next b
-1 cut k
-1 why k
-1 goto k
-1 back
-1 place a
-";
-
-const REPLIES: &[u8] = b"ok
-ok a 0
-ok a 0
-ok b 0 halted k
-cut k a=1 b=1
-why k a=1 b=1
-ok a=1 b=1 halted k
-ok halted k
-place a 2 of 2
-";
 
 // So many of these lines, with their line ends.
 fn first_lines(text: &[u8], count: usize) -> &[u8] {
@@ -54,7 +32,7 @@ fn lines_in(text: &[u8]) -> usize {
 // input ends.
 fn expect_answers(rt: &impl Abort, written: &[u8], whole: usize) {
     let replies = lines_in(written);
-    expect_true(rt, written.starts_with(first_lines(REPLIES, whole)));
+    expect_true(rt, written.starts_with(first_lines(GONE.as_bytes(), whole)));
     expect_true(rt, replies == whole || replies == whole.saturating_add(1));
 }
 
@@ -73,14 +51,14 @@ fn expect_prefix(rt: &impl Abort, alloc: Global, prefix: &[u8], begun: usize) {
 
 #[test]
 fn an_input_may_break_off_anywhere(rt: HostRuntime) {
-    let input = joined(&rt, rt.alloc(), TWO, LINES);
+    let input = joined(&rt, rt.alloc(), TWO, GOING);
     let begun = TWO.len().saturating_add(2);
     for length in 0..input.len().saturating_add(1) {
         let prefix = input.as_slice().get(..length).unwrap_or(&[]);
         expect_prefix(&rt, rt.alloc(), prefix, begun);
     }
     let (written, _) = served(rt.alloc(), input.as_slice());
-    expect_same(&rt, written.as_slice(), REPLIES);
+    expect_same(&rt, written.as_slice(), GONE.as_bytes());
 }
 
 // Returns a text, and then fails once with this error; what comes after could be read.

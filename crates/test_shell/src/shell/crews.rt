@@ -1,6 +1,6 @@
 //! Runs of workers. Each `next` is a call, accepted or refused, so there are as many calls as turns of all processes.
 
-use super::{add, joined};
+use super::joined;
 use crate::expecting::{expect_same, expect_true};
 use dbg_shell::{Closing, Mismatch, Noted, crew_status, fits_turns, print_closing, run_crew};
 use std::alloc::{AllocError, Global};
@@ -9,10 +9,7 @@ use std::io::{Read, Write};
 use std::process::Abort;
 use std::sync::Wait;
 use std::thread::Threads;
-use test_programs::{MEMORY, TWO};
-
-// A process in addition to the two.
-const COUNTS: &str = "process c { var z = 0; when true : z := (z + 1); }\n";
+use test_programs::{MEMORY, THREE};
 
 // Runs workers between a reader and a writer, and returns the exit status.
 fn crew_between<R: Threads + Wait + Sync, I: Read, O: Write>(
@@ -45,18 +42,14 @@ fn expect_crewed<R: Threads + Wait + Sync + Abort>(
     expect_same(rt, (writer.as_slice(), code), (want.as_bytes(), status));
 }
 
-fn three(rt: &impl Abort, alloc: Global) -> Vec<u8> {
-    joined(rt, alloc, TWO, COUNTS)
-}
-
 #[test]
 fn three_workers_settle(rt: HostRuntime) {
-    let mut input = three(&rt, rt.alloc());
     let settled = "calls 300\njournal ok\n";
     // If no line ends the text, the end of the input does.
-    expect_crewed(&rt, rt.alloc(), 100, input.as_slice(), settled, 0);
+    expect_crewed(&rt, rt.alloc(), 100, THREE.as_bytes(), settled, 0);
     // What comes after the line that ends it is not read.
-    add(&rt, &mut input, "%%\n1 next a\nno line of any form");
+    let more = "%%\n1 next a\nno line of any form";
+    let input = joined(&rt, rt.alloc(), THREE, more);
     expect_crewed(&rt, rt.alloc(), 100, input.as_slice(), settled, 0);
     let settled = "calls 3\njournal ok\n";
     expect_crewed(&rt, rt.alloc(), 1, input.as_slice(), settled, 0);
@@ -79,10 +72,9 @@ fn there_are_no_more_turns_than_calls(rt: HostRuntime) {
         let found = (*turns, *processes, fits_turns(*turns, *processes));
         expect_same(&rt, found, (*turns, *processes, *fits));
     }
-    let input = three(&rt, rt.alloc());
     let many = "too many turns\n";
-    expect_crewed(&rt, rt.alloc(), 33_334, input.as_slice(), many, 2);
-    expect_crewed(&rt, rt.alloc(), 100_000, input.as_slice(), many, 2);
+    expect_crewed(&rt, rt.alloc(), 33_334, THREE.as_bytes(), many, 2);
+    expect_crewed(&rt, rt.alloc(), 100_000, THREE.as_bytes(), many, 2);
     // The program is read first.
     let refused = "program refused 1 at 8\n";
     expect_crewed(&rt, rt.alloc(), 100_000, b"process A {}\n%%\n", refused, 3);
@@ -104,7 +96,7 @@ fn texts_that_are_refused_are_reported_as_by_check(rt: HostRuntime) {
     for (input, want) in &REFUSED {
         expect_crewed(&rt, rt.alloc(), 1, input.as_bytes(), want, 3);
     }
-    let mut long = three(&rt, rt.alloc());
+    let mut long = joined(&rt, rt.alloc(), THREE, "");
     long.resize(1_048_577, b' ').expect(&rt, MEMORY);
     expect_crewed(&rt, rt.alloc(), 1, long.as_slice(), "input too long\n", 1);
 }
@@ -220,7 +212,6 @@ fn expect_unreadable<R: Threads + Wait + Sync + Abort>(rt: &R, alloc: Global) {
 fn expect_narrow<R: Threads + Wait + Sync + Abort>(
     rt: &R,
     alloc: Global,
-    input: &[u8],
     left: usize,
     want: &[u8],
 ) {
@@ -228,7 +219,7 @@ fn expect_narrow<R: Threads + Wait + Sync + Abort>(
         taken: Vec::new(alloc),
         left,
     };
-    let mut reader = input;
+    let mut reader = THREE.as_bytes();
     let code = crew_between(rt, alloc, 1, &mut reader, &mut writer);
     expect_same(rt, (code, writer.taken.as_slice()), (1, want));
 }
@@ -236,10 +227,9 @@ fn expect_narrow<R: Threads + Wait + Sync + Abort>(
 #[test]
 fn faults_of_the_streams_have_status_1(rt: HostRuntime) {
     expect_unreadable(&rt, rt.alloc());
-    let input = three(&rt, rt.alloc());
     let text = b"calls 3\njournal ok\n";
     for left in 0..text.len() {
         let want = text.get(..left).unwrap_or(&[]);
-        expect_narrow(&rt, rt.alloc(), input.as_slice(), left, want);
+        expect_narrow(&rt, rt.alloc(), left, want);
     }
 }

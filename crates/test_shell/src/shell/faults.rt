@@ -36,13 +36,13 @@ impl Read for Pieces<'_> {
     }
 }
 
+fn make_pieces(text: &[u8], size: usize, left: usize) -> Pieces<'_> {
+    Pieces { text, size, left }
+}
+
 // Expects the output of `serve` for pieces of this size.
 fn expect_pieces(rt: &impl Abort, alloc: Global, input: &[u8], size: usize) {
-    let mut reader = Pieces {
-        text: input,
-        size,
-        left: 1_000,
-    };
+    let mut reader = make_pieces(input, size, 1_000);
     let mut writer = Vec::new(alloc);
     let code = serve_between(alloc, &mut reader, &mut writer);
     expect_same(rt, (size, code), (size, 0));
@@ -51,11 +51,7 @@ fn expect_pieces(rt: &impl Abort, alloc: Global, input: &[u8], size: usize) {
 
 // The same of `check`.
 fn expect_checked_pieces(rt: &impl Abort, alloc: Global, size: usize) {
-    let mut reader = Pieces {
-        text: TWO.as_bytes(),
-        size,
-        left: 1_000,
-    };
+    let mut reader = make_pieces(TWO.as_bytes(), size, 1_000);
     let mut writer = Vec::new(alloc);
     let code = check_between(alloc, &mut reader, &mut writer);
     expect_same(rt, (size, code), (size, 0));
@@ -81,11 +77,7 @@ fn whole_lines(bytes: &[u8]) -> &[u8] {
 
 // Expects the output where the reader fails after so many bytes: nothing within the program, and otherwise the answers to the whole lines.
 fn expect_read(rt: &impl Abort, alloc: Global, input: &[u8], reads: usize) {
-    let mut reader = Pieces {
-        text: input,
-        size: 1,
-        left: reads,
-    };
+    let mut reader = make_pieces(input, 1, reads);
     let mut writer = Vec::new(alloc);
     let code = serve_between(alloc, &mut reader, &mut writer);
     expect_same(rt, (reads, code), (reads, 1));
@@ -106,11 +98,7 @@ fn a_reader_fails_at_any_read(rt: HostRuntime) {
 
 // Expects nothing to be written where a check fails after so many bytes.
 fn expect_unread(rt: &impl Abort, alloc: Global, reads: usize) {
-    let mut reader = Pieces {
-        text: TWO.as_bytes(),
-        size: 1,
-        left: reads,
-    };
+    let mut reader = make_pieces(TWO.as_bytes(), 1, reads);
     let mut writer = Vec::new(alloc);
     let code = check_between(alloc, &mut reader, &mut writer);
     expect_same(rt, (reads, code, writer.len()), (reads, 1, 0));

@@ -1,15 +1,13 @@
 //! A journal that is full.
 
-use super::{add, expect_long, repeat};
+use super::undo::COUNTER;
+use super::{add, expect_long, joined, repeat};
 use std::alloc::Global;
 use std::process::Abort;
 
-const COUNTER: &str = "process c { var z = 0; when true : z := (z + 1); }\n%%\n";
-
 // A process that is full, and one call more than can be entered.
 fn input(rt: &impl Abort, alloc: Global) -> Vec<u8> {
-    let mut input = Vec::new(alloc);
-    add(rt, &mut input, COUNTER);
+    let mut input = joined(rt, alloc, COUNTER, "%%\n");
     repeat(rt, &mut input, "1 next c\n", 100_001);
     input
 }

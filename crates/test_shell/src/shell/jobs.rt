@@ -4,6 +4,7 @@ use clap::error::ErrorKind;
 use dbg_shell::{Coloring, Job, Request, Work, asked, job};
 use std::alloc::Global;
 use std::process::Abort;
+use test_programs::MEMORY;
 
 // Arguments; the first is the program's name.
 pub(super) type ArgumentList = &'static [&'static str];
@@ -28,8 +29,14 @@ fn words_ask_for_jobs(rt: HostRuntime) {
     }
 }
 
-// Arguments, with the kind and the status of their error.
-pub(super) type Row = (ArgumentList, ErrorKind, i32);
+// The program's name, and the words of a line.
+fn arguments(rt: &impl Abort, alloc: Global, line: &'static str) -> Vec<&'static str> {
+    let mut words = Vec::from_array(alloc, ["rdbg"]).expect(rt, MEMORY);
+    for word in line.split_whitespace() {
+        words.push(word).expect(rt, MEMORY);
+    }
+    words
+}
 
 // The kind and the status of an error.
 fn refused<T: Drop>(outcome: Result<T, Error>) -> Option<(ErrorKind, i32)> {
@@ -39,76 +46,71 @@ fn refused<T: Drop>(outcome: Result<T, Error>) -> Option<(ErrorKind, i32)> {
     }
 }
 
-pub(super) fn expect_refused(rt: &impl Abort, alloc: Global, rows: &[Row]) {
-    for (words, kind, status) in rows {
-        let found = refused(asked(alloc, *words));
-        expect_same(rt, (*words, found), (*words, Some((*kind, *status))));
+// Expects an error of this kind, with this status, for the words of a line.
+fn expect_error(rt: &impl Abort, alloc: Global, line: &'static str, kind: ErrorKind, status: i32) {
+    let words = arguments(rt, alloc, line);
+    let found = refused(asked(alloc, words.as_slice()));
+    expect_same(rt, (line, found), (line, Some((kind, status))));
+}
+
+// A kind of error, and lines that have it.
+pub(super) type Row = (ErrorKind, &'static [&'static str]);
+
+pub(super) fn expect_refused(rt: &impl Abort, alloc: Global, row: &Row) {
+    let (kind, lines) = row;
+    for line in *lines {
+        expect_error(rt, alloc, line, *kind, 2);
     }
 }
 
-const OTHER_WORDS: [Row; 17] = [
-    (&["rdbg", "draw", "--as", "png"], ErrorKind::InvalidValue, 2),
+// A crew has turns within bounds.
+const REFUSED: [Row; 8] = [
     (
-        &["rdbg", "draw", "--width", "19"],
         ErrorKind::ValueValidation,
-        2,
+        &[
+            "draw --width 19",
+            "draw --width 1001",
+            "draw --at 0",
+            "draw --at last",
+            "crew --turns 0",
+            "crew --turns 100001",
+            "crew --turns 4294967297",
+            "crew --turns=-1",
+            "crew --turns ten",
+            "crew --turns 1.5",
+        ],
     ),
     (
-        &["rdbg", "draw", "--width", "1001"],
-        ErrorKind::ValueValidation,
-        2,
-    ),
-    (
-        &["rdbg", "draw", "--as", "svg", "--width", "80"],
         ErrorKind::ArgumentConflict,
-        2,
+        &[
+            "draw --as svg --width 80",
+            "draw --at 3 --at-halt",
+            "draw --as html --at 3",
+            "draw --as html --at-halt",
+            "crew --turns 1 --turns 2",
+        ],
     ),
     (
-        &["rdbg", "draw", "--at", "0"],
-        ErrorKind::ValueValidation,
-        2,
-    ),
-    (
-        &["rdbg", "draw", "--at", "last"],
-        ErrorKind::ValueValidation,
-        2,
-    ),
-    (
-        &["rdbg", "draw", "--at", "3", "--at-halt"],
-        ErrorKind::ArgumentConflict,
-        2,
-    ),
-    (
-        &["rdbg", "draw", "--as", "html", "--at", "3"],
-        ErrorKind::ArgumentConflict,
-        2,
-    ),
-    (
-        &["rdbg", "draw", "--as", "html", "--at-halt"],
-        ErrorKind::ArgumentConflict,
-        2,
-    ),
-    (&["rdbg"], ErrorKind::MissingSubcommand, 2),
-    (&["rdbg", "jump"], ErrorKind::InvalidSubcommand, 2),
-    (&["rdbg", "run", "--now"], ErrorKind::UnknownArgument, 2),
-    (&["rdbg", "test"], ErrorKind::MissingRequiredArgument, 2),
-    (
-        &["rdbg", "test", "--fill", "one", "two"],
-        ErrorKind::TooManyValues,
-        2,
-    ),
-    (
-        &["rdbg", "talk", "--color", "sometimes"],
         ErrorKind::InvalidValue,
-        2,
+        &["draw --as png", "talk --color sometimes", "crew --turns"],
     ),
     (
-        &["rdbg", "run", "one", "two"],
         ErrorKind::UnknownArgument,
-        2,
+        &["run --now", "run one two", "run --turns 1"],
     ),
-    (&["rdbg", "--help"], ErrorKind::DisplayHelp, 0),
+    (ErrorKind::MissingSubcommand, &[""]),
+    (ErrorKind::InvalidSubcommand, &["jump"]),
+    (ErrorKind::MissingRequiredArgument, &["test", "crew"]),
+    (ErrorKind::TooManyValues, &["test --fill one two"]),
 ];
+
+#[test]
+fn other_words_are_refused(rt: HostRuntime) {
+    for row in &REFUSED {
+        expect_refused(&rt, rt.alloc(), row);
+    }
+    expect_error(&rt, rt.alloc(), "--help", ErrorKind::DisplayHelp, 0);
+}
 
 // What the arguments ask for, in a word, and the first file that they name.
 fn request_of(alloc: Global, words: ArgumentList) -> (&'static str, Option<&'static str>) {
@@ -146,43 +148,29 @@ fn words_name_files(rt: HostRuntime) {
     }
 }
 
-// The work that the arguments ask for.
-fn work_of(alloc: Global, words: ArgumentList) -> Option<Work<'static>> {
-    match asked(alloc, words) {
-        Ok(Request::Work(work, _)) => Some(work),
-        _ => None,
-    }
-}
-
-const WORKS: [(ArgumentList, Work<'static>); 6] = [
-    (&["rdbg", "talk"], Work::Talk(Coloring::Auto)),
-    (
-        &["rdbg", "talk", "--color", "always"],
-        Work::Talk(Coloring::Always),
-    ),
-    (
-        &["rdbg", "talk", "--color=never"],
-        Work::Talk(Coloring::Never),
-    ),
-    (&["rdbg", "check", "--explain"], Work::Explain),
-    (&["rdbg", "expand"], Work::Expand),
-    (&["rdbg", "run"], Work::Job(Job::Run)),
+const WORKS: [(&str, Work<'static>); 6] = [
+    ("talk", Work::Talk(Coloring::Auto)),
+    ("talk --color always", Work::Talk(Coloring::Always)),
+    ("talk --color=never", Work::Talk(Coloring::Never)),
+    ("check --explain", Work::Explain),
+    ("expand", Work::Expand),
+    ("run", Work::Job(Job::Run)),
 ];
 
-pub(super) fn expect_work(
-    rt: &impl Abort,
-    alloc: Global,
-    words: ArgumentList,
-    want: Work<'static>,
-) {
-    let found = work_of(alloc, words);
-    expect_same(rt, (words, found), (words, Some(want)));
+// Expects the words of a line to ask for this work.
+pub(super) fn expect_work(rt: &impl Abort, alloc: Global, line: &'static str, want: Work<'_>) {
+    let words = arguments(rt, alloc, line);
+    let found = match asked(alloc, words.as_slice()) {
+        Ok(Request::Work(work, _)) => Some(work),
+        _ => None,
+    };
+    expect_same(rt, (line, found), (line, Some(want)));
 }
 
 #[test]
 fn words_ask_for_work(rt: HostRuntime) {
-    for (words, want) in &WORKS {
-        expect_work(&rt, rt.alloc(), words, *want);
+    for (line, want) in &WORKS {
+        expect_work(&rt, rt.alloc(), line, *want);
     }
 }
 
@@ -200,56 +188,4 @@ fn other_work_is_no_job(rt: HostRuntime) {
         let want = Some((ErrorKind::InvalidSubcommand, 2));
         expect_same(&rt, (*words, found), (*words, want));
     }
-}
-
-// A crew has turns within bounds.
-const TURNS: [Row; 10] = [
-    (
-        &["rdbg", "crew", "--turns", "0"],
-        ErrorKind::ValueValidation,
-        2,
-    ),
-    (
-        &["rdbg", "crew", "--turns", "100001"],
-        ErrorKind::ValueValidation,
-        2,
-    ),
-    (
-        &["rdbg", "crew", "--turns", "4294967297"],
-        ErrorKind::ValueValidation,
-        2,
-    ),
-    (
-        &["rdbg", "crew", "--turns=-1"],
-        ErrorKind::ValueValidation,
-        2,
-    ),
-    (
-        &["rdbg", "crew", "--turns", "ten"],
-        ErrorKind::ValueValidation,
-        2,
-    ),
-    (
-        &["rdbg", "crew", "--turns", "1.5"],
-        ErrorKind::ValueValidation,
-        2,
-    ),
-    (&["rdbg", "crew"], ErrorKind::MissingRequiredArgument, 2),
-    (&["rdbg", "crew", "--turns"], ErrorKind::InvalidValue, 2),
-    (
-        &["rdbg", "crew", "--turns", "1", "--turns", "2"],
-        ErrorKind::ArgumentConflict,
-        2,
-    ),
-    (
-        &["rdbg", "run", "--turns", "1"],
-        ErrorKind::UnknownArgument,
-        2,
-    ),
-];
-
-#[test]
-fn other_words_are_refused(rt: HostRuntime) {
-    expect_refused(&rt, rt.alloc(), &OTHER_WORDS);
-    expect_refused(&rt, rt.alloc(), &TURNS);
 }

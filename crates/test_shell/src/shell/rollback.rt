@@ -1,4 +1,4 @@
-use super::{add, expect_long, expect_rows, joined, repeat};
+use super::{expect_repeated, expect_rows};
 use test_programs::{PAIR, THREE, TWO};
 
 // A process that sends, one that forwards, and one that receives.
@@ -21,7 +21,7 @@ process b {
 ";
 
 // A name, a program, the lines after it and the output for them.
-const ROWS: [(&str, &str, &str, &str); 14] = [
+const ROWS: [(&str, &str, &str, &str); 13] = [
     (
         "unrelated work stays",
         THREE,
@@ -58,37 +58,6 @@ vars b y=1 n=1
         "ok a 0\nok a 0\nok b 0\nok b 0\nok a=1 b=1\nvars b y=1 n=1\nplace b 1 of 2\nno 5\n",
     ),
     (
-        "a clock, and a rollback, through three processes",
-        CHAIN,
-        "%%
-1 next a
-1 next a
-1 step b 0
-1 step b 1
-1 next c
-1 clock c
-1 clock a
-1 undo b
-1 rollback a 0
-1 clock c
-1 back
-1 clock c
-",
-        "ok a 0
-ok a 0
-ok b 0
-ok b 1
-ok c 0
-clock c a=1 b=2 c=1
-clock a a=2 b=0 c=0
-no 7 c
-ok a=0 b=0 c=0
-clock c a=0 b=0 c=0
-ok
-clock c a=1 b=2 c=1
-",
-    ),
-    (
         "to the place itself",
         TWO,
         "%%\n1 next a\n1 next b\n1 rollback a 1\n1 rollback b 1\n1 place a\n1 place b\n1 vars b\n1 can a\n",
@@ -100,7 +69,7 @@ clock c a=1 b=2 c=1
         "%%\n1 next a\n1 next a\n1 next b\n2 rollback b 0\n1 chan a b\n1 vars b\n1 place a\n1 can a\n1 redo b\n1 chan a b\n",
         "ok a 0\nok a 0\nok b 0\nok a=2 b=0\nchan a b 1 2\nvars b y=0 n=0\nplace a 2 of 2\ncan a yes\nok b 0\nchan a b 2\n",
     ),
-    // The session of docs/model.md.
+    // The session of docs/model.md, in which another rollback is taken back first.
     (
         "the process in the middle of three",
         CHAIN,
@@ -112,6 +81,11 @@ clock c a=1 b=2 c=1
 1 next c
 1 clock a
 1 clock b
+1 clock c
+1 undo b
+1 rollback a 0
+1 clock c
+1 back
 1 clock c
 1 rollback b 1
 1 chan a b
@@ -131,6 +105,11 @@ ok c 0
 clock a a=2 b=0 c=0
 clock b a=1 b=2 c=0
 clock c a=1 b=2 c=1
+no 7 c
+ok a=0 b=0 c=0
+clock c a=0 b=0 c=0
+ok
+clock c a=1 b=2 c=1
 ok a=2 b=1 c=0
 chan a b 1
 chan b c
@@ -145,37 +124,8 @@ clock c a=0 b=0 c=0
     (
         "one of two messages is handed on",
         CHAIN,
-        "%%
-1 next a
-1 next a
-1 step b 0
-1 step b 1
-1 step b 0
-1 step b 1
-1 next c
-1 next c
-1 clock c
-1 rollback a 1
-1 chan b c
-1 clock b
-1 clock c
-1 can a
-",
-        "ok a 0
-ok a 0
-ok b 0
-ok b 1
-ok b 0
-ok b 1
-ok c 0
-ok c 0
-clock c a=2 b=4 c=2
-ok a=1 b=2 c=1
-chan b c
-clock b a=1 b=2 c=0
-clock c a=1 b=2 c=1
-can a no 7 b
-",
+        "%%\n1 next a\n1 next a\n1 step b 0\n1 step b 1\n1 step b 0\n1 step b 1\n1 next c\n1 next c\n1 clock c\n1 rollback a 1\n1 chan b c\n1 clock b\n1 clock c\n1 can a\n",
+        "ok a 0\nok a 0\nok b 0\nok b 1\nok b 0\nok b 1\nok c 0\nok c 0\nclock c a=2 b=4 c=2\nok a=1 b=2 c=1\nchan b c\nclock b a=1 b=2 c=0\nclock c a=1 b=2 c=1\ncan a no 7 b\n",
     ),
     (
         "work of the process alone",
@@ -252,12 +202,7 @@ place b 0 of 5000
 
 #[test]
 fn a_long_history_is_rolled_back(rt: HostRuntime) {
-    let mut input = joined(&rt, rt.alloc(), TURNS, "%%\n");
     let round = "1 next a\n1 next b\n1 next b\n1 next a\n";
-    repeat(&rt, &mut input, round, 2_500);
-    add(&rt, &mut input, ENDS);
-    let mut want = Vec::new(rt.alloc());
-    repeat(&rt, &mut want, "ok a 0\nok b 1\nok b 0\nok a 1\n", 2_500);
-    add(&rt, &mut want, ENDED);
-    expect_long(&rt, rt.alloc(), input.as_slice(), want.as_slice(), 0);
+    let rounds = (round, "ok a 0\nok b 1\nok b 0\nok a 1\n", 2_500);
+    expect_repeated(&rt, rt.alloc(), TURNS, rounds, (ENDS, ENDED));
 }

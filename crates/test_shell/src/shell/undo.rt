@@ -1,9 +1,10 @@
 use super::sessions::{LEAST, NUMBER, SWAP};
-use super::{add, expect_long, expect_rows, joined, repeat, served};
+use super::{add, expect_repeated, expect_rows, joined, served};
 use crate::expecting::expect_same;
 use test_programs::{COUNTS, PAIR, THREE, TWO};
 
-const COUNTER: &str = "process c { var z = 0; when true : z := (z + 1); }\n";
+// A process that counts.
+pub(super) const COUNTER: &str = "process c { var z = 0; when true : z := (z + 1); }\n";
 
 // A name, a program, the lines after it and the output for them.
 const ROWS: [(&str, &str, &str, &str); 12] = [
@@ -231,13 +232,10 @@ fn concurrent_work_is_the_same_in_either_order(rt: HostRuntime) {
 
 #[test]
 fn a_process_has_at_most_20000_events(rt: HostRuntime) {
-    let mut input = joined(&rt, rt.alloc(), COUNTER, "%%\n");
-    repeat(&rt, &mut input, "1 next c\n", 20_000);
-    let lines = "1 next c\n1 step c 0\n1 undo c\n1 redo c\n1 next c\n1 vars c\n";
-    add(&rt, &mut input, lines);
-    let mut want = Vec::new(rt.alloc());
-    repeat(&rt, &mut want, "ok c 0\n", 20_000);
-    let replies = "no 18\nno 18\nok c 0\nok c 0\nno 18\nvars c z=20000\n";
-    add(&rt, &mut want, replies);
-    expect_long(&rt, rt.alloc(), input.as_slice(), want.as_slice(), 0);
+    let after = (
+        "1 next c\n1 step c 0\n1 undo c\n1 redo c\n1 next c\n1 vars c\n",
+        "no 18\nno 18\nok c 0\nok c 0\nno 18\nvars c z=20000\n",
+    );
+    let rounds = ("1 next c\n", "ok c 0\n", 20_000);
+    expect_repeated(&rt, rt.alloc(), COUNTER, rounds, after);
 }
