@@ -8,12 +8,12 @@ ghost use Rattle.break_book.specs.Books.{AreDetectorsOf};
 use crate::detector_calls as follow;
 use crate::detector_calls::{conjunct, detector, known_all};
 use crate::expecting::{expect_same, expect_true};
-use crate::world_calls::step;
+use crate::world_calls::{parsed, played};
 use break_book::Book;
 use causal_world::World;
 use dbg_base::{Choice, Conjunct, Cut, Head, Name, Pid, Sequence};
 use least_cut::{Cause, Detector, Elimination, Scan};
-use proc_lang::{Program, parse_program};
+use proc_lang::Program;
 use std::alloc::Global;
 use std::process::Abort;
 use test_programs::MEMORY;
@@ -23,16 +23,14 @@ const A: Pid = Pid(0);
 // A process that counts.
 fn counter(rt: &impl Abort, alloc: Global) -> Program {
     let text = "process a { var x = 0; when true : x := (x + 1); }";
-    parse_program(alloc, text.as_bytes()).expect(rt, "a program")
+    parsed(rt, alloc, text)
 }
 
 // Its world after it has counted once.
 fn counted(rt: &impl Abort, alloc: Global, program: &Program) -> World
     ensures { IsWorldOf (program_of program.now) result }
 {
-    let mut world = World::new(alloc, program).expect(rt, MEMORY);
-    step(&mut world, alloc, program, A, Choice(0)).expect(rt, "an event");
-    world
+    played(rt, alloc, program, &[(A, Choice(0))])
 }
 
 fn name(rt: &impl Abort, text: &str) -> Name {

@@ -1,4 +1,4 @@
-//! Calls of a world and a detector that go forward and back together. Each says what the next one requires.
+//! Calls of a world and a detector that go forward together. Each says what the next one requires.
 
 ghost use Rattle.std.specs.Prelude.{◌<◌, length, map, IfOk, OnOk};
 ghost use Rattle.std.specs.List.{AllByRecursion};
@@ -7,12 +7,14 @@ ghost use Rattle.proc_lang.specs.Programs.{program_of};
 ghost use Rattle.causal_world.specs.Scenes.{IsWorldOf};
 ghost use Rattle.least_cut.specs.Detectors.{IsDetectorOf, HasRoomUpTo, one_more};
 
-use crate::world_calls::{known, reached};
+use crate::world_calls::known;
 use causal_world::World;
 use dbg_base::{Choice, Conjunct, Elimination, Pid, Refusal, Sequence};
 use least_cut::{Detector, Scan, check_why, steps_up_to};
 use proc_lang::{Program, parse_predicate};
 use std::alloc::Global;
+use std::process::Abort;
+use test_programs::MEMORY;
 
 /// The conjunct of the process, from its text.
 pub fn conjunct(
@@ -26,6 +28,19 @@ pub fn conjunct(
         Ok(expr) => Ok(Conjunct { pid, expr }),
         Err(_) => Err(Refusal::BadPredicate),
     }
+}
+
+/// The conjuncts of the first two processes, from their texts.
+pub fn conjuncts(
+    rt: &impl Abort,
+    alloc: Global,
+    program: &Program,
+    texts: (&str, &str),
+) -> Vec<Conjunct> {
+    let (first, second) = texts;
+    let first = conjunct(alloc, program, Pid(0), first).expect(rt, "a conjunct");
+    let second = conjunct(alloc, program, Pid(1), second).expect(rt, "a conjunct");
+    Vec::from_array(alloc, [first, second]).expect(rt, MEMORY)
 }
 
 /// Refuses conjuncts of processes that the program does not have.
@@ -108,45 +123,5 @@ pub fn step(
     reserve(world, detector, alloc, program, pid)?;
     world.step(alloc, program, pid, choice)?;
     detector.grow(pid, world);
-    Ok(())
-}
-
-/// Undoes the last event of the process.
-pub fn undo(
-    world: &mut World,
-    detector: &mut Detector,
-    alloc: Global,
-    program: &Program,
-    pid: Pid,
-) -> Result<(), Refusal>
-    requires of { IsWorldOf (program_of program.now) world.old }
-    requires detector { IsDetectorOf world.old detector.old }
-    ensures of { IsWorldOf (program_of program.now) world.new }
-    ensures detector { IsDetectorOf world.new detector.new }
-{
-    known(program, pid)?;
-    world.undo(alloc, pid)?;
-    detector.shrink(pid, world);
-    Ok(())
-}
-
-/// Takes the process back to this count of events, and the others no further than they must go.
-pub fn rollback(
-    world: &mut World,
-    detector: &mut Detector,
-    alloc: Global,
-    program: &Program,
-    pid: Pid,
-    n: u32,
-) -> Result<(), Refusal>
-    requires of { IsWorldOf (program_of program.now) world.old }
-    requires detector { IsDetectorOf world.old detector.old }
-    ensures of { IsWorldOf (program_of program.now) world.new }
-    ensures detector { IsDetectorOf world.new detector.new }
-{
-    reached(world, program, pid, n)?;
-    let cut = world.rollback_cut(alloc, pid, n)?;
-    world.roll_to(alloc, &cut)?;
-    detector.follow(world);
     Ok(())
 }

@@ -8,8 +8,24 @@ ghost use Rattle.causal_world.specs.Rollings.{IsRolled, IsStepped, IsRedone};
 
 use causal_world::{Cutoff, Rolled, World};
 use dbg_base::{Choice, Cut, Pid, Refusal};
-use proc_lang::Program;
+use proc_lang::{Program, parse_program};
 use std::alloc::Global;
+use std::process::Abort;
+use test_programs::MEMORY;
+
+/// The program of a text.
+pub fn parsed(rt: &impl Abort, alloc: Global, text: &str) -> Program {
+    parse_program(alloc, text.as_bytes()).expect(rt, "a program")
+}
+
+/// The world of the program after these events.
+pub fn played(rt: &impl Abort, alloc: Global, program: &Program, moves: &[(Pid, Choice)]) -> World
+    ensures { IsWorldOf (program_of program.now) result }
+{
+    let mut world = World::new(alloc, program).expect(rt, MEMORY);
+    play(&mut world, alloc, program, moves).expect(rt, "the events");
+    world
+}
 
 /// Refuses a process that the program does not have.
 pub fn known(program: &Program, pid: Pid) -> Result<(), Refusal>
@@ -51,8 +67,8 @@ pub fn step(
     Ok(cutoff)
 }
 
-/// Processes fire commands, one after the other.
-pub fn play(
+// Processes fire commands, one after the other.
+fn play(
     world: &mut World,
     alloc: Global,
     program: &Program,

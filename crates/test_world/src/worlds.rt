@@ -5,12 +5,12 @@ ghost use Rattle.causal_world.specs.Scenes.{IsWorldOf};
 
 use crate::expecting::expect_same;
 use crate::world_calls::{
-    clock, clock_part, forth, play, redo, rollback, step, undo, unredo, unstep,
+    clock, clock_part, forth, parsed, played, redo, rollback, step, undo, unredo, unstep,
 };
 use causal_world::World;
 use cut_core::Tally;
 use dbg_base::{Choice, Pid};
-use proc_lang::{Program, parse_program};
+use proc_lang::Program;
 use std::alloc::Global;
 use std::process::Abort;
 use test_programs::MEMORY;
@@ -22,12 +22,10 @@ const B: Pid = Pid(1);
 const C: Pid = Pid(2);
 
 // The first sends 1 and 2 to the second, which receives one and sends ten more to the third.
-fn relay(rt: &impl Abort, alloc: Global) -> Program {
-    let text = "process a { var x = 0; when true : send b (x + 1), x := (x + 1); }
-        process b { var y = 0; when true : recv a y; when true : send c (y + 10); }
-        process c { var z = 0; when true : recv b z; }";
-    parse_program(alloc, text.as_bytes()).expect(rt, "a program")
-}
+const RELAY: &str = "process a { var x = 0; when true : send b (x + 1), x := (x + 1); }
+process b { var y = 0; when true : recv a y; when true : send c (y + 10); }
+process c { var z = 0; when true : recv b z; }
+";
 
 // Two events of the first process, two of the second and one of the third.
 const MOVES: [(Pid, Choice); 5] = [
@@ -37,15 +35,6 @@ const MOVES: [(Pid, Choice); 5] = [
     (B, Choice(1)),
     (C, Choice(0)),
 ];
-
-// The world of the program after these events.
-fn played(rt: &impl Abort, alloc: Global, program: &Program) -> World
-    ensures { IsWorldOf (program_of program.now) result }
-{
-    let mut world = World::new(alloc, program).expect(rt, MEMORY);
-    play(&mut world, alloc, program, &MOVES).expect(rt, "the events");
-    world
-}
 
 // The place, the length of the line and the value of each process; and the messages from the first to the second, and from the second to
 // the third.
@@ -153,8 +142,8 @@ const CLOCKS: [((Pid, u32), [u32; 3]); 5] = [
 
 #[test]
 fn clocks_of_earlier_events(rt: HostRuntime) {
-    let program = relay(&rt, rt.alloc());
-    let world = played(&rt, rt.alloc(), &program);
+    let program = parsed(&rt, rt.alloc(), RELAY);
+    let world = played(&rt, rt.alloc(), &program, &MOVES);
     for (event, counts) in &CLOCKS {
         expect_clock(&rt, rt.alloc(), &world, &program, *event, *counts);
     }
@@ -181,8 +170,8 @@ fn expect_tally(rt: &impl Abort, tally: &Tally) {
 
 #[test]
 fn a_tally_of_events(rt: HostRuntime) {
-    let program = relay(&rt, rt.alloc());
-    let world = played(&rt, rt.alloc(), &program);
+    let program = parsed(&rt, rt.alloc(), RELAY);
+    let world = played(&rt, rt.alloc(), &program, &MOVES);
     expect_tally(&rt, world.tally());
 }
 
@@ -213,8 +202,8 @@ const START: ShownWorld = ShownWorld {
 
 #[test]
 fn a_rollback_and_forth(rt: HostRuntime) {
-    let program = relay(&rt, rt.alloc());
-    let mut world = played(&rt, rt.alloc(), &program);
+    let program = parsed(&rt, rt.alloc(), RELAY);
+    let mut world = played(&rt, rt.alloc(), &program, &MOVES);
     back_and_forth(&rt, rt.alloc(), &mut world, &program, (A, 0), &START);
     expect_clock(&rt, rt.alloc(), &world, &program, (C, 1), [1, 2, 1]);
 }
@@ -227,8 +216,8 @@ const SENT_BACK: ShownWorld = ShownWorld {
 
 #[test]
 fn a_rollback_of_some_and_forth(rt: HostRuntime) {
-    let program = relay(&rt, rt.alloc());
-    let mut world = played(&rt, rt.alloc(), &program);
+    let program = parsed(&rt, rt.alloc(), RELAY);
+    let mut world = played(&rt, rt.alloc(), &program, &MOVES);
     back_and_forth(&rt, rt.alloc(), &mut world, &program, (B, 1), &SENT_BACK);
 }
 
@@ -244,8 +233,8 @@ fn undo_and_forth(rt: &impl Abort, alloc: Global, world: &mut World, program: &P
 
 #[test]
 fn an_undo_and_forth(rt: HostRuntime) {
-    let program = relay(&rt, rt.alloc());
-    let mut world = played(&rt, rt.alloc(), &program);
+    let program = parsed(&rt, rt.alloc(), RELAY);
+    let mut world = played(&rt, rt.alloc(), &program, &MOVES);
     undo_and_forth(&rt, rt.alloc(), &mut world, &program);
 }
 
@@ -268,8 +257,8 @@ fn undo_apart(rt: &impl Abort, alloc: Global, world: &mut World, program: &Progr
 
 #[test]
 fn a_copied_world_is_apart(rt: HostRuntime) {
-    let program = relay(&rt, rt.alloc());
-    let mut world = played(&rt, rt.alloc(), &program);
+    let program = parsed(&rt, rt.alloc(), RELAY);
+    let mut world = played(&rt, rt.alloc(), &program, &MOVES);
     undo_apart(&rt, rt.alloc(), &mut world, &program);
 }
 
@@ -286,8 +275,8 @@ fn redo_and_back(rt: &impl Abort, alloc: Global, world: &mut World, program: &Pr
 
 #[test]
 fn a_redo_is_taken_back(rt: HostRuntime) {
-    let program = relay(&rt, rt.alloc());
-    let mut world = played(&rt, rt.alloc(), &program);
+    let program = parsed(&rt, rt.alloc(), RELAY);
+    let mut world = played(&rt, rt.alloc(), &program, &MOVES);
     redo_and_back(&rt, rt.alloc(), &mut world, &program);
 }
 
@@ -320,7 +309,7 @@ fn step_between(rt: &impl Abort, alloc: Global, world: &mut World, program: &Pro
 
 #[test]
 fn a_step_gives_back_what_it_cut_off(rt: HostRuntime) {
-    let program = relay(&rt, rt.alloc());
-    let mut world = played(&rt, rt.alloc(), &program);
+    let program = parsed(&rt, rt.alloc(), RELAY);
+    let mut world = played(&rt, rt.alloc(), &program, &MOVES);
     step_between(&rt, rt.alloc(), &mut world, &program);
 }
