@@ -62,8 +62,7 @@ pub fn give<
     plan: Plan,
     gate: &G,
 ) -> Result<Reply, Refusal>
-    requires may { M.IsAlwaysCallable make.now }
-    requires fresh { MakesFresh (M.post make.now) C.IsFresh }
+    requires makes { (M.IsAlwaysCallable make.now) × MakesFresh (M.post make.now) C.IsFresh }
 {
     let command = make(plan)?;
     desk.call(rt, alloc, seat, command, gate)
@@ -77,8 +76,7 @@ pub fn enter<L: Run, C: Command, M: Fn(Plan) -> Result<C, Refusal>>(
     make: &M,
     call: Call,
 ) -> Result<Said, Refusal>
-    requires may { M.IsAlwaysCallable make.now }
-    requires fresh { MakesFresh (M.post make.now) C.IsFresh }
+    requires makes { (M.IsAlwaysCallable make.now) × MakesFresh (M.post make.now) C.IsFresh }
 {
     match call {
         Call::Give(plan) => {

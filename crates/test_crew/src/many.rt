@@ -133,8 +133,7 @@ fn try_give<
     M: Fn(Plan) -> Result<C, Refusal>,
     R: Threads + Wait + Abort + Sync,
 >(rt: &R, alloc: Global, desk: &Desk<L, C>, seat: &mut Seat<L>, make: &M, plan: Plan)
-    requires may { M.IsAlwaysCallable make.now }
-    requires fresh { MakesFresh (M.post make.now) C.IsFresh }
+    requires makes { (M.IsAlwaysCallable make.now) × MakesFresh (M.post make.now) C.IsFresh }
 {
     let _reply = give(rt, alloc, desk, seat, make, plan, &OpenGate);
 }
@@ -162,8 +161,7 @@ fn take_turn<
     M: Fn(Plan) -> Result<C, Refusal>,
     R: Threads + Wait + Abort + Sync,
 >(rt: &R, alloc: Global, desk: &Desk<L, C>, seat: &mut Seat<L>, make: &M, role: Role, turn: u32)
-    requires may { M.IsAlwaysCallable make.now }
-    requires fresh { MakesFresh (M.post make.now) C.IsFresh }
+    requires makes { (M.IsAlwaysCallable make.now) × MakesFresh (M.post make.now) C.IsFresh }
 {
     match role {
         Role::Mixed => {
@@ -191,8 +189,7 @@ fn take_turns<
     M: Fn(Plan) -> Result<C, Refusal>,
     R: Threads + Wait + Abort + Sync,
 >(rt: &R, alloc: Global, desk: &Desk<L, C>, seat: &mut Seat<L>, make: &M, play: Play, place: usize)
-    requires may { M.IsAlwaysCallable make.now }
-    requires fresh { MakesFresh (M.post make.now) C.IsFresh }
+    requires makes { (M.IsAlwaysCallable make.now) × MakesFresh (M.post make.now) C.IsFresh }
 {
     let role = role_of(play, place);
     for turn in 0..turns_of(play) {
@@ -207,14 +204,13 @@ fn all_take_turns<
     M: Fn(Plan) -> Result<C, Refusal> + Sync,
     R: Threads + Wait + Abort + Sync,
 >(rt: &R, alloc: Global, desk: &Desk<L, C>, seats: &mut [Seat<L>], make: &M, play: Play)
-    requires may { M.IsAlwaysCallable make.now }
-    requires fresh { MakesFresh (M.post make.now) C.IsFresh }
+    requires makes { (M.IsAlwaysCallable make.now) × MakesFresh (M.post make.now) C.IsFresh }
 {
     if seats.is_empty() {
         return;
     }
     let work = |place: usize, seat: &mut Seat<L>|
-        requires { M.IsAlwaysCallable make.now × MakesFresh (M.post make.now) C.IsFresh }
+        requires { (M.IsAlwaysCallable make.now) × MakesFresh (M.post make.now) C.IsFresh }
     { take_turns(rt, alloc, desk, seat, make, play, place) };
     thread::for_each_mut(rt, seats, seats.len(), &work);
 }
@@ -277,8 +273,7 @@ fn many_calls<
     M: Fn(Plan) -> Result<C, Refusal> + Sync,
     R: Threads + Wait + Abort + Sync,
 >(rt: &R, alloc: Global, make: &M, opening: Opening, play: Play) -> Vec<Reported>
-    requires may { M.IsAlwaysCallable make.now }
-    requires fresh { MakesFresh (M.post make.now) C.IsFresh }
+    requires makes { (M.IsAlwaysCallable make.now) × MakesFresh (M.post make.now) C.IsFresh }
     requires run { IsOpeningOf L.program L.board L.name L.parts L.seats opening }
 {
     let (desk, mut seats) = opening.desk::<L, C>(alloc).expect(rt, "a desk");
@@ -300,8 +295,7 @@ fn expect_said_again<L: Run, C: Command, M: Fn(Plan) -> Result<C, Refusal>>(
     make: &M,
     reported: Reported,
 )
-    requires may { M.IsAlwaysCallable make.now }
-    requires fresh { MakesFresh (M.post make.now) C.IsFresh }
+    requires makes { (M.IsAlwaysCallable make.now) × MakesFresh (M.post make.now) C.IsFresh }
 {
     let Reported { seat, call, said } = reported;
     let place = seat.saturating_sub(1) as usize;
@@ -318,8 +312,7 @@ fn expect_again<L: Run, C: Command, M: Fn(Plan) -> Result<C, Refusal>>(
     opening: Opening,
     reported: Vec<Reported>,
 )
-    requires may { M.IsAlwaysCallable make.now }
-    requires fresh { MakesFresh (M.post make.now) C.IsFresh }
+    requires makes { (M.IsAlwaysCallable make.now) × MakesFresh (M.post make.now) C.IsFresh }
     requires run { IsOpeningOf L.program L.board L.name L.parts L.seats opening }
 {
     let (mut locked, mut seats) = opening.lock::<L, C>(alloc).expect(rt, "a lock");
@@ -336,8 +329,7 @@ fn play_once<
     M: Fn(Plan) -> Result<C, Refusal> + Sync,
     R: Threads + Wait + Abort + Sync,
 >(rt: &R, alloc: Global, make: &M, play: Play) -> Vec<Reported>
-    requires may { M.IsAlwaysCallable make.now }
-    requires fresh { MakesFresh (M.post make.now) C.IsFresh }
+    requires makes { (M.IsAlwaysCallable make.now) × MakesFresh (M.post make.now) C.IsFresh }
 {
     let opening = make_opening(rt, alloc, seats_of(play));
     many_calls::<Brand, C, M, R>(rt, alloc, make, opening, play)
@@ -349,8 +341,7 @@ fn play_again<
     M: Fn(Plan) -> Result<C, Refusal> + Sync,
     R: Threads + Wait + Abort + Sync,
 >(rt: &R, alloc: Global, make: &M, play: Play)
-    requires may { M.IsAlwaysCallable make.now }
-    requires fresh { MakesFresh (M.post make.now) C.IsFresh }
+    requires makes { (M.IsAlwaysCallable make.now) × MakesFresh (M.post make.now) C.IsFresh }
 {
     let reported = play_once(rt, alloc, make, play);
     expect_same(rt, reported.len(), calls_of(play));
@@ -364,8 +355,7 @@ pub fn play_all<
     M: Fn(Plan) -> Result<C, Refusal> + Sync,
     R: Threads + Wait + Abort + Sync,
 >(rt: &R, alloc: Global, make: &M)
-    requires may { M.IsAlwaysCallable make.now }
-    requires fresh { MakesFresh (M.post make.now) C.IsFresh }
+    requires makes { (M.IsAlwaysCallable make.now) × MakesFresh (M.post make.now) C.IsFresh }
 {
     for _ in 0..ROUNDS {
         play_once(rt, alloc, make, Play::Mixed);

@@ -31,8 +31,7 @@ pub fn said_at_a_desk<
     M: Fn(Plan) -> Result<C, Refusal>,
     R: Threads + Wait + Abort + Sync,
 >(rt: &R, alloc: Global, make: &M, opening: Opening) -> Vec<Said>
-    requires may { M.IsAlwaysCallable make.now }
-    requires fresh { MakesFresh (M.post make.now) C.IsFresh }
+    requires makes { (M.IsAlwaysCallable make.now) × MakesFresh (M.post make.now) C.IsFresh }
     requires run { IsOpeningOf L.program L.board L.name L.parts L.seats opening }
 {
     let (desk, mut seats) = opening.desk::<L, C>(alloc).expect(rt, "a desk");
@@ -55,8 +54,7 @@ pub fn said_under_lock<L: Run, C: Command, M: Fn(Plan) -> Result<C, Refusal>>(
     make: &M,
     opening: Opening,
 ) -> Vec<Said>
-    requires may { M.IsAlwaysCallable make.now }
-    requires fresh { MakesFresh (M.post make.now) C.IsFresh }
+    requires makes { (M.IsAlwaysCallable make.now) × MakesFresh (M.post make.now) C.IsFresh }
     requires run { IsOpeningOf L.program L.board L.name L.parts L.seats opening }
 {
     let (mut locked, mut seats) = opening.lock::<L, C>(alloc).expect(rt, "a lock");

@@ -39,6 +39,26 @@ fn expect_shown<L: Run, C: Command>(rt: &impl Abort, pair: &mut Pair<L, C>, want
     expect_same(rt, (calls, halt), wanted);
 }
 
+// The second seat makes these calls, and the first sees each.
+fn expect_steps<
+    L: Run,
+    C: Command,
+    M: Fn(Plan) -> Result<C, Refusal>,
+    R: Threads + Wait + Abort + Sync,
+>(rt: &R, alloc: Global, make: &M, pair: &mut Pair<L, C>)
+    requires makes { (M.IsAlwaysCallable make.now) × MakesFresh (M.post make.now) C.IsFresh }
+{
+    expect_shown(rt, pair, (0, 0));
+    for (plan, refusal, shown) in steps(rt, alloc) {
+        let outcome = give(rt, alloc, &pair.desk, &mut pair.two, make, plan, &OpenGate);
+        expect_same(rt, outcome.err(), refusal);
+        expect_shown(rt, pair, shown);
+    }
+    let asked = pair.desk.ask(rt, alloc, &mut pair.two, Query::Breaks);
+    expect_true(rt, asked.is_ok());
+    expect_shown(rt, pair, (5, 2));
+}
+
 /// Expects the first seat to see each call of the second.
 pub fn each_call_is_shown<
     L: Run,
@@ -46,20 +66,11 @@ pub fn each_call_is_shown<
     M: Fn(Plan) -> Result<C, Refusal>,
     R: Threads + Wait + Abort + Sync,
 >(rt: &R, alloc: Global, make: &M, opening: Opening)
-    requires may { M.IsAlwaysCallable make.now }
-    requires fresh { MakesFresh (M.post make.now) C.IsFresh }
+    requires makes { (M.IsAlwaysCallable make.now) × MakesFresh (M.post make.now) C.IsFresh }
     requires run { IsOpeningOf L.program L.board L.name L.parts L.seats opening }
 {
     let mut pair = begin_pair::<L, C>(alloc, opening).expect(rt, "a desk");
-    expect_shown(rt, &mut pair, (0, 0));
-    for (plan, refusal, shown) in steps(rt, alloc) {
-        let outcome = give(rt, alloc, &pair.desk, &mut pair.two, make, plan, &OpenGate);
-        expect_same(rt, outcome.err(), refusal);
-        expect_shown(rt, &mut pair, shown);
-    }
-    let asked = pair.desk.ask(rt, alloc, &mut pair.two, Query::Breaks);
-    expect_true(rt, asked.is_ok());
-    expect_shown(rt, &mut pair, (5, 2));
+    expect_steps(rt, alloc, make, &mut pair);
     drop(pair);
 }
 

@@ -24,8 +24,7 @@ fn play_four<
     M: Fn(Plan) -> Result<C, Refusal>,
     R: Threads + Wait + Abort + Sync,
 >(rt: &R, alloc: Global, desk: &Desk<L, C>, seat: &mut Seat<L>, make: &M)
-    requires may { M.IsAlwaysCallable make.now }
-    requires fresh { MakesFresh (M.post make.now) C.IsFresh }
+    requires makes { (M.IsAlwaysCallable make.now) × MakesFresh (M.post make.now) C.IsFresh }
 {
     for plan in four_events(rt, alloc) {
         let outcome = give(rt, alloc, desk, seat, make, plan, &OpenGate);
@@ -40,8 +39,7 @@ fn expect_halt<
     M: Fn(Plan) -> Result<C, Refusal>,
     R: Threads + Wait + Abort + Sync,
 >(rt: &R, alloc: Global, desk: &Desk<L, C>, seat: &mut Seat<L>, make: &M)
-    requires may { M.IsAlwaysCallable make.now }
-    requires fresh { MakesFresh (M.post make.now) C.IsFresh }
+    requires makes { (M.IsAlwaysCallable make.now) × MakesFresh (M.post make.now) C.IsFresh }
 {
     let gate = CrewGate::new();
     let plan = halting(rt, alloc);
@@ -58,8 +56,7 @@ pub fn the_scan_meets<
     M: Fn(Plan) -> Result<C, Refusal>,
     R: Threads + Wait + Abort + Sync,
 >(rt: &R, alloc: Global, make: &M, opening: Opening)
-    requires may { M.IsAlwaysCallable make.now }
-    requires fresh { MakesFresh (M.post make.now) C.IsFresh }
+    requires makes { (M.IsAlwaysCallable make.now) × MakesFresh (M.post make.now) C.IsFresh }
     requires run { IsOpeningOf L.program L.board L.name L.parts L.seats opening }
 {
     let (desk, mut seats) = opening.desk::<L, C>(alloc).expect(rt, "a desk");

@@ -37,7 +37,7 @@ fn is_zero(rt: &impl Abort, alloc: Global, pid: Pid, variable: u32) -> Sequence<
     Sequence::new(conjuncts)
 }
 
-// Commands of the second seat, each with its refusal, if it is refused, and what the display shows after it: the number of calls, and the
+// Commands, each with its refusal, if it is refused, and what the display shows after it: the number of calls, and the
 // position of the breakpoint that halts.
 fn steps(rt: &impl Abort, alloc: Global) -> Vec<(Plan, Option<Refusal>, (u64, u64))> {
     let set_first = Plan::Break(named(rt, "k"), is_zero(rt, alloc, A, 0));
@@ -59,8 +59,7 @@ fn give<L: Run, C: Command, M: Fn(Plan) -> Result<C, Refusal>>(
     make: &M,
     plan: Plan,
 ) -> Result<Reply, Refusal>
-    requires may { M.IsAlwaysCallable make.now }
-    requires fresh { MakesFresh (M.post make.now) C.IsFresh }
+    requires makes { (M.IsAlwaysCallable make.now) × MakesFresh (M.post make.now) C.IsFresh }
 {
     let command = make(plan)?;
     trial.locked.enter(alloc, &mut trial.two, command, None)
@@ -76,27 +75,37 @@ fn expect_shown<L: Run, C: Command>(
     expect_same(rt, (calls, halt), wanted);
 }
 
-// Expects the display to show each call.
+// The second seat makes these calls, and the display shows each.
+fn expect_steps<L: Run, C: Command, M: Fn(Plan) -> Result<C, Refusal>>(
+    rt: &impl Abort,
+    alloc: Global,
+    make: &M,
+    trial: &mut DeskTrial<L, C>,
+)
+    requires makes { (M.IsAlwaysCallable make.now) × MakesFresh (M.post make.now) C.IsFresh }
+{
+    expect_shown(rt, trial, (0, 0));
+    for (plan, refusal, shown) in steps(rt, alloc) {
+        let outcome = give(trial, alloc, make, plan);
+        expect_same(rt, outcome.err(), refusal);
+        expect_shown(rt, trial, shown);
+    }
+    let asked = trial.locked.enter_ask(alloc, &mut trial.two, Query::Breaks);
+    expect_true(rt, asked.is_ok());
+    expect_shown(rt, trial, (5, 2));
+}
+
 fn each_call_is_shown<L: Run, C: Command, M: Fn(Plan) -> Result<C, Refusal>>(
     rt: &impl Abort,
     alloc: Global,
     make: &M,
     beginning: TwoSeats,
 )
-    requires may { M.IsAlwaysCallable make.now }
-    requires fresh { MakesFresh (M.post make.now) C.IsFresh }
+    requires makes { (M.IsAlwaysCallable make.now) × MakesFresh (M.post make.now) C.IsFresh }
     requires run { IsOpeningOf L.program L.board L.name L.parts L.seats beginning.opening }
 {
     let mut trial = begin::<L, C>(rt, alloc, beginning);
-    expect_shown(rt, &mut trial, (0, 0));
-    for (plan, refusal, shown) in steps(rt, alloc) {
-        let outcome = give(&mut trial, alloc, make, plan);
-        expect_same(rt, outcome.err(), refusal);
-        expect_shown(rt, &mut trial, shown);
-    }
-    let asked = trial.locked.enter_ask(alloc, &mut trial.two, Query::Breaks);
-    expect_true(rt, asked.is_ok());
-    expect_shown(rt, &mut trial, (5, 2));
+    expect_steps(rt, alloc, make, &mut trial);
     drop(trial);
 }
 

@@ -60,8 +60,7 @@ fn call<L: Run, C: Command, M: Fn(Givable) -> Result<C, Refusal>, R: Threads + W
     seat: &mut Seat<L>,
     call: Call,
 ) -> DeskSaid
-    requires may { M.IsAlwaysCallable make.now }
-    requires fresh { MakesFresh (M.post make.now) C.IsFresh }
+    requires makes { (M.IsAlwaysCallable make.now) × MakesFresh (M.post make.now) C.IsFresh }
     requires givable { lines.IsGivable call }
 {
     match call {
@@ -84,8 +83,7 @@ fn say<L: Run, C: Command, M: Fn(Givable) -> Result<C, Refusal>, R: Threads + Wa
     seats: &mut [Seat<L>],
     line: &str,
 ) -> DeskSaid
-    requires may { M.IsAlwaysCallable make.now }
-    requires fresh { MakesFresh (M.post make.now) C.IsFresh }
+    requires makes { (M.IsAlwaysCallable make.now) × MakesFresh (M.post make.now) C.IsFresh }
 {
     match parse_line(alloc, program, line.as_bytes()) {
         Ok(Some(line)) => match seats.get_mut(line.seat as usize - 1) {
@@ -119,8 +117,7 @@ fn say_twice<L: Run, C: Command, M: Fn(Givable) -> Result<C, Refusal>, R: Thread
     line: &str,
     report: &mut Vec<u8>,
 ) -> DeskSaid
-    requires may { M.IsAlwaysCallable make.now }
-    requires fresh { MakesFresh (M.post make.now) C.IsFresh }
+    requires makes { (M.IsAlwaysCallable make.now) × MakesFresh (M.post make.now) C.IsFresh }
 {
     let before = counts(desk, seats);
     let said = say(rt, alloc, make, program, desk, seats, line);
@@ -143,8 +140,7 @@ fn say_all<L: Run, C: Command, M: Fn(Givable) -> Result<C, Refusal>, R: Threads 
     seats: &mut [Seat<L>],
     report: &mut Vec<u8>,
 )
-    requires may { M.IsAlwaysCallable make.now }
-    requires fresh { MakesFresh (M.post make.now) C.IsFresh }
+    requires makes { (M.IsAlwaysCallable make.now) × MakesFresh (M.post make.now) C.IsFresh }
 {
     for line in LINES {
         let said = say_twice(rt, alloc, make, program, desk, seats, line, report);
@@ -170,8 +166,7 @@ fn play<L: Run, C: Command, M: Fn(Givable) -> Result<C, Refusal>, R: Threads + W
     beginning: ThreeSeats,
     report: &mut Vec<u8>,
 ) -> Result<(), Refusal>
-    requires may { M.IsAlwaysCallable make.now }
-    requires fresh { MakesFresh (M.post make.now) C.IsFresh }
+    requires makes { (M.IsAlwaysCallable make.now) × MakesFresh (M.post make.now) C.IsFresh }
     requires run { IsOpeningOf L.program L.board L.name L.parts L.seats beginning.opening }
 {
     let (desk, mut seats) = beginning.opening.desk::<L, C>(alloc)?;
@@ -200,8 +195,7 @@ fn begin_and_play<C: Command, M: Fn(Givable) -> Result<C, Refusal>, R: Threads +
     make: &M,
     report: &mut Vec<u8>,
 ) -> Result<(), Refusal>
-    requires may { M.IsAlwaysCallable make.now }
-    requires fresh { MakesFresh (M.post make.now) C.IsFresh }
+    requires makes { (M.IsAlwaysCallable make.now) × MakesFresh (M.post make.now) C.IsFresh }
 {
     let program = program_of_text(alloc, TWO)?;
     let beginning = begin(alloc, TWO)?;
@@ -215,8 +209,7 @@ pub(crate) fn play_desk<C: Command, M: Fn(Givable) -> Result<C, Refusal>, R: Thr
     make: &M,
     report: &mut Vec<u8>,
 )
-    requires may { M.IsAlwaysCallable make.now }
-    requires fresh { MakesFresh (M.post make.now) C.IsFresh }
+    requires makes { (M.IsAlwaysCallable make.now) × MakesFresh (M.post make.now) C.IsFresh }
 {
     let mut played = begin_and_play(rt, alloc, make, report);
     if played == Err(Refusal::Memory) {

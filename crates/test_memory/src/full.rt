@@ -69,8 +69,7 @@ fn say_twice<L: Run, C: Command, M: Fn(Givable) -> Result<C, Refusal>>(
     line: &str,
     text: &mut Vec<u8>,
 )
-    requires may { M.IsAlwaysCallable make.now }
-    requires fresh { MakesFresh (M.post make.now) C.IsFresh }
+    requires makes { (M.IsAlwaysCallable make.now) × MakesFresh (M.post make.now) C.IsFresh }
 {
     let before = counts(trial);
     text.clear();
@@ -93,8 +92,7 @@ fn play<L: Run, C: Command, M: Fn(Givable) -> Result<C, Refusal>>(
     text: &mut Vec<u8>,
     report: &mut Vec<u8>,
 ) -> Result<(), Refusal>
-    requires may { M.IsAlwaysCallable make.now }
-    requires fresh { MakesFresh (M.post make.now) C.IsFresh }
+    requires makes { (M.IsAlwaysCallable make.now) × MakesFresh (M.post make.now) C.IsFresh }
     requires run { IsOpeningOf L.program L.board L.name L.parts L.seats beginning.opening }
 {
     let mut trial = begin_trial::<L, C>(alloc, beginning)?;
@@ -114,8 +112,7 @@ fn begin_and_play<C: Command, M: Fn(Givable) -> Result<C, Refusal>>(
     text: &mut Vec<u8>,
     report: &mut Vec<u8>,
 ) -> Result<(), Refusal>
-    requires may { M.IsAlwaysCallable make.now }
-    requires fresh { MakesFresh (M.post make.now) C.IsFresh }
+    requires makes { (M.IsAlwaysCallable make.now) × MakesFresh (M.post make.now) C.IsFresh }
 {
     let beginning = begin(alloc, TWO)?;
     play::<Brand, C, M>(alloc, make, beginning, text, report)
@@ -128,8 +125,7 @@ pub(crate) fn play_full<C: Command, M: Fn(Givable) -> Result<C, Refusal>>(
     text: &mut Vec<u8>,
     report: &mut Vec<u8>,
 )
-    requires may { M.IsAlwaysCallable make.now }
-    requires fresh { MakesFresh (M.post make.now) C.IsFresh }
+    requires makes { (M.IsAlwaysCallable make.now) × MakesFresh (M.post make.now) C.IsFresh }
 {
     let mut played = begin_and_play(alloc, make, text, report);
     if played == Err(Refusal::Memory) {

@@ -23,8 +23,7 @@ pub(crate) fn picture<L: Run, C: Command, M: Fn(Givable) -> Result<C, Refusal>>(
     trial: &mut MemoryTrial<L, C>,
     lines: &[&str],
 ) -> Result<Vec<u8>, AllocError>
-    requires may { M.IsAlwaysCallable make.now }
-    requires fresh { MakesFresh (M.post make.now) C.IsFresh }
+    requires makes { (M.IsAlwaysCallable make.now) × MakesFresh (M.post make.now) C.IsFresh }
 {
     let mut picture = Vec::new(alloc);
     let glance = trial.board.look(&mut trial.display);

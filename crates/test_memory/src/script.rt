@@ -30,8 +30,7 @@ fn picture_of<L: Run, C: Command, M: Fn(Givable) -> Result<C, Refusal>>(
     script: &Script,
     lines: &[&str],
 ) -> Result<Vec<u8>, Refusal>
-    requires may { M.IsAlwaysCallable make.now }
-    requires fresh { MakesFresh (M.post make.now) C.IsFresh }
+    requires makes { (M.IsAlwaysCallable make.now) × MakesFresh (M.post make.now) C.IsFresh }
     requires run { IsOpeningOf L.program L.board L.name L.parts L.seats beginning.opening }
 {
     let mut trial = begin_trial::<L, C>(alloc, beginning)?;
@@ -51,8 +50,7 @@ fn expected<C: Command, M: Fn(Givable) -> Result<C, Refusal>>(
     script: &Script,
     lines: &[&str],
 ) -> Result<Vec<u8>, Refusal>
-    requires may { M.IsAlwaysCallable make.now }
-    requires fresh { MakesFresh (M.post make.now) C.IsFresh }
+    requires makes { (M.IsAlwaysCallable make.now) × MakesFresh (M.post make.now) C.IsFresh }
 {
     let beginning = begin(alloc, script.program)?;
     picture_of::<Brand, C, M>(alloc, make, beginning, script, lines)
@@ -66,8 +64,7 @@ fn is_as_after<L: Run, C: Command, M: Fn(Givable) -> Result<C, Refusal>>(
     script: &Script,
     lines: &[&str],
 ) -> Result<bool, Refusal>
-    requires may { M.IsAlwaysCallable make.now }
-    requires fresh { MakesFresh (M.post make.now) C.IsFresh }
+    requires makes { (M.IsAlwaysCallable make.now) × MakesFresh (M.post make.now) C.IsFresh }
 {
     let seen = picture(alloc, make, trial, script.looks)?;
     let wanted = expected(alloc, make, script, lines)?;
@@ -83,8 +80,7 @@ fn say_twice<L: Run, C: Command, M: Fn(Givable) -> Result<C, Refusal>>(
     place: usize,
     text: &mut Vec<u8>,
 )
-    requires may { M.IsAlwaysCallable make.now }
-    requires fresh { MakesFresh (M.post make.now) C.IsFresh }
+    requires makes { (M.IsAlwaysCallable make.now) × MakesFresh (M.post make.now) C.IsFresh }
 {
     let (before, after) = script.lines.split_at(place.min(script.lines.len()));
     let Some(line) = after.first() else {
@@ -113,8 +109,7 @@ fn play<L: Run, C: Command, M: Fn(Givable) -> Result<C, Refusal>>(
     text: &mut Vec<u8>,
     report: &mut Vec<u8>,
 ) -> Result<(), Refusal>
-    requires may { M.IsAlwaysCallable make.now }
-    requires fresh { MakesFresh (M.post make.now) C.IsFresh }
+    requires makes { (M.IsAlwaysCallable make.now) × MakesFresh (M.post make.now) C.IsFresh }
     requires run { IsOpeningOf L.program L.board L.name L.parts L.seats beginning.opening }
 {
     let mut trial = begin_trial::<L, C>(alloc, beginning)?;
@@ -136,8 +131,7 @@ fn begin_and_play<C: Command, M: Fn(Givable) -> Result<C, Refusal>>(
     text: &mut Vec<u8>,
     report: &mut Vec<u8>,
 ) -> Result<(), Refusal>
-    requires may { M.IsAlwaysCallable make.now }
-    requires fresh { MakesFresh (M.post make.now) C.IsFresh }
+    requires makes { (M.IsAlwaysCallable make.now) × MakesFresh (M.post make.now) C.IsFresh }
 {
     let beginning = begin(alloc, script.program)?;
     play::<Brand, C, M>(alloc, make, beginning, script, text, report)
@@ -151,8 +145,7 @@ pub(crate) fn play_script<C: Command, M: Fn(Givable) -> Result<C, Refusal>>(
     text: &mut Vec<u8>,
     report: &mut Vec<u8>,
 )
-    requires may { M.IsAlwaysCallable make.now }
-    requires fresh { MakesFresh (M.post make.now) C.IsFresh }
+    requires makes { (M.IsAlwaysCallable make.now) × MakesFresh (M.post make.now) C.IsFresh }
 {
     let _ = write!(report, "session {}\n", script.name);
     let mut played = begin_and_play(alloc, make, script, text, report);

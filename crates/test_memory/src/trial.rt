@@ -78,8 +78,7 @@ fn give<L: Run, C: Command, M: Fn(Givable) -> Result<C, Refusal>>(
     seat: &mut Seat<L>,
     plan: Plan,
 ) -> Result<Reply, Refusal>
-    requires may { M.IsAlwaysCallable make.now }
-    requires fresh { MakesFresh (M.post make.now) C.IsFresh }
+    requires makes { (M.IsAlwaysCallable make.now) × MakesFresh (M.post make.now) C.IsFresh }
     requires givable { IsGivable plan }
     ensures fits { FitsCall L.program (Give (order_of plan)) (said_of result) }
 {
@@ -95,8 +94,7 @@ fn answer<L: Run, C: Command, M: Fn(Givable) -> Result<C, Refusal>>(
     seat: &mut Seat<L>,
     call: Call,
 ) -> Said
-    requires may { M.IsAlwaysCallable make.now }
-    requires fresh { MakesFresh (M.post make.now) C.IsFresh }
+    requires makes { (M.IsAlwaysCallable make.now) × MakesFresh (M.post make.now) C.IsFresh }
     requires givable { lines.IsGivable call }
     ensures fits { FitsCall L.program (call_of call) result }
 {
@@ -115,8 +113,7 @@ pub(crate) fn say<L: Run, C: Command, M: Fn(Givable) -> Result<C, Refusal>>(
     line: &str,
     text: &mut Vec<u8>,
 )
-    requires may { M.IsAlwaysCallable make.now }
-    requires fresh { MakesFresh (M.post make.now) C.IsFresh }
+    requires makes { (M.IsAlwaysCallable make.now) × MakesFresh (M.post make.now) C.IsFresh }
 {
     let MemoryTrial { locked, seats, .. } = trial;
     match parse_line(alloc, locked.program(), line.as_bytes()) {
