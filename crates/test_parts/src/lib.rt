@@ -2,22 +2,6 @@
 #![tactic(auto)]
 
 #[cfg(test)]
-mod board;
-#[cfg(test)]
-mod channels;
-#[cfg(test)]
-mod clocks;
-#[cfg(test)]
-mod copies;
-#[cfg(test)]
-mod cuts;
-#[cfg(test)]
-mod evaluation;
-#[cfg(test)]
-mod events;
-#[cfg(test)]
 mod expecting;
 #[cfg(test)]
-mod trees;
-#[cfg(test)]
-mod wide;
+mod parts;

@@ -1,7 +1,7 @@
 //! Tests of `dbg_base`: with ample memory a copy is made, and shows the same as its original.
 
+use super::trees::{binary, negate, not};
 use crate::expecting::expect_same;
-use crate::trees::{binary, negate, not};
 use dbg_base::{
     Answer, Call, Choice, Conjunct, Cut, Done, Expr, Head, Name, Operator, Pid, Plan, Query,
     Refusal, Reply, Said, Sequence,

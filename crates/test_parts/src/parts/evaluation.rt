@@ -1,7 +1,7 @@
 //! Tests of `local_eval`.
 
+use super::trees::{binary, negate, not};
 use crate::expecting::{expect_same, expect_true};
-use crate::trees::{binary, negate, not};
 use dbg_base::Operator::{
     Add, And, Divide, Equal, Greater, GreaterOrEqual, Less, LessOrEqual, Multiply, NotEqual, Or,
     Remainder, Subtract,

@@ -1,8 +1,8 @@
 //! Tests of `Rows::truths_par`: it makes the lists of `truths`, whatever the gate answers, and calls the gate before and after each.
 
-use crate::events::push_setting;
+use super::events::push_setting;
+use super::trees::above;
 use crate::expecting::expect_same;
-use crate::trees::above;
 use crossbeam_utils::CachePadded;
 use dbg_base::{Expr, Gate, OpenGate, Pid, Sequence};
 use event_rows::{Exchange, Rows};

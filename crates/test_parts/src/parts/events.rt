@@ -1,7 +1,7 @@
 //! Tests of `event_rows`: with ample memory each call does its work.
 
+use super::trees::above;
 use crate::expecting::{expect_same, expect_true};
-use crate::trees::above;
 use dbg_base::{Choice, Direction, Pid};
 use event_rows::{Event, Exchange, Rows, Setting};
 use local_eval::Env;
