@@ -31,6 +31,8 @@ pub enum Work<'a> {
     Explain,
     /// Print the plain session of one in the model notation.
     Expand,
+    /// List the commands of a program, with the names that its author gave.
+    NameCommands,
     /// Answer and explain the lines of a person.
     Talk(Coloring),
     /// Play a session, and draw it.

@@ -126,6 +126,14 @@ fn expand<'a>(alloc: Global) -> Result<Command<'a>, AllocError> {
         "expand",
         "Prints the plain session of one in the model notation",
         "The program and the first lines; those of standard input follow",
+    )?
+    .arg(
+        Arg::new(alloc, "names")
+            .long("names")
+            .action(ArgAction::SetTrue)
+            .help(
+                "Lists the commands of the program with their names in the text, in columns with tabs between",
+            ),
     )
 }
 
@@ -215,6 +223,7 @@ fn named_work<'a>(
 {
     match name {
         "talk" => Ok(Work::Talk(named_coloring(matches.get_str("color")))),
+        "expand" if matches.get_flag("names") => Ok(Work::NameCommands),
         "expand" => Ok(Work::Expand),
         "draw" => Ok(Work::Draw(named_picture(command, matches)?)),
         "check" if matches.get_flag("explain") => Ok(Work::Explain),

@@ -6,7 +6,7 @@ ghost use Rattle.notation.specs.Places.{IsInside};
 ghost use Rattle.notation.specs.TokenCounts.{token_count};
 ghost use Rattle.notation.specs.Expansions.{plain_of, source_length};
 
-use crate::building::{Builder, CommandOrigin};
+use crate::building::{Builder, CommandOrigin, put_indices};
 use crate::built::Built;
 use crate::environment::{Environment, member_values};
 use crate::fault::{ExpansionStop, Fault, MemberValue, NotationError, Problem};
@@ -195,6 +195,21 @@ impl Expansion {
             at: self.place(found.at),
             members: self.members(alloc, found.at)?,
         })
+    }
+
+    /// The name of a process in the source, with its indices, as `server[3]`; None if the program has no such process.
+    pub fn process_name(&self, alloc: Global, pid: Pid) -> Result<Option<Vec<u8>>, AllocError> {
+        let Some(process) = self.built.processes.get(pid.0 as usize) else {
+            return Ok(None);
+        };
+        match self.model.declarations.get(process.declaration) {
+            Some(DeclarationNode::Process(declared)) => {
+                let mut name = Vec::from_slice(alloc, declared.name.bytes())?;
+                put_indices(&mut name, process.members.as_slice())?;
+                Ok(Some(name))
+            }
+            _ => Ok(None),
+        }
     }
 
     fn command(&self, pid: Pid, choice: Choice) -> Option<&CommandOrigin> {

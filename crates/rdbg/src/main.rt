@@ -26,7 +26,8 @@ use std::{env, io};
 use typing::{Asks, FileInput, Typing, open};
 use ui_diagram::{PictureForm, WIDTH};
 use ui_repl::{
-    SESSION_BYTES, Tested, converse, draw, draw_status, expand, explain, fill_session, test_session,
+    SESSION_BYTES, Tested, converse, draw, draw_status, expand, explain, fill_session,
+    name_commands, test_session,
 };
 use ui_session::Typed;
 use words::{WordsFault, words};
@@ -68,6 +69,9 @@ fn work_from<R: Threads + Wait + Sync, I: Read + Typed + Drop, W: Sink, E: Sink>
         Work::Job(job) => job_from(threads, alloc, job, &mut Noted::new(input), writer),
         Work::Explain => status(&explain(alloc, &mut Noted::new(input), writer)),
         Work::Expand => status(&expand(alloc, &mut Noted::new(input), writer, errors)),
+        Work::NameCommands => {
+            status(&name_commands(alloc, &mut Noted::new(input), writer, errors))
+        }
         Work::Talk(_) => status(&converse(alloc, picture_width(rt), input, writer)),
         Work::Draw(picture) => draw_status(&draw(alloc, picture, input, writer, errors)),
     }
@@ -78,7 +82,7 @@ fn reads_on(work: Work<'_>, is_typed: bool) -> bool {
     match work {
         Work::Job(Job::Run) | Work::Talk(_) => true,
         Work::Expand | Work::Draw(_) => !is_typed,
-        Work::Job(Job::Check | Job::Crew(_)) | Work::Explain => false,
+        Work::Job(Job::Check | Job::Crew(_)) | Work::Explain | Work::NameCommands => false,
     }
 }
 
@@ -218,7 +222,7 @@ fn look_of(rt: &HostRuntime, request: &Request<'_>) -> Look {
         Request::Work(Work::Talk(Coloring::Always), _) => Look::Coloured,
         Request::Work(Work::Talk(_) | Work::Explain, _) | Request::Test(_) => Look::Visible,
         Request::Work(Work::Draw(picture), _) if picture.form == PictureForm::Text => Look::Visible,
-        Request::Work(Work::Job(_) | Work::Expand | Work::Draw(_), _)
+        Request::Work(Work::Job(_) | Work::Expand | Work::NameCommands | Work::Draw(_), _)
         | Request::Fill(_)
         | Request::Version => Look::Raw,
     }

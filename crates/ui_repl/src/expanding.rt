@@ -80,8 +80,8 @@ fn unrolled(alloc: Global, session: &[u8]) -> Result<Option<Vec<u8>>, AllocError
     Ok(Some(text))
 }
 
-// Writes what is wrong with a session: the line and column, the text of the line with a mark under the place, and the fault.
-fn write_fault<W: Sink>(
+/// Writes what is wrong with a session: the line and column, the text of the line with a mark under the place, and the fault.
+pub(crate) fn write_fault<W: Sink>(
     alloc: Global,
     session: &[u8],
     fault: &Fault,

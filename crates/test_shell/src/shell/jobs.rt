@@ -148,12 +148,13 @@ fn words_name_files(rt: HostRuntime) {
     }
 }
 
-const WORKS: [(&str, Work<'static>); 6] = [
+const WORKS: [(&str, Work<'static>); 7] = [
     ("talk", Work::Talk(Coloring::Auto)),
     ("talk --color always", Work::Talk(Coloring::Always)),
     ("talk --color=never", Work::Talk(Coloring::Never)),
     ("check --explain", Work::Explain),
     ("expand", Work::Expand),
+    ("expand --names", Work::NameCommands),
     ("run", Work::Job(Job::Run)),
 ];
 
