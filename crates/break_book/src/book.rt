@@ -31,11 +31,20 @@ use std::marker::Model;
 
 /// The breakpoints of a session, at most 64, by name and in the order in which they were set. The book belongs to a world, and its
 /// detectors follow the world as events are made and undone. Contracts see the list of names with what is kept of each.
-#[derive(Debug, Drop)]
+#[derive(Debug)]
 pub struct Book {
     breaks: IndexMap<Name, Breakpoint>,
     // The position of the breakpoint that halts the session, from 0, or the number of breakpoints if none does.
     halting: usize,
+}
+
+impl Drop for Book {
+    fn drop(self) {
+        let Book {
+            breaks: _,
+            halting: _,
+        } = self;
+    }
 }
 
 impl Model for Book {

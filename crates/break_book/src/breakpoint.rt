@@ -13,10 +13,19 @@ use std::alloc::AllocError;
 use std::marker::Model;
 
 /// A breakpoint without its name: whether it is armed, and the detector of its least cut.
-#[derive(Debug, Drop)]
+#[derive(Debug)]
 pub struct Breakpoint {
     armed: bool,
     detector: Detector,
+}
+
+impl Drop for Breakpoint {
+    fn drop(self) {
+        let Breakpoint {
+            armed: _,
+            detector: _,
+        } = self;
+    }
 }
 
 impl Model for Breakpoint {

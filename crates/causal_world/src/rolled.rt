@@ -9,9 +9,15 @@ use std::alloc::AllocError;
 use std::marker::Model;
 
 /// The choices that a step cut off.
-#[derive(Debug, Drop)]
+#[derive(Debug)]
 pub struct Cutoff {
     pub(crate) choices: Vec<u32>,
+}
+
+impl Drop for Cutoff {
+    fn drop(self) {
+        let Cutoff { choices: _ } = self;
+    }
 }
 
 impl Model for Cutoff {
@@ -30,11 +36,17 @@ pub(crate) struct Taken {
 }
 
 /// Events that were undone, in the order of the undos.
-#[derive(Debug, Drop)]
+#[derive(Debug)]
 pub struct Rolled {
     pub(crate) taken: Vec<Taken>,
     // The last of them, if it is not in that list. So a single event needs no list.
     pub(crate) last: Option<Taken>,
+}
+
+impl Drop for Rolled {
+    fn drop(self) {
+        let Rolled { taken: _, last: _ } = self;
+    }
 }
 
 impl Model for Rolled {

@@ -11,11 +11,17 @@ use std::marker::Model;
 
 /// For each process its rows in order, the first one zeros; a row has one count for each process. Contracts see these rows, and the room of
 /// each process: how many more rows it can take without allocation.
-#[derive(Debug, Drop)]
+#[derive(Debug)]
 pub struct Clocks {
     lines: Vec<ClockLine>,
     // A buffer for the next row, with one count for each process.
     next: Vec<u32>,
+}
+
+impl Drop for Clocks {
+    fn drop(self) {
+        let Clocks { lines: _, next: _ } = self;
+    }
 }
 
 impl Model for Clocks {

@@ -15,9 +15,15 @@ use std::marker::Model;
 
 /// For each process what its events did, in order. Contracts see this, and the room of each process: how many more of its events fit
 /// without allocation.
-#[derive(Debug, Drop)]
+#[derive(Debug)]
 pub struct Tally {
     lines: Vec<CountLine>,
+}
+
+impl Drop for Tally {
+    fn drop(self) {
+        let Tally { lines: _ } = self;
+    }
 }
 
 impl Model for Tally {

@@ -23,9 +23,15 @@ pub fn count_of(counts: &[u32], pid: Pid) -> u32
 }
 
 /// One count of events for each process, in program order.
-#[derive(Debug, Drop)]
+#[derive(Debug)]
 pub struct Cut {
     counts: Vec<u32>,
+}
+
+impl Drop for Cut {
+    fn drop(self) {
+        let Cut { counts: _ } = self;
+    }
 }
 
 impl Model for Cut {

@@ -18,9 +18,14 @@ use std::marker::Model;
 use std::sync::Arc;
 
 /// What displays read. Threads share it, and no call on it waits. Contracts see which board it is.
-#[derive(Drop)]
 pub struct Board {
     word: Arc<BoardWord>,
+}
+
+impl Drop for Board {
+    fn drop(self) {
+        let Board { word: _ } = self;
+    }
 }
 
 impl Model for Board {

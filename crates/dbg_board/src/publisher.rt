@@ -13,10 +13,15 @@ use std::mem;
 use std::sync::Arc;
 
 /// The only one who publishes to a board. Contracts see the board, and all pairs that were published.
-#[derive(Drop)]
 pub struct Publisher {
     pub(crate) word: Arc<BoardWord>,
     pub(crate) seat: WordSeat,
+}
+
+impl Drop for Publisher {
+    fn drop(self) {
+        let Publisher { word: _, seat: _ } = self;
+    }
 }
 
 impl Model for Publisher {

@@ -4,9 +4,14 @@ use crate::word::WordSeat;
 use std::marker::Model;
 
 /// What a seat has seen of a board. Contracts see the board, and these pairs.
-#[derive(Drop)]
 pub struct SeatView {
     pub(crate) seat: WordSeat,
+}
+
+impl Drop for SeatView {
+    fn drop(self) {
+        let SeatView { seat: _ } = self;
+    }
 }
 
 impl Model for SeatView {

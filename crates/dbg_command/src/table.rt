@@ -18,10 +18,16 @@ use std::alloc::Global;
 use std::marker::Model;
 
 /// A world and the breakpoints in it. Their detectors follow the world. Contracts see these two.
-#[derive(Debug, Drop)]
+#[derive(Debug)]
 pub struct Table {
     pub(crate) world: World,
     pub(crate) book: Book,
+}
+
+impl Drop for Table {
+    fn drop(self) {
+        let Table { world: _, book: _ } = self;
+    }
 }
 
 impl Model for Table {

@@ -9,7 +9,7 @@ use crate::small_said::SmallSaid;
 use dbg_base::{Call, Refusal, Said};
 
 /// A call that was entered: the seat that made it, the call, and its answer.
-#[derive(Debug, Drop)]
+#[derive(Debug)]
 pub struct Entry {
     pub seat: u32,
     pub call: Call,
@@ -17,12 +17,28 @@ pub struct Entry {
     ghost flat: { is_flat_call call ≡ true },
 }
 
+impl Drop for Entry {
+    fn drop(self) {
+        let Entry {
+            seat: _,
+            call: _,
+            said: _,
+        } = self;
+    }
+}
+
 /// A call in a seat's own record, with its answer, in 48 bytes.
-#[derive(Debug, Drop)]
+#[derive(Debug)]
 pub struct RecordedCall {
     pub(crate) call: SmallCall,
     pub(crate) said: SmallSaid,
     ghost flat: { is_flat_small call ≡ true },
+}
+
+impl Drop for RecordedCall {
+    fn drop(self) {
+        let RecordedCall { call: _, said: _ } = self;
+    }
 }
 
 const _: () = prove!(size_of::<RecordedCall>() <= 48);

@@ -15,11 +15,21 @@ use std::alloc::{AllocError, Global};
 
 /// An event: its process, its number in the process, from 1, and its clock: how many events of each process are in its causal past, with
 /// the event itself.
-#[derive(Debug, Drop)]
+#[derive(Debug)]
 pub struct TimedEvent {
     pub pid: Pid,
     pub number: u32,
     pub clock: Cut,
+}
+
+impl Drop for TimedEvent {
+    fn drop(self) {
+        let TimedEvent {
+            pid: _,
+            number: _,
+            clock: _,
+        } = self;
+    }
 }
 
 // Zero counts for so many processes.

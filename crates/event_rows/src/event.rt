@@ -14,11 +14,21 @@ use std::marker::Model;
 
 /// An event of a process: the command that it made, the variables that it set, with their values before and after, and what it sent
 /// or received.
-#[derive(Debug, Drop)]
+#[derive(Debug)]
 pub struct Event {
     choice: Choice,
     settings: SmallVec<Setting, 2>,
     exchange: Exchange,
+}
+
+impl Drop for Event {
+    fn drop(self) {
+        let Event {
+            choice: _,
+            settings: _,
+            exchange: _,
+        } = self;
+    }
 }
 
 impl Model for Event {

@@ -20,10 +20,19 @@ use std::marker::Model;
 
 /// For each process its start and its events, in order. Contracts see these, and the room of each process: how many more events fit without
 /// allocation.
-#[derive(Debug, Drop)]
+#[derive(Debug)]
 pub struct Rows {
     starts: Vec<Env>,
     lines: Vec<EventLine>,
+}
+
+impl Drop for Rows {
+    fn drop(self) {
+        let Rows {
+            starts: _,
+            lines: _,
+        } = self;
+    }
 }
 
 impl Model for Rows {

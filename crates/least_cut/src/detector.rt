@@ -38,11 +38,21 @@ use std::marker::Model;
 /// belongs to a world, and follows it as events are made and undone. Contracts see these, and its room.
 ///
 /// The algorithm eliminates candidates, as Garg and Waldecker (1994) do for weak conjunctive predicates.
-#[derive(Debug, Drop)]
+#[derive(Debug)]
 pub struct Detector {
     watches: Vec<Watch>,
     candidates: Cut,
     trail: Vec<Elimination>,
+}
+
+impl Drop for Detector {
+    fn drop(self) {
+        let Detector {
+            watches: _,
+            candidates: _,
+            trail: _,
+        } = self;
+    }
 }
 
 impl Model for Detector {

@@ -14,17 +14,27 @@ use crate::lexer::{first_wrong, tokens};
 use crate::model::ParsedModel;
 use crate::parser::model;
 use crate::plain_text::{Origin, map_of};
+use crate::syntax::DeclarationNode;
 use crate::writing::Writer;
 use dbg_base::{Choice, Pid, ProgFault};
 use std::alloc::{AllocError, Global};
 
 /// A model that was expanded: the plain program, and where its parts come from.
-#[derive(Drop)]
 pub struct Expansion {
     pub(crate) model: ParsedModel,
     // How many bytes the source has.
     pub(crate) source: usize,
     pub(crate) built: Built,
+}
+
+impl Drop for Expansion {
+    fn drop(self) {
+        let Expansion {
+            model: _,
+            source: _,
+            built: _,
+        } = self;
+    }
 }
 
 // Why work stopped, where the text has so many bytes and these members have values.

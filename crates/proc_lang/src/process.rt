@@ -39,11 +39,21 @@ pub(crate) struct Variable {
 }
 
 /// A process.
-#[derive(Debug, Drop)]
+#[derive(Debug)]
 pub(crate) struct Process {
     pub(crate) name: Name,
     pub(crate) variables: Vec<Variable>,
     pub(crate) commands: Vec<Guarded>,
     ghost few_variables: { vec_len variables ≤ VARIABLES },
     ghost few_commands: { vec_len commands ≤ COMMANDS },
+}
+
+impl Drop for Process {
+    fn drop(self) {
+        let Process {
+            name: _,
+            variables: _,
+            commands: _,
+        } = self;
+    }
 }

@@ -10,10 +10,16 @@ use crate::process::{Guarded, Process, Variable};
 use dbg_base::{Choice, Name, Pid};
 
 /// A program that has passed all checks, so it is well formed. Contracts see the tree `program_of`.
-#[derive(Debug, Drop)]
+#[derive(Debug)]
 pub struct Program {
     pub(crate) processes: Vec<Process>,
     pub ghost well_formed: { is_well_formed (process_trees processes.items) ≡ true },
+}
+
+impl Drop for Program {
+    fn drop(self) {
+        let Program { processes: _ } = self;
+    }
 }
 
 // Whether the process has this name. The names of a program differ mostly in their last byte.

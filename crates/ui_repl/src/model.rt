@@ -10,10 +10,18 @@ use std::alloc::{AllocError, Global};
 use ui_text::{DeclaredAs, Notes, Part, ProgramText, find_declaration};
 
 /// A program in the model notation that was expanded, and its text.
-#[derive(Drop)]
 pub struct Model {
     expansion: Expansion,
     source: ProgramText,
+}
+
+impl Drop for Model {
+    fn drop(self) {
+        let Model {
+            expansion: _,
+            source: _,
+        } = self;
+    }
 }
 
 /// The kinds of program texts.

@@ -18,9 +18,15 @@ pub enum Part<'a> {
 }
 
 /// The lines of an explanation, each without a line end.
-#[derive(Debug, Drop)]
+#[derive(Debug)]
 pub struct Notes {
     lines: Vec<Vec<u8>>,
+}
+
+impl Drop for Notes {
+    fn drop(self) {
+        let Notes { lines: _ } = self;
+    }
 }
 
 // Appends a part to a line.

@@ -23,13 +23,23 @@ struct CommandPlace {
 const SHOWN: usize = 160;
 
 /// A program's text, as it was written, with the place of each command.
-#[derive(Debug, Drop)]
+#[derive(Debug)]
 pub struct ProgramText {
     text: Vec<u8>,
     // The offset at which each line begins.
     starts: Vec<usize>,
     // For each process its commands, in order.
     commands: Vec<Vec<CommandPlace>>,
+}
+
+impl Drop for ProgramText {
+    fn drop(self) {
+        let ProgramText {
+            text: _,
+            starts: _,
+            commands: _,
+        } = self;
+    }
 }
 
 /// Whether a word may have this byte.

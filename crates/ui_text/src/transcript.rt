@@ -15,12 +15,21 @@ struct ReplyPlace {
 
 /// The output of a session, which is kept, and the place of each reply in it. A session flushes each reply, and then its explanation: lines
 /// that begin with two blanks.
-#[derive(Drop)]
 pub struct Transcript {
     text: Vec<u8>,
     replies: Vec<ReplyPlace>,
     // How many bytes were flushed.
     flushed: usize,
+}
+
+impl Drop for Transcript {
+    fn drop(self) {
+        let Transcript {
+            text: _,
+            replies: _,
+            flushed: _,
+        } = self;
+    }
 }
 
 impl Transcript {

@@ -9,7 +9,6 @@ use ui_explain::ProcessView;
 use ui_text::{Notes, Part};
 
 /// A cut that is shown, with its breakpoint.
-#[derive(Drop)]
 pub struct NamedCut {
     pub name: Name,
     /// The position of the breakpoint among all, from 0.
@@ -23,6 +22,20 @@ pub struct NamedCut {
     pub pids: Vec<Pid>,
     /// The part of the predicate that each of them has, as `left (state = 2)`.
     parts: Notes,
+}
+
+impl Drop for NamedCut {
+    fn drop(self) {
+        let NamedCut {
+            name: _,
+            place: _,
+            cut: _,
+            halts: _,
+            is_prefix: _,
+            pids: _,
+            parts: _,
+        } = self;
+    }
 }
 
 /// The first line, if there is one.

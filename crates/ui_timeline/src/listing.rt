@@ -24,11 +24,20 @@ pub struct ShownEvent {
 }
 
 /// All events of a world, in an order in which they can have happened, for each process the positions of its events in it, and the messages.
-#[derive(Drop)]
 pub struct Timeline {
     events: Vec<ShownEvent>,
     rows: Vec<Vec<u32>>,
     messages: Messages,
+}
+
+impl Drop for Timeline {
+    fn drop(self) {
+        let Timeline {
+            events: _,
+            rows: _,
+            messages: _,
+        } = self;
+    }
 }
 
 // Whether one of two cuts of so many processes contains the other.

@@ -8,12 +8,21 @@ use ui_explain::ProcessView;
 use ui_text::{Notes, Part};
 
 /// What a picture shows: the last events of some processes.
-#[derive(Drop)]
 pub struct Selection {
     pids: Vec<Pid>,
     // Of each process, whether it is shown.
     shown: Vec<bool>,
     last: usize,
+}
+
+impl Drop for Selection {
+    fn drop(self) {
+        let Selection {
+            pids: _,
+            shown: _,
+            last: _,
+        } = self;
+    }
 }
 
 // Whether a list of names, separated by commas, has the name of this process.
