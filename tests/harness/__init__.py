@@ -22,13 +22,13 @@ def stop(why):
 
 
 def program():
-    """The program under test: the one that RDBG names, or the proved one."""
+    """The program under test: the one that RDBG names, or the one that `./rdbg` runs, proved or not."""
     named = os.environ.get("RDBG")
     if named:
         found = shutil.which(named)
         return found and str(Path(found).resolve()) or stop(f"RDBG names {named}, which is not a program")
     asked = subprocess.run([TOP / "rdbg", "--where"], stdout=subprocess.PIPE, text=True)
-    return asked.stdout.strip() if asked.returncode == 0 else stop("build the program first: ./rdbg --prove")
+    return asked.stdout.strip() if asked.returncode == 0 else stop("build the program first: ./rdbg --version, or ./rdbg --prove to prove it, too")
 
 
 class Fault(Exception):
