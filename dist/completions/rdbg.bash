@@ -21,6 +21,7 @@ _rdbg() {
     case $word in
       check) choices='--explain --help' ;;
       crew) choices='--turns --help' ;;
+      expand) choices='--names --help' ;;
       talk) choices='--color --help' ;;
       test) choices='--fill --help' ;;
       draw) choices='--as --at --at-halt --last --only --width --theme --help' ;;

@@ -12,6 +12,7 @@ complete -c rdbg -n "not __fish_seen_subcommand_from $words" -a draw -d 'Draws a
 complete -c rdbg -n "not __fish_seen_subcommand_from $words" -a help -d 'Prints the help'
 complete -c rdbg -n '__fish_seen_subcommand_from help' -a 'talk expand run check crew test draw help'
 complete -c rdbg -n '__fish_seen_subcommand_from check' -l explain -d 'Print what is wrong, and where'
+complete -c rdbg -n '__fish_seen_subcommand_from expand' -l names -d 'List the commands with their names in the text'
 complete -c rdbg -n '__fish_seen_subcommand_from crew' -l turns -x -d 'How often to give next for each process'
 complete -c rdbg -n '__fish_seen_subcommand_from talk' -l color -x -a 'auto always never' -d 'Whether output is coloured'
 complete -c rdbg -n '__fish_seen_subcommand_from test' -l fill -d 'Print the session with its replies'

@@ -1,6 +1,6 @@
 """dist/install, and the man page, completions and editor files that it installs.
 
-It must install into an empty folder and next to other files, and remove no more than it installed. The words in these files must be those of
+It must install into an empty folder and next to other files, remove no more than it installed, and pack an archive that runs. The words in these files must be those of
 the language and of the program's help. Tools that read the files are used if they are installed.
 """
 import json
@@ -29,14 +29,16 @@ INSTALLED = {
 }
 # An option of a command.
 OPTION = re.compile(r"--[a-z]+(?:-[a-z]+)*")
-# A launcher whose program has yet to be proved.
+# A launcher whose program has yet to be built, and to be proved.
 LAUNCHER = """#!/bin/sh
 folder=$(dirname "$0")
 case $1 in
-  --where) [ -e "$folder/proved" ] && echo "$folder/proved" || exit 2 ;;
-  --prove) cp '{program}' "$folder/proved" ;;
+  --where) for program in proved/rdbg rdbg-unproved/rdbg; do [ -e "$folder/$program" ] && echo "$folder/$program" && exit; done; exit 2 ;;
+  --prove) mkdir "$folder/proved" && cp '{program}' "$folder/proved/rdbg" ;;
+  *) mkdir "$folder/rdbg-unproved" && cp '{program}' "$folder/rdbg-unproved/rdbg" ;;
 esac
 """
+SYSTEM_PATH = "/usr/bin:/bin"
 # Words that languages often reserve, and names that programs often have.
 OTHER_WORDS = """as assert async bool box break case channel chan class const continue def do done else end enum event false fi fn for from func
     function got goto guard if implies in init int invariant is let local loop match max message min mod nat new next nil none null of on or
@@ -111,7 +113,8 @@ def check_installation(suite, prefix):
     record = prefix / "share" / "rdbg" / "installed"
     if not check_status(suite, "install", 0, install, prefix, **named):
         return
-    for source, path in {suite.program: "libexec/rdbg", "dist/start": "bin/rdbg", **INSTALLED}.items():
+    place = "libexec/rdbg-unproved/rdbg" if suite.program.endswith("/rdbg-unproved/rdbg") else "libexec/rdbg"
+    for source, path in {suite.program: place, "dist/start": "bin/rdbg", **INSTALLED}.items():
         is_same = (TOP / source).read_bytes() == (prefix / path).read_bytes()
         suite.case(f"the installed {path}", "" if is_same else f"it is not as {source}")
     first = record.read_bytes()
@@ -152,16 +155,43 @@ def check_usage(suite, room):
 
 
 def check_launcher(suite, room):
-    """Where RDBG names no program, dist/install asks the launcher, and has it prove the program first."""
+    """Where RDBG names no program, dist/install asks the launcher, which builds the program first if there is none."""
     copy, prefix = room / "copy", room / "proved"
     shutil.copytree(DIST, copy / "dist")
     shutil.copytree(TOP / "examples", copy / "examples")
     (copy / "rdbg").write_text(LAUNCHER.format(program=suite.program))
     (copy / "rdbg").chmod(0o755)
-    for name in ("the program has yet to be proved", "the program is proved"):
-        check_status(suite, f"install where {name}", 0, copy / "dist" / "install", prefix, RDBG="")
-        output = output_of(prefix / "bin" / "rdbg", "--help")[1]
-        suite.case(f"the program installed where {name}", "" if "Command lines" in output else output or "it wrote nothing")
+    for state, before in (("not proved", "--where"), ("proved", "--prove")):
+        output_of(copy / "rdbg", before)
+        status, output = output_of(copy / "dist" / "install", prefix, RDBG="")
+        suite.case(f"install says that the program is {state}", "" if status == 0 and output.startswith(f"the program is {state}\n") else output)
+        shown = output_of(prefix / "bin" / "rdbg", "--version")[1]
+        suite.case(f"--version of a program that is {state}", "" if ("not proved" in shown) == (state == "not proved") else shown)
+    suite.case("the proved program replaces the other", "" if not (prefix / "libexec/rdbg-unproved/rdbg").exists() else "both are installed")
+    check_status(suite, "remove after both", 0, copy / "dist" / "install", "--remove", prefix)
+    suite.case("after both nothing is left", contents(prefix) if prefix.exists() else "")
+
+
+def check_archive(suite, room):
+    """The archive, unpacked in an empty folder, answers with the tools of the system alone."""
+    install, named, archive = DIST / "install", {"RDBG": suite.program}, room / "rdbg.tar.gz"
+    for wrong in ([], ["rdbg.zip"], [archive, "more"]):
+        check_status(suite, f"an archive with {len(wrong)} arguments", 2, install, "--archive", *wrong, **named)
+    if not check_status(suite, "an archive", 0, install, "--archive", archive, **named):
+        return
+    first = archive.read_bytes()
+    check_status(suite, "an archive again", 0, install, "--archive", archive, **named)
+    suite.case("the archive has the same bytes again", "" if archive.read_bytes() == first else "it differs")
+    place = room / "unpacked"
+    place.mkdir()
+    subprocess.run(["sha256sum", "--check", "--quiet", f"{archive.name}.sha256"], cwd=room, check=True)
+    subprocess.run(["tar", "-xzf", archive], cwd=place, check=True)
+    folder, = place.iterdir()
+    suite.case("the archive has no record of an installation", "" if not (folder / "share/rdbg/installed").exists() else "it has one")
+    session = "share/rdbg/examples/two_phase_commit.rdbg"
+    ran = subprocess.run([folder / "bin/rdbg", "talk", folder / session], stdin=subprocess.DEVNULL, stdout=subprocess.PIPE, stderr=subprocess.STDOUT,
+                         env={"PATH": SYSTEM_PATH}, cwd=place)
+    suite.same("a session with the unpacked program", ran.stdout, suite.rdbg("talk", TOP / "examples/two_phase_commit.rdbg").output)
 
 
 def is_reserved(suite, word):
@@ -293,6 +323,7 @@ def run(suite):
         check_other_files(suite, room / "other")
         check_usage(suite, room)
         check_launcher(suite, room)
+        check_archive(suite, room)
         check_examples(suite, room)
         check_reserved_words(suite)
         check_words_of_notation(suite)

@@ -109,6 +109,7 @@ def try_unproved(suite, repository):
     check_answer(suite, "the second call answers at once", repository, builds + 1)
     suite.same("--where prints the program", repr(repository.rdbg("--where")), repr((0, f"{repository.program}\n", "")))
     suite.same("--version says that it is not proved", repository.rdbg("--version")[1], "rdbg 1.0, not proved: ./rdbg --prove proves it\n")
+    suite.case("--help has the words of the launcher, too", "" if "\n  --prove " in repository.rdbg("--help")[1] else repository.rdbg("--help")[1])
     suite.same("a session at a terminal", repr(repository.at_terminal("talk")), repr((3, f"typed\n{NOT_PROVED}unproved: talk\ntyped\n")))
     status, _, errors = repository.rdbg("abort")
     suite.case("a failed check is explained", "" if status == 134 and "please report it" in errors else f"status {status}\n{errors}")
