@@ -28,7 +28,7 @@ RUNS = [
     ("expand_names", "expand --names notation.rdbg", "not read"),
     ("expand_names_of_plain", "expand --names program.rdbg", ""),
     ("expand_names_fault", "expand --names notation_fault.rdbg", ""),
-    ("expand_names_from_input", "expand --names", "process a[i: 1..2] { for j: 5..6 { put: when true : send b j; } }\nprocess b { when true : recv a[1] w; var w = 0; }\n"),
+    ("expand_names_from_input", "expand --names", "process a[i: 1..2] { for j: 5..6 { put: when true : send b j; } }\nprocess b { var w = 0; when true : recv a[1] w; }\n"),
     ("expand_fault", "expand notation_fault.rdbg", ""),
     ("expand_line_fault", "expand notation_line_fault.rdbg", ""),
     ("expand_short_lines", "expand short_lines.rdbg", ""),
