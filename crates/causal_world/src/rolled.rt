@@ -9,15 +9,9 @@ use std::alloc::AllocError;
 use std::marker::Model;
 
 /// The choices that a step cut off.
-#[derive(Debug)]
+#[derive(Debug, Drop)]
 pub struct Cutoff {
     pub(crate) choices: Vec<u32>,
-}
-
-impl Drop for Cutoff {
-    fn drop(self) {
-        let Cutoff { choices: _ } = self;
-    }
 }
 
 impl Model for Cutoff {
