@@ -3,13 +3,15 @@
 A block ```rdbg is a program, or a session whose lines `> ..` are its replies. It may be in the notation: then its plain session has to
 have the same replies. A block ```rdbg-refused is a program that is refused. A block ```rdbg-report after one of these has lines, one
 after the other, of what `talk` prints for that session, or `check --explain` for that program.
-The meanings of the refusals are those of the source of `rdbg --help`, word by word. A file of a crate that a document names exists.
+The meanings of the refusals are those of the source of `rdbg --help`, word by word. A file of a crate that a document names exists. The
+calls with a condition on their caller are those of the sources (--update writes them anew).
 """
 import re
 from typing import NamedTuple
 from urllib.parse import unquote
 
 from harness import TOP, temporary_folder
+from harness.conditions import conditions
 
 # The documents with blocks, and those that have links alone.
 WITH_BLOCKS = ["README.md", "docs/*.md", "examples/README.md"]
@@ -17,6 +19,8 @@ LINKED = ["CONTRIBUTING.md", "crates/*/README.md", "dist/editors/README.md"]
 # A document of these folders is installed with the files of its folder that have these endings (or all files) and no others.
 INSTALLED = {"examples": (".rdbg", ".md"), "editors": ("",)}
 MAN_PAGE = TOP / "dist/rdbg.1"
+PROVED = TOP / "docs/proved.md"
+CONDITIONS = "\n| Crate | Calls |\n|---|---|\n"  # the begin of the table of the calls that have a condition on their caller
 SOURCE = re.compile(r"`((?:crates/)?[a-z_]+/(?:src|specs|proofs)/[\w/.]+\.(?:rt|antt))`")
 # The list of the refusals in the help, and copies of it. Each is a file, the text before the list, and what an entry looks like.
 HELP_REFUSALS = ("crates/dbg_shell/src/usage.rt", "\nRefusals:", r"^ +(\d+) +(.+)$")
@@ -170,6 +174,18 @@ def missing_sources(document):
             yield f"there is no file {name}"
 
 
+def check_conditions(suite):
+    """The table of the calls that have a condition on their caller."""
+    text = PROVED.read_text(encoding="utf-8")
+    head, begin, rest = text.partition(CONDITIONS)
+    shown, end, tail = rest.partition("\n\n")
+    wanted = "\n".join(f"| `{crate}` | {', '.join(f'`{call}`' for call in calls)} |" for crate, calls in conditions(TOP))
+    if suite.options.update:
+        PROVED.write_text(head + begin + wanted + end + tail, encoding="utf-8")
+        shown = wanted
+    suite.same("the calls with a condition on their caller", shown, wanted)
+
+
 def run(suite):
     with temporary_folder() as room:
         for document in documents(WITH_BLOCKS):
@@ -179,3 +195,4 @@ def run(suite):
         suite.case(f"files that {document.relative_to(TOP)} names", "\n".join(missing_sources(document)))
     suite.case(f"paths of {MAN_PAGE.relative_to(TOP)}", "\n".join(dead_paths()))
     check_refusals(suite)
+    check_conditions(suite)

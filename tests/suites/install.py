@@ -19,6 +19,7 @@ INSTALLED = {
     "dist/completions/rdbg.bash": "share/bash-completion/completions/rdbg",
     "dist/completions/_rdbg": "share/zsh/site-functions/_rdbg",
     "dist/completions/rdbg.fish": "share/fish/vendor_completions.d/rdbg.fish",
+    "find/__main__.py": "share/rdbg/find/__main__.py",
     "dist/editors/README.md": "share/rdbg/editors/README.md",
     "dist/editors/vim/syntax/rdbg.vim": "share/rdbg/editors/vim/syntax/rdbg.vim",
     "dist/editors/vim/ftdetect/rdbg.vim": "share/rdbg/editors/vim/ftdetect/rdbg.vim",
@@ -159,6 +160,7 @@ def check_launcher(suite, room):
     copy, prefix = room / "copy", room / "proved"
     shutil.copytree(DIST, copy / "dist")
     shutil.copytree(TOP / "examples", copy / "examples")
+    shutil.copytree(TOP / "find", copy / "find")
     (copy / "rdbg").write_text(LAUNCHER.format(program=suite.program))
     (copy / "rdbg").chmod(0o755)
     for state, before in (("not proved", "--where"), ("proved", "--prove")):
