@@ -16,6 +16,7 @@ pub mod Counts
 pub mod Cuts
 pub mod Clocks
 pub mod Predicates
+pub mod Reference
 pub mod Breakpoints
 pub mod ModelStates
 pub mod Frontiers
@@ -26,6 +27,8 @@ pub mod Choices
 pub mod Acts
 pub mod Views
 pub mod Journals
+pub mod Sessions
+pub mod Shown
 pub mod Tokens
 pub mod Grammar
 pub mod Checks
