@@ -1,14 +1,15 @@
 -- A consistent cut of a possible history is a possible history. In a legal list of the whole, each event outside the cut moves after the
--- events of the cut, and none of these receives its message.
+-- events of the cut, and none of these receives its message. So the events of the cut fire alone, in the order of the list.
 use Rattle.std.proofs.Common.{◌≡◌, ◌≢◌, ℕ, zero, suc, ◌+◌, ◌<◌, ◌≤◌, List, [], ◌∷◌, ◌++◌, length, get_or, set, take, drop, Some, Ok, refl}
-use Rattle.std.proofs.Common.{sym, ap, ◌∙◌, subst, ⊎_elim, arith, count_by, take-append-drop}
-use Rattle.std.proofs.lemmas.Bool.{cases_eq}
-use Rattle.std.proofs.lemmas.List.{get_or-set_same, get_or-set_other, length-set}
+use Rattle.std.proofs.Common.{sym, ap, ◌∙◌, ◌-◌, subst, ⊎_elim, arith, count_by, take-append-drop, Bool, if◌then◌else◌}
+use Rattle.std.proofs.lemmas.Bool.{cases_eq, lt-ltb, le-ltb}
+use Rattle.std.proofs.lemmas.List.{get_or-set_same, get_or-set_other, get_or_past, length-set, length-take-le}
 use Rattle.dbg_base.specs.Trees.{Program, command_of}
 use Rattle.dbg_base.specs.Configurations.{Configuration, start_of, channel_of}
 use Rattle.dbg_base.specs.Firing.{fire}
 use Rattle.dbg_base.specs.Histories.{History, IsPossible, play}
-use Rattle.dbg_base.specs.Orders.{Event, order_from, target_in}
+use Rattle.dbg_base.specs.Orders.{Event, order, order_from, target_in}
+use Rattle.dbg_base.specs.Reference.{events_of}
 use Rattle.dbg_base.specs.Counts.{sends_to, receives_from}
 use Rattle.dbg_base.specs.Cuts.{IsConsistent, history_at}
 use Rattle.dbg_laws.proofs.OrderSwapLemmas.{IsEmpty, IsOrderOf, none_left, first_step, legal_after, is_there}
@@ -19,16 +20,53 @@ use Rattle.dbg_laws.proofs.ChannelSizeLemmas.{IsSquare, square_fire, square_star
 use Rattle.dbg_laws.proofs.ChannelBalanceLemmas.{sends_left, gets_left, sends_by, gets_by, sends_step, gets_step, step_balance, balanced, no_counts}
 use Rattle.dbg_laws.proofs.ChannelBalanceLemmas.{sends_one, gets_none}
 
+-- an event of the set, and one that is not
+pub kept : (cut : List ℕ) (e : Event) (E : List Event) → 0 < get_or cut e.process 0
+    → events_of cut (e ∷ E) ≡ e ∷ events_of (set cut e.process (get_or cut e.process 0 - 1)) E
+kept cut e E some =
+    ap (λ (b : Bool). if b then e ∷ events_of (set cut e.process (get_or cut e.process 0 - 1)) E else events_of cut E)
+    (lt-ltb 0 (get_or cut e.process 0) some)
+
+pub left_out : (cut : List ℕ) (e : Event) (E : List Event) → get_or cut e.process 0 ≡ 0 → events_of cut (e ∷ E) ≡ events_of cut E
+left_out cut e E none =
+    ap (λ (b : Bool). if b then e ∷ events_of (set cut e.process (get_or cut e.process 0 - 1)) E else events_of cut E)
+    (le-ltb 0 (get_or cut e.process 0) (omega (arith, none)))
+
+-- the set has as many events of each process as F has choices
+abbrev pub Counts : List ℕ → History → Type 0
+Counts cut F = (q : ℕ) → get_or cut q 0 ≡ length (get_or F q [])
+
+counts_less : (cut : List ℕ) (F : History) (p k : ℕ) (left : List ℕ) → get_or F p [] ≡ k ∷ left → Counts cut F
+    → Counts (set cut p (get_or cut p 0 - 1)) (set F p left)
+counts_less cut F p k left line counts q =
+    let count : get_or cut p 0 ≡ suc (length left) = counts p ∙ ap (λ (l : List ℕ). length l) line in
+    ⊎_elim
+    (λ (same : p ≡ q). subst (λ (x : ℕ). get_or (set cut p (get_or cut p 0 - 1)) x 0 ≡ length (get_or (set F p left) x [])) same
+    (get_or-set_same cut p (get_or cut p 0 - 1) 0 (there count)
+    ∙ less count
+    ∙ sym (ap (λ (l : List ℕ). length l) (get_or-set_same F p left [] (prefix_within F p k left line)))))
+    (λ (apart : p ≢ q).
+    let back : q ≢ p = λ x. apart (sym x) in
+    get_or-set_other cut p q (get_or cut p 0 - 1) 0 back
+    ∙ counts q
+    ∙ sym (ap (λ (l : List ℕ). length l) (get_or-set_other F p q left [] back)))
+    (cases_eq p q)
+  where
+    there : get_or cut p 0 ≡ suc (length left) → p < length cut
+    there count = grind (arith, get_or_past {X = ℕ})
+
+    less : get_or cut p 0 ≡ suc (length left) → get_or cut p 0 - 1 ≡ length left
+    less count = omega (arith, count)
+
 -- no process receives more messages in F than its channels have at c and others send in F
 abbrev Fits : Program → Configuration → History → Type 0
 Fits P c F = (i j : ℕ) → i ≢ j → i < length P → j < length P → gets_left P F j i ≤ length (channel_of c i j) + sends_left P F i j
 
--- a legal list of F from c on
-record Ordered (P : Program) (c : Configuration) (F : History) : Type 0 where
-  events : List Event
-  end : Configuration
-  legal : order_from P c events ≡ Ok end
-  takes : IsOrderOf F events
+-- the events of the set are a legal list of F from c on
+pub record Ordered (P : Program) (c : Configuration) (F : History) (cut : List ℕ) (E : List Event) : Type 0 where
+  pub end : Configuration
+  pub legal : order_from P c (events_of cut E) ≡ Ok end
+  pub takes : IsOrderOf F (events_of cut E)
 
 all_empty : (F : History) → ((q : ℕ) → get_or F q [] ≡ []) → IsEmpty F
 all_empty [] none = tt
@@ -39,26 +77,34 @@ no_prefix [] m none = refl
 no_prefix (x ∷ l) m none = cc
 
 -- the first event is in the cut
-cut_inside : (P : Program) (c m : Configuration) (H F R : History) (e : Event) (rest left : List ℕ) → IsSquare (length P) c.channels
+cut_inside : (P : Program) (c m : Configuration) (H F R : History) (cut : List ℕ) (e : Event) (E : List Event) (rest left : List ℕ)
+    → IsSquare (length P) c.channels
     → fire P c e.process e.choice ≡ Ok m → get_or H e.process [] ≡ e.choice ∷ rest → get_or F e.process [] ≡ e.choice ∷ left
-    → rest ≡ left ++ get_or R e.process [] → IsSplit H F R → Fits P c F
-    → (IsSplit (set H e.process rest) (set F e.process left) R → Fits P m (set F e.process left) → Ordered P m (set F e.process left))
-    → Ordered P c F
-cut_inside P c m H F R e rest left square fires prefix line whole split fits later =
+    → rest ≡ left ++ get_or R e.process [] → IsSplit H F R → Fits P c F → Counts cut F
+    → (IsSplit (set H e.process rest) (set F e.process left) R → Fits P m (set F e.process left)
+    → Counts (set cut e.process (get_or cut e.process 0 - 1)) (set F e.process left)
+    → Ordered P m (set F e.process left) (set cut e.process (get_or cut e.process 0 - 1)) E)
+    → Ordered P c F cut (e ∷ E)
+cut_inside P c m H F R cut e E rest left square fires prefix line whole split fits counts later =
     let parts : IsSplit (set H e.process rest) (set F e.process left) R =
     subst (λ (l : List ℕ). IsSplit (set H e.process l) (set F e.process left) R) (sym whole)
     (split_after H F R e.process e.choice left line (prefix_within H e.process e.choice rest prefix) split) in
     let rest_fits = λ (i j : ℕ) (apart : i ≢ j) (i_there : i < length P) (j_there : j < length P).
     fits_after P c m F e.process e.choice left i j (fits i j apart i_there j_there)
     (step_balance P c m e.process e.choice i j square i_there j_there fires) line in
-    let o = later parts rest_fits in
+    let o = later parts rest_fits (counts_less cut F e.process e.choice left line counts) in
+    let some : 0 < get_or cut e.process 0 = some_left (counts e.process ∙ ap (λ (l : List ℕ). length l) line) in
+    let same = kept cut e E some in
     record {
-      events = e ∷ o.events;
       end = o.end;
-      legal = legal_after P c m o.end e o.events fires o.legal;
-      takes = (left, line, o.takes);
+      legal = subst (λ (X : List Event). order_from P c X ≡ Ok o.end) (sym same)
+          (legal_after P c m o.end e (events_of (set cut e.process (get_or cut e.process 0 - 1)) E) fires o.legal);
+      takes = subst (λ (X : List Event). IsOrderOf F X) (sym same) (left, line, o.takes);
     }
   where
+    some_left : {n k : ℕ} → n ≡ suc k → 0 < n
+    some_left e = omega (arith, e)
+
     fits_after : (P : Program) (c m : Configuration) (F : History) (q k : ℕ) (left : List ℕ) (i j : ℕ)
         → gets_left P F j i ≤ length (channel_of c i j) + sends_left P F i j
         → length (channel_of c i j) + sends_by P q k i j ≡ gets_by P q k j i + length (channel_of m i j)
@@ -70,12 +116,13 @@ cut_inside P c m H F R e rest left square fires prefix line whole split fits lat
         omega (arith, fits, step, sends, gets)
 
 -- the first event is not in the cut: it moves after the events of the cut
-cut_outside : (P : Program) (c m : Configuration) (H F R : History) (e : Event) (rest : List ℕ) → IsSquare (length P) c.channels
+cut_outside : (P : Program) (c m : Configuration) (H F R : History) (cut : List ℕ) (e : Event) (E : List Event) (rest : List ℕ)
+    → IsSquare (length P) c.channels
     → fire P c e.process e.choice ≡ Ok m → get_or H e.process [] ≡ e.choice ∷ rest → get_or F e.process [] ≡ []
-    → IsSplit H F R → Fits P c F
-    → (IsSplit (set H e.process rest) F (set R e.process rest) → Fits P m F → Ordered P m F)
-    → Ordered P c F
-cut_outside P c m H F R e rest square fires prefix none split fits later =
+    → IsSplit H F R → Fits P c F → Counts cut F
+    → (IsSplit (set H e.process rest) F (set R e.process rest) → Fits P m F → Ordered P m F cut E)
+    → Ordered P c F cut (e ∷ E)
+cut_outside P c m H F R cut e E rest square fires prefix none split fits counts later =
     let p = e.process in
     let line : get_or R p [] ≡ e.choice ∷ rest =
     ap (λ (l : List ℕ). l ++ get_or R p []) (sym none) ∙ sym (split.lines p) ∙ prefix in
@@ -89,9 +136,14 @@ cut_outside P c m H F R e rest square fires prefix none split fits later =
     waits P c m o.end F p e.choice t none to apart
     (fits p t (λ x. apart (sym x)) p_there t_there)
     (step_balance P c m p e.choice p t square p_there t_there fires)
-    (balanced P m o.end F o.events p t (square_fire P (length P) c m p e.choice fires square) p_there t_there o.legal o.takes) in
-    let b = to_end P c m o.end p e.choice o.events fires o.legal (are_others F p o.events none o.takes) waiting in
-    record { events = o.events; end = b.between; legal = b.first; takes = o.takes }
+    (balanced P m o.end F (events_of cut E) p t (square_fire P (length P) c m p e.choice fires square) p_there t_there o.legal o.takes) in
+    let b = to_end P c m o.end p e.choice (events_of cut E) fires o.legal (are_others F p (events_of cut E) none o.takes) waiting in
+    let same = left_out cut e E (counts p ∙ ap (λ (l : List ℕ). length l) none) in
+    record {
+      end = b.between;
+      legal = subst (λ (X : List Event). order_from P c X ≡ Ok b.between) (sym same) b.first;
+      takes = subst (λ (X : List Event). IsOrderOf F X) (sym same) o.takes;
+    }
   where
     split_rest : (H F R : History) (p k : ℕ) (rest : List ℕ) → get_or H p [] ≡ k ∷ rest → get_or R p [] ≡ k ∷ rest → get_or F p [] ≡ []
         → IsSplit H F R → IsSplit (set H p rest) F (set R p rest)
@@ -134,34 +186,35 @@ cut_outside P c m H F R e rest square fires prefix none split fits later =
         let takes = gets_none P p k t p (λ x. apart (sym x)) in
         omega (arith, fits, step, rest, sends, one, takes)
 
-cut_by : (P : Program) (c m : Configuration) (H F R : History) (e : Event) (rest line : List ℕ) → get_or F e.process [] ≡ line
+cut_by : (P : Program) (c m : Configuration) (H F R : History) (cut : List ℕ) (e : Event) (E : List Event) (rest line : List ℕ)
+    → get_or F e.process [] ≡ line
     → IsSquare (length P) c.channels → fire P c e.process e.choice ≡ Ok m → get_or H e.process [] ≡ e.choice ∷ rest → IsSplit H F R
-    → Fits P c F
-    → ((G S : History) → IsSplit (set H e.process rest) G S → Fits P m G → Ordered P m G)
-    → Ordered P c F
-cut_by P c m H F R e rest [] line square fires prefix split fits later =
-    cut_outside P c m H F R e rest square fires prefix line split fits (λ x y. later F (set R e.process rest) x y)
-cut_by P c m H F R e rest (k ∷ left) line square fires prefix split fits later =
+    → Fits P c F → Counts cut F
+    → ((G S : History) (v : List ℕ) → IsSplit (set H e.process rest) G S → Fits P m G → Counts v G → Ordered P m G v E)
+    → Ordered P c F cut (e ∷ E)
+cut_by P c m H F R cut e E rest [] line square fires prefix split fits counts later =
+    cut_outside P c m H F R cut e E rest square fires prefix line split fits counts
+    (λ x y. later F (set R e.process rest) cut x y counts)
+cut_by P c m H F R cut e E rest (k ∷ left) line square fires prefix split fits counts later =
     let whole : e.choice ∷ rest ≡ k ∷ (left ++ get_or R e.process []) =
     sym prefix ∙ split.lines e.process ∙ ap (λ (l : List ℕ). l ++ get_or R e.process []) line in
     let choice : k ≡ e.choice = cc in
     let beyond : rest ≡ left ++ get_or R e.process [] = cc in
-    cut_inside P c m H F R e rest left square fires prefix (line ∙ ap (λ (x : ℕ). x ∷ left) choice) beyond split fits
-    (λ x y. later (set F e.process left) R x y)
+    cut_inside P c m H F R cut e E rest left square fires prefix (line ∙ ap (λ (x : ℕ). x ∷ left) choice) beyond split fits counts
+    (λ x y z. later (set F e.process left) R (set cut e.process (get_or cut e.process 0 - 1)) x y z)
 
-cut_order : (P : Program) (c d : Configuration) (H F R : History) (E : List Event) → IsSquare (length P) c.channels
-    → order_from P c E ≡ Ok d → IsOrderOf H E → IsSplit H F R → Fits P c F → Ordered P c F
-cut_order P c d H F R [] square legal empty split fits = record {
-  events = [];
+cut_order : (P : Program) (c d : Configuration) (H F R : History) (cut : List ℕ) (E : List Event) → IsSquare (length P) c.channels
+    → order_from P c E ≡ Ok d → IsOrderOf H E → IsSplit H F R → Fits P c F → Counts cut F → Ordered P c F cut E
+cut_order P c d H F R cut [] square legal empty split fits counts = record {
   end = c;
   legal = refl;
   takes = all_empty F (λ q. no_prefix (get_or F q []) (get_or R q []) (sym (split.lines q) ∙ none_left H q empty));
 }
-cut_order P c d H F R (e ∷ E) square legal takes split fits =
+cut_order P c d H F R cut (e ∷ E) square legal takes split fits counts =
     let step = first_step (fire P c e.process e.choice) (λ x. order_from P x E) d legal in
-    cut_by P c step.0 H F R e takes.0 (get_or F e.process []) refl square step.1 takes.1 split fits
-    (λ G S x y. cut_order P step.0 d (set H e.process takes.0) G S E
-    (square_fire P (length P) c step.0 e.process e.choice step.1 square) step.2 takes.2 x y)
+    cut_by P c step.0 H F R cut e E takes.0 (get_or F e.process []) refl square step.1 takes.1 split fits counts
+    (λ G S v x y z. cut_order P step.0 d (set H e.process takes.0) G S v E
+    (square_fire P (length P) c step.0 e.process e.choice step.1 square) step.2 takes.2 x y z)
 
 -- the choices beyond a cut
 abbrev pub rest_at : History → List ℕ → History
@@ -200,22 +253,31 @@ split_at H cut = record { size = size H cut; lines = λ q. lines H cut q }
     lines (line ∷ H) (n ∷ cut) zero = sym (take-append-drop n line)
     lines (line ∷ H) (n ∷ cut) (suc q) = lines H cut q
 
+-- a cut of a list of events is consistent: its events fire alone, in the order of the list
+module _ (P : Program) (H : History) (E : List Event) (c : Configuration) (legal : order P E ≡ Ok c) (whole : IsOrderOf H E)
+    (cut : List ℕ) (is : IsConsistent P H cut) where
+  pub counts_at : Counts cut (history_at H cut)
+  counts_at q =
+      let line = ap (λ (l : List ℕ). length l) (line_at H cut q) in
+      let within = is.within q in
+      let size = length-take-le (get_or cut q 0) (get_or H q []) within in
+      omega (arith, line, size)
+
+  fits_start : Fits P (start_of P) (history_at H cut)
+  fits_start i j apart i_there j_there =
+      let gets : gets_left P (history_at H cut) j i ≡ count_by (receives_from P j i) (take (get_or cut j 0) (get_or H j [])) =
+      ap (λ (l : List ℕ). count_by (receives_from P j i) l) (line_at H cut j) in
+      let sends : sends_left P (history_at H cut) i j ≡ count_by (sends_to P i j) (take (get_or cut i 0) (get_or H i [])) =
+      ap (λ (l : List ℕ). count_by (sends_to P i j) l) (line_at H cut i) in
+      let causes = is.causes i j apart in
+      omega (arith, gets, sends, causes)
+
+  pub ordered_at : Ordered P (start_of P) (history_at H cut) cut E
+  ordered_at =
+      cut_order P (start_of P) c H (history_at H cut) (rest_at H cut) cut E (square_start P) legal whole (split_at H cut) fits_start counts_at
+
 pub cut_possible : (P : Program) (H : History) (cut : List ℕ) → IsPossible P H → IsConsistent P H cut → IsPossible P (history_at H cut)
-cut_possible P H cut all consistent =
+cut_possible P H cut all is =
     let l = listed P H all in
-    let fits = λ (i j : ℕ) (apart : i ≢ j) (i_there : i < length P) (j_there : j < length P).
-    fits_start P H cut i j (consistent.causes i j apart) in
-    let o = cut_order P (start_of P) (play P H) H (history_at H cut) (rest_at H cut) l.events (square_start P) l.legal l.takes
-    (split_at H cut) fits in
-    (possible P (history_at H cut) o.events o.end o.legal o.takes).0
-  where
-    fits_start : (P : Program) (H : History) (cut : List ℕ) (i j : ℕ)
-        → count_by (receives_from P j i) (take (get_or cut j 0) (get_or H j []))
-        ≤ count_by (sends_to P i j) (take (get_or cut i 0) (get_or H i []))
-        → gets_left P (history_at H cut) j i ≤ length (channel_of (start_of P) i j) + sends_left P (history_at H cut) i j
-    fits_start P H cut i j causes =
-        let gets : gets_left P (history_at H cut) j i ≡ count_by (receives_from P j i) (take (get_or cut j 0) (get_or H j [])) =
-        ap (λ (l : List ℕ). count_by (receives_from P j i) l) (line_at H cut j) in
-        let sends : sends_left P (history_at H cut) i j ≡ count_by (sends_to P i j) (take (get_or cut i 0) (get_or H i [])) =
-        ap (λ (l : List ℕ). count_by (sends_to P i j) l) (line_at H cut i) in
-        omega (arith, gets, sends, causes)
+    let o = ordered_at P H l.events (play P H) l.legal l.takes cut is in
+    (possible P (history_at H cut) (events_of cut l.events) o.end o.legal o.takes).0

@@ -18,12 +18,12 @@ use Rattle.dbg_laws.proofs.UndoneCutLemmas.{nothing_consistent}
 use Rattle.dbg_laws.proofs.CutDecisionLemmas.{Known, known_le, known_consistent, known_satisfies}
 
 -- two cuts combined count by count
-paired : (ℕ → ℕ → ℕ) → List ℕ → List ℕ → List ℕ
+pub paired : (ℕ → ℕ → ℕ) → List ℕ → List ℕ → List ℕ
 paired f [] w = []
 paired f (n ∷ v) [] = []
 paired f (n ∷ v) (m ∷ w) = f n m ∷ paired f v w
 
-paired_size : (f : ℕ → ℕ → ℕ) (v w : List ℕ) → length v ≡ length w → length (paired f v w) ≡ length v
+pub paired_size : (f : ℕ → ℕ → ℕ) (v w : List ℕ) → length v ≡ length w → length (paired f v w) ≡ length v
 unfolding paired
 paired_size f [] w same = refl
 paired_size f (n ∷ v) [] same = sym same
@@ -38,16 +38,16 @@ paired_at f (n ∷ v) [] p none same = absurd (omega (arith, same))
 paired_at f (n ∷ v) (m ∷ w) zero none same = refl
 paired_at f (n ∷ v) (m ∷ w) (suc p) none same = paired_at f v w p none (omega (arith, same))
 
-abbrev lesser : List ℕ → List ℕ → List ℕ
+abbrev pub lesser : List ℕ → List ℕ → List ℕ
 lesser v w = paired min v w
 
-abbrev greater : List ℕ → List ℕ → List ℕ
+abbrev pub greater : List ℕ → List ℕ → List ℕ
 greater v w = paired max v w
 
-lesser_at : (v w : List ℕ) (p : ℕ) → length v ≡ length w → get_or (lesser v w) p 0 ≡ min (get_or v p 0) (get_or w p 0)
+pub lesser_at : (v w : List ℕ) (p : ℕ) → length v ≡ length w → get_or (lesser v w) p 0 ≡ min (get_or v p 0) (get_or w p 0)
 lesser_at v w p same = paired_at min v w p refl same
 
-greater_at : (v w : List ℕ) (p : ℕ) → length v ≡ length w → get_or (greater v w) p 0 ≡ max (get_or v p 0) (get_or w p 0)
+pub greater_at : (v w : List ℕ) (p : ℕ) → length v ≡ length w → get_or (greater v w) p 0 ≡ max (get_or v p 0) (get_or w p 0)
 greater_at v w p same = paired_at max v w p refl same
 
 at_most_itself : (v : List ℕ) → IsAtMost v v

@@ -1,5 +1,5 @@
 -- A process has sent to another process, and received from it, at most one message for each of its choices.
-use Rattle.std.proofs.Common.{◌≡◌, ◌≢◌, ℕ, suc, ◌+◌, ◌<◌, ◌≤◌, List, [], ◌∷◌, length, get_or, set, Option, Result, Ok, refl, sym, ap, ◌∙◌}
+use Rattle.std.proofs.Common.{◌≡◌, ◌≢◌, ℕ, ◌+◌, ◌<◌, ◌≤◌, List, [], ◌∷◌, length, get_or, Ok, sym, ap, ◌∙◌}
 use Rattle.std.proofs.Common.{subst, ⊎_elim, arith}
 use Rattle.std.proofs.lemmas.Bool.{cases_eq}
 use Rattle.std.proofs.lemmas.List.{get_or-set_same, get_or-set_other, set_past}
@@ -12,7 +12,7 @@ use Rattle.dbg_base.specs.Firing.{fire}
 use Rattle.dbg_base.specs.Histories.{History}
 use Rattle.dbg_base.specs.Orders.{Event, order_from, with_first, choices_of}
 use Rattle.dbg_laws.proofs.Lists.{within_or_past}
-use Rattle.dbg_laws.proofs.Moves.{Move, Keeps, Puts, Takes, sent_after, got_after, after_move, fires, kept_state}
+use Rattle.dbg_laws.proofs.Moves.{Move, Keeps, Puts, Takes, sent_after, got_after, fires, kept_state}
 use Rattle.dbg_laws.proofs.OrderSwapLemmas.{first_step, length-choices_of}
 
 -- each count grows by at most n

@@ -28,7 +28,7 @@ use Rattle.dbg_laws.proofs.EffectiveOrderLemmas.{leads_to_reached, leads_to_once
 
 -- A clock and a frontier are determined.
 
-one_clock : (P : Program) (H : History) (p n : ℕ) (c d : List ℕ) → IsClock P H p n c → IsClock P H p n d → c ≡ d
+pub one_clock : (P : Program) (H : History) (p n : ℕ) (c d : List ℕ) → IsClock P H p n c → IsClock P H p n d → c ≡ d
 one_clock P H p n c d is other =
     same_cut c d (is.consistent.sizes ∙ sym other.consistent.sizes) (is.least d other.consistent other.reaches)
     (other.least c is.consistent is.reaches)

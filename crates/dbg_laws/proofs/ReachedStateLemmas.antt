@@ -134,7 +134,7 @@ nothing_taken : (n : ℕ) (line : List ℕ) → n ≤ 0 → take n [] ≡ take n
 nothing_taken zero line none = refl
 nothing_taken (suc n) line none = absurd (omega arith)
 
-cut_twice : (lines : List (List ℕ)) (places cut : List ℕ) → ((p : ℕ) → get_or cut p 0 ≤ length (get_or (cut_lines lines places) p []))
+pub cut_twice : (lines : List (List ℕ)) (places cut : List ℕ) → ((p : ℕ) → get_or cut p 0 ≤ length (get_or (cut_lines lines places) p []))
     → cut_lines (cut_lines lines places) cut ≡ cut_lines lines cut
 cut_twice [] places cut within = refl
 cut_twice (line ∷ lines) [] [] within = ap (λ (H : History). [] ∷ H) (cut_twice lines [] [] (λ p. within (suc p)))
