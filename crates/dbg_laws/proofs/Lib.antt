@@ -22,3 +22,18 @@ pub mod DueAnswerLemmas
 pub mod LegalJournalLemmas
 pub mod EffectiveOrderLemmas
 pub mod OneAnswer
+pub mod ClosedSetLemmas
+pub mod ForwardLemmas
+pub mod LastEventLemmas
+pub mod CausalPastLemmas
+pub mod ReplayLemmas
+pub mod AloneLemmas
+pub mod SomeReplay
+pub mod FrontierLemmas
+pub mod SetBreakpointLemmas
+pub mod SomeAnswer
+pub mod ReceiverLemmas
+pub mod StopLemmas
+pub mod ShownAnswers
+pub mod NextReplayLemmas
+mod ReferenceRows

@@ -2,4 +2,5 @@
 //! exactly the consistent cuts, and each command has one outcome.
 #![tactic(auto)]
 
+pub mod headline;
 pub mod laws;
