@@ -16,7 +16,7 @@ use Rattle.dbg_laws.proofs.UndoneCutLemmas.{cut_of, count_at, IsPrefix, prefix_c
 use Rattle.dbg_laws.proofs.ClosedSetLemmas.{closed}
 
 -- the choices of one list after another
-line_append : (n : ℕ) (A B : List Event) (q : ℕ)
+pub line_append : (n : ℕ) (A B : List Event) (q : ℕ)
     → get_or (choices_of n (A ++ B)) q [] ≡ get_or (choices_of n A) q [] ++ get_or (choices_of n B) q []
 line_append n [] B q = ap (λ (l : List ℕ). l ++ get_or (choices_of n B) q []) (sym (none_in_replicate n q))
 line_append n (e ∷ A) B q =
@@ -48,14 +48,14 @@ line_append n (e ∷ A) B q =
     ∙ ap (λ (l : List ℕ). l ++ Z) (sym (get_or-set_other Y e.process q (e.choice ∷ get_or Y e.process []) [] back)))
     (cases_eq e.process q)
 
--- a prefix of a legal list is legal
-first_part : (P : Program) (c d : Configuration) (A B : List Event) → order_from P c (A ++ B) ≡ Ok d
-    → (m : Configuration) × (order_from P c A ≡ Ok m)
-first_part P c d [] B legal = (c, refl)
+-- a prefix of a legal list is legal, and so is the rest after it
+pub first_part : (P : Program) (c d : Configuration) (A B : List Event) → order_from P c (A ++ B) ≡ Ok d
+    → (m : Configuration) × (order_from P c A ≡ Ok m) × (order_from P m B ≡ Ok d)
+first_part P c d [] B legal = (c, refl, legal)
 first_part P c d (e ∷ A) B legal =
     let step = first_step (fire P c e.process e.choice) (λ x. order_from P x (A ++ B)) d legal in
     let rest = first_part P step.0 d A B step.2 in
-    (rest.0, legal_after P c step.0 rest.0 e A step.1 rest.1)
+    (rest.0, legal_after P c step.0 rest.0 e A step.1 rest.1, rest.2)
 
 -- each prefix is closed
 forward : (P : Program) (A B : List Event) (c : Configuration) → order P (A ++ B) ≡ Ok c → (i m j n : ℕ)

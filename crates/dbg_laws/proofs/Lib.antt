@@ -36,4 +36,6 @@ pub mod ReceiverLemmas
 pub mod StopLemmas
 pub mod ShownAnswers
 pub mod NextReplayLemmas
+pub mod ChannelStepLemmas
+pub mod MessageLemmas
 mod ReferenceRows

@@ -1,5 +1,6 @@
--- An accepted command leaves the events that its reply says, in an order in which each fires.
-use Rattle.std.proofs.Common.{◌≡◌, inl, inr, ⊎_elim, ℕ, zero, suc, ◌-◌, ◌<◌, Bool, true, false, List, [], ◌∷◌, ◌++◌, length, map}
+-- After an accepted command, the events that its reply says remain, in an order in which each fires. After a batch, those remain that the
+-- replies to its commands say.
+use Rattle.std.proofs.Common.{◌≡◌, inl, inr, ⊎_elim, ℕ, zero, suc, ◌+◌, ◌-◌, ◌<◌, Bool, true, false, List, [], ◌∷◌, ◌++◌, length, map}
 use Rattle.std.proofs.Common.{get_or, set, Option, Some, None, Result, Ok, Err, refl, sym, ap, ◌∙◌, subst, arith, MatchBool}
 use Rattle.std.specs.Prelude.{nat_lt, slice_get}
 use Rattle.std.proofs.lemmas.Bool.{ltb-true}
@@ -23,11 +24,11 @@ use Rattle.dbg_base.specs.SystemStates.{SystemState, line_of, place_at, history_
 use Rattle.dbg_base.specs.SystemStates.{after_rollback, last_choice}
 use Rattle.dbg_base.specs.ModelStates.{ModelState, with_system}
 use Rattle.dbg_base.specs.Choices.{step_choice, next_choice, redo_choice, choice_again, if_fires}
-use Rattle.dbg_base.specs.Calls.{Plan, Step, Next, Undo, Redo, Rollback, Goto, Break, Clear, Arm, Pass}
+use Rattle.dbg_base.specs.Calls.{Plan, One, Step, Next, Undo, Redo, Rollback, Goto, Break, Clear, Arm, Pass}
 use Rattle.dbg_base.specs.Acts.{Accepts, Refuses, Plays, UnlessHalted, TakesBack, KeepsEvent, RollsBack, WithProcess, WithFound, GoesTo, HasNone}
-use Rattle.dbg_base.specs.Acts.{Lists, Sets, Acts, break_refusal}
+use Rattle.dbg_base.specs.Acts.{Lists, Sets, Acts, Batches, break_refusal}
 use Rattle.dbg_base.specs.Reference.{events_of}
-use Rattle.dbg_base.specs.Sessions.{counts, remaining}
+use Rattle.dbg_base.specs.Sessions.{counts, remaining, AreGiven, remaining_after}
 use Rattle.dbg_laws.proofs.Lists.{length-push}
 use Rattle.dbg_laws.proofs.OrderSwapLemmas.{IsOrderOf, takes, length-choices_of}
 use Rattle.dbg_laws.proofs.PlayLemmas.{possible}
@@ -37,6 +38,7 @@ use Rattle.dbg_laws.proofs.ConsistentCutLemmas.{length-history_at}
 use Rattle.dbg_laws.proofs.UndoneCutLemmas.{cut_of, prefix_without, prefix_consistent, prefix_is_cut}
 use Rattle.dbg_laws.proofs.LineStates.{length_cut, history_choice, history_redo, history_undo}
 use Rattle.dbg_laws.proofs.ReachedStateLemmas.{IsReached, cut_twice}
+use Rattle.dbg_laws.proofs.EffectiveOrderLemmas.{follows_keep}
 use Rattle.dbg_laws.proofs.ReplayLemmas.{part_end, part_legal, part_takes}
 use Rattle.dbg_laws.proofs.SomeReplay.{choices_are}
 
@@ -230,3 +232,23 @@ module _ (P : Program) (E : List Event) (c : Configuration) (M : ModelState) (re
       lists _ passes.1)
       (λ (none : HasNone P M b × Refuses refusals.NoCut M (Accepted reply) M'). refused refusals.NoCut none.1))
       (refused refusals.NotArmed))
+
+-- A batch: one command after the other.
+module _ (P : Program) (start : ModelState) (reply : Reply) (M' : ModelState) where
+  -- what a batch leaves, from the replies to its commands
+  abbrev pub BatchLeaves : List Plan → ModelState → List Event → Type 0
+  BatchLeaves plans M E = (replies : List Reply) × AreGiven P plans replies M M'
+      × (choices_of (length P) (remaining_after P replies E) ≡ history_of M'.system) × IsLegalOrder P (remaining_after P replies E)
+
+  pub batch_leaves : (plans : List Plan) (at : ℕ) (E : List Event) (c : Configuration) (M : ModelState) → IsReached P M.system
+      → choices_of (length P) E ≡ history_of M.system → order P E ≡ Ok c → Batches P start at plans M (Accepted reply) M'
+      → BatchLeaves plans M E
+  batch_leaves [] at E c M reached remain legal done =
+      ([], done.1, remain ∙ ap (λ (K : ModelState). history_of K.system) (sym done.1), (c, legal))
+  batch_leaves (plan ∷ plans) at E c M reached remain legal (inl (first, between, acts, rest)) =
+      let next = follows_keep P (One plan) M (Accepted first) between reached acts in
+      let leaves = acts_leave P E c M reached remain legal first between next plan acts in
+      let later = batch_leaves plans (at + 1) (remaining P first.done E) leaves.1.0 between next leaves.0 leaves.1.1 rest in
+      (first ∷ later.0, (between, acts, later.1), later.2, later.3)
+  batch_leaves (plan ∷ plans) at E c M reached remain legal (inr (refusal, acts, refuses)) =
+      absurd (let wrong : Accepted reply ≡ _ = refuses.0 in cc)
