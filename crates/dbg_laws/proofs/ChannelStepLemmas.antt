@@ -1,7 +1,7 @@
 -- What an event does to a channel: it appends a value, takes the head, or neither. So a value moves up by one place with each message that
 -- is received.
 use Rattle.std.proofs.Common.{◌≡◌, ◌≢◌, ◌⊎◌, inl, inr, ⊎_elim, ℕ, ℤ, zero, suc, ◌+◌, ◌<◌, List, [], ◌∷◌, ◌++◌, length}
-use Rattle.std.proofs.Common.{get_or, set, take, drop, Option, Some, None, Ok, refl, sym, ap, ◌∙◌, subst, arith, append_assoc}
+use Rattle.std.proofs.Common.{set, drop, Option, Some, None, Ok, sym, ap, ◌∙◌, subst, arith, append_assoc}
 use Rattle.std.proofs.lemmas.Bool.{cases_eq}
 use Rattle.dbg_base.specs.Trees.{Program, command_of}
 use Rattle.dbg_base.specs.Configurations.{Configuration, channel_of}

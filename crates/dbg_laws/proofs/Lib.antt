@@ -39,3 +39,4 @@ pub mod NextReplayLemmas
 pub mod ChannelStepLemmas
 pub mod MessageLemmas
 mod ReferenceRows
+mod ChangedReferenceRows

@@ -1,10 +1,10 @@
 -- The event that sends a message puts a value at the tail of the channel, and the event that receives it takes this value from the head.
-use Rattle.std.proofs.Common.{◌≡◌, ◌≢◌, ◌⊎◌, inl, inr, ⊎_elim, ℕ, ℤ, zero, suc, ◌+◌, ◌<◌, Bool, true, cond, List, [], ◌∷◌, ◌++◌, length}
+use Rattle.std.proofs.Common.{◌≡◌, ◌≢◌, inl, inr, ⊎_elim, ℕ, ℤ, zero, suc, ◌<◌, Bool, true, cond, List, [], ◌∷◌, ◌++◌, length}
 use Rattle.std.proofs.Common.{get_or, set, take, replicate, Ok, refl, sym, ap, ◌∙◌, subst, arith, count_by, append_assoc}
 use Rattle.std.proofs.lemmas.Bool.{cases_eq, eq-eqb}
 use Rattle.std.proofs.lemmas.List.{get_or-set_same, get_or-set_other, get_or-replicate, take_at}
 use Rattle.std.proofs.lemmas.List.Sums.{sum_by-append}
-use Rattle.dbg_base.specs.Trees.{Program, command_of}
+use Rattle.dbg_base.specs.Trees.{Program}
 use Rattle.dbg_base.specs.Configurations.{Configuration, start_of, channel_of}
 use Rattle.dbg_base.specs.Firing.{fire}
 use Rattle.dbg_base.specs.Histories.{History}

@@ -19,25 +19,28 @@ use Rattle.dbg_base.specs.Reference.{line, IsMessage, HappenedBefore, ByMessage,
 use Rattle.dbg_base.specs.Sessions.{IsReplay}
 use Rattle.dbg_laws.proofs.ClosedSetLemmas.{closed_under}
 
-abbrev send : Command
+abbrev pub send : Command
 send = record { guard = Truth true; action = Sends 1 (Number (pos 7)); assignments = [] }
 
-abbrev receive : Command
+abbrev pub send_eight : Command
+send_eight = record send { action = Sends 1 (Number (pos 8)) }
+
+abbrev pub receive : Command
 receive = record { guard = Truth true; action = Receives 0 0; assignments = [] }
 
-abbrev system : Program
+abbrev pub system : Program
 system =
-    record { name = codes "a"; variables = []; commands = send ∷ [] }
+    record { name = codes "a"; variables = []; commands = send ∷ send_eight ∷ [] }
     ∷ record { name = codes "b"; variables = (codes "y", pos 0) ∷ []; commands = receive ∷ [] }
     ∷ []
 
-abbrev sent : Event
+abbrev pub sent : Event
 sent = record { process = 0; choice = 0 }
 
-abbrev received : Event
+abbrev pub received : Event
 received = record { process = 1; choice = 0 }
 
-abbrev early : List Event
+abbrev pub early : List Event
 early = sent ∷ received ∷ sent ∷ []
 
 abbrev late : List Event
@@ -137,7 +140,7 @@ second_send_is_apart : HappenedBefore system early 0 1 1 0 → ⊥
 second_send_is_apart before = let wrong : 1 < 1 = one_each_is_closed.closed 0 1 1 0 before (omega arith) in omega (arith, wrong)
 
 -- the sender's last event can be undone after `early`, and the only send of a shorter list cannot: its message was received
-abbrev received_last : List Event
+abbrev pub received_last : List Event
 received_last = sent ∷ received ∷ []
 
 only_message : IsMessage system received_last 0 0 1 0
@@ -155,28 +158,28 @@ send_is_not_loose loose = loose.none_after 1 0 (ByMessage only_message)
 
 -- A legal journal of two steps, the state that it leads to, and a replay of its two events.
 
-abbrev nothing_done : ModelState
+abbrev pub nothing_done : ModelState
 nothing_done = opening system
 
-abbrev first_done : ModelState
+abbrev pub first_done : ModelState
 first_done = with_system nothing_done (after_choice nothing_done.system 0 0)
 
-abbrev both_done : ModelState
+abbrev pub both_done : ModelState
 both_done = with_system first_done (after_choice first_done.system 1 0)
 
-abbrev played : ℕ → Reply
+abbrev pub played : ℕ → Reply
 played p = record { done = Played (record { 0 = p }) (record { 0 = 0 }); halted = None }
 
-abbrev journal : Journal
+abbrev pub journal : Journal
 journal =
     record { seat = 1; call = Give (One (Step 0 0)); said = Accepted (played 0) }
     ∷ record { seat = 1; call = Give (One (Step 1 0)); said = Accepted (played 1) }
     ∷ []
 
-first_follows : Follows system (One (Step 0 0)) nothing_done (Accepted (played 0)) first_done
+pub first_follows : Follows system (One (Step 0 0)) nothing_done (Accepted (played 0)) first_done
 first_follows = inl (refl, (record { halted = None; is = refl; reported = refl }, refl))
 
-second_follows : Follows system (One (Step 1 0)) first_done (Accepted (played 1)) both_done
+pub second_follows : Follows system (One (Step 1 0)) first_done (Accepted (played 1)) both_done
 second_follows = inl (refl, (record { halted = None; is = refl; reported = refl }, refl))
 
 journal_is_legal : IsLegal system journal
@@ -188,7 +191,7 @@ journal_is_legal = record {
   );
 }
 
-journal_has_a_replay : IsReplay system journal both_done (sent ∷ received ∷ []) (play system ((0 ∷ []) ∷ (0 ∷ []) ∷ []))
+pub journal_has_a_replay : IsReplay system journal both_done (sent ∷ received ∷ []) (play system ((0 ∷ []) ∷ (0 ∷ []) ∷ []))
 journal_has_a_replay = record {
   legal = journal_is_legal;
   leads_to = (played 0, first_done, first_follows, (played 1, both_done, second_follows, refl));
