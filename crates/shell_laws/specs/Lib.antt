@@ -1,0 +1,2 @@
+pub mod Ample
+pub mod Questions
