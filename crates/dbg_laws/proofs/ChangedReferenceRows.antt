@@ -1,21 +1,22 @@
--- Each word of the headline is needed. Each row has a clause with one definition changed, and refutes it on a journal of two or three steps:
--- process 0 sends, and process 1 receives the message.
+-- Clauses of the headline with one definition changed. Each row refutes such a clause on a journal of two or three steps, in which process 0
+-- sends and process 1 receives the message.
 use Rattle.std.proofs.Common.{◌≡◌, ◌≢◌, ◌↔◌, ◌⊎◌, inl, inr, ℕ, ℤ, zero, suc, pos, ◌<◌, ◌≤◌, List, [], ◌∷◌, ◌++◌, length, get_or, Ok, refl, sym, ap}
-use Rattle.std.proofs.Common.{◌∙◌, subst, arith, true, None, Bool, cond}
+use Rattle.std.proofs.Common.{◌∙◌, subst, arith, true, false, None, Bool, cond}
 use Rattle.std.proofs.lemmas.Bool.{ne_eqb}
+use Rattle.std.specs.List.{AllByRecursion}
 use Rattle.std.specs.Prelude.{slice_index}
 use Rattle.dbg_base.specs.declared.said.Reply.{Reply}
 use Rattle.dbg_base.specs.declared.said.Done.{Done}
 use Rattle.dbg_base.specs.declared.said.Done.TheVariants.{Played, Undone}
 use Rattle.dbg_base.specs.declared.said.Said.TheVariants.{Accepted}
 use Rattle.dbg_base.specs.Trees.{Program}
-use Rattle.dbg_base.specs.Configurations.{Configuration, start_of, values_of, channel_of}
+use Rattle.dbg_base.specs.Configurations.{Configuration, start_of, values_of, state_in, channel_of}
 use Rattle.dbg_base.specs.Histories.{History, play}
 use Rattle.dbg_base.specs.Orders.{Event, order, choices_of, IsLegalOrder}
 use Rattle.dbg_base.specs.Counts.{sends_to, receives_from, got, sent as sent_among}
 use Rattle.dbg_base.specs.Cuts.{IsConsistent}
 use Rattle.dbg_base.specs.Clocks.{IsClock}
-use Rattle.dbg_base.specs.Predicates.{Conjunct, IsLeast}
+use Rattle.dbg_base.specs.Predicates.{Conjunct, holds, IsLeast}
 use Rattle.dbg_base.specs.Reversal.{MayUndo, IsRollback}
 use Rattle.dbg_base.specs.SystemStates.{history_of, configuration_of, after_choice, after_undo}
 use Rattle.dbg_base.specs.ModelStates.{ModelState, with_system}
@@ -28,7 +29,7 @@ use Rattle.dbg_base.proofs.EliminationLemmas.{none_at}
 use Rattle.dbg_laws.proofs.UndoneCutLemmas.{nothing_consistent}
 use Rattle.dbg_laws.proofs.ClosedSetLemmas.{closed}
 use Rattle.dbg_laws.proofs.ReferenceRows.{system, sent, received, received_last, nothing_done, first_done, both_done, played, journal}
-use Rattle.dbg_laws.proofs.ReferenceRows.{first_follows, second_follows, journal_has_a_replay}
+use Rattle.dbg_laws.proofs.ReferenceRows.{y_is_7, first_follows, second_follows, journal_has_a_replay}
 
 -- The history of the two events, and its cuts.
 
@@ -170,6 +171,28 @@ least_is_not_greatest law =
     record { closed = closed system received_last (1 ∷ 1 ∷ []) both; end = end; replayed = refl; all = tt } in
     let wrong : 1 ≤ 0 = is.greatest (1 ∷ 1 ∷ []) met 0 in
     omega (arith, wrong)
+
+-- a closed set, with conjuncts that hold at the end of all events in place of the end of the set's
+record IsMetAtEnd (P : Program) (E : List Event) (conjuncts : List Conjunct) (cut : List ℕ) : Type 0 where
+  closed : IsClosed P E cut
+  end : Configuration
+  replayed : order P E ≡ Ok end
+  all : AllByRecursion (λ conjunct. holds conjunct.expression (state_in end conjunct.process) ≡ true) conjuncts
+
+record IsLeastAtEnd (P : Program) (E : List Event) (conjuncts : List Conjunct) (cut : List ℕ) : Type 0 where
+  met : IsMetAtEnd P E conjuncts cut
+  least : (other : List ℕ) → IsMetAtEnd P E conjuncts other → (p : ℕ) → slice_index cut p ≤ slice_index other p
+
+-- `least`: without events y is not 7
+least_at_the_end : ((P : Program) (J : Journal) (M : ModelState) (E : List Event) (c : Configuration) → IsReplay P J M E c
+    → (conjuncts : List Conjunct) (cut : List ℕ) → IsLeast P (history_of M.system) conjuncts cut ↔ IsLeastAtEnd P E conjuncts cut) → ⊥
+least_at_the_end law =
+    let is = (law system journal both_done received_last end journal_has_a_replay (y_is_7 ∷ []) (0 ∷ 0 ∷ [])).1 (record {
+      met = record { closed = closed system received_last (0 ∷ 0 ∷ []) neither; end = end; replayed = refl; all = (refl, tt) };
+      least = λ other met p. (let none = none_at 2 p in omega (arith, none));
+    }) in
+    let wrong : false ≡ true = is.satisfies.all.0 in
+    (cc)
 
 -- the least set with at most so many events in place of the greatest
 record IsLeastBelow (P : Program) (E : List Event) (p n : ℕ) (cut : List ℕ) : Type 0 where

@@ -40,3 +40,4 @@ pub mod ChannelStepLemmas
 pub mod MessageLemmas
 mod ReferenceRows
 mod ChangedReferenceRows
+mod ChangedSessionRows

@@ -98,7 +98,7 @@ one_send_is_enough : order system (events_of (1 ∷ 1 ∷ []) early) ≡ Ok (pla
 one_send_is_enough = refl
 
 -- y is 7 after the replay of one send and the receive
-abbrev y_is_7 : Conjunct
+abbrev pub y_is_7 : Conjunct
 y_is_7 = record { process = 1; expression = Binary Equal (Variable 0) (Number (pos 7)) }
 
 -- The set of the first send and the receive is closed.
