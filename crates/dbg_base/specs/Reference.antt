@@ -71,7 +71,7 @@ pub record IsGreatest (P : Program) (E : List Event) (p n : ℕ) (cut : List ℕ
   pub below : slice_index cut p ≤ n
   pub greatest : (other : List ℕ) → IsClosed P E other → slice_index other p ≤ n → (q : ℕ) → slice_index other q ≤ slice_index cut q
 
--- Process p has a last event, and no event happened after it.
-pub record IsLoose (P : Program) (E : List Event) (p : ℕ) : Type 0 where
+-- Process p has a last event, which is maximal: no event happened after it.
+pub record IsMaximal (P : Program) (E : List Event) (p : ℕ) : Type 0 where
   pub some : 0 < length (line P E p)
   pub none_after : (j n : ℕ) → ¬ HappenedBefore P E p (length (line P E p) - 1) j n

@@ -16,7 +16,7 @@ use Rattle.dbg_base.specs.Frontiers.{heads_of}
 use Rattle.dbg_base.specs.Breakpoints.{Breakpoint, named}
 use Rattle.dbg_base.specs.Calls.{Query, Vars, Chan, Clock, Place, Can, CutOf, Why, Breaks}
 use Rattle.dbg_base.specs.Views.{about, AboutFound, mark_of}
-use Rattle.dbg_base.specs.Reference.{line, IsMessage, HappenedBefore, IsInPast, IsMet, IsLeastMet, IsLoose}
+use Rattle.dbg_base.specs.Reference.{line, IsMessage, HappenedBefore, IsInPast, IsMet, IsLeastMet, IsMaximal}
 
 -- for each process, how many of its events are events of process p or happened before one of them
 pub record IsPastOf (P : Program) (E : List Event) (p : ℕ) (cut : List ℕ) : Type 0 where
@@ -63,7 +63,7 @@ Shows P breakpoints E c (Chan i j) said =
 Shows P breakpoints E c (Clock p) said =
     MatchBool (nat_lt p (length P)) ((cut : List ℕ) × IsPastOf P E p cut × (said ≡ Answered (Counts cut))) (said ≡ Refused UnknownProcess)
 Shows P breakpoints E c (Can p) said =
-    ((said ≡ Answered (CanUndo (Ok tt))) ↔ IsLoose P E p)
+    ((said ≡ Answered (CanUndo (Ok tt))) ↔ IsMaximal P E p)
     × ((q : ℕ) → said ≡ Answered (CanUndo (Err (Consequence (record { 0 = q }))))
     → (n : ℕ) × IsMessage P E p (length (line P E p) - 1) q n)
 Shows P breakpoints E c (CutOf name) said = AboutFound (named name breakpoints) (λ b. ShowsCut P E b said) said

@@ -7,7 +7,7 @@ use Rattle.dbg_base.specs.Trees.{Program}
 use Rattle.dbg_base.specs.Histories.{History, IsPossible}
 use Rattle.dbg_base.specs.Orders.{Event, choices_of}
 use Rattle.dbg_base.specs.Reversal.{without_back, without_last, MayUndo}
-use Rattle.dbg_base.specs.Reference.{line, IsMessage, HappenedBefore, Earlier, ByMessage, Through, IsClosed, IsLoose}
+use Rattle.dbg_base.specs.Reference.{line, IsMessage, HappenedBefore, Earlier, ByMessage, Through, IsClosed, IsMaximal}
 use Rattle.dbg_laws.proofs.OrderSwapLemmas.{length-choices_of}
 use Rattle.dbg_laws.proofs.UndoLemmas.{within_by}
 use Rattle.dbg_laws.proofs.ConsistentCutLemmas.{cut_possible}
@@ -103,8 +103,8 @@ module _ (P : Program) (E : List Event) (p : ℕ) where
             (λ (other : q ≢ p). let count = count_other q other in omega (arith, count))
             (cases_eq q p)
 
-  pub may_undo : IsPossible P H → MayUndo P H p → IsLoose P E p
+  pub may_undo : IsPossible P H → MayUndo P H p → IsMaximal P E p
   may_undo all may = record { some = may.some; none_after = none_after may.some may.rest }
 
-  pub undoable : IsPossible P H → IsLoose P E p → MayUndo P H p
+  pub undoable : IsPossible P H → IsMaximal P E p → MayUndo P H p
   undoable all is = record { some = is.some; rest = possible_without is.some all is.none_after }

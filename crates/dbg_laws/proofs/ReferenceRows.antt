@@ -15,7 +15,7 @@ use Rattle.dbg_base.specs.ModelStates.{ModelState, opening, with_system}
 use Rattle.dbg_base.specs.Calls.{One, Step, Give}
 use Rattle.dbg_base.specs.Acts.{Follows}
 use Rattle.dbg_base.specs.Journals.{Journal, IsLegal}
-use Rattle.dbg_base.specs.Reference.{line, IsMessage, HappenedBefore, ByMessage, IsClosed, events_of, IsMet, IsLoose}
+use Rattle.dbg_base.specs.Reference.{line, IsMessage, HappenedBefore, ByMessage, IsClosed, events_of, IsMet, IsMaximal}
 use Rattle.dbg_base.specs.Sessions.{IsReplay}
 use Rattle.dbg_laws.proofs.ClosedSetLemmas.{closed_under}
 
@@ -153,8 +153,8 @@ only_message = record {
   same = refl;
 }
 
-send_is_not_loose : IsLoose system received_last 0 → ⊥
-send_is_not_loose loose = loose.none_after 1 0 (ByMessage only_message)
+send_is_not_maximal : IsMaximal system received_last 0 → ⊥
+send_is_not_maximal maximal = maximal.none_after 1 0 (ByMessage only_message)
 
 -- A legal journal of two steps, the state that it leads to, and a replay of its two events.
 

@@ -25,7 +25,7 @@ use Rattle.dbg_base.specs.Choices.{CannotUndo, IsNeeded, last_target}
 use Rattle.dbg_base.specs.Calls.{Query, Vars, Chan, Clock, Place, Can, CutOf, Why, Breaks, Ask}
 use Rattle.dbg_base.specs.Views.{about, TellsClock, TellsUndo, TellsCut, TellsFrontier, AboutFound, Answers}
 use Rattle.dbg_base.specs.Journals.{Journal, effective, IsDue}
-use Rattle.dbg_base.specs.Reference.{line, IsMessage, IsLoose}
+use Rattle.dbg_base.specs.Reference.{line, IsMessage, IsMaximal}
 use Rattle.dbg_base.specs.Sessions.{IsReplay}
 use Rattle.dbg_base.specs.Shown.{IsPastOf, ShowsCut, ShowsStop, Shows}
 use Rattle.dbg_laws.proofs.LineStates.{cut_at, length_cut, history_undo}
@@ -97,11 +97,11 @@ module _ (P : Program) (J : Journal) (M : ModelState) (E : List Event) (c : Conf
     tells.reported ∙ ap (λ (X : History). Answered (Frontier (heads_of X tells.tuple))) (sym is.remain),
   )
 
-  undo_to : (p : ℕ) → MayUndo P (history_of M.system) p → IsLoose P E p
+  undo_to : (p : ℕ) → MayUndo P (history_of M.system) p → IsMaximal P E p
   undo_to p may = may_undo P E p played.0 (subst (λ (X : History). MayUndo P X p) (sym is.remain) may)
 
-  undo_from : (p : ℕ) → IsLoose P E p → MayUndo P (history_of M.system) p
-  undo_from p loose = subst (λ (X : History). MayUndo P X p) is.remain (undoable P E p played.0 loose)
+  undo_from : (p : ℕ) → IsMaximal P E p → MayUndo P (history_of M.system) p
+  undo_from p maximal = subst (λ (X : History). MayUndo P X p) is.remain (undoable P E p played.0 maximal)
 
   -- the process that a refused undo names
   target_of_last : (p q : ℕ) → p < length P → (o : Option ℕ) → last_choice M.system p ≡ o → last_target P M.system p o ≡ Some q
@@ -131,18 +131,18 @@ module _ (P : Program) (J : Journal) (M : ModelState) (E : List Event) (c : Conf
     -- the event may be undone, or the process that is named received its message
     abbrev CanShown : ℕ → Type 0
     CanShown p =
-        ((said ≡ Answered (CanUndo (Ok tt))) ↔ IsLoose P E p)
+        ((said ≡ Answered (CanUndo (Ok tt))) ↔ IsMaximal P E p)
         × ((q : ℕ) → said ≡ Answered (CanUndo (Err (Consequence (record { 0 = q }))))
         → (n : ℕ) × IsMessage P E p (length (line P E p) - 1) q n)
 
     can_shown : (p : ℕ) (t : Bool) → (t ≡ true → p < length P) → (t ≡ false → length P ≤ p)
         → MatchBool t (TellsUndo P M.system p said) (said ≡ Refused UnknownProcess) → CanShown p
-    can_shown p true here past (inl (may, reported)) = ((λ e. undo_to p may, λ loose. reported), λ q e. cc)
+    can_shown p true here past (inl (may, reported)) = ((λ e. undo_to p may, λ maximal. reported), λ q e. cc)
     can_shown p true here past (inr why) =
         let reported = why.reported in (
           (
             λ e. cc,
-            λ loose. absurd (may_or_stays P M reached.state reached.possible p (here refl) why.refusal (undo_from p loose) why.why),
+            λ maximal. absurd (may_or_stays P M reached.state reached.possible p (here refl) why.refusal (undo_from p maximal) why.why),
           ),
           λ q e.
               let same : why.refusal ≡ Consequence (record { 0 = q }) = cc in
@@ -151,8 +151,8 @@ module _ (P : Program) (J : Journal) (M : ModelState) (E : List Event) (c : Conf
     can_shown p false here past refused = (
       (
         λ e. cc,
-        λ loose.
-            let some = loose.some in
+        λ maximal.
+            let some = maximal.some in
             let none = ap (λ (l : List ℕ). length l)
             (get_or_past H p [] (let size = length-choices_of (length P) E in let few = past refl in omega (arith, size, few))) in
             absurd (omega (arith, some, none)),

@@ -18,7 +18,7 @@ ghost use Rattle.dbg_base.specs.Calls.{Call, Query, Ask, Plan, One, Batch};
 ghost use Rattle.dbg_base.specs.Acts.{Follows};
 ghost use Rattle.dbg_base.specs.Journals.{Journal, IsLegal, effective, LeadsTo, IsDue};
 ghost use Rattle.dbg_laws.specs.Outcomes.{HasOneState};
-ghost use Rattle.dbg_base.specs.Reference.{line, IsMessage, Happens, HappenedBefore, IsInPast, IsClosed, events_of, IsMet, IsLeastMet, IsLoose, IsGreatest};
+ghost use Rattle.dbg_base.specs.Reference.{line, IsMessage, Happens, HappenedBefore, IsInPast, IsClosed, events_of, IsMet, IsLeastMet, IsMaximal, IsGreatest};
 ghost use Rattle.dbg_base.specs.Sessions.{IsReplay, remaining, AreGiven, remaining_after};
 ghost use Rattle.dbg_base.specs.Shown.{Shows};
 
@@ -77,7 +77,7 @@ pub fn notions()
     ensures none { (P : Program) (J : Journal) (M : ModelState) (E : List Event) (c : Configuration) → IsReplay P J M E c
         → (conjuncts : List Conjunct) → NoCut P (history_of M.system) conjuncts ↔ ((cut : List ℕ) → ¬ IsMet P E conjuncts cut) }
     ensures undo { (P : Program) (J : Journal) (M : ModelState) (E : List Event) (c : Configuration) → IsReplay P J M E c
-        → (p : ℕ) → MayUndo P (history_of M.system) p ↔ IsLoose P E p }
+        → (p : ℕ) → MayUndo P (history_of M.system) p ↔ IsMaximal P E p }
     ensures rollback { (P : Program) (J : Journal) (M : ModelState) (E : List Event) (c : Configuration) → IsReplay P J M E c
         → (p n : ℕ) (cut : List ℕ) → IsRollback P (history_of M.system) p n cut ↔ IsGreatest P E p n cut }
 {}

@@ -9,7 +9,7 @@ use Rattle.dbg_base.specs.Reversal.{MayUndo, IsRollback}
 use Rattle.dbg_base.specs.Clocks.{IsClock}
 use Rattle.dbg_base.specs.Predicates.{IsLeast, NoCut}
 use Rattle.dbg_base.specs.Cuts.{IsConsistent}
-use Rattle.dbg_base.specs.Reference.{IsClosed, IsMet, IsLeastMet, IsLoose, IsGreatest}
+use Rattle.dbg_base.specs.Reference.{IsClosed, IsMet, IsLeastMet, IsMaximal, IsGreatest}
 use Rattle.dbg_base.specs.Sessions.{IsReplay}
 use Rattle.dbg_laws.proofs.OrderSwapLemmas.{takes}
 use Rattle.dbg_laws.proofs.PlayLemmas.{possible}
@@ -60,7 +60,7 @@ returns-clause-none k P J M E c is conjuncts =
 
 pub returns-clause-undo : goal.returns-clause-undo
 returns-clause-undo k P J M E c is p =
-    subst (λ (H : History). MayUndo P H p ↔ IsLoose P E p) is.remain
+    subst (λ (H : History). MayUndo P H p ↔ IsMaximal P E p) is.remain
     (may_undo P E p (all P J M E c is), undoable P E p (all P J M E c is))
 
 pub returns-clause-rollback : goal.returns-clause-rollback
