@@ -6,7 +6,7 @@ use Rattle.std.specs.List.{AllByRecursion}
 use Rattle.dbg_base.specs.declared.said.Said.{Said}
 use Rattle.dbg_base.specs.declared.said.Said.TheVariants.{Answered, Refused}
 use Rattle.dbg_base.specs.declared.said.Answer.TheVariants.{Values, Messages, Counts, PlaceOf, CanUndo, CutIs, Frontier, Marks}
-use Rattle.dbg_base.specs.declared.refusal.Refusal.TheVariants.{UnknownProcess, Consequence}
+use Rattle.dbg_base.specs.declared.refusal.Refusal.TheVariants.{UnknownProcess, NothingToUndo, Consequence}
 use Rattle.dbg_base.specs.Trees.{Program}
 use Rattle.dbg_base.specs.Configurations.{Configuration, values_of, channel_of}
 use Rattle.dbg_base.specs.LocalStates.{LocalState, no_state}
@@ -43,18 +43,20 @@ pub record IsStop (P : Program) (E : List Event) (conjuncts : List Conjunct) (tu
       (λ conjunct. slice_index tuple conjunct.process ≤ length (line P E conjunct.process)
       → holds conjunct.expression (state_after P E conjunct.process (slice_index tuple conjunct.process)) ≡ true) conjuncts
 
--- the least such tuple
-pub record IsFirstStop (P : Program) (E : List Event) (conjuncts : List Conjunct) (tuple : List ℕ) : Type 0 where
-  pub stop : IsStop P E conjuncts tuple
-  pub least : (other : List ℕ) → IsStop P E conjuncts other → (p : ℕ) → slice_index tuple p ≤ slice_index other p
-
--- the answer is the first stop: for each process a number of events, or that it is past its last event
+-- the answer is the least such tuple: for each process a number of events, or that it is past its last event
 abbrev pub ShowsStop : Program → List Event → Breakpoint → Said → Type 0
-ShowsStop P E b said =
-    (tuple : List ℕ) × IsFirstStop P E b.conjuncts tuple × (said ≡ Answered (Frontier (heads_of (choices_of (length P) E) tuple)))
+ShowsStop P E b said = (tuple : List ℕ) × IsStop P E b.conjuncts tuple
+    × ((other : List ℕ) → IsStop P E b.conjuncts other → (p : ℕ) → slice_index tuple p ≤ slice_index other p)
+    × (said ≡ Answered (Frontier (heads_of (choices_of (length P) E) tuple)))
 
--- The replay of E ends at c. The last event of a process may be undone exactly if no event happened after it. A refusal names the process
--- that received its message. The place of a process is the number of its events. How many more choices it can make again is left open, since
+-- The answer is that the last event of process p may be undone, since no event happened after it. Or the process has no event, or process q
+-- received the message of its last event.
+abbrev pub ShowsUndo : Program → List Event → ℕ → Said → Type 0
+ShowsUndo P E p said =
+    (IsMaximal P E p × (said ≡ Answered (CanUndo (Ok tt)))) ⊎ ((line P E p ≡ []) × (said ≡ Answered (CanUndo (Err NothingToUndo))))
+    ⊎ ((q n : ℕ) × IsMessage P E p (length (line P E p) - 1) q n × (said ≡ Answered (CanUndo (Err (Consequence (record { 0 = q }))))))
+
+-- The replay of E ends at c. The place of a process is the number of its events. How many more choices it can make again is left open, since
 -- these are not events. The marks are those of the breakpoints.
 abbrev pub Shows : Program → List Breakpoint → List Event → Configuration → Query → Said → Type 0
 Shows P breakpoints E c (Vars p) said = said ≡ about P p (Values (values_of c p))
@@ -62,10 +64,7 @@ Shows P breakpoints E c (Chan i j) said =
     said ≡ (if nat_lt i (length P) && nat_lt j (length P) then Answered (Messages (channel_of c i j)) else Refused UnknownProcess)
 Shows P breakpoints E c (Clock p) said =
     MatchBool (nat_lt p (length P)) ((cut : List ℕ) × IsPastOf P E p cut × (said ≡ Answered (Counts cut))) (said ≡ Refused UnknownProcess)
-Shows P breakpoints E c (Can p) said =
-    ((said ≡ Answered (CanUndo (Ok tt))) ↔ IsMaximal P E p)
-    × ((q : ℕ) → said ≡ Answered (CanUndo (Err (Consequence (record { 0 = q }))))
-    → (n : ℕ) × IsMessage P E p (length (line P E p) - 1) q n)
+Shows P breakpoints E c (Can p) said = MatchBool (nat_lt p (length P)) (ShowsUndo P E p said) (said ≡ Refused UnknownProcess)
 Shows P breakpoints E c (CutOf name) said = AboutFound (named name breakpoints) (λ b. ShowsCut P E b said) said
 Shows P breakpoints E c (Why name) said = AboutFound (named name breakpoints) (λ b. ShowsStop P E b said) said
 Shows P breakpoints E c (Place p) said = (more : ℕ) × (said ≡ about P p (PlaceOf (length (line P E p)) (length (line P E p) + more)))

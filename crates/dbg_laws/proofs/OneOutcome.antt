@@ -250,7 +250,7 @@ known_possible : (P : Program) (H : History) → Known (IsPossible P H)
 known_possible P H = known_all (λ choices. choices ≡ []) known_empty (progress_of P H).unplayed
 
 -- why an event stays, in the two ways that there are
-cannot_cases : (P : Program) (M : SystemState) (p : ℕ) (refusal : Refusal) → CannotUndo P M p refusal
+pub cannot_cases : (P : Program) (M : SystemState) (p : ℕ) (refusal : Refusal) → CannotUndo P M p refusal
     → ((refusal ≡ NothingToUndo) × (place_at M p ≡ 0)) ⊎ ((q : ℕ) × (refusal ≡ Consequence (record { 0 = q })) × IsNeeded P M p q)
 cannot_cases P M p NothingToUndo none = inl (refl, none)
 cannot_cases P M p (Consequence q) needed = inr (q.0, refl, needed)

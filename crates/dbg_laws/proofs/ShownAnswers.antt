@@ -1,15 +1,15 @@
 -- The answers of a session are those that a replay shows.
-use Rattle.std.proofs.Common.{◌≡◌, ◌↔◌, inl, inr, ℕ, ◌+◌, ◌<◌, ◌≤◌, Bool, true, false, List, [], length, get_or, Option, Some, None, ◌-◌, Err}
-use Rattle.std.proofs.Common.{Ok, refl, sym, ap, ◌∙◌, subst, arith, MatchBool, if◌then◌else◌, ◌&&◌}
+use Rattle.std.proofs.Common.{◌≡◌, ◌⊎◌, ◌∷◌, inl, inr, ℕ, ◌+◌, ◌<◌, Bool, true, false, List, [], length, get_or, Option, Some, None, ◌-◌, Err}
+use Rattle.std.proofs.Common.{refl, sym, ap, ◌∙◌, subst, arith, MatchBool, if◌then◌else◌, ◌&&◌}
 use Rattle.std.specs.Prelude.{nat_lt}
-use Rattle.std.proofs.lemmas.Bool.{ltb-true, ltb-false}
-use Rattle.std.proofs.lemmas.List.{get_or_past, length-take-le}
+use Rattle.std.proofs.lemmas.Bool.{ltb-true}
+use Rattle.std.proofs.lemmas.List.{length-take-le}
 use Rattle.dbg_base.specs.declared.said.Said.{Said}
 use Rattle.dbg_base.specs.declared.said.Said.TheVariants.{Answered, Refused}
 use Rattle.dbg_base.specs.declared.said.Answer.TheVariants.{Values, Messages, PlaceOf, CanUndo, Frontier}
 use Rattle.dbg_base.specs.declared.refusal.Refusal.TheVariants.{UnknownProcess}
 use Rattle.dbg_base.specs.declared.refusal.Refusal.{Refusal}
-use Rattle.dbg_base.specs.declared.refusal.Refusal.TheVariants.{Consequence}
+use Rattle.dbg_base.specs.declared.refusal.Refusal.TheVariants.{NothingToUndo, Consequence}
 use Rattle.dbg_base.specs.Trees.{Program, command_of}
 use Rattle.dbg_base.specs.Configurations.{Configuration, start_of, values_of, channel_of}
 use Rattle.dbg_base.specs.Histories.{History, IsPossible, play}
@@ -21,23 +21,23 @@ use Rattle.dbg_base.specs.Breakpoints.{Breakpoint, named}
 use Rattle.dbg_base.specs.Reversal.{MayUndo, without_last, choice_at_end}
 use Rattle.dbg_base.specs.SystemStates.{place_at, line_of, history_of, configuration_of, last_choice, after_undo}
 use Rattle.dbg_base.specs.ModelStates.{ModelState}
-use Rattle.dbg_base.specs.Choices.{CannotUndo, IsNeeded, last_target}
+use Rattle.dbg_base.specs.Choices.{IsNeeded, last_target}
 use Rattle.dbg_base.specs.Calls.{Query, Vars, Chan, Clock, Place, Can, CutOf, Why, Breaks, Ask}
 use Rattle.dbg_base.specs.Views.{about, TellsClock, TellsUndo, TellsCut, TellsFrontier, AboutFound, Answers}
 use Rattle.dbg_base.specs.Journals.{Journal, effective, IsDue}
 use Rattle.dbg_base.specs.Reference.{line, IsMessage, IsMaximal}
 use Rattle.dbg_base.specs.Sessions.{IsReplay}
-use Rattle.dbg_base.specs.Shown.{IsPastOf, ShowsCut, ShowsStop, Shows}
+use Rattle.dbg_base.specs.Shown.{IsPastOf, ShowsCut, ShowsStop, ShowsUndo, Shows}
 use Rattle.dbg_laws.proofs.LineStates.{cut_at, length_cut, history_undo}
 use Rattle.dbg_laws.proofs.UndoLemmas.{last_with}
 use Rattle.dbg_laws.proofs.OrderSwapLemmas.{takes, length-choices_of}
 use Rattle.dbg_laws.proofs.PlayLemmas.{possible}
-use Rattle.dbg_laws.proofs.OneOutcome.{may_or_stays}
+use Rattle.dbg_laws.proofs.OneOutcome.{cannot_cases}
 use Rattle.dbg_laws.proofs.ReachedStateLemmas.{IsReached}
 use Rattle.dbg_laws.proofs.EffectiveOrderLemmas.{leads_to_reached, leads_to_once}
 use Rattle.dbg_laws.proofs.StopLemmas.{first_stop}
 use Rattle.dbg_laws.proofs.ReceiverLemmas.{received}
-use Rattle.dbg_laws.proofs.LastEventLemmas.{may_undo, undoable}
+use Rattle.dbg_laws.proofs.LastEventLemmas.{may_undo}
 use Rattle.dbg_laws.proofs.CausalPastLemmas.{clock_knows_all, clock_has_all}
 use Rattle.dbg_laws.proofs.ReplayLemmas.{least_is_met, none_is_met}
 
@@ -90,18 +90,17 @@ module _ (P : Program) (J : Journal) (M : ModelState) (E : List Event) (c : Conf
       inr (none_is_met P E c is.replayed b.conjuncts (subst (λ (X : History). NoCut P X b.conjuncts) (sym is.remain) none), reported)
 
   frontier_shown : (b : Breakpoint) (said : Said) → TellsFrontier P M b said → ShowsStop P E b said
-  frontier_shown b said tells = (
-    tells.tuple,
-    first_stop P E c is.replayed b.conjuncts tells.tuple
-        (subst (λ (X : History). IsFrontier P X b.conjuncts tells.tuple) (sym is.remain) tells.is),
-    tells.reported ∙ ap (λ (X : History). Answered (Frontier (heads_of X tells.tuple))) (sym is.remain),
-  )
+  frontier_shown b said tells =
+      let stop = first_stop P E c is.replayed b.conjuncts tells.tuple
+      (subst (λ (X : History). IsFrontier P X b.conjuncts tells.tuple) (sym is.remain) tells.is) in (
+        tells.tuple,
+        stop.0,
+        stop.1,
+        tells.reported ∙ ap (λ (X : History). Answered (Frontier (heads_of X tells.tuple))) (sym is.remain),
+      )
 
   undo_to : (p : ℕ) → MayUndo P (history_of M.system) p → IsMaximal P E p
   undo_to p may = may_undo P E p played.0 (subst (λ (X : History). MayUndo P X p) (sym is.remain) may)
-
-  undo_from : (p : ℕ) → IsMaximal P E p → MayUndo P (history_of M.system) p
-  undo_from p maximal = subst (λ (X : History). MayUndo P X p) is.remain (undoable P E p played.0 maximal)
 
   -- the process that a refused undo names
   target_of_last : (p q : ℕ) → p < length P → (o : Option ℕ) → last_choice M.system p ≡ o → last_target P M.system p o ≡ Some q
@@ -128,37 +127,27 @@ module _ (P : Program) (J : Journal) (M : ModelState) (E : List Event) (c : Conf
     either true first second = first
     either false first second = second
 
-    -- the event may be undone, or the process that is named received its message
-    abbrev CanShown : ℕ → Type 0
-    CanShown p =
-        ((said ≡ Answered (CanUndo (Ok tt))) ↔ IsMaximal P E p)
-        × ((q : ℕ) → said ≡ Answered (CanUndo (Err (Consequence (record { 0 = q }))))
-        → (n : ℕ) × IsMessage P E p (length (line P E p) - 1) q n)
+    no_events : (l : List ℕ) → length l ≡ 0 → l ≡ []
+    no_events [] none = refl
+    no_events (k ∷ l) none = absurd (omega (arith, none))
 
-    can_shown : (p : ℕ) (t : Bool) → (t ≡ true → p < length P) → (t ≡ false → length P ≤ p)
-        → MatchBool t (TellsUndo P M.system p said) (said ≡ Refused UnknownProcess) → CanShown p
-    can_shown p true here past (inl (may, reported)) = ((λ e. undo_to p may, λ maximal. reported), λ q e. cc)
-    can_shown p true here past (inr why) =
-        let reported = why.reported in (
-          (
-            λ e. cc,
-            λ maximal. absurd (may_or_stays P M reached.state reached.possible p (here refl) why.refusal (undo_from p maximal) why.why),
-          ),
-          λ q e.
-              let same : why.refusal ≡ Consequence (record { 0 = q }) = cc in
-              needed p (here refl) q (subst (λ (r : Refusal). CannotUndo P M.system p r) same why.why),
-        )
-    can_shown p false here past refused = (
-      (
-        λ e. cc,
-        λ maximal.
-            let some = maximal.some in
-            let none = ap (λ (l : List ℕ). length l)
-            (get_or_past H p [] (let size = length-choices_of (length P) E in let few = past refl in omega (arith, size, few))) in
-            absurd (omega (arith, some, none)),
-      ),
-      λ q e. cc,
-    )
+    -- the last event may be undone, or why not
+    can_shown : (p : ℕ) (t : Bool) → (t ≡ true → p < length P) → MatchBool t (TellsUndo P M.system p said) (said ≡ Refused UnknownProcess)
+        → MatchBool t (ShowsUndo P E p said) (said ≡ Refused UnknownProcess)
+    can_shown p true here (inl (may, reported)) = inl (undo_to p may, reported)
+    can_shown p true here (inr why) = by (cannot_cases P M.system p why.refusal why.why)
+      where
+        by : ((why.refusal ≡ NothingToUndo) × (place_at M.system p ≡ 0))
+            ⊎ ((q : ℕ) × (why.refusal ≡ Consequence (record { 0 = q })) × IsNeeded P M.system p q) → ShowsUndo P E p said
+        by (inl (same, none)) =
+            inr (inl (
+              no_events (line P E p) (sym (place_is p) ∙ none),
+              why.reported ∙ ap (λ (r : Refusal). Answered (CanUndo (Err r))) same,
+            ))
+        by (inr (q, same, need)) =
+            let message = needed p (here refl) q need in
+            inr (inr (q, message.0, message.1, why.reported ∙ ap (λ (r : Refusal). Answered (CanUndo (Err r))) same))
+    can_shown p false here refused = refused
 
     found_shown : (o : Option Breakpoint) → AboutFound o (λ b. TellsCut P M b said) said → AboutFound o (λ b. ShowsCut P E b said) said
     found_shown None refused = refused
@@ -178,7 +167,7 @@ module _ (P : Program) (J : Journal) (M : ModelState) (E : List Event) (c : Conf
         either (nat_lt p (length P)) (λ (tells : TellsClock P M.system p said). (tells.cut, clock_shown p tells.cut tells.is, tells.reported))
         (λ refused. refused) answers
     shown (Can p) answers =
-        can_shown p (nat_lt p (length P)) (ltb-true p (length P)) (ltb-false p (length P)) answers
+        can_shown p (nat_lt p (length P)) (ltb-true p (length P)) answers
     shown (CutOf name) answers = found_shown (named name M.breakpoints) answers
     shown (Place p) answers =
         let few = reached.state.within p in

@@ -11,7 +11,7 @@ use Rattle.dbg_base.specs.Orders.{Event, order, choices_of}
 use Rattle.dbg_base.specs.Predicates.{Conjunct, is_true, holds}
 use Rattle.dbg_base.specs.Frontiers.{choices_at, IsSettled, IsFrontier}
 use Rattle.dbg_base.specs.Reference.{line, HappenedBefore, Earlier, ByMessage, Through}
-use Rattle.dbg_base.specs.Shown.{state_after, IsStop, IsFirstStop}
+use Rattle.dbg_base.specs.Shown.{state_after, IsStop}
 use Rattle.dbg_laws.proofs.OrderSwapLemmas.{takes, length-choices_of}
 use Rattle.dbg_laws.proofs.PlayLemmas.{possible, same_states}
 use Rattle.dbg_laws.proofs.UndoLemmas.{within_by}
@@ -102,8 +102,8 @@ module _ (P : Program) (E : List Event) (c : Configuration) (legal : order P E �
             (cases_lt (get_or tuple r 0) (get_or cut r 0));
       }
 
-  pub first_stop : (conjuncts : List Conjunct) (tuple : List ℕ) → IsFrontier P H conjuncts tuple → IsFirstStop P E conjuncts tuple
-  first_stop conjuncts tuple is = record {
-    stop = stop tuple conjuncts is.settled;
-    least = λ other other_is. is.least other (settled other conjuncts other_is);
-  }
+  -- the least stop
+  pub first_stop : (conjuncts : List Conjunct) (tuple : List ℕ) → IsFrontier P H conjuncts tuple
+      → IsStop P E conjuncts tuple × ((other : List ℕ) → IsStop P E conjuncts other → (p : ℕ) → get_or tuple p 0 ≤ get_or other p 0)
+  first_stop conjuncts tuple is =
+      (stop tuple conjuncts is.settled, λ other other_is. is.least other (settled other conjuncts other_is))
