@@ -6,8 +6,7 @@ use Rattle.std.proofs.lemmas.Bool.{ne_eqb}
 use Rattle.std.specs.List.{AllByRecursion}
 use Rattle.std.specs.Prelude.{slice_index}
 use Rattle.dbg_base.specs.declared.said.Reply.{Reply}
-use Rattle.dbg_base.specs.declared.said.Done.{Done}
-use Rattle.dbg_base.specs.declared.said.Done.TheVariants.{Played, Undone}
+use Rattle.dbg_base.specs.declared.said.Done.TheVariants.{Played}
 use Rattle.dbg_base.specs.declared.said.Said.TheVariants.{Accepted}
 use Rattle.dbg_base.specs.Trees.{Program}
 use Rattle.dbg_base.specs.Configurations.{Configuration, start_of, values_of, state_in, channel_of}
@@ -18,13 +17,13 @@ use Rattle.dbg_base.specs.Cuts.{IsConsistent}
 use Rattle.dbg_base.specs.Clocks.{IsClock}
 use Rattle.dbg_base.specs.Predicates.{Conjunct, holds, IsLeast}
 use Rattle.dbg_base.specs.Reversal.{MayUndo, IsRollback}
-use Rattle.dbg_base.specs.SystemStates.{history_of, configuration_of, after_choice, after_undo}
+use Rattle.dbg_base.specs.SystemStates.{history_of, configuration_of, after_choice}
 use Rattle.dbg_base.specs.ModelStates.{ModelState, with_system}
-use Rattle.dbg_base.specs.Calls.{Plan, One, Step, Undo, Give}
+use Rattle.dbg_base.specs.Calls.{One, Step, Give}
 use Rattle.dbg_base.specs.Acts.{Follows}
 use Rattle.dbg_base.specs.Journals.{Journal, IsLegal, effective, LeadsTo}
 use Rattle.dbg_base.specs.Reference.{line, Happens, IsClosed, events_of, IsMet}
-use Rattle.dbg_base.specs.Sessions.{IsReplay, remaining}
+use Rattle.dbg_base.specs.Sessions.{IsReplay}
 use Rattle.dbg_base.proofs.EliminationLemmas.{none_at}
 use Rattle.dbg_laws.proofs.UndoneCutLemmas.{nothing_consistent}
 use Rattle.dbg_laws.proofs.ClosedSetLemmas.{closed}
@@ -228,35 +227,6 @@ state_of_other_events law =
     (record { legal = journal_has_a_replay.legal; leads_to = journal_has_a_replay.leads_to; replayed = refl }) in
     let wrong : pos 7 ∷ [] ≡ pos 0 ∷ [] = ap (λ (d : Configuration). values_of d 1) same in
     (cc)
-
--- an undo that leaves the events as they are
-abbrev remaining_all : Program → Done → List Event → List Event
-remaining_all P (Undone p k) E = E
-remaining_all P done E = remaining P done E
-
--- `command`: after the undo of the receive, the send remains
-command_without_undo : ((P : Program) (J : Journal) (M : ModelState) (E : List Event) (c : Configuration) → IsReplay P J M E c
-    → (plan : Plan) (reply : Reply) (after : ModelState) → Follows P (One plan) M (Accepted reply) after
-    → (choices_of (length P) (remaining_all P reply.done E) ≡ history_of after.system) × IsLegalOrder P (remaining_all P reply.done E)) → ⊥
-command_without_undo law =
-    let is = law system journal both_done received_last end journal_has_a_replay (Undo 1) undone after follows in
-    let wrong : ◌≡◌ {A = History} ((0 ∷ []) ∷ (0 ∷ []) ∷ []) ((0 ∷ []) ∷ [] ∷ []) = is.0 in
-    (cc)
-  where
-    undone : Reply
-    undone = record { done = Undone (record { 0 = 1 }) (record { 0 = 0 }); halted = None }
-
-    after : ModelState
-    after = with_system both_done (after_undo both_done.system 1)
-
-    follows : Follows system (One (Undo 1)) both_done (Accepted undone) after
-    follows = inl (record {
-      may = record { some = omega arith; rest = (refl, (refl, tt)) };
-      choice = 0;
-      was = refl;
-      reported = record { halted = None; is = refl; reported = refl };
-      left = refl;
-    })
 
 -- Three steps: after the receive of 7, process 0 sends 8.
 

@@ -25,6 +25,12 @@ due_more P given [] entry all due = (due, tt)
 due_more P given (first ∷ J) entry all due =
     (all.0, due_more P (counting given first.seat first.call first.said) J entry all.1 due)
 
+-- the last entry has the answer that is due
+pub last_due : (P : Program) (given : List Given) (J : Journal) (entry : Entry) → AreDue P given (J ++ entry ∷ [])
+    → IsDue P (effective_from given J) entry.seat entry.call entry.said
+last_due P given [] entry all = all.0
+last_due P given (first ∷ J) entry all = last_due P (counting given first.seat first.call first.said) J entry all.1
+
 pub legal_more : (P : Program) (J : Journal) (entry : Entry) → IsLegal P J → length J < CALLS
     → IsDue P (effective J) entry.seat entry.call entry.said → IsLegal P (J ++ entry ∷ [])
 legal_more P J entry legal room due = record {

@@ -36,6 +36,7 @@ pub mod ReceiverLemmas
 pub mod StopLemmas
 pub mod ShownAnswers
 pub mod NextReplayLemmas
+pub mod NextJournalLemmas
 pub mod ChannelStepLemmas
 pub mod MessageLemmas
 mod ReferenceRows

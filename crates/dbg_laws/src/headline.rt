@@ -2,7 +2,6 @@
 
 ghost use Rattle.std.specs.Prelude.{◌≡◌, ◌↔◌, ◌<◌, ◌++◌, ◌∷◌, ℕ, ℤ, suc, List, [], length, slice_index, Ok, ◌≤◌};
 ghost use Rattle.dbg_base.specs.declared.said.Said.{Said};
-ghost use Rattle.dbg_base.specs.declared.said.Said.TheVariants.{Accepted};
 ghost use Rattle.dbg_base.specs.declared.said.Reply.{Reply};
 ghost use Rattle.dbg_base.specs.Trees.{Program};
 ghost use Rattle.dbg_base.specs.Configurations.{Configuration, state_in, channel_of};
@@ -15,18 +14,19 @@ ghost use Rattle.dbg_base.specs.Predicates.{Conjunct, IsLeast, NoCut};
 ghost use Rattle.dbg_base.specs.Reversal.{MayUndo, IsRollback};
 ghost use Rattle.dbg_base.specs.ModelStates.{ModelState};
 ghost use Rattle.dbg_base.specs.Calls.{Call, Query, Ask, Plan, One, Batch};
-ghost use Rattle.dbg_base.specs.Acts.{Follows};
 ghost use Rattle.dbg_base.specs.Journals.{Journal, IsLegal, effective, LeadsTo, IsDue};
-ghost use Rattle.dbg_laws.specs.Outcomes.{HasOneState};
-ghost use Rattle.dbg_base.specs.Reference.{line, IsMessage, Happens, HappenedBefore, IsInPast, IsClosed, events_of, IsMet, IsLeastMet, IsMaximal, IsGreatest};
+ghost use Rattle.dbg_base.specs.Reference.{line, IsMessage, Happens, HappenedBefore, IsInPast, IsClosed, events_of, IsMet, IsLeastMet};
+ghost use Rattle.dbg_base.specs.Reference.{IsMaximal, IsGreatest};
 ghost use Rattle.dbg_base.specs.Sessions.{IsReplay, remaining, AreGiven, remaining_after};
 ghost use Rattle.dbg_base.specs.Shown.{Shows};
+ghost use Rattle.dbg_laws.specs.Outcomes.{HasOneState};
+ghost use Rattle.dbg_laws.specs.Remaining.{with_order};
 
 /// A session shows what a replay of the events that remain shows, in any order in which each of them fires. A legal journal leads to exactly
 /// one state, there is such a replay, and exactly one answer is due to each further call. In the replay, what happened before an event is
 /// before it, and a receive takes from the head of its channel the value that the send of its message put at the tail. After an accepted
 /// command, the events that its reply says remain, and they fire in that order. After an accepted batch, those remain that the replies to its
-/// commands say if they are given one by one. The answer to a query is what the replay shows.
+/// commands say if they are given one by one. Whatever was taken back, the replays are those of the orders that remain. The answer to a query is what the replay shows.
 pub fn headline()
     ensures one_state { (P : Program) (J : Journal) → IsLegal P J → HasOneState (LeadsTo P (effective J)) }
     ensures some_replay { (P : Program) (J : Journal) → IsLegal P J
@@ -38,12 +38,15 @@ pub fn headline()
         → IsReplay P J M (A ++ e ∷ B) c → (i m : ℕ)
         → HappenedBefore P (A ++ e ∷ B) i m e.process (length (line P A e.process)) → m < length (line P A i) }
     ensures command { (P : Program) (J : Journal) (M : ModelState) (E : List Event) (c : Configuration) → IsReplay P J M E c
-        → (plan : Plan) (reply : Reply) (after : ModelState) → Follows P (One plan) M (Accepted reply) after
-        → (choices_of (length P) (remaining P reply.done E) ≡ history_of after.system) × IsLegalOrder P (remaining P reply.done E) }
+        → (seat : ℕ) (plan : Plan) (reply : Reply) → IsLegal P (with_order J seat (One plan) reply)
+        → (after : ModelState) × (d : Configuration)
+        × IsReplay P (with_order J seat (One plan) reply) after (remaining P reply.done E) d }
+    ensures back { (P : Program) (J J' : Journal) (M : ModelState) (E : List Event) (c : Configuration) → IsReplay P J M E c
+        → IsLegal P J' → effective J' ≡ effective J → IsReplay P J' M E c }
     ensures batch { (P : Program) (J : Journal) (M : ModelState) (E : List Event) (c : Configuration) → IsReplay P J M E c
-        → (plans : List Plan) (reply : Reply) (after : ModelState) → Follows P (Batch plans) M (Accepted reply) after
-        → (replies : List Reply) × AreGiven P plans replies M after
-        × (choices_of (length P) (remaining_after P replies E) ≡ history_of after.system) × IsLegalOrder P (remaining_after P replies E) }
+        → (seat : ℕ) (plans : List Plan) (reply : Reply) → IsLegal P (with_order J seat (Batch plans) reply)
+        → (after : ModelState) × (d : Configuration) × (replies : List Reply) × AreGiven P plans replies M after
+        × IsReplay P (with_order J seat (Batch plans) reply) after (remaining_after P replies E) d }
     ensures message { (P : Program) (J : Journal) (M : ModelState) (E : List Event) (c : Configuration) → IsReplay P J M E c
         → (i m j n : ℕ) → IsMessage P E i m j n
         → (value : ℤ) × (a b d e : Configuration) × Happens P E i m a b × (channel_of b i j ≡ channel_of a i j ++ value ∷ [])

@@ -1,9 +1,8 @@
-use Rattle.dbg_base.specs.Journals.{effective}
-use Rattle.dbg_base.specs.Calls.{One}
-use Rattle.dbg_base.specs.declared.said.Said.TheVariants.{Accepted}
-use Rattle.dbg_laws.proofs.EffectiveOrderLemmas.{legal_leads_to_once, leads_to_reached, follows_keep}
+use Rattle.std.proofs.Common.{List, sym, subst}
+use Rattle.dbg_base.specs.Journals.{Given, effective, LeadsTo}
+use Rattle.dbg_laws.proofs.EffectiveOrderLemmas.{legal_leads_to_once}
 use Rattle.dbg_laws.proofs.OneAnswer.{due_once}
-use Rattle.dbg_laws.proofs.NextReplayLemmas.{acts_leave, batch_leaves}
+use Rattle.dbg_laws.proofs.NextJournalLemmas.{after_command, after_batch}
 use Rattle.dbg_laws.proofs.ForwardLemmas as forwards
 use Rattle.dbg_laws.proofs.SomeReplay as replays
 use Rattle.dbg_laws.proofs.MessageLemmas.{handed}
@@ -26,15 +25,18 @@ pub returns-clause-forward : goal.returns-clause-forward
 returns-clause-forward k P J M A B e c is i m before = forwards.stands_before P A B e c is.replayed i m before
 
 pub returns-clause-command : goal.returns-clause-command
-returns-clause-command k P J M E c is plan reply after follows =
-    let reached = leads_to_reached P (effective J) M is.leads_to in
-    acts_leave P E c M reached is.remain is.replayed reply after (follows_keep P (One plan) M (Accepted reply) after reached follows) plan
-    follows
+returns-clause-command k P J M E c is seat plan reply legal = after_command P J M E c is seat plan reply legal
+
+pub returns-clause-back : goal.returns-clause-back
+returns-clause-back k P J J' M E c is legal same = record {
+  legal = legal;
+  leads_to = subst (λ (given : List Given). LeadsTo P given M) (sym same) is.leads_to;
+  remain = is.remain;
+  replayed = is.replayed;
+}
 
 pub returns-clause-batch : goal.returns-clause-batch
-returns-clause-batch k P J M E c is plans reply after follows =
-    let reached = leads_to_reached P (effective J) M is.leads_to in
-    batch_leaves P M reply after plans 1 E c M reached is.remain is.replayed follows
+returns-clause-batch k P J M E c is seat plans reply legal = after_batch P J M E c is seat plans reply legal
 
 pub returns-clause-message : goal.returns-clause-message
 returns-clause-message k P J M E c is i m j n x = handed P E c is.replayed i m j n x
