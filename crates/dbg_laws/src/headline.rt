@@ -25,8 +25,9 @@ ghost use Rattle.dbg_laws.specs.Remaining.{with_order};
 /// A session shows what a replay of the events that remain shows, in any order in which each of them fires. A legal journal leads to exactly
 /// one state, there is such a replay, and exactly one answer is due to each further call. In the replay, what happened before an event is
 /// before it, and a receive takes from the head of its channel the value that the send of its message put at the tail. After an accepted
-/// command, the events that its reply says remain, and they fire in that order. After an accepted batch, those remain that the replies to its
-/// commands say if they are given one by one. Whatever was taken back, the replays are those of the orders that remain. The answer to a query is what the replay shows.
+/// command, the events that its reply says remain, and they fire in that order. A journal in which the same orders remain has the same
+/// replays, whatever was taken back. After an accepted batch, the events remain that the replies to its commands say if these are given one
+/// by one. The answer to a query is what the replay shows.
 pub fn headline()
     ensures one_state { (P : Program) (J : Journal) → IsLegal P J → HasOneState (LeadsTo P (effective J)) }
     ensures some_replay { (P : Program) (J : Journal) → IsLegal P J
