@@ -37,6 +37,8 @@ pub mod StopLemmas
 pub mod ShownAnswers
 pub mod NextReplayLemmas
 pub mod NextJournalLemmas
+pub mod BreakpointLemmas
+pub mod TranscriptLemmas
 pub mod ChannelStepLemmas
 pub mod MessageLemmas
 mod ReferenceRows

@@ -1,3 +1,4 @@
 pub mod Outcomes
 pub mod Remaining
 pub mod Reported
+pub mod Transcripts

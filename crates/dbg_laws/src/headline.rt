@@ -21,6 +21,7 @@ ghost use Rattle.dbg_base.specs.Sessions.{IsReplay, remaining, AreGiven, remaini
 ghost use Rattle.dbg_base.specs.Shown.{Shows};
 ghost use Rattle.dbg_laws.specs.Outcomes.{HasOneState};
 ghost use Rattle.dbg_laws.specs.Remaining.{with_order};
+ghost use Rattle.dbg_laws.specs.Transcripts.{first_stage, IsTranscript};
 
 /// A session shows what a replay of the events that remain shows, in any order in which each of them fires. A legal journal leads to exactly
 /// one state, there is such a replay, and exactly one answer is due to each further call. In the replay, what happened before an event is
@@ -84,4 +85,11 @@ pub fn notions()
         → (p : ℕ) → MayUndo P (history_of M.system) p ↔ IsMaximal P E p }
     ensures rollback { (P : Program) (J : Journal) (M : ModelState) (E : List Event) (c : Configuration) → IsReplay P J M E c
         → (p n : ℕ) (cut : List ℕ) → IsRollback P (history_of M.system) p n cut ↔ IsGreatest P E p n cut }
+{}
+
+/// A reader can follow a legal journal from its calls and answers alone, with a list of events and the breakpoints. It begins with no event.
+/// After an accepted command, the events are those that its reply says, and they fire in that order. An accepted `back` returns to the events
+/// and the breakpoints before the last order that counts. The answer to a query is what the replay of the events shows then.
+pub fn transcript()
+    ensures { (P : Program) (J : Journal) → IsLegal P J → IsTranscript P (first_stage ∷ []) J }
 {}
