@@ -1,4 +1,4 @@
 pub mod AskedOnce
 pub mod LineLemmas
 pub mod OneOutput
-pub mod ShownOutput
+pub mod TranscriptOutput

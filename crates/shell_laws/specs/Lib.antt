@@ -1,2 +1,2 @@
 pub mod Ample
-pub mod Questions
+pub mod Outputs
