@@ -14,18 +14,18 @@ use Rattle.dbg_base.specs.ModelStates.{ModelState}
 use Rattle.dbg_base.specs.Choices.{step_choice, next_choice, redo_choice}
 use Rattle.dbg_base.specs.Calls.{Plan, Step, Next, Undo, Redo, Rollback, Goto, Break, Clear, Arm, Pass}
 use Rattle.dbg_base.specs.Acts.{Refuses, Plays, UnlessHalted, TakesBack, KeepsEvent, RollsBack, WithProcess, WithFound, GoesTo, HasNone, Lists, Sets}
-use Rattle.dbg_base.specs.Acts.{Acts, Batches, break_refusal}
-use Rattle.dbg_laws.specs.Transcripts.{breakpoints_after, breakpoints_after_all}
+use Rattle.dbg_base.specs.Acts.{Acts, break_refusal}
+use Rattle.dbg_laws.specs.Transcripts.{breakpoints_after}
 
 module _ (P : Program) (M : ModelState) (reply : Reply) (M' : ModelState) where
-  refused : {Goal : Type 0} (refusal : Refusal) → Refuses refusal M (Accepted reply) M' → Goal
+  pub refused : {Goal : Type 0} (refusal : Refusal) → Refuses refusal M (Accepted reply) M' → Goal
   refused refusal reported = let wrong = reported.0 in absurd (let e : Accepted reply ≡ _ = wrong in cc)
 
-  either : {A B Goal : Type 0} (t : Bool) → (A → Goal) → (B → Goal) → MatchBool t A B → Goal
+  pub either : {A B Goal : Type 0} (t : Bool) → (A → Goal) → (B → Goal) → MatchBool t A B → Goal
   either true first second = first
   either false first second = second
 
-  with_process : {Goal : Type 0} (p : ℕ) (Does : Type 0) → (Does → Goal) → WithProcess P p Does M (Accepted reply) M' → Goal
+  pub with_process : {Goal : Type 0} (p : ℕ) (Does : Type 0) → (Does → Goal) → WithProcess P p Does M (Accepted reply) M' → Goal
   with_process p Does does = either (nat_lt p (length P)) does (refused refusals.UnknownProcess)
 
   with_break : {Goal : Type 0} (found : Option Breakpoint) (Does : Breakpoint → Type 0) → ((b : Breakpoint) → Does b → Goal)
@@ -33,7 +33,7 @@ module _ (P : Program) (M : ModelState) (reply : Reply) (M' : ModelState) where
   with_break None Does does = refused refusals.UnknownBreak
   with_break (Some b) Does does = does b
 
-  unless_halted : {Goal : Type 0} (Does : Type 0) → (Does → Goal) → UnlessHalted P Does M (Accepted reply) M' → Goal
+  pub unless_halted : {Goal : Type 0} (Does : Type 0) → (Does → Goal) → UnlessHalted P Does M (Accepted reply) M' → Goal
   unless_halted Does does (inl goes) = does goes.1
   unless_halted Does does (inr (name, is, reported)) = refused (refusals.Halted name) reported
 
@@ -80,12 +80,3 @@ module _ (P : Program) (M : ModelState) (reply : Reply) (M' : ModelState) where
       (λ (passes : HasCut P (history_of M.system) b × Lists P (with_mark name false M.breakpoints) M (Accepted reply) M'). lists _ passes.1)
       (λ (none : HasNone P M b × Refuses refusals.NoCut M (Accepted reply) M'). refused refusals.NoCut none.1))
       (refused refusals.NotArmed))
-
-pub batch_breakpoints : (P : Program) (start : ModelState) (at : ℕ) (plans : List Plan) (M : ModelState) (reply : Reply) (M' : ModelState)
-    → Batches P start at plans M (Accepted reply) M' → M'.breakpoints ≡ breakpoints_after_all plans M.breakpoints
-batch_breakpoints P start at [] M reply M' done = ap (λ (K : ModelState). K.breakpoints) done.1
-batch_breakpoints P start at (plan ∷ plans) M reply M' (inl (first, between, acts, rest)) =
-    batch_breakpoints P start (at + 1) plans between reply M' rest
-    ∙ ap (breakpoints_after_all plans) (breakpoints_are P M first between plan acts)
-batch_breakpoints P start at (plan ∷ plans) M reply M' (inr (refusal, acts, refuses)) =
-    absurd (let wrong : Accepted reply ≡ _ = refuses.0 in cc)

@@ -38,6 +38,7 @@ pub mod ShownAnswers
 pub mod NextReplayLemmas
 pub mod NextJournalLemmas
 pub mod BreakpointLemmas
+pub mod NextStageLemmas
 pub mod TranscriptLemmas
 pub mod ChannelStepLemmas
 pub mod MessageLemmas

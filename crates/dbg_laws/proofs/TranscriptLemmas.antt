@@ -18,20 +18,17 @@ use Rattle.dbg_base.specs.Acts.{Follows}
 use Rattle.dbg_base.specs.Journals.{Journal, Given, counting, effective, LeadsTo, last_given, AnswersBack, IsDue, AreDue, IsLegal}
 use Rattle.dbg_base.specs.Sessions.{remaining, AreGiven, remaining_after}
 use Rattle.dbg_base.specs.Shown.{Shows}
-use Rattle.dbg_laws.specs.Transcripts.{Stage, first_stage, breakpoints_after, breakpoints_after_all, NextStage, Continues, IsTranscript}
+use Rattle.dbg_laws.specs.Transcripts.{Stage, first_stage, Leaves, Continues, IsTranscript}
 use Rattle.dbg_laws.proofs.LegalJournalLemmas.{effective_more, legal_more}
 use Rattle.dbg_laws.proofs.EffectiveOrderLemmas.{no_events, leads_to_reached, leads_to_once, leads_more, follows_keep}
-use Rattle.dbg_laws.proofs.NextReplayLemmas.{acts_leave, batch_leaves}
-use Rattle.dbg_laws.proofs.BreakpointLemmas.{breakpoints_are, batch_breakpoints}
+use Rattle.dbg_laws.proofs.NextStageLemmas.{IsStageOf, next_stage, batch_stage}
 use Rattle.dbg_laws.proofs.ShownAnswers.{shows}
 
 -- the stage has the events and the breakpoints to which these orders lead
 record IsAt (P : Program) (given : List Given) (stage : Stage) : Type 0 where
   M : ModelState
   leads : LeadsTo P given M
-  remain : choices_of (length P) stage.events ≡ history_of M.system
-  fires : IsLegalOrder P stage.events
-  breakpoints : M.breakpoints ≡ stage.breakpoints
+  is : IsStageOf P M stage
 
 -- the stages are those of these orders, of these without the last one, and so on
 abbrev Are : Program → List Given → List Stage → Type 0
@@ -42,13 +39,6 @@ Are P given (now ∷ prior ∷ past) = IsAt P given now × Are P (without_back g
 without_push : (given : List Given) (last : Given) → without_back (given ++ last ∷ []) ≡ given
 without_push given last = take_at given (last ∷ []) _ (let size = length_push given last in omega (arith, size))
 
-given_size : (P : Program) (plans : List Plan) (replies : List Reply) (M M' : ModelState) → AreGiven P plans replies M M'
-    → length replies ≡ length plans
-given_size P [] [] M M' is = refl
-given_size P [] (reply ∷ replies) M M' is = absurd is
-given_size P (plan ∷ plans) [] M M' is = absurd is
-given_size P (plan ∷ plans) (reply ∷ replies) M M' is = ap suc (given_size P plans replies is.0 M' is.2)
-
 newest : (P : Program) (given : List Given) (now : Stage) (past : List Stage) → Are P given (now ∷ past) → IsAt P given now
 newest P given now [] are = are.0
 newest P given now (prior ∷ past) are = are.0
@@ -56,8 +46,7 @@ newest P given now (prior ∷ past) are = are.0
 -- an accepted order
 module _ (P : Program) (given : List Given) (now : Stage) (at : IsAt P given now) (seat : ℕ) where
   abbrev After : Order → Reply → Type 0
-  After order reply =
-      (next : Stage) × NextStage P order reply now next × IsLegalOrder P next.events × IsAt P (given ++ record { seat = seat; order = order } ∷ []) next
+  After order reply = (next : Stage) × Leaves P order reply now next × IsAt P (given ++ record { seat = seat; order = order } ∷ []) next
 
   follows : (order : Order) (reply : Reply) → IsDue P given seat (Give order) (Accepted reply)
       → (after : ModelState) × Follows P order at.M (Accepted reply) after
@@ -65,39 +54,24 @@ module _ (P : Program) (given : List Given) (now : Stage) (at : IsAt P given now
       let same : due.0 ≡ at.M = leads_to_once P given at.M due.0 at.leads due.2 in
       (due.1, subst (λ (K : ModelState). Follows P order K (Accepted reply) due.1) same due.3)
 
+  -- the state that it leaves
+  led : (order : Order) (reply : Reply) (after : ModelState) (next : Stage) → Follows P order at.M (Accepted reply) after
+      → IsStageOf P after next → IsAt P (given ++ record { seat = seat; order = order } ∷ []) next
+  led order reply after next acts is = record {
+    M = after;
+    leads = leads_more P given (opening P) at.M (record { seat = seat; order = order }) reply after at.leads acts;
+    is = is;
+  }
+
   gives : (order : Order) (reply : Reply) → IsDue P given seat (Give order) (Accepted reply) → After order reply
   gives (One plan) reply due =
       let f = follows (One plan) reply due in
-      let reached = leads_to_reached P given at.M at.leads in
-      let leaves = acts_leave P now.events at.fires.0 at.M reached at.remain at.fires.1 reply f.0
-      (follows_keep P (One plan) at.M (Accepted reply) f.0 reached f.1) plan f.1 in (
-        record { events = remaining P reply.done now.events; breakpoints = breakpoints_after plan now.breakpoints },
-        (refl, refl),
-        leaves.1,
-        record {
-          M = f.0;
-          leads = leads_more P given (opening P) at.M (record { seat = seat; order = One plan }) reply f.0 at.leads f.1;
-          remain = leaves.0;
-          fires = leaves.1;
-          breakpoints = breakpoints_are P at.M reply f.0 plan f.1 ∙ ap (breakpoints_after plan) at.breakpoints;
-        },
-      )
+      let n = next_stage P at.M now at.is reply f.0 plan f.1 in
+      (n.0, n.1, led (One plan) reply f.0 n.0 f.1 n.2)
   gives (Batch plans) reply due =
       let f = follows (Batch plans) reply due in
-      let reached = leads_to_reached P given at.M at.leads in
-      let (replies, are, remain, fires) =
-      batch_leaves P at.M reply f.0 plans 1 now.events at.fires.0 at.M reached at.remain at.fires.1 f.1 in (
-        record { events = remaining_after P replies now.events; breakpoints = breakpoints_after_all plans now.breakpoints },
-        (replies, given_size P plans replies at.M f.0 are, refl, refl),
-        fires,
-        record {
-          M = f.0;
-          leads = leads_more P given (opening P) at.M (record { seat = seat; order = Batch plans }) reply f.0 at.leads f.1;
-          remain = remain;
-          fires = fires;
-          breakpoints = batch_breakpoints P at.M 1 plans at.M reply f.0 f.1 ∙ ap (breakpoints_after_all plans) at.breakpoints;
-        },
-      )
+      let n = batch_stage P at.M 1 plans at.M now reply f.0 at.is f.1 in
+      (n.0, (n.1, n.2), led (Batch plans) reply f.0 n.0 f.1 n.3)
 
 -- one call after a legal journal
 module _ (P : Program) (J : Journal) (legal : IsLegal P J) (seat : ℕ) where
@@ -108,11 +82,11 @@ module _ (P : Program) (J : Journal) (legal : IsLegal P J) (seat : ℕ) where
   shown : (now : Stage) → IsAt P (effective J) now → (query : Query) (said : Said) → IsDue P (effective J) seat (Ask query) said
       → (c : Configuration) × (order P now.events ≡ Ok c) × Shows P now.breakpoints now.events c query said
   shown now at query said due = (
-    at.fires.0,
-    at.fires.1,
-    subst (λ (breakpoints : List Breakpoint). Shows P breakpoints now.events at.fires.0 query said) at.breakpoints
-        (shows P J at.M now.events at.fires.0
-        (record { legal = legal; leads_to = at.leads; remain = at.remain; replayed = at.fires.1 }) seat query said due),
+    at.is.fires.0,
+    at.is.fires.1,
+    subst (λ (breakpoints : List Breakpoint). Shows P breakpoints now.events at.is.fires.0 query said) at.is.breakpoints
+        (shows P J at.M now.events at.is.fires.0
+        (record { legal = legal; leads_to = at.leads; remain = at.is.remain; replayed = at.is.fires.1 }) seat query said due),
   )
 
   goes : (call : Call) (said : Said) (stages : List Stage) → Are P (effective J) stages → IsDue P (effective J) seat call said
@@ -121,9 +95,9 @@ module _ (P : Program) (J : Journal) (legal : IsLegal P J) (seat : ℕ) where
   goes (Give order) (Accepted reply) (now ∷ past) are due =
       let g = gives P (effective J) now (newest P (effective J) now past are) seat order reply due in (
         g.0 ∷ now ∷ past,
-        (g.0, g.1, g.2, refl),
+        (g.0, g.1, refl),
         (
-          g.3,
+          g.2,
           subst (λ (given : List Given). Are P given (now ∷ past))
               (sym (without_push (effective J) (record { seat = seat; order = order }))) are,
         ),
@@ -163,7 +137,10 @@ transcript P J legal =
     start = record {
       M = opening P;
       leads = refl;
-      remain = sym (no_events (length P));
-      fires = (start_of P, refl);
-      breakpoints = refl;
+      is = record {
+        reached = leads_to_reached P [] (opening P) refl;
+        remain = sym (no_events (length P));
+        fires = (start_of P, refl);
+        breakpoints = refl;
+      };
     }

@@ -1,15 +1,18 @@
 -- Transcripts: a reader follows a journal from the events and breakpoints alone. No state of a session is needed.
-use Rattle.std.specs.Prelude.{◌≡◌, true, false, List, [], ◌∷◌, ◌++◌, length, Ok}
+use Rattle.std.specs.Prelude.{◌≡◌, ℕ, true, false, List, [], ◌∷◌, ◌++◌, Some, Ok}
+use Rattle.dbg_base.specs.declared.said.Done.{Done}
+use Rattle.dbg_base.specs.declared.said.Done.TheVariants.{Played, Undone, Places, Plain}
 use Rattle.dbg_base.specs.declared.said.Reply.{Reply}
 use Rattle.dbg_base.specs.declared.said.Said.{Said}
 use Rattle.dbg_base.specs.declared.said.Said.TheVariants.{Accepted}
 use Rattle.dbg_base.specs.Trees.{Program}
 use Rattle.dbg_base.specs.Configurations.{Configuration}
-use Rattle.dbg_base.specs.Orders.{Event, order}
-use Rattle.dbg_base.specs.Breakpoints.{Breakpoint, without, with_mark}
-use Rattle.dbg_base.specs.Calls.{Plan, Break, Clear, Arm, Pass, Order, One, Batch, Call, Give, Back, Ask}
+use Rattle.dbg_base.specs.Orders.{Event, order, IsLegalOrder}
+use Rattle.dbg_base.specs.Breakpoints.{Breakpoint, named, without, with_mark}
+use Rattle.dbg_base.specs.Calls.{Plan, Step, Next, Undo, Redo, Rollback, Goto, Break, Clear, Arm, Pass, Order, One, Batch, Call, Give, Back, Ask}
 use Rattle.dbg_base.specs.Journals.{Journal}
-use Rattle.dbg_base.specs.Sessions.{remaining, remaining_after}
+use Rattle.dbg_base.specs.Reference.{IsLeastMet, IsGreatest, IsMaximal}
+use Rattle.dbg_base.specs.Sessions.{remaining}
 use Rattle.dbg_base.specs.Shown.{Shows}
 
 -- the events that remain, in an order in which each of them fires, and the breakpoints
@@ -29,24 +32,41 @@ breakpoints_after (Arm name) breakpoints = with_mark name true breakpoints
 breakpoints_after (Pass name) breakpoints = with_mark name false breakpoints
 breakpoints_after plan breakpoints = breakpoints
 
--- the breakpoints after commands, one after the other
-abbrev pub breakpoints_after_all : List Plan → List Breakpoint → List Breakpoint
-breakpoints_after_all [] breakpoints = breakpoints
-breakpoints_after_all (plan ∷ plans) breakpoints = breakpoints_after_all plans (breakpoints_after plan breakpoints)
+-- What the reply to an accepted command says was done. An undo needs a maximal event. A rollback goes to the greatest set with so many events,
+-- and `goto` to the least set that meets the breakpoint.
+abbrev pub Does : Program → Plan → Stage → Done → Type 0
+Does P (Step p k) now done = done ≡ Played (record { 0 = p }) (record { 0 = k })
+Does P (Next p) now done = (k : ℕ) × (done ≡ Played (record { 0 = p }) (record { 0 = k }))
+Does P (Redo p) now done = (k : ℕ) × (done ≡ Played (record { 0 = p }) (record { 0 = k }))
+Does P (Undo p) now done = (k : ℕ) × IsMaximal P now.events p × (done ≡ Undone (record { 0 = p }) (record { 0 = k }))
+Does P (Rollback p n) now done = (cut : List ℕ) × IsGreatest P now.events p n cut × (done ≡ Places cut)
+Does P (Goto name) now done = (b : Breakpoint) × (named name now.breakpoints ≡ Some b)
+    × (cut : List ℕ) × IsLeastMet P now.events b.conjuncts cut × (done ≡ Places cut)
+Does P plan now done = done ≡ Plain
 
--- the stage after an accepted order; for a batch, by some replies to its commands
-abbrev pub NextStage : Program → Order → Reply → Stage → Stage → Type 0
-NextStage P (One plan) reply now next =
-    (next.events ≡ remaining P reply.done now.events) × (next.breakpoints ≡ breakpoints_after plan now.breakpoints)
-NextStage P (Batch plans) reply now next =
-    (replies : List Reply) × (length replies ≡ length plans) × (next.events ≡ remaining_after P replies now.events)
-    × (next.breakpoints ≡ breakpoints_after_all plans now.breakpoints)
+-- The stage after an accepted command. Its events are those that the reply says, and each of them fires.
+pub record IsNext (P : Program) (plan : Plan) (reply : Reply) (now next : Stage) : Type 0 where
+  pub does : Does P plan now reply.done
+  pub events : next.events ≡ remaining P reply.done now.events
+  pub fires : IsLegalOrder P next.events
+  pub breakpoints : next.breakpoints ≡ breakpoints_after plan now.breakpoints
 
--- What one call makes of the stages so far, the newest first. An accepted order adds a stage, whose events fire. An accepted `back` removes
--- the newest one. A query shows what the replay of the newest one shows. Refused orders change nothing.
+-- the stage after commands that are given one by one, each with some reply
+abbrev pub AreNext : Program → List Plan → Stage → Stage → Type 0
+AreNext P [] now next = next ≡ now
+AreNext P (plan ∷ plans) now next =
+    (reply : Reply) × (between : Stage) × IsNext P plan reply now between × AreNext P plans between next
+
+-- the stage after an accepted order
+abbrev pub Leaves : Program → Order → Reply → Stage → Stage → Type 0
+Leaves P (One plan) reply now next = IsNext P plan reply now next
+Leaves P (Batch plans) reply now next = (reply.done ≡ Plain) × AreNext P plans now next
+
+-- What one call makes of the stages so far, the newest first. An accepted order adds a stage. An accepted `back` removes the newest one. A
+-- query shows what the replay of the newest one shows. Refused orders change nothing.
 abbrev pub Continues : Program → Call → Said → List Stage → List Stage → Type 0
 Continues P (Give given) (Accepted reply) (now ∷ past) stages =
-    (next : Stage) × NextStage P given reply now next × ((c : Configuration) × (order P next.events ≡ Ok c)) × (stages ≡ next ∷ now ∷ past)
+    (next : Stage) × Leaves P given reply now next × (stages ≡ next ∷ now ∷ past)
 Continues P Back (Accepted reply) (now ∷ past) stages = stages ≡ past
 Continues P (Ask query) said (now ∷ past) stages =
     ((c : Configuration) × (order P now.events ≡ Ok c) × Shows P now.breakpoints now.events c query said) × (stages ≡ now ∷ past)
