@@ -45,3 +45,4 @@ pub mod MessageLemmas
 mod ReferenceRows
 mod ChangedReferenceRows
 mod ChangedSessionRows
+mod TranscriptRows

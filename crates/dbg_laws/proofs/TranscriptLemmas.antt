@@ -1,5 +1,5 @@
 -- A legal journal is a transcript: its stages are replays of the orders that count, from the newest one back.
-use Rattle.std.proofs.Common.{◌≡◌, ℕ, suc, ◌+◌, ◌≤◌, List, [], ◌∷◌, ◌++◌, length, Ok, refl, sym, ap, ◌∙◌, subst, arith}
+use Rattle.std.proofs.Common.{◌≡◌, ℕ, ◌+◌, ◌≤◌, List, [], ◌∷◌, ◌++◌, length, Ok, refl, sym, subst, arith}
 use Rattle.std.proofs.lemmas.List.{length_push, take_at}
 use Rattle.dbg_base.specs.declared.said.Reply.{Reply}
 use Rattle.dbg_base.specs.declared.said.Said.{Said}
@@ -8,19 +8,17 @@ use Rattle.dbg_base.specs.declared.refusal.Refusal.TheVariants.{NothingBack}
 use Rattle.dbg_base.specs.declared.limits.TheConstants.{CALLS}
 use Rattle.dbg_base.specs.Trees.{Program}
 use Rattle.dbg_base.specs.Configurations.{Configuration, start_of}
-use Rattle.dbg_base.specs.Orders.{order, choices_of, IsLegalOrder}
-use Rattle.dbg_base.specs.SystemStates.{history_of}
+use Rattle.dbg_base.specs.Orders.{order}
 use Rattle.dbg_base.specs.Breakpoints.{Breakpoint}
 use Rattle.dbg_base.specs.ModelStates.{ModelState, opening}
 use Rattle.dbg_base.specs.Reversal.{without_back}
-use Rattle.dbg_base.specs.Calls.{Plan, Order, One, Batch, Call, Give, Back, Ask, Query}
+use Rattle.dbg_base.specs.Calls.{Order, One, Batch, Call, Give, Back, Ask, Query}
 use Rattle.dbg_base.specs.Acts.{Follows}
 use Rattle.dbg_base.specs.Journals.{Journal, Given, counting, effective, LeadsTo, last_given, AnswersBack, IsDue, AreDue, IsLegal}
-use Rattle.dbg_base.specs.Sessions.{remaining, AreGiven, remaining_after}
 use Rattle.dbg_base.specs.Shown.{Shows}
 use Rattle.dbg_laws.specs.Transcripts.{Stage, first_stage, Leaves, Continues, IsTranscript}
 use Rattle.dbg_laws.proofs.LegalJournalLemmas.{effective_more, legal_more}
-use Rattle.dbg_laws.proofs.EffectiveOrderLemmas.{no_events, leads_to_reached, leads_to_once, leads_more, follows_keep}
+use Rattle.dbg_laws.proofs.EffectiveOrderLemmas.{no_events, leads_to_reached, leads_to_once, leads_more}
 use Rattle.dbg_laws.proofs.NextStageLemmas.{IsStageOf, next_stage, batch_stage}
 use Rattle.dbg_laws.proofs.ShownAnswers.{shows}
 
@@ -71,7 +69,7 @@ module _ (P : Program) (given : List Given) (now : Stage) (at : IsAt P given now
   gives (Batch plans) reply due =
       let f = follows (Batch plans) reply due in
       let n = batch_stage P at.M 1 plans at.M now reply f.0 at.is f.1 in
-      (n.0, (n.1, n.2), led (Batch plans) reply f.0 n.0 f.1 n.3)
+      (n.0, (n.1, n.2, n.3), led (Batch plans) reply f.0 n.0 f.1 n.4)
 
 -- one call after a legal journal
 module _ (P : Program) (J : Journal) (legal : IsLegal P J) (seat : ℕ) where

@@ -88,8 +88,9 @@ pub fn notions()
 {}
 
 /// A reader can follow a legal journal from its calls and answers alone, with a list of events and the breakpoints. It begins with no event.
-/// After an accepted command, the events are those that its reply says, and they fire in that order. An accepted `back` returns to the events
-/// and the breakpoints before the last order that counts. The answer to a query is what the replay of the events shows then.
+/// After an accepted command, the events are those that its reply says, and they fire in that order. An undo needs a maximal event, and a
+/// rollback and a `goto` lead to the set that they name. An accepted `back` returns to the events and the breakpoints before the last order
+/// that counts. The answer to a query is what the replay of the events shows then. The reply to a command says which breakpoint halts then.
 pub fn transcript()
     ensures { (P : Program) (J : Journal) → IsLegal P J → IsTranscript P (first_stage ∷ []) J }
 {}
