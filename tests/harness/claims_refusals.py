@@ -21,7 +21,7 @@ def at_start(reading, process):
     reading.record("reason", "6")
 
 
-@claim(r"(?P<process>\w+) has made all commands of its line; `next` and `step` make new ones")
+@claim(r"(?P<process>\w+)'s redo list is empty; `next` and `step` make new events")
 def at_end(reading, process):
     """A process has nothing to redo."""
     same("the process", process, reading.refused[1])

@@ -189,7 +189,7 @@ impl SourceView<'_> {
             Refusal::Consequence(receiver) => self.tell_consequence(notes, pid, *receiver)?,
             Refusal::NothingToRedo => notes.say(&[
                 scope.name(),
-                Part::Text(" has made all commands of its line; `next` and `step` make new ones"),
+                Part::Text("'s redo list is empty; `next` and `step` make new events"),
             ])?,
             Refusal::BadPlace => {
                 notes.say(&[scope.name(), Part::Text(" has ")])?;

@@ -131,7 +131,7 @@ const COMMANDS: [Form; 20] = [
         form: "place P",
         least: 1,
         most: 1,
-        does: "shows how many events P has, and how long its line is",
+        does: "shows how many events P has, and how many with its redo list",
     },
     Form {
         word: "can",
