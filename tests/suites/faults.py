@@ -39,8 +39,9 @@ def run(suite):
             folder = os.open(room, os.O_RDONLY)  # (opens, but cannot be read)
             check_end(suite, f"{words}, where the input cannot be read", start(suite, words.split(), folder, subprocess.PIPE))
             os.close(folder)
-        with open("/dev/full", "wb") as full:
-            check_end(suite, "test, where the output is full", start(suite, ["test", room / "session"], subprocess.DEVNULL, full))
+        for words in (["test", room / "session"], ["--help"], ["help", "run"], ["--version"]):
+            with open("/dev/full", "wb") as full:
+                check_end(suite, f"{words[0]}, where the output is full", start(suite, words, subprocess.DEVNULL, full))
         for words, first_line in (("run", b"ok a 0\n"), ("talk", b"1 next a\n")):
             with open(room / "session", "rb") as source:
                 ran = start(suite, [words], source, subprocess.PIPE)

@@ -22,16 +22,16 @@ const _: () = prove!(TURNS as usize == CALLS);
 
 static GUIDE: &str =
     "The input is a program, a line `%%`, and for `talk`, `run` and `draw` command lines after it. For `check` and `crew`, all of it is
-the program if no line is `%%`. The input comes from FILE, if one is named; for `talk`, `run` and `draw` it continues with
-standard input (`draw` and `expand`: unless that is a terminal). Otherwise all of it comes from standard input. An interactive session
-answers `help`, too. `rdbg --version` prints the version.
+the program if no line is `%%`. rdbg reads FILE, and then standard input; without FILE, standard input alone. `check`, `crew` and
+`test` read FILE alone. `draw` and `expand` do not wait for a terminal. An interactive session answers `help`, too.
+`rdbg --version` prints the version.
 `talk`, `draw`, `test` and `check --explain` also read the model notation, and `expand` prints the plain session of one in it.
 
 Command lines, each after a seat from 1 to 16:
   step P K, next P, redo P       make an event of the process P
   undo P, rollback P N, goto B   undo events
   break B P E [P E ..]           set the breakpoint B, which halts if E holds in P, and so on for each pair
-  arm B, pass B, clear B         let B halt again, let it no longer halt, remove it
+  arm B, pass B, clear B         arm, disarm or delete the breakpoint B
   batch C ; C ..                 give these commands as one, all or none
   back                           take back the last accepted command, if the same seat gave it
   vars P, chan P Q, clock P, place P, can P, cut B, why B, breaks

@@ -268,8 +268,11 @@ fn main(rt: HostRuntime) -> ExitCode {
             if error.kind() == ErrorKind::OutOfMemory {
                 return ExitCode::from(WordsFault::Memory.status());
             }
-            let _ = error.print(&rt);
-            ExitCode::from(error.exit_code() as u8)
+            let is_help = error.exit_code() == 0;
+            match error.print(&rt) {
+                Err(_) if is_help => ExitCode::from(NOT_WRITTEN),
+                _ => ExitCode::from(error.exit_code() as u8),
+            }
         }
     }
 }
