@@ -4,7 +4,8 @@ A block ```rdbg is a program, or a session whose lines `> ..` are its replies. I
 have the same replies. A block ```rdbg-refused is a program that is refused. A block ```rdbg-report after one of these has lines, one
 after the other, of what `talk` prints for that session, or `check --explain` for that program.
 The meanings of the refusals are those of the source of `rdbg --help`, word by word. A file of a crate that a document names exists. The
-calls with a condition on their caller are those of the sources (--update writes them anew).
+calls with a condition on their caller are those of the sources (--update writes them anew). The lemmas that docs/proofs.md names exist, and
+the worked change of CONTRIBUTING.md names what is in its files. The documents stay below a number of words.
 """
 import re
 from typing import NamedTuple
@@ -18,6 +19,8 @@ WITH_BLOCKS = ["README.md", "docs/*.md", "examples/README.md"]
 LINKED = ["CONTRIBUTING.md", "crates/*/README.md", "dist/editors/README.md"]
 # A document of these folders is installed with the files of its folder that have these endings (or all files) and no others.
 INSTALLED = {"examples": (".rdbg", ".md"), "editors": ("",)}
+# How many words these documents may have in sum.
+WORDS = [(38_000, ["README.md", "CONTRIBUTING.md", "docs/*.md"]), (9_000, ["crates/*/README.md"])]
 MAN_PAGE = TOP / "dist/rdbg.1"
 PROVED = TOP / "docs/proved.md"
 CONDITIONS = "\n| Crate | Calls |\n|---|---|\n"  # the begin of the table of the calls that have a condition on their caller
@@ -186,6 +189,32 @@ def check_conditions(suite):
     suite.same("the calls with a condition on their caller", shown, wanted)
 
 
+def unknown_names(text):
+    """The names in a text about proofs that are no lemma, no file of proofs, and nothing of the code."""
+    proofs, sources = list(TOP.glob("crates/*/proofs/**/*.antt")), list(TOP.glob("crates/*/src/**/*.rt"))
+    known = {file.stem for file in proofs} | {folder.name for folder in (TOP / "crates").iterdir()} | {"docs", "atomic_table"}
+    for file in proofs:
+        known.update(re.findall(r"(?m)^ *(?:pub )?([a-z]\w*) :", file.read_text(encoding="utf-8")))
+    for file in sources:
+        known.update(re.findall(r"(?:fn|struct|trait|enum) (\w+)", file.read_text(encoding="utf-8")))
+    return sorted(set(re.findall(r"`(\w+)`", text)) - known)
+
+
+def misplaced_names(text):
+    """The names of the worked change that are not in the file of their row."""
+    for file, names in re.findall(r"(?m)^\|[^|]*\| `([\w/.]+)` \| (.*) \|$", text):
+        source = TOP / "crates" / file
+        code = source.read_text(encoding="utf-8") if source.exists() else ""
+        yield from (f"{file} has no {name}" for name in re.findall(r"`([^`]+)`", names) if name not in code)
+
+
+def check_words(suite):
+    """A limit on the words of the documents: what is added later replaces something."""
+    for limit, patterns in WORDS:
+        count = sum(len(document.read_text(encoding="utf-8").split()) for document in documents(patterns))
+        suite.case(f"at most {limit:,} words in {', '.join(patterns)}", "" if count <= limit else f"they have {count:,}")
+
+
 def run(suite):
     with temporary_folder() as room:
         for document in documents(WITH_BLOCKS):
@@ -196,3 +225,6 @@ def run(suite):
     suite.case(f"paths of {MAN_PAGE.relative_to(TOP)}", "\n".join(dead_paths()))
     check_refusals(suite)
     check_conditions(suite)
+    suite.same("names in docs/proofs.md that do not exist", "\n".join(unknown_names((TOP / "docs/proofs.md").read_text(encoding="utf-8"))), "")
+    suite.same("names of the worked change that are elsewhere", "\n".join(misplaced_names((TOP / "CONTRIBUTING.md").read_text(encoding="utf-8"))), "")
+    check_words(suite)
