@@ -1,0 +1,68 @@
+"""The command `find`: reads its arguments, searches, and prints what was found."""
+import sys
+
+from find import options as command_line
+from find.errors import WrongUse
+from find.names import read_names
+from find.outcome import Ending, Outcome
+from find.output import closing_problem, found_session, with_replies
+from find.rdbg import Rdbg, find_program
+from find.report import report_outcome, say
+from find.search import search
+from find.session import read_file, read_session
+from find.shrink import shrink
+
+WRONG_USE, INTERRUPTED = 2, 130
+
+
+def read(options, rdbg):
+    """The session to search, and the author's names."""
+    text = read_file(options.file)
+    session = read_session(rdbg, text, options.names, options.stuck, options.unless, options.from_start)
+    processes = session.model.numbers
+    for process, _ in [*options.weight, *options.at_most]:
+        if process not in processes:
+            raise WrongUse(f"no process has the name {process}")
+    return session, read_names(rdbg, text, session.model)
+
+
+def print_session(options, rdbg, session, names, steps):
+    """Prints the session with the steps that were found, after rdbg has played it."""
+    text = found_session(session, names, steps)
+    problem = closing_problem(rdbg, session, text)
+    if problem:
+        raise WrongUse(f"rdbg does not confirm what was found: {problem}")
+    print(with_replies(rdbg, text) if options.test else text, end="", flush=True)
+
+
+def find(options):
+    """Searches, prints and returns the exit status."""
+    rdbg = Rdbg(find_program())
+    session, names = read(options, rdbg)
+    if session.halted:
+        say(f"{session.halted} holds already after the session's own lines: no step is needed")
+        outcome, interrupted = Outcome(Ending.FOUND), False
+    else:
+        outcome, interrupted = search(options, rdbg, session, names)
+    if outcome.ending is Ending.FOUND:
+        steps = shrink(rdbg, session, outcome.steps)
+        report_outcome(session, names, outcome, steps)
+        print_session(options, rdbg, session, names, steps)
+        return Ending.FOUND.value
+    report_outcome(session, names, outcome, ())
+    return INTERRUPTED if interrupted else outcome.ending.value
+
+
+def main(words):
+    """Runs the command with these arguments."""
+    try:
+        options = command_line.read_arguments(words)
+        if options.help:
+            print(command_line.HELP, end="")
+            return 0
+        return find(options)
+    except WrongUse as wrong:
+        print(f"rdbg find: {wrong}", file=sys.stderr)
+        return WRONG_USE
+    except KeyboardInterrupt:
+        return INTERRUPTED
