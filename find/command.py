@@ -2,13 +2,14 @@
 import sys
 
 from find import options as command_line
+from find.compare import compare
 from find.errors import WrongUse
 from find.names import read_names
 from find.outcome import Ending, Outcome
 from find.output import closing_problem, found_session, with_replies
 from find.rdbg import Rdbg, find_program
-from find.report import report_outcome, say
-from find.search import search
+from find.report import report_found, report_none, say
+from find.search import Answer, Search
 from find.session import read_file, read_session
 from find.shrink import shrink
 
@@ -39,18 +40,20 @@ def find(options):
     """Searches, prints and returns the exit status."""
     rdbg = Rdbg(find_program())
     session, names = read(options, rdbg)
+    if options.compare:
+        return compare(options, rdbg, session)
     if session.halted:
         say(f"{session.halted} holds already after the session's own lines: no step is needed")
-        outcome, interrupted = Outcome(Ending.FOUND), False
+        answer = Answer(Outcome(Ending.FOUND), False, ())
     else:
-        outcome, interrupted = search(options, rdbg, session, names)
-    if outcome.ending is Ending.FOUND:
-        steps = shrink(rdbg, session, outcome.steps)
-        report_outcome(session, names, outcome, steps)
+        answer = Search(options, rdbg, session, names).run()
+    if answer.outcome.ending is Ending.FOUND:
+        steps = shrink(rdbg, session, answer.outcome.steps)
+        report_found(answer, steps)
         print_session(options, rdbg, session, names, steps)
         return Ending.FOUND.value
-    report_outcome(session, names, outcome, ())
-    return INTERRUPTED if interrupted else outcome.ending.value
+    report_none(session, names, answer)
+    return INTERRUPTED if answer.is_interrupted else answer.outcome.ending.value
 
 
 def main(words):

@@ -9,12 +9,31 @@ def say(text):
     print(text, file=sys.stderr, flush=True)
 
 
-def report_outcome(session, names, outcome, steps):
-    """Says how a search ended."""
-    looked_for = "no schedule is stuck" if session.model.stuck else "no schedule reaches it"
-    if outcome.ending is Ending.FOUND:
-        say(f"found: {len(steps)} events" + (f"; {outcome.done}" if outcome.done else ""))
-    elif outcome.ending is Ending.NONE:
-        say(f"{looked_for}, {outcome.done}")
+def counted(number, word):
+    """A number with a word, in the plural if it is not 1."""
+    return f"{number:,} {word}{'' if number == 1 else 's'}"
+
+
+def report_found(answer, steps):
+    """Says what was found."""
+    done = answer.outcome.done
+    say(f"found: {counted(len(steps), 'event')}" + (f" ({done})" if done else ""))
+
+
+def report_none(session, names, answer):
+    """Says that nothing was found, what was done, and what may be the reason."""
+    outcome = answer.outcome
+    if outcome.ending is Ending.NONE:
+        say(f"{'no schedule is stuck' if session.model.stuck else 'no schedule reaches it'}, {outcome.done}")
     else:
         say(f"none found so far: {outcome.done}; {outcome.reason}")
+    for line in [*never_fired(session, names, outcome.fired), *answer.advice]:
+        say(line)
+
+
+def never_fired(session, names, fired):
+    """A line for each command that never fired, except for own events of the session."""
+    own = {(process, command) for process, commands in enumerate(session.model.own) for command in commands}
+    for step in session.model.steps if fired else ():
+        if not fired.get(step) and step not in own:
+            yield f"{names[step].written()} never fired"

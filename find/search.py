@@ -1,44 +1,114 @@
-"""Runs the engines until one of them has an answer."""
+"""Runs the engines side by side until one of them has the answer."""
 import time
+from typing import NamedTuple, Tuple
 
-from find.outcome import Ending
+from find.outcome import Ending, Outcome
 from find.progress import Progress
-from find.spin import SpinSearch
+from find.report import say
+from find.sampling import Sampling
+from find.spin import SpinFailed, SpinSearch, missing_message, missing_tools
 
-PAUSE = 0.05  # seconds between two looks at an engine
-
-
-def free_steps(model, steps):
-    """The steps of an interleaving without the own events of the processes, which a session makes first."""
-    left, free = [len(own) for own in model.own], []
-    for step in steps:
-        if left[step.process]:
-            left[step.process] -= 1
-        else:
-            free.append(step)
-    return tuple(free)
+PAUSE = 0.02  # seconds between two looks at the engines
+PATIENCE = 10.0  # seconds, at least, that SPIN may look for a shorter schedule than sampling has found
 
 
-def search(options, rdbg, session, names):
-    """The outcome, and whether Ctrl-C ended the search."""
-    engine, progress, interrupted = SpinSearch(session.model, names, options.channel, options.memory), Progress(), False
-    end = time.monotonic() + options.seconds
-    try:
-        engine.start()
-        outcome = engine.poll()
-        while outcome is None:
-            try:
-                time.sleep(PAUSE)
-                progress.show(engine.progress)
-                if time.monotonic() > end:
-                    engine.interrupt()
-            except KeyboardInterrupt:
-                interrupted = True
-                engine.interrupt()
+class Answer(NamedTuple):
+    """The outcome of the search, whether Ctrl-C ended it, and what the engines suggest."""
+    outcome: Outcome
+    is_interrupted: bool
+    advice: Tuple[str, ...]
+
+
+class Search:
+    """The engines that search, and their outcomes."""
+
+    def __init__(self, options, rdbg, session, names):
+        self.options, self.progress = options, Progress()
+        self.spin = self.sampling = None
+        if options.engine != "sample":
+            self.spin = self.started_spin(session, names)
+        if options.engine == "sample" or options.engine == "auto" or self.spin is None:
+            self.sampling = Sampling(rdbg, session, options)
+            self.sampling.start()
+        self.outcomes, self.is_interrupted = {}, False
+        self.begun = time.monotonic()
+        self.end = self.begun + options.seconds
+
+    def started_spin(self, session, names):
+        """The search by SPIN, or None if SPIN cannot search here."""
+        missing = missing_tools()
+        if missing:
+            say(f"{missing_message(missing)}; until then, schedules are sampled")
+            return None
+        spin = SpinSearch(session.model, names, self.options.channel, self.options.memory)
+        try:
+            spin.start()
+        except SpinFailed as failed:
+            spin.close()
+            say(f"{failed}; schedules are sampled")
+            return None
+        return spin
+
+    def engines(self):
+        """The engines that have no outcome yet."""
+        return [engine for engine in (self.spin, self.sampling) if engine and engine not in self.outcomes]
+
+    def run(self):
+        """Waits for the outcomes that decide the search."""
+        try:
+            while not self.is_over():
+                try:
+                    self.look()
+                except KeyboardInterrupt:
+                    self.is_interrupted = True
+                    self.stop()
+        finally:
+            self.progress.clear()
+            for engine in (self.spin, self.sampling):
+                if engine:
+                    engine.close()
+        return self.answer()
+
+    def look(self):
+        """Looks once at each engine."""
+        for engine in self.engines():
             outcome = engine.poll()
-    finally:
-        progress.clear()
-        engine.close()
-    if outcome.ending is Ending.FOUND:
-        outcome = outcome._replace(steps=free_steps(session.model, outcome.steps))
-    return outcome, interrupted
+            if outcome:
+                self.outcomes[engine] = outcome
+                self.note(engine, outcome)
+        if time.monotonic() > self.end:
+            self.stop()
+        self.progress.show(lambda: "; ".join(engine.progress() for engine in self.engines()))
+        time.sleep(PAUSE)
+
+    def note(self, engine, outcome):
+        """Does what follows from an outcome of one engine for the other."""
+        if engine is self.sampling and outcome.ending is Ending.FOUND and self.spin in self.engines():
+            now = time.monotonic()
+            self.end = min(self.end, now + max(PATIENCE, now - self.begun))
+        if engine is self.spin and outcome.ending is Ending.STOPPED and self.sampling in self.engines() and not self.is_interrupted:
+            self.progress.clear()
+            say(f"SPIN found none so far: {outcome.done}; {outcome.reason}")
+
+    def stop(self):
+        """Ends all engines."""
+        for engine in self.engines():
+            engine.interrupt()
+
+    def is_over(self):
+        """Whether the search is decided: all engines have ended, or SPIN has found a schedule or shown that there is none."""
+        spin = self.outcomes.get(self.spin)
+        return not self.engines() or spin is not None and spin.ending is not Ending.STOPPED
+
+    def answer(self):
+        """The answer, of the outcomes of the engines."""
+        outcomes = [self.outcomes[engine] for engine in (self.spin, self.sampling) if engine in self.outcomes]
+        best = min(outcomes, key=lambda outcome: (Ending.FOUND, Ending.NONE, Ending.STOPPED).index(outcome.ending))
+        if best.ending is Ending.STOPPED and len(outcomes) == 2:
+            spin, sampling = outcomes
+            fired = {step: spin.fired.get(step, 0) + count for step, count in sampling.fired.items()}
+            best = Outcome(Ending.STOPPED, (), f"{spin.done}; {sampling.done}", spin.reason, fired)
+        if self.is_interrupted:
+            best = best._replace(reason="interrupted")
+        advice = self.sampling.advice() if self.sampling else ""
+        return Answer(best, self.is_interrupted, (advice,) if advice else ())

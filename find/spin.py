@@ -127,7 +127,7 @@ class SpinSearch:
         fired = {steps[int(number)]: int(count) for number, count in FIRED.findall(said)}
         done = self.done(said)
         if "assertion violated" in said:
-            return Outcome(Ending.FOUND, self.trail(), done, "", fired)
+            return Outcome(Ending.FOUND, free_steps(self.model, self.trail()), done, "", fired)
         reason = self.why_stopped(said, wide)
         if reason:
             return Outcome(Ending.STOPPED, (), done, reason, fired)
@@ -139,7 +139,7 @@ class SpinSearch:
     def done(self, said):
         """How many states were visited, and how deep."""
         states, depth = STATES.findall(said), DEPTH_REACHED.findall(said)
-        return f"{int(states[-1]):,} states, depth {depth[-1]}" if states and depth else "no states counted"
+        return f"SPIN: {int(states[-1]):,} states, depth {depth[-1]}" if states and depth else "SPIN: no states counted"
 
     def why_stopped(self, said, wide):
         """Why the search is not complete, or nothing if it is."""
@@ -175,6 +175,17 @@ class SpinSearch:
         played = run_trail(self.folder)
         steps = self.model.steps
         return tuple(steps[int(number)] for number in STEP.findall(played))
+
+
+def free_steps(model, steps):
+    """The steps of an interleaving without the own events of the processes, which a session makes first."""
+    left, free = [len(own) for own in model.own], []
+    for step in steps:
+        if left[step.process]:
+            left[step.process] -= 1
+        else:
+            free.append(step)
+    return tuple(free)
 
 
 def run_trail(folder):
