@@ -1,7 +1,9 @@
 """What is searched: the program, what each process has done already, and the states that are looked for."""
 from typing import Dict, NamedTuple, Tuple
 
-from find.language import Count, Part, Process, Receive, Send, leaves, values
+from find.language import Command, Count, Part, Process, Receive, Send, Truth, leaves, values
+
+NEVER = Command(Truth(False), None, ())  # a command that cannot fire
 
 
 class Breakpoint(NamedTuple):
@@ -42,6 +44,13 @@ class Model(NamedTuple):
     def command(self, step):
         """The command of a step."""
         return self.processes[step.process].commands[step.command]
+
+    def only(self, steps):
+        """The model in which no other command can fire than those of these steps and of the own events."""
+        kept = {*steps, *(Step(process, command) for process, commands in enumerate(self.own) for command in commands)}
+        processes = [process._replace(commands=tuple(command if Step(p, c) in kept else NEVER for c, command in enumerate(process.commands)))
+                     for p, process in enumerate(self.processes)]
+        return self._replace(processes=tuple(processes))
 
     def channels(self):
         """The pairs of processes between which a message can be sent and received."""

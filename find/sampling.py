@@ -1,24 +1,25 @@
 """The search by sampling: schedules are made by the simulator on all processors, and rdbg judges them.
 
 The schedules have numbers, and each is made by random numbers of its own. So the same seed plays the same schedules, on any number of
-processors, and the schedule that is found is the first that halts.
+processors. After the first one that halts, some more are played, and the shortest that was found is kept.
 """
 import random
-import signal
 import time
-from collections import Counter, deque
-from concurrent.futures import ProcessPoolExecutor
-from concurrent.futures.process import BrokenProcessPool
+from collections import Counter
 from typing import Dict, NamedTuple, Optional, Tuple
 
 from find.judge import Judge
 from find.model import Step
 from find.outcome import Ending, Outcome
+from find.pool import Pool, WorkerEnded
+from find.shrink import Shrinker
 from find.simulator import Simulator
 from find.strategies import STRATEGIES
 
 LARGEST = 256  # schedules of a batch
 SHORT, LONG = 0.2, 1.0  # seconds for a batch; after shorter or longer ones the next are larger or smaller
+MORE = 3  # after the first schedule that halts, so many times as many as until then are played
+PATIENCE = 5.0  # seconds that this may take
 
 
 class Choices(NamedTuple):
@@ -32,7 +33,7 @@ class Choices(NamedTuple):
 
 class Batch(NamedTuple):
     """What some schedules did: the seconds that they took, how many there were, their events, the least and the greatest number of events,
-    how often each command fired, the number of the schedule that was found, counted in the batch, and its steps."""
+    how often each command fired, the number of the first schedule that was found, and its steps after it was shortened."""
     seconds: float
     schedules: int
     events: int
@@ -77,12 +78,13 @@ class Player:
 
 
 class Worker:
-    """Plays and judges batches, in a process of its own."""
+    """Plays, judges and shortens the schedules of a batch."""
 
     def __init__(self, rdbg, session, choices):
         self.player, self.judge, self.stuck = Player(session.model, choices), Judge(rdbg, session), session.model.stuck
+        self.shrinker = Shrinker(rdbg, session)
 
-    def batch(self, first, count):
+    def __call__(self, first, count):
         """The schedules of these numbers."""
         begun, played, fired = time.monotonic(), [], Counter()
         for number in range(first, first + count):
@@ -90,78 +92,77 @@ class Worker:
             fired.update(steps)
             played.append((steps, run.is_stuck() if self.stuck else run.may_halt()))
         lengths = [len(steps) for steps, _ in played]
-        found, steps = self.first_bad(played)
-        return Batch(time.monotonic() - begun, count, sum(lengths), min(lengths), max(lengths), dict(fired), found, tuple(steps))
+        found = self.first_bad(played)
+        seconds = time.monotonic() - begun
+        steps = () if found is None else self.shrinker.shrunk(played[found][0])
+        return Batch(seconds, count, sum(lengths), min(lengths), max(lengths), dict(fired), None if found is None else first + found, steps)
 
     def first_bad(self, played):
-        """The place and the steps of the first schedule that reaches a state that is looked for."""
-        candidates = [(place, steps) for place, (steps, may_be_bad) in enumerate(played) if may_be_bad]
+        """The place of the first schedule that reaches a state that is looked for, or None."""
+        candidates = [place for place, (_, may_be_bad) in enumerate(played) if may_be_bad]
         if self.stuck:
-            return candidates[0] if candidates else (None, ())
-        verdicts = self.judge.verdicts([steps for _, steps in candidates])
-        return next(((place, steps[:verdict.steps]) for (place, steps), verdict in zip(candidates, verdicts) if verdict.halted), (None, ()))
-
-
-worker = None  # of this process
-
-
-def begin_worker(*given):
-    """Prepares a process for batches. Ctrl-C is for the search alone."""
-    global worker
-    signal.signal(signal.SIGINT, signal.SIG_IGN)
-    worker = Worker(*given)
-
-
-def play_batch(first, count):
-    """A batch in a process that is prepared."""
-    return worker.batch(first, count)
+            return candidates[0] if candidates else None
+        verdicts = self.judge.verdicts([played[place][0] for place in candidates])
+        return next((place for place, verdict in zip(candidates, verdicts) if verdict.halted), None)
 
 
 class Sampling:
     """A search by sampling. `start` begins it, `poll` says whether it has ended, and `close` ends it in any case."""
 
+    name = "sampling"
+
     def __init__(self, rdbg, session, options):
-        self.session, self.options, self.choices = session, options, choices_of(options)
-        self.given = (rdbg, session, self.choices)
-        self.schedules = self.events = 0
+        self.session, self.options = session, options
+        self.given = (rdbg, session, choices_of(options))
+        self.limit, self.schedules, self.events = options.schedules, 0, 0
         self.fired, self.shortest, self.longest = Counter({step: 0 for step in session.model.steps}), None, 0
-        self.pool, self.running, self.next, self.size = None, deque(), 0, 1
-        self.stopped = ""
+        self.pool, self.done_batches, self.next, self.size, self.counted = None, {}, 0, 1, 0
+        self.best, self.first_found, self.stopped = None, None, ""
 
     def start(self):
         """Starts the processes that play."""
         self.begun = time.monotonic()
-        self.pool = ProcessPoolExecutor(self.options.jobs, initializer=begin_worker, initargs=self.given)
+        self.end = None  # when the search for a shorter schedule ends
+        self.pool = Pool(self.options.jobs, Worker, self.given)
         self.fill()
 
     def fill(self):
-        """Gives the processes enough to do."""
-        while len(self.running) < 2 * self.options.jobs:
-            size = self.size if self.options.schedules is None else min(self.size, self.options.schedules - self.next)
-            if size == 0:
+        """Gives the processes something to do."""
+        while self.pool.idle:
+            size = self.size if self.limit is None else min(self.size, self.limit - self.next)
+            if size <= 0:
                 break
-            self.running.append(self.pool.submit(play_batch, self.next, size))
+            self.pool.submit((self.next, size))
             self.next += size
 
     def poll(self):
         """The outcome, or None as long as the search runs."""
-        while self.running and self.running[0].done() and not self.stopped:
-            try:
-                batch = self.running.popleft().result()
-            except BrokenProcessPool:
-                self.stopped = "a process that plays schedules was ended"
-                break
-            self.add(batch)
-            if batch.found is not None:
-                return Outcome(Ending.FOUND, batch.steps, self.done(), "", dict(self.fired))
+        try:
+            results = self.pool.results()
+        except WorkerEnded:
+            results, self.stopped = [], "a process that plays schedules was ended"
+        for task, batch in results:
+            self.done_batches[task[0]] = batch
+        while self.counted in self.done_batches:
+            self.add(self.done_batches.pop(self.counted))
+        if self.end and time.monotonic() > self.end:
+            self.stopped = "the schedule that was found is short enough"
+        if not self.stopped:
             self.fill()
-        if not self.running and not self.stopped:
+        if not self.pool.busy and not self.stopped:
             self.stopped = "that is what --schedules allows"
-        return Outcome(Ending.STOPPED, (), self.done(), self.stopped, dict(self.fired)) if self.stopped else None
+        return self.outcome() if self.stopped else None
+
+    def outcome(self):
+        """How the search ended."""
+        if self.best is not None:
+            return Outcome(Ending.FOUND, self.best, self.done(), "", dict(self.fired))
+        return Outcome(Ending.STOPPED, (), self.done(), self.stopped, dict(self.fired))
 
     def add(self, batch):
-        """Counts what a batch did."""
-        self.schedules += batch.schedules if batch.found is None else batch.found + 1
+        """Counts what a batch did. The batches come in the order of their schedules."""
+        self.counted += batch.schedules
+        self.schedules += batch.schedules
         self.events += batch.events
         if batch.seconds < SHORT:
             self.size = min(2 * self.size, LARGEST)
@@ -170,6 +171,18 @@ class Sampling:
         self.fired.update(batch.fired)
         self.shortest = batch.shortest if self.shortest is None else min(self.shortest, batch.shortest)
         self.longest = max(self.longest, batch.longest)
+        if batch.found is not None:
+            self.keep(batch)
+
+    def keep(self, batch):
+        """Keeps the schedule of a batch if it is shorter. After the first one, the search goes on for a while."""
+        if self.first_found is None:
+            self.first_found = batch.found
+            more = (1 + MORE) * (batch.found + 1)
+            self.limit = more if self.limit is None else min(self.limit, more)
+            self.end = time.monotonic() + PATIENCE
+        if self.best is None or len(batch.steps) < len(self.best):
+            self.best = batch.steps
 
     def done(self):
         """What was done, in numbers."""
@@ -178,7 +191,8 @@ class Sampling:
     def progress(self):
         """How far the search is, in numbers."""
         rate = self.events / max(time.monotonic() - self.begun, 0.001)
-        return f"sampling: {self.schedules:,} schedules, {rate:,.0f} events a second"
+        found = f", found {len(self.best)} events" if self.best is not None else ""
+        return f"sampling: {self.schedules:,} schedules, {rate:,.0f} events a second{found}"
 
     def interrupt(self):
         """Ends the search before its end."""
@@ -186,10 +200,8 @@ class Sampling:
 
     def close(self):
         """Ends the processes."""
-        for batch in self.running:
-            batch.cancel()
         if self.pool:
-            self.pool.shutdown()
+            self.pool.close()
 
     def advice(self):
         """What the schedules suggest, or nothing."""

@@ -9,8 +9,9 @@ class Shrinker:
     def __init__(self, rdbg, session):
         self.session, self.judge, self.simulator = session, Judge(rdbg, session), Simulator(session.model)
 
-    def in_cut(self, steps, verdict):
+    def in_cut(self, steps):
         """The steps up to the one that halts, without the events that are not in the cut: no other one is needed."""
+        verdict = self.judge.verdicts([steps])[0]
         steps = steps[:verdict.steps]
         cut = self.judge.cut(steps, verdict.halted)
         made, kept = [len(own) for own in self.session.model.own], []
@@ -29,14 +30,26 @@ class Shrinker:
         found = {id(steps): next(verdicts) for steps in likely}
         return [found[id(steps)] if id(steps) in found and found[id(steps)].halted else None for steps in candidates]
 
+    def judged(self, steps, left_out):
+        """For each of these sets of places, if its places can be left out, the set and the schedule that is then left. Steps that can then
+        not fire are left out, too."""
+        candidates = [tuple(self.simulator.possible([step for place, step in enumerate(steps) if place not in places])) for places in left_out]
+        found = zip(left_out, candidates, self.is_bad(candidates))
+        return [(places, self.kept(candidate, verdict)) for places, candidate, verdict in found if verdict]
+
+    def kept(self, candidate, verdict):
+        """What is needed of a schedule that reaches a state that is looked for."""
+        return candidate if self.session.model.stuck else candidate[:verdict.steps]
+
     def best(self, steps, left_out):
-        """The shortest schedule that is left if one of these sets of places is left out, or None. What can then not fire is left out, too."""
-        candidates = [self.simulator.possible([step for place, step in enumerate(steps) if place not in places]) for places in left_out]
-        judged = [(candidate, verdict) for candidate, verdict in zip(candidates, self.is_bad(candidates)) if verdict]
-        if not judged:
+        """The shortest schedule that is left if some of these sets of places are left out, or None."""
+        alone = self.judged(steps, left_out)
+        if not alone:
             return None
-        shortest, verdict = min(judged, key=lambda pair: len(pair[0]) if self.session.model.stuck else pair[1].steps)
-        return tuple(shortest) if self.session.model.stuck else self.in_cut(shortest, verdict)
+        unions = [set().union(*(places for places, _ in alone[:count])) for count in range(2, len(alone) + 1)]
+        found = [kept for _, kept in [*alone, *self.judged(steps, unions)]]
+        shortest = min(found, key=len)
+        return shortest if self.session.model.stuck else self.in_cut(shortest)
 
     def without_processes(self, steps):
         """The steps without those of some processes, one after the other."""
@@ -61,7 +74,7 @@ class Shrinker:
     def shrunk(self, steps):
         """The schedule, shortened."""
         if not self.session.model.stuck:
-            steps = self.in_cut(steps, self.judge.verdicts([steps])[0])
+            steps = self.in_cut(steps)
         return self.without_events(self.without_processes(steps))
 
 
