@@ -47,7 +47,8 @@ SPIN:
 
 SAMPLING:
     --strategy <NAME>     random, priorities, swarm, stall or stall-swarm. May
-                          be repeated; they take turns. [default: all]
+                          be repeated; they take turns.
+                          [default: all; with --compare, random]
     --seed <N>            The same seed plays the same schedules. [default: 1]
     --schedules <N>       Stop after N schedules.
     --length <N>          Events of a schedule, at most. [default: 100]
@@ -138,7 +139,7 @@ def read_arguments(words):
     if options.help:
         return options
     check(options)
-    options.strategies = tuple(options.strategies or STRATEGIES)
+    options.strategies = tuple(options.strategies or (STRATEGIES[:1] if options.compare else STRATEGIES))
     options.memory = options.memory or free_memory()
     return options
 

@@ -16,6 +16,7 @@ from find.ranges import Range, ranges
 
 # The types of Promela that keep numbers, narrowest first.
 TYPES = {"byte": Range(0, 255), "short": Range(-2**15, 2**15 - 1), "int": Range(-2**31, 2**31 - 1)}
+MODEL_FILE, CODE_FILE = "model.pml", "commands.h"
 NARROW, WIDE = "short", "int"  # for numbers that arithmetic makes
 OPERATORS = {"=": "==", "and": "&&", "or": "||"}
 FUNCTIONS = {"+": "sum", "-": "difference", "*": "product", "/": "quotient", "%": "remainder_of"}
@@ -61,6 +62,9 @@ static long long remainder_of(long long a, long long b)
   int overflows = cannot_divide(a, b);
   return checked(overflows, overflows ? 0 : a % b);
 }
+"""
+# A value that is to be kept in the state, which ends the search if it is too large.
+KEPT = """\
 static long long kept(int command, long long value, long long least, long long greatest)
 {
   if (value < least || value > greatest) {
@@ -296,24 +300,27 @@ class Translation:
                     yield f"    now.{self.variable(number, name)} = {self.kept(-1, literal(value), self.ranges[number, name])};"
         yield "    atexit(report);"
 
-    def functions(self):
-        """The C functions of the commands and of what is looked for."""
-        yield HELPERS
+    def commands(self):
+        """The C functions of the commands."""
         yield f"static long fired[{max(1, len(self.model.steps))}];"
         yield from (f"static int full_{source}_{target};" for source, target in self.channels)
         for number, step in enumerate(self.model.steps):
             yield f"/* {self.model.processes[step.process].name} {step.command} */"
             for function in (self.ready, self.can, self.fire):
                 yield from function(number, step)
+
+    def functions(self):
+        """All C functions."""
+        yield HELPERS + KEPT
+        yield from self.commands()
         yield from self.goal()
         yield from self.report()
 
     def lines(self):
         """The lines of the Promela text."""
         yield from self.declarations()
-        yield "c_code {"
-        yield from self.functions()
-        yield "}"
+        # (SPIN has a limit for the C code in its text, but none for a file)
+        yield f'c_code {{ \\#include "{CODE_FILE}" }}'
         yield "active proctype system()"
         yield "{"
         yield "  d_step { c_code {"
@@ -327,6 +334,6 @@ class Translation:
         yield "  od"
         yield "}"
 
-    def text(self):
-        """The Promela text."""
-        return "\n".join(self.lines()) + "\n"
+    def files(self):
+        """The texts of the files for SPIN, by name."""
+        return {MODEL_FILE: "\n".join(self.lines()) + "\n", CODE_FILE: "\n".join(self.functions()) + "\n"}

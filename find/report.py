@@ -3,6 +3,7 @@ import sys
 
 from find.outcome import Ending
 
+SHOWN = 12  # commands that never fired, at most
 
 def say(text):
     """Says a text."""
@@ -27,13 +28,13 @@ def report_none(session, names, answer):
         say(f"{'no schedule is stuck' if session.model.stuck else 'no schedule reaches it'}, {outcome.done}")
     else:
         say(f"none found so far: {outcome.done}; {outcome.reason}")
-    for line in [*never_fired(session, names, outcome.fired), *answer.advice]:
+    never = [f"{name} never fired" for name in never_fired(session, names, outcome.fired)]
+    more = [f"and {counted(len(never) - SHOWN, 'other')}"] if len(never) > SHOWN else []
+    for line in [*never[:SHOWN], *more, *answer.advice]:
         say(line)
 
 
 def never_fired(session, names, fired):
-    """A line for each command that never fired, except for own events of the session."""
+    """The commands that never fired, except for own events of the session."""
     own = {(process, command) for process, commands in enumerate(session.model.own) for command in commands}
-    for step in session.model.steps if fired else ():
-        if not fired.get(step) and step not in own:
-            yield f"{names[step].written()} never fired"
+    return [names[step].written() for step in session.model.steps if fired and not fired.get(step) and step not in own]

@@ -9,7 +9,7 @@ import time
 from pathlib import Path
 
 from find.outcome import Ending, Outcome
-from find.promela import NARROW, WIDE, Translation
+from find.promela import MODEL_FILE, NARROW, WIDE, Translation
 
 COMPILERS = ("gcc", "clang", "cc")
 PACKAGES = {"spin": "spin", "a C compiler": "gcc"}
@@ -61,13 +61,14 @@ class SpinSearch:
 
     def start(self):
         """Translates the model, compiles the verifier and starts it."""
-        text = Translation(self.model, self.length, self.widest).text()
-        (self.folder / "model.pml").write_text(text)
+        files = Translation(self.model, self.length, self.widest).files()
+        for name, text in files.items():
+            (self.folder / name).write_text(text)
         # (the text has nothing for a preprocessor)
-        run_tool(self.folder, "spin", "-Pcat", "-a", "model.pml")
+        run_tool(self.folder, "spin", "-Pcat", "-a", MODEL_FILE)
         compiler = next(filter(None, map(shutil.which, COMPILERS)))
         run_tool(self.folder, compiler, "-O2", "-w", "-DBFS", "-DSAFETY", "-DNOREDUCE", f"-DMEMLIM={self.memory}",
-                 f"-DVECTORSZ={self.vector_size(text)}", "-DFREQ=100000", "-o", "pan", "pan.c")
+                 f"-DVECTORSZ={self.vector_size(files[MODEL_FILE])}", "-DFREQ=100000", "-o", "pan", "pan.c")
         self.begun = time.monotonic()
         with open(self.log, "wb") as log:
             self.verifier = subprocess.Popen(["./pan", "-E", f"-m{DEPTH}"], cwd=self.folder, stdin=subprocess.DEVNULL, stdout=log,
