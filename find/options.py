@@ -37,6 +37,8 @@ ENGINES:
                           and sampling alone if SPIN is missing.
                           [default: auto]
     --seconds <N>         Stop after N seconds. [default: 300]
+    --shortest            Use all of --seconds to look for a shorter schedule
+                          than sampling has found.
     --jobs <N>            Processors that sample. [default: all]
 
 SPIN:
@@ -124,6 +126,7 @@ def read_arguments(words):
     parser.add_argument("--from-start", action="store_true")
     parser.add_argument("--engine", choices=ENGINES, default="auto")
     parser.add_argument("--seconds", type=seconds, default=300.0, metavar="N")
+    parser.add_argument("--shortest", action="store_true")
     parser.add_argument("--jobs", type=positive, default=os.cpu_count() or 1, metavar="N")
     parser.add_argument("--channel", type=positive, default=4, metavar="N")
     parser.add_argument("--memory", type=positive, default=None, metavar="MB")

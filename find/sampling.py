@@ -117,7 +117,7 @@ class Sampling:
         self.limit, self.schedules, self.events = options.schedules, 0, 0
         self.fired, self.shortest, self.longest = Counter({step: 0 for step in session.model.steps}), None, 0
         self.pool, self.done_batches, self.next, self.size, self.counted = None, {}, 0, 1, 0
-        self.best, self.first_found, self.stopped = None, None, ""
+        self.best, self.stopped = None, ""
 
     def start(self):
         """Starts the processes that play."""
@@ -176,8 +176,7 @@ class Sampling:
 
     def keep(self, batch):
         """Keeps the schedule of a batch if it is shorter. After the first one, the search goes on for a while."""
-        if self.first_found is None:
-            self.first_found = batch.found
+        if self.best is None and not self.options.shortest:
             more = (1 + MORE) * (batch.found + 1)
             self.limit = more if self.limit is None else min(self.limit, more)
             self.end = time.monotonic() + PATIENCE

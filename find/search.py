@@ -24,6 +24,8 @@ class Search:
 
     def __init__(self, options, rdbg, session, names):
         self.options, self.progress = options, Progress()
+        self.begun = time.monotonic()
+        self.end = self.begun + options.seconds
         self.spin = self.sampling = None
         if options.engine != "sample":
             self.spin = self.started_spin(session, names)
@@ -31,8 +33,6 @@ class Search:
             self.sampling = Sampling(rdbg, session, options)
             self.sampling.start()
         self.outcomes, self.is_interrupted = {}, False
-        self.begun = time.monotonic()
-        self.end = self.begun + options.seconds
 
     def started_spin(self, session, names):
         """The search by SPIN, or None if SPIN cannot search here."""
@@ -83,7 +83,7 @@ class Search:
 
     def note(self, engine, outcome):
         """Does what follows from an outcome of one engine for the other."""
-        if engine is self.sampling and outcome.ending is Ending.FOUND and self.spin in self.engines():
+        if engine is self.sampling and outcome.ending is Ending.FOUND and self.spin in self.engines() and not self.options.shortest:
             now = time.monotonic()
             self.end = min(self.end, now + max(PATIENCE, now - self.begun))
         if engine is self.spin and outcome.ending is Ending.STOPPED and self.sampling in self.engines() and not self.is_interrupted:

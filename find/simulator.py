@@ -39,11 +39,12 @@ class ProcessCode:
     The state of a process is a list with its variables and then its counts. `channels` has the messages that are on their way.
     """
 
-    def __init__(self, model, number, channels):
+    def __init__(self, model, number, channels, counts):
         self.model, self.number, self.process = model, number, model.processes[number]
+        self.numbers = model.numbers
         self.channels = {channel: at for at, channel in enumerate(channels)}
-        counts = [(word, other) for word, process, other in model.counts() if process == number]
-        self.places = {name: at for at, name in enumerate([*self.process.variables, *counts])}
+        own_counts = [(word, other) for word, process, other in counts if process == number]
+        self.places = {name: at for at, name in enumerate([*self.process.variables, *own_counts])}
 
     def first_values(self):
         """The state at the start."""
@@ -56,7 +57,7 @@ class ProcessCode:
         if isinstance(expression, Variable):
             return "message" if expression.name == message else f"s{self.places[expression.name]}"
         if isinstance(expression, Count):
-            return f"s{self.places[expression.word, self.model.numbers[expression.process]]}"
+            return f"s{self.places[expression.word, self.numbers[expression.process]]}"
         if isinstance(expression, Prefix):
             operand = self.expression(expression.operand, message)
             return f"(not {operand})" if expression.operator == "not" else f"fit(-{operand})"
@@ -75,7 +76,7 @@ class ProcessCode:
 
     def channel(self, action):
         """The place of the channel from which a receive takes its message, or None if nothing is ever sent there."""
-        return self.channels.get((self.model.numbers[action.source], self.number))
+        return self.channels.get((self.numbers[action.source], self.number))
 
     def condition_lines(self, number, command):
         """The lines that find out whether a command can fire."""
@@ -112,7 +113,7 @@ class ProcessCode:
 
     def fire(self, number, command):
         """The function that fires a command, which can fire."""
-        action, message, numbers = command.action, None, self.model.numbers
+        action, message, numbers = command.action, None, self.numbers
         yield f"def fire_{self.number}_{number}(state, channels):"
         yield self.unpacked()
         counted = None
@@ -144,8 +145,9 @@ class Compiled:
     """The functions of a model."""
 
     def __init__(self, model):
-        self.model, self.channels = model, model.channels()
-        code = [ProcessCode(model, number, self.channels) for number in range(len(model.processes))]
+        self.model, self.numbers, self.channels = model, model.numbers, model.channels()
+        counts = model.counts()
+        code = [ProcessCode(model, number, self.channels, counts) for number in range(len(model.processes))]
         self.first = [it.first_values() for it in code]
         steps = [[step for step in model.steps if step.process == number] for number in range(len(model.processes))]
         self.moves, self.fires = [], []
@@ -174,14 +176,14 @@ class Compiled:
     def target(self, step, received):
         """The process to which a command sends, if that receives it, or None."""
         action = self.model.command(step).action
-        target = self.model.numbers[action.target] if isinstance(action, Send) else None
+        target = self.numbers[action.target] if isinstance(action, Send) else None
         return target if (step.process, target) in received else None
 
     def condition(self, code, breakpoint):
         """The parts of a breakpoint: pairs of a process and a function of its state."""
         found = []
         for part in breakpoint.parts:
-            number = self.model.numbers[part.process]
+            number = self.numbers[part.process]
             names = {"Fault": Fault, "fit": fit, "quotient": quotient, "remainder": remainder}
             exec("\n".join(code[number].holds("holds", part.predicate)), names)
             found.append((number, names["holds"]))

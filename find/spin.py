@@ -14,6 +14,7 @@ from find.promela import MODEL_FILE, NARROW, WIDE, Translation
 COMPILERS = ("gcc", "clang", "cc")
 PACKAGES = {"spin": "spin", "a C compiler": "gcc"}
 DEPTH = 10_000_000  # events of a schedule, at most
+MANY = 300  # commands; a verifier of more is compiled without optimization, which would take a minute
 SPARE = 1024  # bytes of a state besides those of the model
 PROGRESS = re.compile(r"Depth=\s*(\d+) States=\s*(\S+) Transitions=\s*\S+ Memory=\s*(\S+)")
 STATES = re.compile(r"^\s*(\d+) states, stored", re.MULTILINE)
@@ -67,7 +68,7 @@ class SpinSearch:
         # (the text has nothing for a preprocessor)
         run_tool(self.folder, "spin", "-Pcat", "-a", MODEL_FILE)
         compiler = next(filter(None, map(shutil.which, COMPILERS)))
-        run_tool(self.folder, compiler, "-O2", "-w", "-DBFS", "-DSAFETY", "-DNOREDUCE", f"-DMEMLIM={self.memory}",
+        run_tool(self.folder, compiler, "-O0" if len(self.model.steps) > MANY else "-O2", "-w", "-DBFS", "-DSAFETY", "-DNOREDUCE", f"-DMEMLIM={self.memory}",
                  f"-DVECTORSZ={self.vector_size(files[MODEL_FILE])}", "-DFREQ=100000", "-o", "pan", "pan.c")
         self.begun = time.monotonic()
         with open(self.log, "wb") as log:
