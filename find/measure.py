@@ -61,19 +61,22 @@ def searched(file, *options):
     return ran.stderr, time.monotonic() - begun
 
 
-def cells(file, engine):
-    """The cells of a table for one engine: what it did, in how many seconds, and how many events it found."""
+def cells(file, engine, events):
+    """The cells of a table for one engine: what it did, in how many seconds, and how many events it found. If these are more than the
+    session has, the engine looks for a shorter schedule as long as it may."""
     said, seconds = searched(file, "--engine", engine, "--seconds", str(SECONDS))
+    if FOUND.search(said) and int(FOUND.search(said)[1]) > events:
+        said, seconds = searched(file, "--engine", engine, "--seconds", str(SECONDS), "--shortest")
     found, none = FOUND.search(said), NONE_SO_FAR.search(said)
     done = (found[2] if found else none[1] if none else said.strip()).replace("SPIN: ", "").replace("sampling: ", "")
-    return [done.split(",  ")[0].rsplit(", ", 1)[0], f"{seconds:.0f}", found[1] if found else "none"]
+    return [done.rsplit(", ", 1)[0], f"{seconds:.0f}", found[1] if found else "none"]
 
 
 def measure_examples(rdbg, files):
     """Prints the table of the examples."""
     print("| Example | Events in the session | SPIN | Seconds | Events | Sampling | Seconds | Events |\n|---|---|---|---|---|---|---|---|")
     for file, events in ((Path(file), events_to_halt(rdbg, file)) for file in files) if files else sessions_with_mistakes(rdbg):
-        row = [file.stem, str(events), *cells(file, "spin"), *cells(file, "sample")]
+        row = [file.stem, str(events), *cells(file, "spin", events), *cells(file, "sample", events)]
         print(f"| {' | '.join(row)} |", flush=True)
 
 
