@@ -1,4 +1,5 @@
 """The command `find`: reads its arguments, searches, and prints what was found."""
+import os
 import sys
 
 from find import options as command_line
@@ -13,7 +14,7 @@ from find.search import Answer, Search
 from find.session import read_file, read_session
 from find.shrink import shrink
 
-WRONG_USE, INTERRUPTED = 2, 130
+WRONG_USE, CLOSED, INTERRUPTED = 2, 3, 130
 
 
 def read(options, rdbg):
@@ -70,3 +71,7 @@ def main(words):
         return WRONG_USE
     except KeyboardInterrupt:
         return INTERRUPTED
+    except BrokenPipeError:
+        # (whoever reads the session has ended; nothing more can be printed)
+        os.dup2(os.open(os.devnull, os.O_WRONLY), sys.stdout.fileno())
+        return CLOSED

@@ -3,6 +3,8 @@ import multiprocessing
 import signal
 from multiprocessing.connection import wait
 
+from find.errors import WrongUse
+
 
 class WorkerEnded(Exception):
     """A process has ended by itself, or was ended from outside."""
@@ -14,7 +16,11 @@ def work(connection, make, given):
     function = make(*given)
     while True:
         task = connection.recv()
-        connection.send((task, function(*task)))
+        try:
+            result = function(*task)
+        except WrongUse as wrong:
+            result = wrong
+        connection.send((task, result))
 
 
 class Pool:
@@ -38,13 +44,16 @@ class Pool:
         self.busy.append(connection)
 
     def results(self):
-        """The tasks that are done, each with its result."""
+        """The tasks that are done, each with its result. What a process refuses is refused here, too."""
         found = []
         for connection in wait(self.busy, timeout=0):
             try:
-                found.append(connection.recv())
+                task, result = connection.recv()
             except (EOFError, ConnectionResetError):
                 raise WorkerEnded from None
+            if isinstance(result, WrongUse):
+                raise result
+            found.append((task, result))
             self.busy.remove(connection)
             self.idle.append(connection)
         return found
