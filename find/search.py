@@ -86,9 +86,10 @@ class Search:
         if engine is self.sampling and outcome.ending is Ending.FOUND and self.spin in self.engines() and not self.options.shortest:
             now = time.monotonic()
             self.end = min(self.end, now + max(PATIENCE, now - self.begun))
-        if engine is self.spin and outcome.ending is Ending.STOPPED and self.sampling in self.engines() and not self.is_interrupted:
+        goes_on = self.sampling in self.engines() and not self.is_interrupted and time.monotonic() < self.end
+        if engine is self.spin and outcome.ending is Ending.STOPPED and goes_on:
             self.progress.clear()
-            say(f"SPIN found none so far: {outcome.done}; {outcome.reason}")
+            say(f"{outcome.done}; {outcome.reason}; sampling continues")
 
     def stop(self):
         """Ends all engines."""
