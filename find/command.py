@@ -53,8 +53,8 @@ def find(options):
         steps = shrink(rdbg, session, answer.outcome.steps)
         report_found(answer, steps)
         print_session(options, rdbg, session, names, steps)
-        return Ending.FOUND.value
-    report_none(session, names, answer)
+    else:
+        report_none(session, names, answer)
     return INTERRUPTED if answer.is_interrupted else answer.outcome.ending.value
 
 

@@ -10,6 +10,7 @@ from find.spin import SpinFailed, SpinSearch, missing_message, missing_tools
 
 PAUSE = 0.02  # seconds between two looks at the engines
 PATIENCE = 10.0  # seconds, at least, that SPIN may look for a shorter schedule than sampling has found
+ORDER = (Ending.FOUND, Ending.NONE, Ending.STOPPED)  # of the outcomes, the one that says most first
 
 
 class Answer(NamedTuple):
@@ -104,7 +105,7 @@ class Search:
     def answer(self):
         """The answer, of the outcomes of the engines."""
         outcomes = [self.outcomes[engine] for engine in (self.spin, self.sampling) if engine in self.outcomes]
-        best = min(outcomes, key=lambda outcome: (Ending.FOUND, Ending.NONE, Ending.STOPPED).index(outcome.ending))
+        best = min(outcomes, key=lambda outcome: (ORDER.index(outcome.ending), len(outcome.steps)))
         if best.ending is Ending.STOPPED and len(outcomes) == 2:
             spin, sampling = outcomes
             fired = {step: spin.fired.get(step, 0) + count for step, count in sampling.fired.items()}
