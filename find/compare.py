@@ -29,5 +29,6 @@ def compare(options, rdbg, session):
         if run.may_halt():
             candidates.append(steps)
     reached = sum(bool(verdict.halted) for verdict in judge.verdicts(candidates))
-    print(f"{count} schedules: {passed} pass through a bad state ({passed / count:.0%}), {reached} reach one in some order of their events ({reached / count:.0%})")
+    print(f"{count} schedules: {passed} pass through a bad state ({passed / count:.0%}), "
+          f"{reached} reach one in some order of their events ({reached / count:.0%})")
     return 0

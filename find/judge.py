@@ -1,6 +1,6 @@
 """What rdbg says of schedules: it plays each one, and finds the bad state in any order of its events."""
 import re
-from typing import NamedTuple, Tuple
+from typing import NamedTuple
 
 from find.errors import WrongUse
 from find.session import SEAT

@@ -18,9 +18,10 @@ sys.dont_write_bytecode = True
 TOP = Path(__file__).resolve().parent.parent
 sys.path[0] = str(TOP)
 
+from find.errors import WrongUse  # noqa: E402
 from find.rdbg import Rdbg, find_program  # noqa: E402
-from find.session import END, calls_of, expand, own_events, read_file, split_session  # noqa: E402
 from find.language import read_program  # noqa: E402
+from find.session import END, calls_of, expand, own_events, read_file, split_session  # noqa: E402
 
 SECONDS, SCHEDULES = 60, 200
 FOUND = re.compile(r"found: (\d+) events? \((.*)\)")
@@ -46,7 +47,7 @@ def sessions_with_mistakes(rdbg):
     for file in plain + others:
         try:
             split_session(read_file(str(file)))
-        except Exception:  # (a program for crews has no lines)
+        except WrongUse:  # (a program for crews has no lines)
             continue
         events = events_to_halt(rdbg, file)
         if events is not None:

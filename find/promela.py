@@ -11,7 +11,7 @@ The verifier prints lines that begin with `find:`, besides those of SPIN (spin.p
     find: full P Q         at the end: a full channel from P to Q has held up a send
     find: wide N VALUE     command N, or a first value if N is -1, is too large for a state; the search ends
 """
-from find.language import Count, Infix, Number, Prefix, Receive, Send, Truth, Variable, can_fault, values
+from find.language import Count, Number, Prefix, Receive, Send, Truth, Variable, can_fault, values
 from find.ranges import Range, ranges
 
 # The types of Promela that keep numbers, narrowest first.

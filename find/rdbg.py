@@ -43,7 +43,8 @@ class Rdbg:
         """Runs the program with these arguments and this input."""
         try:
             # (in a session of its own, so that Ctrl-C reaches the search alone)
-            ran = subprocess.run([self.path, *arguments], input=given.encode(), stdout=subprocess.PIPE, stderr=subprocess.PIPE, start_new_session=True)
+            ran = subprocess.run([self.path, *arguments], input=given.encode(), stdout=subprocess.PIPE, stderr=subprocess.PIPE,
+                                 start_new_session=True)
         except OSError as error:
             raise WrongUse(f"{self.path} cannot be run: {error.strerror}") from None
         return Ran(ran.returncode, ran.stdout.decode(errors="replace"), ran.stderr.decode(errors="replace"))
@@ -53,5 +54,6 @@ class Rdbg:
         ran = self.run("run", given="".join([f"{program}%%\n", *(f"{call}\n" for call in calls)]))
         replies = ran.output.splitlines()
         if ran.status != 0 or len(replies) != len(calls):
-            raise WrongUse("\n".join([f"rdbg run ended with status {ran.status} after {len(replies)} of {len(calls)} replies", *replies[-1:], ran.errors]).strip())
+            ended = f"rdbg run ended with status {ran.status} after {len(replies)} of {len(calls)} replies"
+            raise WrongUse("\n".join([ended, *replies[-1:], ran.errors]).strip())
         return replies

@@ -1,7 +1,7 @@
 """Plays schedules of a model. Its commands are compiled to Python functions once, so that an event takes some microseconds."""
 from collections import deque
 
-from find.language import GREATEST, LEAST, Count, Infix, Number, Prefix, Receive, Send, Truth, Variable, can_fault, values
+from find.language import GREATEST, LEAST, Count, Number, Prefix, Receive, Send, Truth, Variable, can_fault, values
 
 OPERATORS = {"=": "=="}
 

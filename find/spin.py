@@ -38,7 +38,8 @@ def missing_tools():
 def missing_message(missing):
     """Which packages to install."""
     packages = " ".join(PACKAGES[tool] for tool in missing)
-    return f"{' and '.join(missing)} {'is' if len(missing) == 1 else 'are'} not installed: install the package{'s' * (len(missing) > 1)} {packages}"
+    are, plural = ("is", "") if len(missing) == 1 else ("are", "s")
+    return f"{' and '.join(missing)} {are} not installed: install the package{plural} {packages}"
 
 
 def run_tool(folder, *words):

@@ -63,6 +63,7 @@ class Arguments(unittest.TestCase):
         self.assertEqual(read_arguments(["--compare", "file"]).strategies, ("random",))
 
     def test_wrong(self):
-        for words in ([], ["--stuck", "--break", "b", "f"], ["--unless", "a true", "f"], ["--channel", "0", "f"], ["--weight", "a", "f"], ["--seconds", "x", "f"]):
+        for words in ([], ["--stuck", "--break", "b", "f"], ["--unless", "a true", "f"], ["--channel", "0", "f"], ["--weight", "a", "f"],
+                      ["--seconds", "x", "f"]):
             with self.subTest(words):
                 self.assertRaises(WrongUse, read_arguments, words)

@@ -73,6 +73,12 @@ def find(suite, *more, path=None, given=None):
                           text=True, env=variables, cwd=TOP, timeout=SECONDS)
 
 
+def begun(suite, *more):
+    """A run of `find` that has begun."""
+    return subprocess.Popen(words(*more), stdin=subprocess.DEVNULL, stdout=subprocess.PIPE, stderr=subprocess.PIPE, text=True,
+                            env={**os.environ, "RDBG": suite.program})
+
+
 def session_problem(suite, text):
     """What is wrong with a session that was found, or nothing: its last line halts, and no other one."""
     filled = suite.rdbg("test", "--fill", "-", given=text).output.decode()
@@ -142,15 +148,13 @@ def check_signals(suite, folder, has_spin):
     """Ctrl-C, and an engine that is killed."""
     (folder / "endless").write_text(ENDLESS)
     engine = "spin" if has_spin else "sample"
-    with subprocess.Popen(words("--engine", engine, folder / "endless"), stdin=subprocess.DEVNULL, stdout=subprocess.PIPE, stderr=subprocess.PIPE, text=True,
-                          env={**os.environ, "RDBG": suite.program}) as run:
+    with begun(suite, "--engine", engine, folder / "endless") as run:
         time.sleep(6)
         run.send_signal(signal.SIGINT)
         _, errors = run.communicate(timeout=60)
     suite.case("Ctrl-C", "" if run.returncode == 130 and "none found so far: " in errors and "interrupted" in errors else f"{run.returncode}\n{errors}")
     if has_spin:
-        with subprocess.Popen(words("--engine", "spin", folder / "endless"), stdin=subprocess.DEVNULL, stdout=subprocess.PIPE, stderr=subprocess.PIPE, text=True,
-                              env={**os.environ, "RDBG": suite.program}) as run:
+        with begun(suite, "--engine", "spin", folder / "endless") as run:
             suite.case("the verifier begins", "" if kill_verifier(run.pid) else "there is none")
             _, errors = run.communicate(timeout=60)
         suite.case("an engine that is killed", "" if run.returncode == 3 and "ended by SIGKILL" in errors else f"{run.returncode}\n{errors}")
