@@ -31,8 +31,8 @@ def read(options, rdbg):
 def print_session(options, rdbg, session, names, steps):
     """Prints the session with the steps that were found, after rdbg has played it."""
     text = found_session(session, names, steps)
-    # (without steps, the cut of the breakpoint was asked for already)
-    problem = closing_problem(rdbg, session, text) if steps else ""
+    # (what the own lines of the session reach, rdbg has said already)
+    problem = "" if session.halted else closing_problem(rdbg, session, text)
     if problem:
         raise WrongUse(f"rdbg does not confirm what was found: {problem}")
     print(with_replies(rdbg, text) if options.test else text, end="", flush=True)

@@ -108,7 +108,7 @@ class Search:
         best = min(outcomes, key=lambda outcome: (ORDER.index(outcome.ending), len(outcome.steps)))
         if best.ending is Ending.STOPPED and len(outcomes) == 2:
             spin, sampling = outcomes
-            fired = {step: spin.fired.get(step, 0) + count for step, count in sampling.fired.items()}
+            fired = {step: (spin.fired or {}).get(step, 0) + count for step, count in sampling.fired.items()}
             best = Outcome(Ending.STOPPED, (), f"{spin.done}; {sampling.done}", spin.reason, fired)
         if self.is_interrupted:
             best = best._replace(reason="interrupted")

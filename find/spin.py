@@ -118,9 +118,12 @@ class SpinSearch:
             return None
         said = self.said()
         wide = TOO_WIDE.search(said)
-        if wide and self.widest == NARROW:
+        if wide and self.widest == NARROW and not self.has_run_out:
             self.widest = WIDE
-            self.start()
+            try:
+                self.start()
+            except SpinFailed as failed:
+                return Outcome(Ending.STOPPED, (), self.done(said), str(failed))
             return None
         return self.outcome(said, wide)
 
