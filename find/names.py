@@ -22,13 +22,13 @@ def plain_names(model):
 
 
 def read_names(rdbg, text, model):
-    """The names of all commands, by their steps, as the program prints them. A program that cannot print them gives the plain ones."""
+    """The names of all commands, by their steps, as `expand --names` prints them. A program that cannot print them gives the plain ones."""
     ran = rdbg.run("expand", "--names", given=text)
     found = plain_names(model)
     if ran.status != 0:
         return found
     numbers = model.numbers
     for line in ran.output.splitlines():
-        process, command, place, author, _, accepted = line.split("\t")
-        found[Step(numbers[process], int(command))] = Name(author, accepted, int(place))
+        process, command, place, author, label = line.split("\t")
+        found[Step(numbers[process], int(command))] = Name(author, label or command, int(place))
     return found

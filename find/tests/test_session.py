@@ -23,12 +23,12 @@ class Printing:
 
 class Names(unittest.TestCase):
     def test_names_of_the_author(self):
-        names = read_names(Printing(0, "a\t0\t7\tserver[3]\thear[2]\thear[2]\n"), "", model(COUNTER))
+        names = read_names(Printing(0, "a\t0\t7\tserver[3]\thear[2]\n"), "", model(COUNTER))
         self.assertEqual(names, {Step(0, 0): Name("server[3]", "hear[2]", 7)})
         self.assertEqual(names[Step(0, 0)].written(), "`hear[2]` of server[3] (line 7)")
 
-    def test_label_that_is_not_accepted(self):
-        self.assertEqual(read_names(Printing(0, "a\t0\t1\ta\t\t0\n"), "", model(COUNTER)), {Step(0, 0): Name("a", "0", 1)})
+    def test_command_without_a_label(self):
+        self.assertEqual(read_names(Printing(0, "a\t0\t1\ta\t\n"), "", model(COUNTER)), {Step(0, 0): Name("a", "0", 1)})
 
     def test_program_that_prints_no_names(self):
         self.assertEqual(read_names(Printing(2, ""), "", model(COUNTER)), {Step(0, 0): Name("a", "0", 0)})

@@ -13,12 +13,22 @@ EXAMPLES = ["lost_update", "token_duplicated", "two_phase_commit", "leader_elect
 PROGRAMS, ALL_PROGRAMS, PART = 160, 3000, 80  # random programs, with --all, and in one verifier
 SECONDS = 300  # for one search
 
-ROOM = """process left { var inside = 0; when (inside = 0) : inside := 1; when (inside = 1) : inside := 0; }
-process right { var inside = 0; when (inside = 0) : inside := 1; when (inside = 1) : inside := 0; }
+# The session of the README: left has left again before right enters.
+ROOM = """process left {
+  var inside = 0;
+  enter: when inside = 0 : send right 1, inside := 1;
+  leave: when inside = 1 : inside := 0;
+}
+process right {
+  var inside = 0;
+  var warned = 0;
+  hear: when true : recv left warned;
+  enter: when warned = 0 : inside := 1;
+}
 %%
 break both left (inside = 1) right (inside = 1)
-step left 0  # enters
-step left 1  # leaves
+step left enter
+step left leave  # and warned right, which has not heard it
 """
 FAMILY = """const n = 2;
 process station[i: 1..n] {
@@ -51,7 +61,7 @@ EDGES = [
     ("a file that is missing", None, [], 2, "cannot be read: No such file"),
     ("a wrong argument", COUNTER, ["--engine", "other"], 2, "try '--help'"),
     ("a condition that is wrong", f"{COUNTER}\n%%\n", ["--stuck", "--unless", "a (y = 1)"], 2, "--unless: a (y = 1) is not a condition"),
-    ("what never fired", f"{TWO}\n%%\nbreak bad b (y = 3)\n", ["--engine", "sample", "--schedules", "20"], 3, "command 0 of b never fired"),
+    ("what never fired", f"{TWO}\n%%\nbreak bad b (y = 3)\n", ["--engine", "sample", "--schedules", "20"], 3, "command 0 of b (line 2) never fired"),
     ("schedules of one length", f"{ENDLESS}", ["--engine", "sample", "--schedules", "20"], 3, "all schedules have exactly 100 events"),
 ]
 SPIN_EDGES = [
@@ -113,7 +123,7 @@ def check_sessions(suite, folder, engines):
         (folder / name).write_text(text)
     for engine in engines:
         ran = find(suite, "--engine", engine, folder / "room")
-        suite.case(f"a state that was left counts, {engine}", found_problem(suite, ran, "step left 1  # leaves", "step right 0"))
+        suite.case(f"a state that was left counts, {engine}", found_problem(suite, ran, "step left leave  # and warned right, which has not heard it", "step right enter"))
         ran = find(suite, "--engine", engine, "--break", "both", folder / "family")
         suite.case(f"a model in the notation, {engine}", found_problem(suite, ran) or ("" if FAMILY in ran.stdout else ran.stdout))
         ran = find(suite, "--engine", engine, "--stuck", "--test", folder / "stuck")
