@@ -6,7 +6,7 @@ _rdbg() {
   if [ "$current" = = ]; then current=; elif [ "$before" = = ]; then before=${COMP_WORDS[COMP_CWORD - 2]}; fi
   COMPREPLY=()
   if [ "$COMP_CWORD" -eq 1 ]; then
-    choices='talk expand run check crew test draw help --help --version'
+    choices='talk expand run check crew test draw find help --help --version'
   elif [ "$word" = help ]; then
     choices='talk expand run check crew test draw help'
   elif [ "$before" = --as ]; then
@@ -15,6 +15,10 @@ _rdbg() {
     choices='auto always never'
   elif [ "$before" = --theme ]; then
     choices='auto light dark'
+  elif [ "$before" = --engine ]; then
+    choices='auto spin sample'
+  elif [ "$before" = --strategy ]; then
+    choices='random priorities swarm stall stall-swarm'
   elif [ "$before" = --turns ] || [ "$before" = --at ] || [ "$before" = --width ] || [ "$before" = --last ] || [ "$before" = --only ]; then
     return
   elif [[ $current == -* ]]; then
@@ -22,6 +26,10 @@ _rdbg() {
       check) choices='--explain --help' ;;
       crew) choices='--turns --help' ;;
       expand) choices='--names --help' ;;
+      find)
+        choices='--break --stuck --unless --from-start --engine --seconds --shortest --jobs --channel --memory --strategy --seed'
+        choices+=' --schedules --length --weight --at-most --test --compare --help'
+        ;;
       talk) choices='--color --help' ;;
       test) choices='--fill --help' ;;
       draw) choices='--as --at --at-halt --last --only --width --theme --help' ;;

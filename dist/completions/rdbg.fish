@@ -1,5 +1,5 @@
 # Completion of rdbg for fish.
-set -l words talk expand run check crew test draw help
+set -l words talk expand run check crew test draw find help
 complete -c rdbg -f
 complete -c rdbg -s h -l help -d 'Print help'
 complete -c rdbg -n "not __fish_seen_subcommand_from $words" -a talk -d 'Interactive session, explains each reply'
@@ -9,6 +9,7 @@ complete -c rdbg -n "not __fish_seen_subcommand_from $words" -a check -d 'Checks
 complete -c rdbg -n "not __fish_seen_subcommand_from $words" -a crew -d 'Gives next for each process from threads'
 complete -c rdbg -n "not __fish_seen_subcommand_from $words" -a test -d 'Compares the replies with the expected ones'
 complete -c rdbg -n "not __fish_seen_subcommand_from $words" -a draw -d 'Draws a picture of a session'
+complete -c rdbg -n "not __fish_seen_subcommand_from $words" -a find -d 'Searches for a schedule that halts'
 complete -c rdbg -n "not __fish_seen_subcommand_from $words" -a help -d 'Prints the help'
 complete -c rdbg -n '__fish_seen_subcommand_from help' -a 'talk expand run check crew test draw help'
 complete -c rdbg -n '__fish_seen_subcommand_from check' -l explain -d 'Print what is wrong, and where'
@@ -23,4 +24,22 @@ complete -c rdbg -n '__fish_seen_subcommand_from draw' -l last -x -d 'Draws at m
 complete -c rdbg -n '__fish_seen_subcommand_from draw' -l only -x -d 'Draws only these processes, their names separated by commas'
 complete -c rdbg -n '__fish_seen_subcommand_from draw' -l theme -x -a 'auto light dark' -d 'The colours of an svg picture'
 complete -c rdbg -n '__fish_seen_subcommand_from draw' -l width -x -d 'How many characters wide a text picture is at most'
-complete -c rdbg -n '__fish_seen_subcommand_from talk expand run check crew test draw' -k -a '(__fish_complete_suffix .rdbg)'
+complete -c rdbg -n '__fish_seen_subcommand_from find' -l engine -x -a 'auto spin sample' -d 'Which engine'
+complete -c rdbg -n '__fish_seen_subcommand_from find' -l strategy -x -a 'random priorities swarm stall stall-swarm' -d 'A strategy of sampling'
+complete -c rdbg -n '__fish_seen_subcommand_from find' -l break -x -d 'A breakpoint of the session'
+complete -c rdbg -n '__fish_seen_subcommand_from find' -l unless -x -d 'With --stuck: a state that is not looked for'
+complete -c rdbg -n '__fish_seen_subcommand_from find' -l seconds -x -d 'Stop after N seconds'
+complete -c rdbg -n '__fish_seen_subcommand_from find' -l jobs -x -d 'Processors that sample'
+complete -c rdbg -n '__fish_seen_subcommand_from find' -l channel -x -d 'Messages that a channel keeps'
+complete -c rdbg -n '__fish_seen_subcommand_from find' -l memory -x -d 'Megabytes that SPIN may use'
+complete -c rdbg -n '__fish_seen_subcommand_from find' -l seed -x -d 'The same seed plays the same schedules'
+complete -c rdbg -n '__fish_seen_subcommand_from find' -l schedules -x -d 'Stop after N schedules'
+complete -c rdbg -n '__fish_seen_subcommand_from find' -l length -x -d 'Events of a schedule at most'
+complete -c rdbg -n '__fish_seen_subcommand_from find' -l weight -x -d 'Choose a process more often'
+complete -c rdbg -n '__fish_seen_subcommand_from find' -l at-most -x -d 'Events of a process at most'
+complete -c rdbg -n '__fish_seen_subcommand_from find' -l stuck -d 'A state in which no command can fire'
+complete -c rdbg -n '__fish_seen_subcommand_from find' -l from-start -d 'Search from the first state'
+complete -c rdbg -n '__fish_seen_subcommand_from find' -l shortest -d 'Use all seconds to look for a shorter schedule'
+complete -c rdbg -n '__fish_seen_subcommand_from find' -l test -d 'Print the replies, too'
+complete -c rdbg -n '__fish_seen_subcommand_from find' -l compare -d 'Compare the order played with all orders'
+complete -c rdbg -n '__fish_seen_subcommand_from talk expand run check crew test draw find' -k -a '(__fish_complete_suffix .rdbg)'

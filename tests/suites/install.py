@@ -8,6 +8,7 @@ import os
 import re
 import shutil
 import subprocess
+import sys
 
 from harness import TOP, temporary_folder
 
@@ -282,12 +283,14 @@ def complete_in_zsh(word):
 
 
 def check_completions(suite, words):
-    """The program's commands in the man page and the completions, and the options of each command."""
+    """The commands of the program and `find` in the man page and the completions, and the options of each."""
+    words = [*words, "find"]
     check_words(suite, "the commands in the man page", re.findall(r"^\.Cm ([a-z]+)$", manual_section("SYNOPSIS"), re.M), words)
     check_words(suite, "the commands in bash", complete_in_bash("rdbg", ""), [*words, "--help", "--version"])
     check_words(suite, "the commands in zsh", re.findall(r"^    '([a-z]+):", (COMPLETIONS / "_rdbg").read_text(), re.M), words)
     check_words(suite, "the commands in fish", re.search(r"^set -l words (.*)", (COMPLETIONS / "rdbg.fish").read_text(), re.M)[1].split(), words)
-    options = {word: OPTION.findall(suite.rdbg(word, "--help").output.decode()) for word in words if word != "help"}
+    options = {word: OPTION.findall(suite.rdbg(word, "--help").output.decode()) for word in words if word not in ("help", "find")}
+    options["find"] = OPTION.findall(output_of(sys.executable, TOP / "find", "--help")[1])
     for word, wanted in options.items():
         check_words(suite, f"the options of {word} in bash", complete_in_bash("rdbg", word, "--"), wanted)
         check_words(suite, f"the options of {word} in zsh", complete_in_zsh(word), wanted)
