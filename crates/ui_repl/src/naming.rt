@@ -76,7 +76,7 @@ fn put_process(
     Ok(())
 }
 
-// Writes the lines of the commands of a plain program, or of the one that a model stands for.
+// Writes the lines of the commands of a plain program, or of the one that a model means.
 fn write_commands<W: Sink>(
     alloc: Global,
     plain: &[u8],
