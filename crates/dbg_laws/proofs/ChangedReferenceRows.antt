@@ -35,7 +35,7 @@ use Rattle.dbg_laws.proofs.ReferenceRows.{y_is_7, first_follows, second_follows,
 abbrev H : History
 H = choices_of 2 received_last
 
-abbrev end : Configuration
+abbrev pub end : Configuration
 end = play system ((0 ∷ []) ∷ (0 ∷ []) ∷ [])
 
 within_two : (p : ℕ) → get_or (1 ∷ 1 ∷ []) p 0 ≤ length (get_or H p [])
@@ -58,7 +58,7 @@ both = record { sizes = refl; within = within_two; causes = causes }
         let none = ap (λ (b : Bool). cond {A = ℕ} b 1 0) (ne_eqb 0 (suc (suc i)) (λ e. cc)) in omega (arith, none)
     causes (suc (suc i)) (suc (suc j)) apart = omega arith
 
-neither : IsConsistent system H (0 ∷ 0 ∷ [])
+pub neither : IsConsistent system H (0 ∷ 0 ∷ [])
 neither = nothing_consistent system H
 
 -- Happened-before by another relation of messages, and sets that are closed under another relation.
@@ -230,28 +230,28 @@ state_of_other_events law =
 
 -- Three steps: after the receive of 7, process 0 sends 8.
 
-abbrev eight : Event
+abbrev pub eight : Event
 eight = record { process = 0; choice = 1 }
 
-abbrev three : List Event
+abbrev pub three : List Event
 three = sent ∷ received ∷ eight ∷ []
 
-abbrev last_end : Configuration
+abbrev pub last_end : Configuration
 last_end = play system ((0 ∷ 1 ∷ []) ∷ (0 ∷ []) ∷ [])
 
-abbrev three_done : ModelState
+abbrev pub three_done : ModelState
 three_done = with_system both_done (after_choice both_done.system 0 1)
 
 abbrev played_eight : Reply
 played_eight = record { done = Played (record { 0 = 0 }) (record { 0 = 1 }); halted = None }
 
-abbrev longer : Journal
+abbrev pub longer : Journal
 longer = journal ++ record { seat = 1; call = Give (One (Step 0 1)); said = Accepted played_eight } ∷ []
 
 third_follows : Follows system (One (Step 0 1)) both_done (Accepted played_eight) three_done
 third_follows = inl (refl, (record { halted = None; is = refl; reported = refl }, refl))
 
-longer_has_a_replay : IsReplay system longer three_done three last_end
+pub longer_has_a_replay : IsReplay system longer three_done three last_end
 longer_has_a_replay = record {
   legal = record {
     few = omega arith;

@@ -25,10 +25,10 @@ use Rattle.dbg_laws.proofs.ReferenceRows.{journal_has_a_replay}
 
 -- The two steps, and then the seat takes back the second one.
 
-abbrev taken_back : Journal
+abbrev pub taken_back : Journal
 taken_back = journal ++ record { seat = 1; call = Back; said = Accepted (record { done = Plain; halted = None }) } ∷ []
 
-taken_back_is_legal : IsLegal system taken_back
+pub taken_back_is_legal : IsLegal system taken_back
 taken_back_is_legal = record {
   few = omega arith;
   due = (
@@ -46,7 +46,7 @@ abbrev one_more : List Given → ℕ → Call → Said → List Given
 one_more given seat (Give order) (Accepted reply) = given ++ record { seat = seat; order = order } ∷ []
 one_more given seat call said = given
 
-abbrev given_before : List Given → Journal → List Given
+abbrev pub given_before : List Given → Journal → List Given
 given_before given [] = given
 given_before given (entry ∷ J) = given_before (one_more given entry.seat entry.call entry.said) J
 

@@ -45,4 +45,5 @@ pub mod MessageLemmas
 mod ReferenceRows
 mod ChangedReferenceRows
 mod ChangedSessionRows
+mod ChangedNotionRows
 mod TranscriptRows
