@@ -12,7 +12,8 @@ END = "%%"
 DIRECTIVES = ("help", "?", "on", "list", "state", "line", "draw")  # of interactive sessions: they have no reply
 LAST = ("quit", "exit", "q")
 SEAT = "1"
-BREAK_LINE = re.compile(r"\s*(\d+\s+)?(for\b.*:\s*)?break\b")
+BREAK_LINE = re.compile(r"\s*(\d+\s+)?(for\b.*:\s*)?(batch\s+)?break\b")
+OTHER_PART = re.compile(r"\s;\s+(?!break\b)")  # of a batch
 EVENT = re.compile(r"^(\w+) \{.*\}\ncommand (\d+):", re.MULTILINE)
 
 
@@ -31,7 +32,12 @@ class SessionText(NamedTuple):
 
     def from_start(self):
         """The session with its breakpoints alone."""
-        return self._replace(lines=tuple(line for line in self.lines if BREAK_LINE.match(line)))
+        return self._replace(lines=tuple(line for line in self.lines if is_break_line(line)))
+
+
+def is_break_line(line):
+    """Whether a line sets breakpoints, and does nothing else."""
+    return bool(BREAK_LINE.match(line)) and not OTHER_PART.search(line.split("#")[0])
 
 
 def split_session(text):

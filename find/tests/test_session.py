@@ -6,7 +6,7 @@ from find.model import Step
 from find.names import Name, read_names
 from find.options import read_arguments
 from find.rdbg import Ran
-from find.session import after_command, calls_of, plain_name, set_breakpoints, split_session
+from find.session import after_command, calls_of, is_break_line, plain_name, set_breakpoints, split_session
 from find.tests.programs import COUNTER, model
 
 
@@ -43,6 +43,14 @@ class Lines(unittest.TestCase):
     def test_from_start(self):
         text = split_session("%%\nstep a 0\n1 break b a true\nfor i: 1..2 : break c[i] a true\n> ok\n")
         self.assertEqual(text.from_start().lines, ("1 break b a true", "for i: 1..2 : break c[i] a true"))
+
+    def test_lines_that_only_set_breakpoints(self):
+        for line in ("break b a true  # one ; two", "1 batch break b a true ; break c a true", "for i: 1..2 : batch break b[i] a true ; break c[i] a true"):
+            with self.subTest(line):
+                self.assertTrue(is_break_line(line))
+        for line in ("breaks", "batch break b a true ; step a 0", "batch step a 0 ; break b a true", "clear b", "step a 0  # break"):
+            with self.subTest(line):
+                self.assertFalse(is_break_line(line))
 
     def test_calls(self):
         self.assertEqual(calls_of(["next a", "", "# b", "> ok", " on", "2 next a", "quit", "next a"]), ["1 next a", "2 next a"])
