@@ -21,6 +21,12 @@ def plain_names(model):
     return {step: Name(model.processes[step.process].name, str(step.command), 0) for step in model.steps}
 
 
+def author_process(names, model, process):
+    """The name of a process in the author's text."""
+    commands = [name.process for step, name in names.items() if step.process == process]
+    return commands[0] if commands else model.processes[process].name
+
+
 def read_names(rdbg, text, model):
     """The names of all commands, by their steps, as `expand --names` prints them. A program that cannot print them gives the plain ones."""
     ran = rdbg.run("expand", "--names", given=text)

@@ -2,6 +2,7 @@
 import re
 
 from find.errors import WrongUse
+from find.names import author_process
 from find.session import LAST, SEAT, SessionText
 
 
@@ -13,12 +14,6 @@ def own_lines(text):
             break
         kept.append(line)
     return kept
-
-
-def author_process(names, model, process):
-    """The name of a process in the author's text."""
-    commands = [name.process for step, name in names.items() if step.process == process]
-    return commands[0] if commands else model.processes[process].name
 
 
 def found_session(session, names, steps):

@@ -8,6 +8,7 @@ import tempfile
 import time
 from pathlib import Path
 
+from find.names import author_process
 from find.outcome import Ending, Outcome
 from find.promela import MODEL_FILE, NARROW, WIDE, Translation
 
@@ -172,7 +173,7 @@ class SpinSearch:
 
     def full_reason(self, full):
         """That full channels have held up sends."""
-        source, target = (self.model.processes[int(number)].name for number in full[0])
+        source, target = (author_process(self.names, self.model, int(number)) for number in full[0])
         others = f" and {len(full) - 1} other{'s' * (len(full) > 2)}" if len(full) > 1 else ""
         return f"the channel from {source} to {target}{others} was full with {self.length} messages (--channel allows more)"
 

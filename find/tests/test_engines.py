@@ -2,7 +2,8 @@
 import time
 import unittest
 
-from find.names import plain_names
+from find.model import Step
+from find.names import Name, plain_names
 from find.outcome import Ending
 from find.simulator import Run, Compiled, Simulator
 from find.spin import SpinSearch, missing_tools
@@ -106,6 +107,10 @@ class Translation(unittest.TestCase):
         outcome = spin(model(FLOW, "a (x = 7)"), length=2)
         self.assertEqual(outcome.ending, Ending.STOPPED)
         self.assertIn("the channel from a to b was full with 2 messages", outcome.reason)
+
+    def test_full_channel_of_a_family(self):
+        names = {Step(0, 0): Name("a[1]", "0", 1), Step(1, 0): Name("b[1]", "0", 1)}
+        self.assertIn("the channel from a[1] to b[1] and 1 other was full", SpinSearch(model(FLOW), names, 4, MEMORY).full_reason([("0", "1"), ("1", "0")]))
 
     def test_complete(self):
         outcome = spin(model(FLOW, "a (x = 7)"), length=6)
