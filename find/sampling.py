@@ -12,6 +12,7 @@ from find.judge import Judge
 from find.model import Step
 from find.outcome import Ending, Outcome
 from find.pool import Pool, WorkerEnded
+from find.report import counted
 from find.shrink import Shrinker
 from find.simulator import Simulator
 from find.strategies import STRATEGIES
@@ -185,7 +186,7 @@ class Sampling:
 
     def done(self):
         """What was done, in numbers."""
-        return f"sampling: {self.schedules:,} schedules, {self.events:,} events"
+        return f"sampling: {counted(self.schedules, 'schedule')}, {counted(self.events, 'event')}"
 
     def progress(self):
         """How far the search is, in numbers."""
