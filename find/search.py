@@ -1,5 +1,6 @@
 """Runs the engines side by side until one of them has the answer."""
 import time
+from collections import Counter
 from typing import NamedTuple, Tuple
 
 from find.outcome import Ending, Outcome
@@ -18,6 +19,14 @@ class Answer(NamedTuple):
     outcome: Outcome
     is_interrupted: bool
     advice: Tuple[str, ...]
+
+
+def stopped(first, last):
+    """The outcome of two searches that stopped, in the order in which they ended."""
+    done = [first.done, last.done] if first.reason == last.reason else [first.done, first.reason, last.done]
+    fired = Counter(first.fired or {})
+    fired.update(last.fired or {})
+    return Outcome(Ending.STOPPED, (), "; ".join(done), last.reason, dict(fired))
 
 
 class Search:
@@ -107,9 +116,7 @@ class Search:
         outcomes = [self.outcomes[engine] for engine in (self.spin, self.sampling) if engine in self.outcomes]
         best = min(outcomes, key=lambda outcome: (ORDER.index(outcome.ending), len(outcome.steps)))
         if best.ending is Ending.STOPPED and len(outcomes) == 2:
-            spin, sampling = outcomes
-            fired = {step: (spin.fired or {}).get(step, 0) + count for step, count in sampling.fired.items()}
-            best = Outcome(Ending.STOPPED, (), f"{spin.done}; {sampling.done}", spin.reason, fired)
+            best = stopped(*self.outcomes.values())
         if self.is_interrupted:
             best = best._replace(reason="interrupted")
         advice = self.sampling.advice() if self.sampling else ""

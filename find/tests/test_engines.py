@@ -4,7 +4,8 @@ import unittest
 
 from find.model import Step
 from find.names import Name, plain_names
-from find.outcome import Ending
+from find.outcome import Ending, Outcome
+from find.search import stopped
 from find.simulator import Run, Compiled, Simulator
 from find.spin import SpinSearch, missing_tools
 from find.tests.programs import CONDITIONS, COUNTER, EXPRESSIONS, FLOW, model
@@ -66,6 +67,19 @@ class Simulation(unittest.TestCase):
             while run.moves[0]:
                 run.fire(run.moves[0][0])
             self.assertEqual(run.is_stuck(), is_stuck)
+
+
+class BothEngines(unittest.TestCase):
+    def test_each_says_why_it_stopped(self):
+        spin = Outcome(Ending.STOPPED, (), "9 states", "no memory", {Step(0, 0): 1, Step(1, 0): 0})
+        sampling = Outcome(Ending.STOPPED, (), "2 schedules", "the time is over", {Step(0, 0): 2, Step(1, 0): 0})
+        both = stopped(spin, sampling)
+        self.assertEqual((both.done, both.reason), ("9 states; no memory; 2 schedules", "the time is over"))
+        self.assertEqual(both.fired, {Step(0, 0): 3, Step(1, 0): 0})
+
+    def test_one_reason_is_said_once(self):
+        one = Outcome(Ending.STOPPED, (), "9 states", "the time is over")
+        self.assertEqual(stopped(one, one).done, "9 states; 9 states")
 
 
 @unittest.skipIf(missing_tools(), "SPIN or a C compiler is missing")
