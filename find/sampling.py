@@ -206,5 +206,5 @@ class Sampling:
     def advice(self):
         """What the schedules suggest, or nothing."""
         if self.shortest and self.shortest == self.longest == self.options.length:
-            return f"all schedules have exactly {self.longest} events: is there a guard that never becomes false?"
+            return f"all schedules have exactly {self.longest} events, which --length allows: is there a guard that never becomes false?"
         return ""
