@@ -70,6 +70,8 @@ def main(words):
         print(f"rdbg find: {wrong}", file=sys.stderr)
         return WRONG_USE
     except KeyboardInterrupt:
+        # (before the search has begun, or after it)
+        print("rdbg find: interrupted", file=sys.stderr)
         return INTERRUPTED
     except BrokenPipeError:
         # (whoever reads the session has ended; nothing more can be printed)
