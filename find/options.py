@@ -43,7 +43,8 @@ ENGINES:
 
 SPIN:
     --channel <N>         Messages that a channel keeps. A send waits while its
-                          channel is full. [default: 4]
+                          channel is full. [default: 4, then twice as many
+                          as long as nothing else stops the search]
     --memory <MB>         Memory that SPIN may use.
                           [default: half of what is free]
 
@@ -128,7 +129,7 @@ def read_arguments(words):
     parser.add_argument("--seconds", type=seconds, default=300.0, metavar="N")
     parser.add_argument("--shortest", action="store_true")
     parser.add_argument("--jobs", type=positive, default=os.cpu_count() or 1, metavar="N")
-    parser.add_argument("--channel", type=positive, default=4, metavar="N")
+    parser.add_argument("--channel", type=positive, metavar="N")
     parser.add_argument("--memory", type=positive, default=None, metavar="MB")
     parser.add_argument("--strategy", dest="strategies", action="append", choices=STRATEGIES, metavar="NAME")
     parser.add_argument("--seed", type=int, default=1, metavar="N")
@@ -157,7 +158,7 @@ def check(options):
         raise WrongUse("--stuck and --break do not go together")
     if options.compare and (options.stuck or options.test):
         raise WrongUse("--compare goes neither with --stuck nor with --test")
-    if options.channel > 10_000:
+    if (options.channel or 0) > 10_000:
         raise WrongUse("a channel may keep at most 10,000 messages")
     if options.length > 20_000:
         raise WrongUse("a schedule may have at most 20,000 events")

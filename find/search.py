@@ -7,7 +7,7 @@ from find.outcome import Ending, Outcome
 from find.progress import Progress
 from find.report import say
 from find.sampling import Sampling
-from find.spin import SpinFailed, SpinSearch, missing_message, missing_tools
+from find.spin import CHANNEL, SpinFailed, SpinSearch, missing_message, missing_tools
 
 PAUSE = 0.02  # seconds between two looks at the engines
 PATIENCE = 10.0  # seconds, at least, that SPIN may look for a shorter schedule than sampling has found
@@ -50,7 +50,8 @@ class Search:
         if missing:
             say(f"{missing_message(missing)}; until then, schedules are sampled")
             return None
-        spin = SpinSearch(session.model, names, self.options.channel, self.options.memory)
+        length = self.options.channel
+        spin = SpinSearch(session.model, names, length or CHANNEL, self.options.memory, may_lengthen=length is None)
         try:
             spin.start()
         except SpinFailed as failed:

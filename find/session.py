@@ -13,6 +13,7 @@ DIRECTIVES = ("help", "?", "on", "list", "state", "line", "draw")  # of interact
 LAST = ("quit", "exit", "q")
 SEAT = "1"
 BREAK_LINE = re.compile(r"\s*(\d+\s+)?(for\b.*:\s*)?(batch\s+)?break\b")
+BREAK_NAME = re.compile(r"\bbreak\s+(\S+)")
 OTHER_PART = re.compile(r"\s;\s+(?!break\b)")  # of a batch
 EVENT = re.compile(r"^(\w+) \{.*\}\ncommand (\d+):", re.MULTILINE)
 
@@ -31,8 +32,13 @@ class SessionText(NamedTuple):
         return self._replace(lines=(*self.lines, *more))
 
     def from_start(self):
-        """The session with its breakpoints alone."""
-        return self._replace(lines=tuple(line for line in self.lines if is_break_line(line)))
+        """The session with its breakpoints alone. Of the lines that set one of a name, the last counts."""
+        kept, names = [], set()
+        for line in reversed(self.lines):
+            if is_break_line(line) and names.isdisjoint(BREAK_NAME.findall(line)):
+                kept.append(line)
+                names.update(BREAK_NAME.findall(line))
+        return self._replace(lines=tuple(reversed(kept)))
 
 
 def is_break_line(line):

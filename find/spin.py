@@ -15,6 +15,7 @@ from find.promela import MODEL_FILE, NARROW, WIDE, Translation
 COMPILERS = ("gcc", "clang", "cc")
 PACKAGES = {"spin": "spin", "a C compiler": "gcc"}
 DEPTH = 10_000_000  # events of a schedule, at most
+CHANNEL, LONGEST = 4, 64  # messages that a channel keeps at first, and at most if nothing else stops the search
 MANY = 300  # commands; a verifier of more is compiled without optimization, which would take a minute
 SPARE = 1024  # bytes of a state besides those of the model
 PROGRESS = re.compile(r"Depth=\s*(\d+) States=\s*(\S+) Transitions=\s*\S+ Memory=\s*(\S+)")
@@ -55,8 +56,8 @@ def run_tool(folder, *words):
 class SpinSearch:
     """A search by SPIN. `start` begins it, `poll` says whether it has ended, and `close` ends it in any case."""
 
-    def __init__(self, model, names, length, memory):
-        self.model, self.names, self.length, self.memory = model, names, length, memory
+    def __init__(self, model, names, length, memory, may_lengthen=False):
+        self.model, self.names, self.length, self.memory, self.may_lengthen = model, names, length, memory, may_lengthen
         self.widest, self.verifier, self.has_run_out = NARROW, None, False
         self.room = tempfile.TemporaryDirectory(prefix="rdbg-find-")
         self.folder = Path(self.room.name)
@@ -119,14 +120,25 @@ class SpinSearch:
             return None
         said = self.said()
         wide = TOO_WIDE.search(said)
-        if wide and self.widest == NARROW and not self.has_run_out:
+        if self.has_run_out or not self.is_changed(said, wide):
+            return self.outcome(said, wide)
+        try:
+            self.start()
+        except SpinFailed as failed:
+            return Outcome(Ending.STOPPED, (), self.done(said), str(failed))
+        return None
+
+    def is_changed(self, said, wide):
+        """Whether another translation may say more, which is searched next: with wider numbers, or with longer channels, if nothing but full
+        channels was in the way."""
+        if wide and self.widest == NARROW:
             self.widest = WIDE
-            try:
-                self.start()
-            except SpinFailed as failed:
-                return Outcome(Ending.STOPPED, (), self.done(said), str(failed))
-            return None
-        return self.outcome(said, wide)
+            return True
+        is_held_up = FULL.search(said) and "assertion violated" not in said and not self.why_stopped(said, wide)
+        if is_held_up and self.may_lengthen and self.length < LONGEST:
+            self.length *= 2
+            return True
+        return False
 
     def outcome(self, said, wide):
         """What the verifier found, of all that it printed."""

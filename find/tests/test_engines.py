@@ -13,9 +13,9 @@ from find.tests.programs import CONDITIONS, COUNTER, EXPRESSIONS, FLOW, model
 MEMORY = 1000  # MB for SPIN
 
 
-def spin(searched, length=4, memory=MEMORY):
+def spin(searched, length=4, memory=MEMORY, may_lengthen=False):
     """The outcome of a search by SPIN."""
-    search = SpinSearch(searched, plain_names(searched), length, memory)
+    search = SpinSearch(searched, plain_names(searched), length, memory, may_lengthen)
     try:
         search.start()
         outcome = search.poll()
@@ -121,6 +121,11 @@ class Translation(unittest.TestCase):
         outcome = spin(model(FLOW, "a (x = 7)"), length=2)
         self.assertEqual(outcome.ending, Ending.STOPPED)
         self.assertIn("the channel from a to b was full with 2 messages", outcome.reason)
+
+    def test_longer_channels(self):
+        outcome = spin(model(FLOW, "a (x = 7)"), length=2, may_lengthen=True)
+        self.assertEqual(outcome.ending, Ending.NONE)
+        self.assertIn("with at most 8 messages in each channel", outcome.done)
 
     def test_full_channel_of_a_family(self):
         names = {Step(0, 0): Name("a[1]", "0", 1), Step(1, 0): Name("b[1]", "0", 1)}

@@ -43,6 +43,8 @@ class Lines(unittest.TestCase):
     def test_from_start(self):
         text = split_session("%%\nstep a 0\n1 break b a true\nfor i: 1..2 : break c[i] a true\n> ok\n")
         self.assertEqual(text.from_start().lines, ("1 break b a true", "for i: 1..2 : break c[i] a true"))
+        text = split_session("%%\nbreak b a true\nbreak c a true\nclear b\nbreak b a false\n")
+        self.assertEqual(text.from_start().lines, ("break c a true", "break b a false"))
 
     def test_lines_that_only_set_breakpoints(self):
         for line in ("break b a true  # one ; two", "1 batch break b a true ; break c a true", "for i: 1..2 : batch break b[i] a true ; break c[i] a true"):
@@ -67,7 +69,7 @@ class Lines(unittest.TestCase):
 class Arguments(unittest.TestCase):
     def test_defaults(self):
         options = read_arguments(["file"])
-        self.assertEqual((options.engine, options.channel, options.length, len(options.strategies)), ("auto", 4, 100, 5))
+        self.assertEqual((options.engine, options.channel, options.length, len(options.strategies)), ("auto", None, 100, 5))
         self.assertEqual(read_arguments(["--compare", "file"]).strategies, ("random",))
 
     def test_wrong(self):
