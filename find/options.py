@@ -30,7 +30,7 @@ WHAT IS LOOKED FOR:
                           'site[1] (done = 1) site[2] (done = 1)'. May be
                           repeated.
     --from-start          Leave out the session's own events, and search from
-                          the first state.
+                          the first state, for breakpoints as they were set.
 
 ENGINES:
     --engine <ENGINE>     auto, spin or sample. auto runs both side by side,
