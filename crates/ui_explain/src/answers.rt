@@ -26,26 +26,44 @@ struct Needed {
     event: u32,
 }
 
-// What was ruled out of the states of a process.
-fn ruled_out(trail: &[Elimination], pid: Pid) -> RuledOut {
-    let mut found = RuledOut {
-        false_states: 0,
-        last_false: 0,
-        needed: None,
-    };
-    for elimination in trail.iter().filter(|elimination| elimination.pid == pid) {
+impl RuledOut {
+    // Nothing.
+    fn new() -> RuledOut {
+        RuledOut {
+            false_states: 0,
+            last_false: 0,
+            needed: None,
+        }
+    }
+
+    // Notes the next elimination of the process.
+    fn note(&mut self, elimination: &Elimination) {
         match elimination.cause {
             Cause::FalseAt => {
-                found.false_states = found.false_states.saturating_add(1);
-                found.last_false = elimination.from;
+                self.false_states = self.false_states.saturating_add(1);
+                self.last_false = elimination.from;
             }
             Cause::Passed(by, event) => {
                 let events = elimination.to;
-                found.needed = Some(Needed { events, by, event });
+                self.needed = Some(Needed { events, by, event });
             }
         }
     }
-    found
+}
+
+// What was ruled out of the states of each process: a row for each of them.
+fn ruled_out(
+    alloc: Global,
+    trail: &[Elimination],
+    processes: u32,
+) -> Result<Vec<RuledOut>, AllocError> {
+    let mut rows = vec![in alloc; RuledOut::new(); processes as usize]?;
+    for elimination in trail {
+        if let Some(row) = rows.get_mut(elimination.pid.0 as usize) {
+            row.note(elimination);
+        }
+    }
+    Ok(rows)
 }
 
 impl SourceView<'_> {
@@ -88,13 +106,15 @@ impl SourceView<'_> {
     }
 
     // Says what was ruled out of the states of all processes.
-    fn tell_ruled_out(&self, notes: &mut Notes, trail: &[Elimination]) -> Result<(), AllocError> {
+    fn tell_ruled_out(&self, notes: &mut Notes, rows: &[RuledOut]) -> Result<(), AllocError> {
         for p in 0..self.session.program.processes() {
-            let found = ruled_out(trail, Pid(p));
-            if found.false_states > 0 {
-                self.tell_false(notes, Pid(p), found.false_states, found.last_false)?;
+            let Some(row) = rows.get(p as usize) else {
+                break;
+            };
+            if row.false_states > 0 {
+                self.tell_false(notes, Pid(p), row.false_states, row.last_false)?;
             }
-            if let Some(needed) = found.needed {
+            if let Some(needed) = row.needed {
                 self.tell_needed(notes, Pid(p), needed)?;
             }
         }
@@ -132,10 +152,11 @@ impl SourceView<'_> {
         notes: &mut Notes,
         detector: &Detector,
         pid: Pid,
+        row: Option<&RuledOut>,
     ) -> Result<(), AllocError> {
         let (Some(part), Some(needed)) = (
             part_of(detector, self.session.program, pid),
-            ruled_out(detector.why(), pid).needed,
+            row.and_then(|row| row.needed),
         ) else {
             return Ok(());
         };
@@ -194,7 +215,8 @@ impl SourceView<'_> {
             return Ok(());
         };
         let detector = breakpoint.detector();
-        self.tell_ruled_out(notes, detector.why())?;
+        let rows = ruled_out(alloc, detector.why(), self.session.program.processes())?;
+        self.tell_ruled_out(notes, rows.as_slice())?;
         if let Some(cut) = detector.cut() {
             notes.say(&[Part::Text("what is left is the earliest state:")])?;
             return Ok(self.tell_cut_state(notes, detector, cut)?);
@@ -204,7 +226,7 @@ impl SourceView<'_> {
             self.tell_further(alloc, notes, detector, *pid)?;
         }
         for pid in &past {
-            self.tell_cause(notes, detector, *pid)?;
+            self.tell_cause(notes, detector, *pid, rows.get(pid.0 as usize))?;
         }
         Ok(())
     }
