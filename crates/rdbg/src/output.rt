@@ -8,7 +8,7 @@ ghost use Rattle.shell_io.specs.Healths.{health_after};
 ghost use Rattle.rdbg.specs.declared.output.TheConstants.{ROOM};
 ghost use Rattle.rdbg.specs.Outputs.{output_contents, output_seen};
 
-use shell_io::{FixedBuffer, Health, Noted, Sink};
+use shell_io::{FixedBuffer, Health, Noted, Sink, Style, StyledWrite};
 use std::io::{Error, ErrorKind, Result, Write};
 use std::result;
 
@@ -82,7 +82,7 @@ impl<W: Write> Output<W> {
     }
 }
 
-impl<W: Write> Sink for Output<W> {
+impl<W: StyledWrite> Sink for Output<W> {
     ghost seen = { output_seen W.contents };
 
     // Takes as many bytes as there is room for. A full buffer is written first.
@@ -110,5 +110,20 @@ impl<W: Write> Sink for Output<W> {
             Ok(()) => self.inner.flush(),
             Err(kind) => Err(Error::from(kind)),
         }
+    }
+
+    // The bytes in the buffer have the style before. They are written first, if the writer shows styles.
+    fn set_style(&mut self, style: Style) -> Result<()>
+        ensures bytes { Keeps (output_contents W.contents self.old) (output_contents W.contents self.new) }
+        ensures health { self.new.inner.health ≡ health_after self.old.inner.health result }
+    {
+        self.inner.go_on()?;
+        if self.inner.device().shows_styles() {
+            if let Err(kind) = self.hand_on() {
+                return Err(Error::from(kind));
+            }
+            self.inner.set_device_style(style);
+        }
+        Ok(())
     }
 }

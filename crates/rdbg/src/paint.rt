@@ -3,6 +3,7 @@
 ghost use Rattle.std.specs.Io.{WritesAtMost};
 
 use crate::held::{Held, plain_length, write_fully};
+use shell_io::{Style, StyledWrite};
 use std::alloc::{AllocError, Global};
 use std::io;
 use std::io::Write;
@@ -19,7 +20,7 @@ const INVERSE: &str = "\x1b[7m";
 
 const RED: &str = "\x1b[31m";
 
-// The colours of processes, in the order in which they are first shown.
+// The colours of processes, by their numbers.
 const HUES: [&str; 6] = [
     "\x1b[36m", "\x1b[33m", "\x1b[35m", "\x1b[32m", "\x1b[34m", "\x1b[96m",
 ];
@@ -35,125 +36,62 @@ pub(crate) enum Look {
     Coloured,
 }
 
-/// A writer for text. In colours, it paints the lines of an interactive session: refusals, halts, the processes and new values of events,
-/// and the places of commands.
+/// A writer for text. In colours, it shows styles, and marks the replies that refuse a line or say that a breakpoint halts the session.
 #[derive(Drop)]
 pub(crate) struct Painted<W> {
     inner: W,
     look: Look,
     held: Held,
-    // In colours: the line that has no end yet.
-    line: Vec<u8>,
-    // The processes that were shown.
-    names: Vec<Vec<u8>>,
+    // The style of the next bytes.
+    style: Style,
+    // In colours, the line that has no end yet: first what is painted, and then bytes of one style.
+    painted: Vec<u8>,
+    run: Vec<u8>,
+    run_style: Style,
 }
 
-// Where these bytes are first.
-fn find(bytes: &[u8], wanted: &[u8]) -> Option<usize> {
-    for at in 0..bytes.len() {
-        if bytes.get(at..).unwrap_or(&[]).starts_with(wanted) {
-            return Some(at);
+// The escape sequence of a style. It is empty for plain text.
+fn sequence_of(style: Style) -> &'static str {
+    match style {
+        Style::Plain | Style::Echo => "",
+        Style::Process(number) => {
+            let place = number as usize % HUES.len();
+            HUES.get(place).copied().unwrap_or(PLAIN)
         }
-    }
-    None
-}
-
-// The bytes before and after a position.
-fn split(bytes: &[u8], at: usize) -> (&[u8], &[u8]) {
-    match (bytes.get(..at), bytes.get(at..)) {
-        (Some(prefix), Some(rest)) => (prefix, rest),
-        _ => (bytes, &[]),
+        Style::Value | Style::Halt => BOLD,
+        Style::Place => FAINT,
     }
 }
 
-// Appends bytes that look so.
-fn put(text: &mut Vec<u8>, look: &str, bytes: &[u8]) -> Result<(), AllocError> {
-    if bytes.is_empty() {
-        return Ok(());
+// Appends bytes as text that looks so.
+fn put(text: &mut Vec<u8>, sequence: &str, bytes: &[u8]) -> Result<(), AllocError> {
+    if sequence.is_empty() || bytes.is_empty() {
+        return put_visible(text, bytes);
     }
-    text.extend_from_slice(look.as_bytes())?;
-    text.extend_from_slice(bytes)?;
+    text.extend_from_slice(sequence.as_bytes())?;
+    put_visible(text, bytes)?;
     text.extend_from_slice(PLAIN.as_bytes())
 }
 
-// The number of blanks at the start.
-fn blank_length(bytes: &[u8]) -> usize {
-    bytes.iter().take_while(|byte| **byte == b' ').count()
-}
-
-// The length of the number at the start.
-fn number_length(bytes: &[u8]) -> usize {
-    bytes
-        .iter()
-        .take_while(|byte| byte.is_ascii_digit())
-        .count()
-}
-
-// The length of the name at the start.
-fn name_length(bytes: &[u8]) -> usize {
-    bytes
-        .iter()
-        .take_while(|byte| byte.is_ascii_alphanumeric() || **byte == b'_')
-        .count()
-}
-
-// The length of the value at the start.
-fn value_length(bytes: &[u8]) -> usize {
-    bytes
-        .iter()
-        .take_while(|byte| **byte != b',' && **byte != b' ')
-        .count()
-}
-
-// A line about an event, or about a process in a cut: the blanks before the name, the name, and the rest, which begins with the number.
-#[derive(Clone, Copy)]
-struct NamedLine<'a> {
-    blanks: &'a [u8],
-    name: &'a [u8],
-    rest: &'a [u8],
-}
-
-// Whether bytes that begin with a number say nothing else, or continue in another column or with a second number.
-fn is_numbered(bytes: &[u8]) -> bool {
-    let (number, rest) = split(bytes, number_length(bytes));
-    if number.is_empty() {
-        return false;
+// Where the last two words of a reply begin, if they say that a breakpoint halts the session. A number is no breakpoint.
+fn halt_in(reply: &[u8]) -> Option<usize> {
+    let blank = reply.iter().rposition(|byte| *byte == b' ')?;
+    let (before, name) = (reply.get(..blank)?, reply.get(blank..)?);
+    let is_halt = before.starts_with(b"ok") && before.ends_with(b" halted");
+    if !is_halt || name.get(1)?.is_ascii_digit() {
+        return None;
     }
-    let is_part = rest.starts_with(b" of ")
-        && rest.get(4).is_some_and(|byte| byte.is_ascii_digit());
-    rest.is_empty() || rest.starts_with(b"  ") || is_part
+    Some(blank.saturating_sub("halted".len()))
 }
 
-impl<'a> NamedLine<'a> {
-    fn of(line: &'a [u8]) -> Option<NamedLine<'a>> {
-        let (blanks, begun) = split(line, blank_length(line));
-        let (name, rest) = split(begun, name_length(begun));
-        let (_, number) = split(rest, blank_length(rest));
-        if blanks.len() < 2
-            || name.is_empty()
-            || rest.len() == number.len()
-            || !is_numbered(number)
-        {
-            return None;
-        }
-        Some(NamedLine { blanks, name, rest })
+// Appends a line without styles, which may be a reply.
+fn put_reply(text: &mut Vec<u8>, line: &[u8]) -> Result<(), AllocError> {
+    if line.starts_with(b"no ") || line.starts_with(b"program refused") {
+        return put(text, RED, line);
     }
-}
-
-// Appends what an event changed, with its new values bold.
-fn put_changes(text: &mut Vec<u8>, changes: &[u8]) -> Result<(), AllocError> {
-    let mut rest = changes;
-    for _ in 0..changes.len() {
-        let Some(at) = find(rest, b"-> ") else {
-            break;
-        };
-        let (prefix, begun) = split(rest, at.saturating_add(3));
-        let (value, others) = split(begun, value_length(begun));
-        text.extend_from_slice(prefix)?;
-        put(text, BOLD, value)?;
-        rest = others;
-    }
-    text.extend_from_slice(rest)
+    let at = halt_in(line).unwrap_or(line.len());
+    put_visible(text, line.get(..at).unwrap_or(&[]))?;
+    put(text, INVERSE, line.get(at..).unwrap_or(&[]))
 }
 
 impl<W: Write> Painted<W> {
@@ -163,82 +101,53 @@ impl<W: Write> Painted<W> {
             inner,
             look,
             held: Held::new(),
-            line: Vec::new(alloc),
-            names: Vec::new(alloc),
+            style: Style::Plain,
+            painted: Vec::new(alloc),
+            run: Vec::new(alloc),
+            run_style: Style::Plain,
         }
     }
 
-    // The colour of a process.
-    fn hue(&mut self, name: &[u8]) -> Result<&'static str, AllocError> {
-        let alloc = *self.line.allocator();
-        let known = self.names.iter().position(|known| known.as_slice() == name);
-        let place = match known {
-            Some(place) => place,
-            None => {
-                self.names.push(Vec::from_slice(alloc, name)?)?;
-                self.names.len().saturating_sub(1)
-            }
-        };
-        Ok(HUES.get(place % HUES.len()).copied().unwrap_or(PLAIN))
+    // Paints the bytes of one style.
+    fn paint_run(&mut self) -> Result<(), AllocError> {
+        put(
+            &mut self.painted,
+            sequence_of(self.run_style),
+            self.run.as_slice(),
+        )?;
+        self.run.clear();
+        Ok(())
     }
 
-    fn put_process_line(
-        &mut self,
-        text: &mut Vec<u8>,
-        line: NamedLine<'_>,
-    ) -> Result<(), AllocError> {
-        let hue = self.hue(line.name)?;
-        text.extend_from_slice(line.blanks)?;
-        put(text, hue, line.name)?;
-        let (changes, place) = match find(line.rest, b"  :") {
-            Some(at) => split(line.rest, at),
-            None => (line.rest, b"".as_slice()),
-        };
-        put_changes(text, changes)?;
-        put(text, FAINT, place)
+    // Writes what is painted.
+    fn write_painted(&mut self) -> io::Result<()> {
+        write_fully(&mut self.inner, self.painted.as_slice())?;
+        self.painted.clear();
+        Ok(())
     }
 
-    // A line, coloured.
-    fn painted(&mut self, line: &[u8]) -> Result<Vec<u8>, AllocError> {
-        let mut text = Vec::new(*self.line.allocator());
-        if let Some(found) = NamedLine::of(line) {
-            self.put_process_line(&mut text, found)?;
-        } else if line.starts_with(b"no ") || line.starts_with(b"program refused") {
-            put(&mut text, RED, line)?;
-        } else if line.starts_with(b"  halted by ") {
-            put(&mut text, BOLD, line)?;
-        } else if let (true, Some(at)) = (line.starts_with(b"ok"), find(line, b"halted ")) {
-            let (prefix, halted) = split(line, at);
-            text.extend_from_slice(prefix)?;
-            put(&mut text, INVERSE, halted)?;
-        } else {
-            text.extend_from_slice(line)?;
-        }
-        Ok(text)
-    }
-
-    // The line so far, as text.
-    fn take_line(&mut self) -> Result<Vec<u8>, AllocError> {
-        let mut line = Vec::new(*self.line.allocator());
-        put_visible(&mut line, self.line.as_slice())?;
-        self.line.clear();
-        Ok(line)
-    }
-
-    // Writes the line that is complete.
+    // Writes the line, which is complete.
     fn write_line(&mut self) -> io::Result<()> {
-        let line = self.take_line()?;
-        let mut text = self.painted(line.as_slice())?;
-        text.push(b'\n')?;
-        write_fully(&mut self.inner, text.as_slice())
+        if self.painted.is_empty() && self.run_style == Style::Plain {
+            put_reply(&mut self.painted, self.run.as_slice())?;
+            self.run.clear();
+        } else {
+            self.paint_run()?;
+        }
+        self.painted.push(b'\n')?;
+        self.write_painted()
     }
 
     fn write_coloured(&mut self, bytes: &[u8]) -> io::Result<()> {
+        if self.style != self.run_style {
+            self.paint_run()?;
+            self.run_style = self.style;
+        }
         for byte in bytes {
             if *byte == b'\n' {
                 self.write_line()?;
             } else {
-                self.line.push(*byte)?;
+                self.run.push(*byte)?;
             }
         }
         Ok(())
@@ -324,10 +233,18 @@ impl<W: Write> Write for Painted<W> {
 
     fn flush(&mut self) -> io::Result<()> {
         self.write_rest()?;
-        if !self.line.is_empty() {
-            let line = self.take_line()?;
-            write_fully(&mut self.inner, line.as_slice())?;
-        }
+        self.paint_run()?;
+        self.write_painted()?;
         self.inner.flush()
+    }
+}
+
+impl<W: Write> StyledWrite for Painted<W> {
+    fn shows_styles(&self) -> bool {
+        self.look == Look::Coloured
+    }
+
+    fn set_style(&mut self, style: Style) {
+        self.style = style;
     }
 }

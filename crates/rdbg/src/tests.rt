@@ -2,8 +2,8 @@
 
 use crate::output::Output;
 use crate::words::{WordsFault, words};
-use shell_io::Sink;
-use std::alloc::Global;
+use shell_io::{Sink, Style, StyledWrite};
+use std::alloc::{AllocError, Global};
 use std::env::{Env, FillError};
 use std::io;
 use std::io::{ErrorKind, Write};
@@ -70,10 +70,14 @@ fn words_that_are_text_are_given(rt: HostRuntime) {
 #[derive(Drop)]
 struct Stumbles {
     taken: Vec<u8>,
+    count: usize,
     left: usize,
     fault: Option<ErrorKind>,
     calls: usize,
     flushes: usize,
+    shows_styles: bool,
+    // The styles that were set, each with the number of bytes before it.
+    styles: Vec<(usize, Style)>,
 }
 
 impl Write for Stumbles {
@@ -88,6 +92,7 @@ impl Write for Stumbles {
         }
         let count = buf.len().min(4);
         self.taken.extend_from_slice(&buf[..count])?;
+        self.count = self.count.saturating_add(count);
         Ok(count)
     }
 
@@ -97,14 +102,42 @@ impl Write for Stumbles {
     }
 }
 
+impl StyledWrite for &mut Stumbles {
+    fn shows_styles(&self) -> bool {
+        self.shows_styles
+    }
+
+    fn set_style(&mut self, style: Style) {
+        let count = self.count;
+        let _pushed = self.styles.push((count, style));
+    }
+}
+
 fn make_stumbles(alloc: Global, left: usize, fault: Option<ErrorKind>) -> Stumbles {
     Stumbles {
         taken: Vec::new(alloc),
+        count: 0,
         left,
         fault,
         calls: 0,
         flushes: 0,
+        shows_styles: true,
+        styles: Vec::new(alloc),
     }
+}
+
+// Bytes of which each differs from those near it.
+fn make_text(alloc: Global, length: u32) -> Result<Vec<u8>, AllocError> {
+    let mut text = Vec::new(alloc);
+    for i in 0..length {
+        text.push((i % 251) as u8)?;
+    }
+    Ok(text)
+}
+
+// A part of a text.
+fn part(text: &[u8], from: usize, to: usize) -> &[u8] {
+    text.get(from..to).unwrap_or(&[])
 }
 
 #[test]
@@ -119,10 +152,12 @@ fn a_write_that_failed_is_not_tried_again(rt: HostRuntime) -> Result<(), Fail> {
             assert!(rt; output.flush().is_err());
             assert!(rt; output.flush().is_err());
             assert!(rt; output.write(text).is_err());
+            assert!(rt; output.set_style(Style::Value).is_err());
             drop(output);
             assert_eq!(rt; stumbles.taken.as_slice(), text.get(..taken).unwrap_or(&[]));
             assert_eq!(rt; stumbles.calls, left + 1);
             assert_eq!(rt; stumbles.flushes, 0);
+            assert!(rt; stumbles.styles.is_empty());
         }
     }
     Ok(())
@@ -141,10 +176,7 @@ fn dropping_the_output_writes_nothing(rt: HostRuntime) -> Result<(), Fail> {
 #[test]
 fn bytes_go_out_in_order(rt: HostRuntime) -> Result<(), Fail> {
     let alloc = rt.alloc();
-    let mut text = Vec::new(alloc);
-    for i in 0..20_000u32 {
-        text.push((i % 251) as u8)?;
-    }
+    let text = make_text(alloc, 20_000)?;
     let mut stumbles = make_stumbles(alloc, 100_000, None);
     let mut output = Output::new(&mut stumbles);
     let mut rest = text.as_slice();
@@ -159,5 +191,45 @@ fn bytes_go_out_in_order(rt: HostRuntime) -> Result<(), Fail> {
     drop(output);
     assert_eq!(rt; stumbles.flushes, 1);
     assert_eq!(rt; stumbles.taken.as_slice(), text.as_slice());
+    Ok(())
+}
+
+#[test]
+fn bytes_and_styles_go_out_in_order(rt: HostRuntime) -> Result<(), Fail> {
+    let alloc = rt.alloc();
+    let text = make_text(alloc, 8_300)?;
+    let text = text.as_slice();
+    let mut stumbles = make_stumbles(alloc, 100_000, None);
+    let mut output = Output::new(&mut stumbles);
+    assert_eq!(rt; output.write(part(text, 0, 100))?, 100);
+    output.set_style(Style::Value)?;
+    // These bytes fill the buffer.
+    assert_eq!(rt; output.write(part(text, 100, 8_292))?, 8_192);
+    assert_eq!(rt; output.write(part(text, 8_292, 8_297))?, 5);
+    output.set_style(Style::Place)?;
+    output.set_style(Style::Plain)?;
+    assert_eq!(rt; output.write(part(text, 8_297, 8_300))?, 3);
+    output.flush()?;
+    drop(output);
+    let styles = [
+        (100, Style::Value),
+        (8_297, Style::Place),
+        (8_297, Style::Plain),
+    ];
+    assert_eq!(rt; stumbles.styles.as_slice(), styles.as_slice());
+    assert_eq!(rt; stumbles.taken.as_slice(), text);
+    Ok(())
+}
+
+#[test]
+fn a_writer_that_shows_no_styles_gets_none(rt: HostRuntime) -> Result<(), Fail> {
+    let mut stumbles = make_stumbles(rt.alloc(), 100, None);
+    stumbles.shows_styles = false;
+    let mut output = Output::new(&mut stumbles);
+    assert_eq!(rt; output.write(b"kept")?, 4);
+    output.set_style(Style::Value)?;
+    drop(output);
+    assert_eq!(rt; stumbles.calls, 0);
+    assert!(rt; stumbles.styles.is_empty());
     Ok(())
 }

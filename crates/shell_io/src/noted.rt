@@ -9,6 +9,7 @@ ghost use Rattle.shell_io.specs.Seen.{seen_noted};
 
 use crate::health::Health;
 use crate::streams::{Sink, Source};
+use crate::style::{Style, StyledWrite};
 use std::io::{Error, ErrorKind, Read, Result, Write};
 
 /// A reader or a writer that is not called again once it has failed: each further call returns an error. A write that accepts no byte is a
@@ -86,6 +87,16 @@ impl<D> Noted<D> {
     }
 }
 
+impl<W: StyledWrite> Noted<W> {
+    /// Sets the style of the next bytes of the device.
+    pub fn set_device_style(&mut self, style: Style)
+        ensures bytes { Keeps (W.contents self.old.device) (W.contents self.new.device) }
+        ensures health { self.new.health ≡ self.old.health }
+    {
+        self.device.set_style(style);
+    }
+}
+
 impl<R: Read> Source for Noted<R> {
     ghost remaining = { λ noted. R.remaining noted.device };
 
@@ -136,5 +147,13 @@ impl<W: Write> Sink for Noted<W> {
             Ok(()) => Ok(()),
             Err(error) => Err(self.failed(error)),
         }
+    }
+
+    // It shows no styles.
+    fn set_style(&mut self, _style: Style) -> Result<()>
+        ensures bytes { Keeps (W.contents self.old.device) (W.contents self.new.device) }
+        ensures health { self.new.health ≡ health_after self.old.health result }
+    {
+        self.go_on()
     }
 }

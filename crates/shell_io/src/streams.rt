@@ -7,6 +7,7 @@ ghost use Rattle.shell_io.specs.declared.health.Health.{Health};
 ghost use Rattle.shell_io.specs.Healths.{health_after};
 ghost use Rattle.shell_io.specs.Seen.{Seen};
 
+use crate::style::Style;
 use std::io::Result;
 
 /// A source of bytes.
@@ -37,6 +38,11 @@ pub trait Sink {
 
     /// Flushes what was written. An error is a failure of the sink.
     fn flush(&mut self) -> Result<()>
+        ensures bytes { Keeps (seen self.old).contents (seen self.new).contents }
+        ensures health { (seen self.new).health ≡ health_after (seen self.old).health result };
+
+    /// Sets the style of the next bytes, if the sink shows styles. An error is a failure of the sink.
+    fn set_style(&mut self, style: Style) -> Result<()>
         ensures bytes { Keeps (seen self.old).contents (seen self.new).contents }
         ensures health { (seen self.new).health ≡ health_after (seen self.old).health result };
 }

@@ -66,7 +66,7 @@ static DARK: &str = "      .rdbg-drawing text { fill: #ececec; }
 fn longest(lines: &Notes) -> &[u8] {
     let mut longest: &[u8] = &[];
     for line in lines.lines() {
-        if line.len() > longest.len() {
+        if line.as_slice().len() > longest.len() {
             longest = line.as_slice();
         }
     }

@@ -5,6 +5,7 @@ use crate::view::SourceView;
 use dbg_base::{Cut, Expr, Head, Name, Pid, Refusal};
 use least_cut::Detector;
 use proc_lang::Program;
+use shell_io::Style;
 use std::alloc::{AllocError, Global};
 use ui_text::{Notes, Part};
 
@@ -161,7 +162,8 @@ impl SourceView<'_> {
             return Ok(());
         };
         let detector = breakpoint.detector();
-        notes.say(&[Part::Text("halted by "), Part::Name(name), Part::Text(": ")])?;
+        let words = [Part::Text("halted by "), Part::Name(name), Part::Text(": ")];
+        notes.say_in(Style::Halt, &words)?;
         put_conjuncts(notes, self.session.program, detector)?;
         notes.say(&[Part::Text("the earliest global state in which this holds:")])?;
         match detector.cut() {

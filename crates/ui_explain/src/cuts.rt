@@ -153,7 +153,7 @@ impl SourceView<'_> {
     ) -> Result<(), AllocError> {
         let scope = self.scope(pid);
         let env = self.state_after(pid, count)?;
-        notes.say(&[scope.name()])?;
+        notes.say(&[scope.head()])?;
         notes.tab(columns.events)?;
         notes.add(&[Part::Number(i64::from(count)), Part::Text(" of ")])?;
         put_events(notes, self.session.world.place(pid))?;

@@ -139,7 +139,7 @@ impl SourceView<'_> {
         count: usize,
     ) -> Result<(), AllocError> {
         let stars = has_part(detector, self.session.program.processes(), pid);
-        notes.say(&[self.scope(pid).name()])?;
+        notes.say(&[self.scope(pid).head()])?;
         notes.tab(columns.begin)?;
         if depths.last_of(pid) < columns.first {
             return notes.add(&[Part::Text("|")]);

@@ -6,6 +6,7 @@ use causal_world::World;
 use dbg_base::{Direction, Pid};
 use event_rows::{Event, Exchange, Setting};
 use proc_lang::Program;
+use shell_io::Style;
 use std::alloc::AllocError;
 use ui_text::{Notes, Part};
 
@@ -100,11 +101,11 @@ impl ProcessView<'_> {
         setting: &Setting,
     ) -> Result<(), AllocError> {
         let old = Part::Number(setting.old);
-        let new = Part::Number(setting.new);
         notes.add(&[Part::Text(word), self.variable(setting.variable)])?;
         if setting.old == setting.new {
-            return notes.add(&[Part::Text(" stays "), new]);
+            return notes.add(&[Part::Text(" stays "), old]);
         }
+        let new = Part::Value(setting.new);
         notes.add(&[Part::Text(" "), old, Part::Text(" -> "), new])
     }
 
@@ -247,7 +248,7 @@ impl SourceView<'_> {
         };
         notes.say(&[
             Part::Text(begin),
-            scope.name(),
+            scope.head(),
             Part::Text(" "),
             Part::Count(number),
         ])?;
@@ -260,7 +261,7 @@ impl SourceView<'_> {
             notes.add(&[Part::Text("undone: ")])?;
         }
         scope.put_settings(notes, event)?;
-        notes.tab(columns.command)?;
+        notes.tab_in(Style::Place, columns.command)?;
         scope.put_place(notes, self.text, event.choice())
     }
 }

@@ -57,6 +57,14 @@ impl<'a> ProcessView<'a> {
         self.process(self.pid)
     }
 
+    /// The name of the process, at the beginning of a line about it.
+    pub(crate) fn head(&self) -> Part<'static> {
+        match self.program.process_name(self.pid) {
+            Some(name) => Part::Process(name, self.pid.0),
+            None => Part::Text("?"),
+        }
+    }
+
     /// The name of a process.
     pub fn process(&self, pid: Pid) -> Part<'static> {
         named(self.program.process_name(pid))

@@ -7,11 +7,11 @@ use std::alloc::{AllocError, Global};
 use ui_diagram::{Moment, Picture, PictureForm, draw_mermaid, draw_text, write_log};
 use ui_drawing::draw_drawing;
 use ui_explain::Explainer;
-use ui_text::Notes;
+use ui_text::{NoteLine, Notes};
 use ui_timeline::{Selection, unknown_name};
 
 // Lines, each with a line end.
-fn with_line_ends(alloc: Global, lines: &[Vec<u8>]) -> Result<Vec<u8>, AllocError> {
+fn with_line_ends(alloc: Global, lines: &[NoteLine]) -> Result<Vec<u8>, AllocError> {
     let mut text = Vec::new(alloc);
     for line in lines {
         text.extend_from_slice(line.as_slice())?;

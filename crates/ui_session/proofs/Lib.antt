@@ -1,1 +1,2 @@
 pub mod DialogueLemmas
+pub mod StyleLemmas

@@ -1,15 +1,15 @@
 //! Output besides the replies.
 
-ghost use Rattle.std.specs.Prelude.{◌≡◌};
+ghost use Rattle.std.specs.Prelude.{◌≡◌, []};
 ghost use Rattle.shell_print.specs.Writing.{Writes};
 ghost use Rattle.shell_input.specs.Spans.{is_unended};
 ghost use Rattle.shell_serve.specs.Sessions.{WritesForm};
 ghost use Rattle.ui_session.specs.Dialogues.{IsExplanation, IsEcho, IsGap, explanation_line};
 
-use shell_io::Sink;
+use shell_io::{Sink, Style};
 use shell_print::{ServeFault, hand_on, write_whole};
 use ui_explain::Echo;
-use ui_text::Notes;
+use ui_text::{NoteLine, Notes, StyleChange};
 
 fn is_unended(line: &[u8]) -> bool
     ensures { result ≡ is_unended line.now }
@@ -17,24 +17,57 @@ fn is_unended(line: &[u8]) -> bool
     line.iter().all(|byte| *byte != b'\n')
 }
 
-// Writes a line of an explanation.
-fn write_line<W: Sink>(line: &[u8], writer: &mut W) -> Result<(), ServeFault>
-    ensures { Writes (W.seen writer.old) (W.seen writer.new) result (explanation_line line.now) }
+// Sets the style of the next bytes.
+fn set_style<W: Sink>(style: Style, writer: &mut W) -> Result<(), ServeFault>
+    ensures { Writes (W.seen writer.old) (W.seen writer.new) result [] }
 {
-    write_whole(writer, b"  ")?;
-    write_whole(writer, line)?;
+    match writer.set_style(style) {
+        Ok(()) => Ok(()),
+        Err(_) => Err(ServeFault::Write),
+    }
+}
+
+// Writes bytes in this style, and in others from where it changes.
+fn write_styled<W: Sink>(
+    first: Style,
+    bytes: &[u8],
+    changes: &[StyleChange],
+    writer: &mut W,
+) -> Result<(), ServeFault>
+    ensures { Writes (W.seen writer.old) (W.seen writer.new) result bytes.now }
+{
+    set_style(first, writer)?;
+    let mut at = 0;
+    let mut rest = bytes;
+    for change in changes {
+        let length = change.at.saturating_sub(at).min(rest.len());
+        write_whole(writer, &rest[..length])?;
+        set_style(change.style, writer)?;
+        at = change.at;
+        rest = &rest[length..];
+    }
+    write_whole(writer, rest)?;
+    set_style(Style::Plain, writer)
+}
+
+// Writes these bytes as a line of an explanation, in the styles of this line.
+fn write_line<W: Sink>(bytes: &[u8], line: &NoteLine, writer: &mut W) -> Result<(), ServeFault>
+    ensures { Writes (W.seen writer.old) (W.seen writer.new) result (explanation_line bytes.now) }
+{
+    write_styled(line.first_style(), b"  ", &[], writer)?;
+    write_styled(line.first_style(), bytes, line.changes(), writer)?;
     write_whole(writer, b"\n")
 }
 
 // Writes the lines of an explanation.
-fn write_lines<W: Sink>(lines: &[Vec<u8>], writer: &mut W) -> Result<(), ServeFault>
+fn write_lines<W: Sink>(lines: &[NoteLine], writer: &mut W) -> Result<(), ServeFault>
     ensures written { WritesForm IsExplanation (W.seen writer.old) result (W.seen writer.new) }
 {
     for line in lines {
-        let line = line.as_slice();
+        let bytes = line.as_slice();
         // No line of an explanation has a line end.
-        if is_unended(line) {
-            write_line(line, writer)?;
+        if is_unended(bytes) {
+            write_line(bytes, line, writer)?;
         }
     }
     Ok(())
@@ -72,6 +105,6 @@ pub(crate) fn write_echo<W: Sink>(
         return Ok(());
     }
     write_whole(writer, gap)?;
-    write_whole(writer, line)?;
+    write_styled(Style::Echo, line, &[], writer)?;
     write_whole(writer, b"\n")
 }

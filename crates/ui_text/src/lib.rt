@@ -17,7 +17,7 @@ pub use forms::{
     is_directive_word, tell_help, tell_near_word, tell_too_long, tell_word, whole_word,
 };
 pub use names::{Declaration, DeclaredAs, find_declaration};
-pub use notes::{Notes, Part};
+pub use notes::{NoteLine, Notes, Part, StyleChange};
 pub use numbers::meaning;
 pub use source::{ProgramText, TextLine, is_word_byte};
 pub use transcript::Transcript;

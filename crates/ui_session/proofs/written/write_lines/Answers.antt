@@ -12,14 +12,14 @@ loop-line-preserved g c =
     elim c.if-is_unended.branch [
       | then-is_unended+in_ok-write_line w ↦
           subst (λ x. Explains old (g.W.Sink.seen x)) (sym w.writer-is)
-          (explains_more _ _ _ c.as_slice-line.result.now c.loop-line.invariant (sym c.is_unended.ensures ∙ w.if-is_unended.true)
+          (explains_more _ _ _ c.as_slice-bytes.result.now c.loop-line.invariant (sym c.is_unended.ensures ∙ w.if-is_unended.true)
           w.in_ok-write_line.ensures)
       | else-is_unended w ↦ subst (λ x. Explains old (g.W.Sink.seen x)) (sym w.writer-is) c.loop-line.invariant
     ]
 
 pub returns-in_err-write_line : goal.returns-in_err-write_line
 returns-in_err-write_line g c = record {
-  written = explains_stops _ _ _ c.as_slice-line.result.now c.loop-line.invariant (sym c.is_unended.ensures ∙ c.if-is_unended.true)
+  written = explains_stops _ _ _ c.as_slice-bytes.result.now c.loop-line.invariant (sym c.is_unended.ensures ∙ c.if-is_unended.true)
       c.in_err-write_line.ensures c.from_residual.ensures.1;
 }
 

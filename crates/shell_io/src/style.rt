@@ -1,0 +1,32 @@
+//! How bytes look on a device that shows it.
+
+ghost use Rattle.std.specs.Io.KnownBytes.{Keeps};
+
+use std::io::Write;
+
+/// What bytes are, which decides how they look.
+#[derive(Clone, Copy, Debug, PartialEq, Eq)]
+pub enum Style {
+    /// A reply, or plain words.
+    Plain,
+    /// A line of a session that is written again.
+    Echo,
+    /// The name of the process of this number.
+    Process(u32),
+    /// The new value of a variable.
+    Value,
+    /// The place of a command in the program.
+    Place,
+    /// What halts the session.
+    Halt,
+}
+
+/// A writer that may show styles.
+pub trait StyledWrite: Write {
+    /// Whether it shows styles.
+    fn shows_styles(&self) -> bool;
+
+    /// Sets the style of the next bytes.
+    fn set_style(&mut self, style: Style)
+        ensures { Keeps (Self.contents self.old) (Self.contents self.new) };
+}
