@@ -28,21 +28,11 @@ pub struct StyleChange {
 }
 
 /// A line of an explanation, without a line end.
-#[derive(Debug)]
+#[derive(Clone, Debug, Drop)]
 pub struct NoteLine {
     bytes: Vec<u8>,
     first_style: Style,
     changes: Vec<StyleChange>,
-}
-
-impl Drop for NoteLine {
-    fn drop(self) {
-        let NoteLine {
-            bytes: _,
-            first_style: _,
-            changes: _,
-        } = self;
-    }
 }
 
 impl NoteLine {
@@ -70,14 +60,6 @@ impl NoteLine {
         self.changes.as_slice()
     }
 
-    fn copy(&self) -> Result<NoteLine, AllocError> {
-        Ok(NoteLine {
-            bytes: self.bytes.clone()?,
-            first_style: self.first_style,
-            changes: self.changes.clone()?,
-        })
-    }
-
     // Appends bytes in a style. The bytes after them have the style before.
     fn put_styled(&mut self, style: Style, bytes: &[u8]) -> Result<(), AllocError> {
         let at = self.bytes.len();
@@ -95,18 +77,13 @@ impl NoteLine {
     // Appends a part.
     fn put(&mut self, part: &Part<'_>) -> Result<(), AllocError> {
         let mut buffer = Buffer::new();
+        let line = &mut self.bytes;
         match part {
-            Part::Text(text) => self.bytes.extend_from_slice(text.as_bytes()),
-            Part::Bytes(bytes) => self.bytes.extend_from_slice(bytes),
-            Part::Name(name) => self.bytes.extend_from_slice(name.bytes()),
-            Part::Number(number) => {
-                self.bytes
-                    .extend_from_slice(buffer.format(*number).as_bytes())
-            }
-            Part::Count(count) => {
-                self.bytes
-                    .extend_from_slice(buffer.format(*count).as_bytes())
-            }
+            Part::Text(text) => line.extend_from_slice(text.as_bytes()),
+            Part::Bytes(bytes) => line.extend_from_slice(bytes),
+            Part::Name(name) => line.extend_from_slice(name.bytes()),
+            Part::Number(number) => line.extend_from_slice(buffer.format(*number).as_bytes()),
+            Part::Count(count) => line.extend_from_slice(buffer.format(*count).as_bytes()),
             Part::Process(name, number) => self.put_styled(Style::Process(*number), name.bytes()),
             Part::Value(value) => {
                 self.put_styled(Style::Value, buffer.format(*value).as_bytes())
@@ -192,7 +169,7 @@ impl Notes {
     /// Appends these lines.
     pub fn append(&mut self, others: &Notes) -> Result<(), AllocError> {
         for line in &others.lines {
-            self.lines.push(line.copy()?)?;
+            self.lines.push(line.clone()?)?;
         }
         Ok(())
     }
