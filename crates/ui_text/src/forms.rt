@@ -5,215 +5,40 @@ use crate::numbers::meaning;
 use std::alloc::{AllocError, Global};
 use strsim::osa_distance;
 
-/// A word at the start of a line, after the seat if it is a command's, and what the line does.
-#[derive(Clone, Copy)]
-struct Form {
-    word: &'static str,
-    form: &'static str,
-    // How many words may follow the first one, at least and at most.
-    least: usize,
-    most: usize,
-    does: &'static str,
-}
-
-// More words than a line has.
-const MANY: usize = 1_024;
-
-// The commands, which make calls.
-const COMMANDS: [Form; 20] = [
-    Form {
-        word: "next",
-        form: "next P [N]",
-        least: 1,
-        most: 2,
-        does: "process P makes its first command that fires, up to N times: a refusal or a halt ends that",
-    },
-    Form {
-        word: "step",
-        form: "step P K",
-        least: 2,
-        most: 2,
-        does: "process P makes its command number K, from 0",
-    },
-    Form {
-        word: "undo",
-        form: "undo P",
-        least: 1,
-        most: 1,
-        does: "undoes P's last event",
-    },
-    Form {
-        word: "redo",
-        form: "redo P",
-        least: 1,
-        most: 1,
-        does: "P makes the command at its place again",
-    },
-    Form {
-        word: "rollback",
-        form: "rollback P N",
-        least: 2,
-        most: 2,
-        does: "P goes back to its first N events, and the others no further than they must",
-    },
-    Form {
-        word: "break",
-        form: "break B P E [P E ..]",
-        least: 3,
-        most: MANY,
-        does: "sets the breakpoint B: E has to hold in P, and so on for each pair",
-    },
-    Form {
-        word: "goto",
-        form: "goto B",
-        least: 1,
-        most: 1,
-        does: "all processes go back to B's cut",
-    },
-    Form {
-        word: "pass",
-        form: "pass B",
-        least: 1,
-        most: 1,
-        does: "B no longer halts the session",
-    },
-    Form {
-        word: "arm",
-        form: "arm B",
-        least: 1,
-        most: 1,
-        does: "B halts the session again",
-    },
-    Form {
-        word: "clear",
-        form: "clear B",
-        least: 1,
-        most: 1,
-        does: "removes B",
-    },
-    Form {
-        word: "batch",
-        form: "batch C ; C ..",
-        least: 1,
-        most: MANY,
-        does: "gives up to 32 of the commands above as one",
-    },
-    Form {
-        word: "back",
-        form: "back",
-        least: 0,
-        most: 0,
-        does: "takes back the last accepted command, if the same seat gave it",
-    },
-    Form {
-        word: "vars",
-        form: "vars P",
-        least: 1,
-        most: 1,
-        does: "shows the values of P's variables",
-    },
-    Form {
-        word: "chan",
-        form: "chan P Q",
-        least: 2,
-        most: 2,
-        does: "shows the messages on their way from P to Q",
-    },
-    Form {
-        word: "clock",
-        form: "clock P",
-        least: 1,
-        most: 1,
-        does: "shows how many events of each process come before P's state",
-    },
-    Form {
-        word: "place",
-        form: "place P",
-        least: 1,
-        most: 1,
-        does: "shows how many events P has, and how many with its redo list",
-    },
-    Form {
-        word: "can",
-        form: "can P",
-        least: 1,
-        most: 1,
-        does: "shows whether P's last event may be undone",
-    },
-    Form {
-        word: "cut",
-        form: "cut B",
-        least: 1,
-        most: 1,
-        does: "shows the least global state in which B holds",
-    },
-    Form {
-        word: "why",
-        form: "why B",
-        least: 1,
-        most: 1,
-        does: "shows how far the search for B's cut came",
-    },
-    Form {
-        word: "breaks",
-        form: "breaks",
-        least: 0,
-        most: 0,
-        does: "shows all breakpoints, and whether they are armed",
-    },
+// The commands, which make calls: the form of the line, after the seat, and what the line does. Words in brackets, and those after a `;`, may
+// be missing. `..` stands for more words.
+const COMMANDS: [&str; 20] = [
+    "`next P [N]`: process P makes its first command that fires, up to N times: a refusal or a halt ends that",
+    "`step P K`: process P makes its command number K, from 0",
+    "`undo P`: undoes P's last event",
+    "`redo P`: P makes the command at its place again",
+    "`rollback P N`: P goes back to its first N events, and the others no further than they must",
+    "`break B P E [P E ..]`: sets the breakpoint B: E has to hold in P, and so on for each pair",
+    "`goto B`: all processes go back to B's cut",
+    "`pass B`: B no longer halts the session",
+    "`arm B`: B halts the session again",
+    "`clear B`: removes B",
+    "`batch C ; C ..`: gives up to 32 of the commands above as one",
+    "`back`: takes back the last accepted command, if the same seat gave it",
+    "`vars P`: shows the values of P's variables",
+    "`chan P Q`: shows the messages on their way from P to Q",
+    "`clock P`: shows how many events of each process come before P's state",
+    "`place P`: shows how many events P has, and how many with its redo list",
+    "`can P`: shows whether P's last event may be undone",
+    "`cut B`: shows the least global state in which B holds",
+    "`why B`: shows how far the search for B's cut came",
+    "`breaks`: shows all breakpoints, and whether they are armed",
 ];
 
 // The lines that an interactive session answers itself.
-const DIRECTIVES: [Form; 7] = [
-    Form {
-        word: "on",
-        form: "on [P]",
-        least: 0,
-        most: 1,
-        does: "shows which commands can fire now, of all processes or of P",
-    },
-    Form {
-        word: "list",
-        form: "list [P]",
-        least: 0,
-        most: 1,
-        does: "shows all commands, and what prevents each from firing",
-    },
-    Form {
-        word: "state",
-        form: "state [P]",
-        least: 0,
-        most: 1,
-        does: "shows all variables and counts, and the messages on their way",
-    },
-    Form {
-        word: "line",
-        form: "line P",
-        least: 1,
-        most: 1,
-        does: "shows the events of P, and what it can redo",
-    },
-    Form {
-        word: "draw",
-        form: "draw",
-        least: 0,
-        most: 0,
-        does: "draws a picture: a column for each process, events downward",
-    },
-    Form {
-        word: "help",
-        form: "help [WORD]",
-        least: 0,
-        most: 1,
-        does: "shows these lines, or what a command or the number of a refusal means; so does `?`",
-    },
-    Form {
-        word: "quit",
-        form: "quit",
-        least: 0,
-        most: 0,
-        does: "ends the session; so do `exit` and `q`",
-    },
+const DIRECTIVES: [&str; 7] = [
+    "`on [P]`: shows which commands can fire now, of all processes or of P",
+    "`list [P]`: shows all commands, and what prevents each from firing",
+    "`state [P]`: shows all variables and counts, and the messages on their way",
+    "`line P`: shows the events of P, and what it can redo",
+    "`draw`: draws a picture: a column for each process, events downward",
+    "`help [WORD]`: shows these lines, or what a command or the number of a refusal means; so does `?`",
+    "`quit`: ends the session; so do `exit` and `q`",
 ];
 
 // Other words for directives.
@@ -229,33 +54,59 @@ fn full_word(word: &[u8]) -> &[u8] {
     word
 }
 
-// The form that begins with this word.
-fn form_of(word: &[u8]) -> Option<Form> {
-    let full = full_word(word);
-    let mut forms = COMMANDS.iter().chain(&DIRECTIVES);
-    forms.find(|form| form.word.as_bytes() == full).copied()
+// The form of this line of the help: what is between its first two backquotes.
+fn form_of(line: &'static str) -> &'static str {
+    line.split('`').nth(1).unwrap_or(line)
 }
 
-impl Form {
-    // Whether so many words may follow its first one.
-    fn takes(&self, arguments: usize) -> bool {
-        self.least <= arguments && arguments <= self.most
-    }
+// The word with which the form of this line of the help begins.
+fn word_of(line: &'static str) -> &'static str {
+    form_of(line).split(' ').next().unwrap_or(line)
+}
+
+// Whether the form of this line of the help begins with these bytes.
+fn is_begun_by(line: &str, bytes: &[u8]) -> bool {
+    let form = line.as_bytes().get(1..).unwrap_or(&[]);
+    form.starts_with(bytes)
+}
+
+// Whether this line of the help is about the command or directive of this name.
+fn is_about(line: &str, word: &[u8]) -> bool {
+    let end = line.as_bytes().get(word.len().saturating_add(1));
+    is_begun_by(line, word) && matches!(end, Some(b' ' | b'`'))
+}
+
+// The line of the help about the command or directive of this name.
+fn help_line(word: &[u8]) -> Option<&'static str> {
+    let full = full_word(word);
+    let mut lines = COMMANDS.iter().chain(&DIRECTIVES).copied();
+    lines.find(|line| is_about(line, full))
+}
+
+// Whether so many words may follow the first word of this form.
+fn takes(form: &str, arguments: usize) -> bool {
+    let least = form
+        .split(' ')
+        .skip(1)
+        .take_while(|word| !word.starts_with('[') && *word != ";")
+        .count();
+    let most = form.split(' ').skip(1).count();
+    least <= arguments && (arguments <= most || form.contains(".."))
 }
 
 /// The command or directive of which this word is the start, if there is exactly one that can have so many more words. None for a whole
 /// word.
 pub fn whole_word(word: &[u8], arguments: usize) -> Option<&'static str> {
-    if word.is_empty() || form_of(word).is_some() {
+    if word.is_empty() || help_line(word).is_some() {
         return None;
     }
     let mut found = None;
-    for form in COMMANDS.iter().chain(&DIRECTIVES) {
-        if form.word.as_bytes().starts_with(word) && form.takes(arguments) {
+    for line in COMMANDS.iter().chain(&DIRECTIVES) {
+        if is_begun_by(line, word) && takes(form_of(line), arguments) {
             if found.is_some() {
                 return None;
             }
-            found = Some(form.word);
+            found = Some(word_of(line));
         }
     }
     found
@@ -264,41 +115,24 @@ pub fn whole_word(word: &[u8], arguments: usize) -> Option<&'static str> {
 /// Whether a word begins a line that an interactive session answers itself.
 pub fn is_directive_word(word: &[u8]) -> bool {
     let full = full_word(word);
-    DIRECTIVES.iter().any(|form| form.word.as_bytes() == full)
-}
-
-fn tell_form(notes: &mut Notes, form: &Form) -> Result<(), AllocError> {
-    notes.say(&[
-        Part::Text("`"),
-        Part::Text(form.form),
-        Part::Text("`: "),
-        Part::Text(form.does),
-    ])
+    DIRECTIVES.iter().any(|line| is_about(line, full))
 }
 
 // The value of a number of one or two digits.
 fn small_number(word: &[u8]) -> Option<u32> {
-    let digit = |byte: u8| if byte.is_ascii_digit() {
-        Some(u32::from(byte - b'0'))
-    } else {
-        None
-    };
-    match word {
-        [one] => digit(*one),
-        [ten, one] => Some(digit(*ten)? * 10 + digit(*one)?),
-        _ => None,
+    if word.len() > 2 || !word.iter().all(|byte| byte.is_ascii_digit()) {
+        return None;
     }
+    str::from_utf8(word).ok()?.parse::<u32>().ok()
 }
 
 /// Shows the form of the command that begins with this word. False if there is none.
 pub fn tell_word(notes: &mut Notes, word: &[u8]) -> Result<bool, AllocError> {
-    match form_of(word) {
-        Some(form) => {
-            tell_form(notes, &form)?;
-            Ok(true)
-        }
-        None => Ok(false),
+    let found = help_line(word);
+    if let Some(line) = found {
+        notes.say(&[Part::Text(line)])?;
     }
+    Ok(found.is_some())
 }
 
 /// Whether one text becomes the other by at most one edit: a character is replaced, removed or inserted, or two neighbours are swapped
@@ -310,23 +144,27 @@ pub(crate) fn are_near(alloc: Global, one: &[u8], other: &[u8]) -> Result<bool, 
     Ok(one.len().abs_diff(other.len()) <= 1 && osa_distance(alloc, one, other)? <= 1)
 }
 
+/// Begins a line with a word and these words, of which the first byte is the backquote after the word.
+pub(crate) fn say_of_word(
+    notes: &mut Notes,
+    word: &[u8],
+    words: &'static str,
+) -> Result<(), AllocError> {
+    notes.say(&[Part::Text("`"), Part::Bytes(word), Part::Text(words)])
+}
+
 // Shows the commands that this word begins. False if there are none.
 fn tell_begun(notes: &mut Notes, word: &[u8]) -> Result<bool, AllocError> {
     let mut is_begun = false;
-    for form in COMMANDS.iter().chain(&DIRECTIVES) {
-        if !form.word.as_bytes().starts_with(word) {
+    for line in COMMANDS.iter().chain(&DIRECTIVES) {
+        if !is_begun_by(line, word) {
             continue;
         }
         if !is_begun {
-            notes.say(&[
-                Part::Text("`"),
-                Part::Bytes(word),
-                Part::Text(
-                    "` is short for more than one command, or has the wrong words after it:",
-                ),
-            ])?;
+            let words = "` is short for more than one command, or has the wrong words after it:";
+            say_of_word(notes, word, words)?;
         }
-        tell_form(notes, form)?;
+        notes.say(&[Part::Text(line)])?;
         is_begun = true;
     }
     Ok(is_begun)
@@ -337,21 +175,13 @@ pub fn tell_near_word(notes: &mut Notes, word: &[u8]) -> Result<(), AllocError> 
     if tell_begun(notes, word)? {
         return Ok(());
     }
-    for form in COMMANDS.iter().chain(&DIRECTIVES) {
-        if are_near(notes.alloc(), form.word.as_bytes(), word)? {
-            notes.say(&[
-                Part::Text("`"),
-                Part::Bytes(word),
-                Part::Text("` is not a command; did you mean this one?"),
-            ])?;
-            return tell_form(notes, form);
+    for line in COMMANDS.iter().chain(&DIRECTIVES) {
+        if are_near(notes.alloc(), word_of(line).as_bytes(), word)? {
+            say_of_word(notes, word, "` is not a command; did you mean this one?")?;
+            return notes.say(&[Part::Text(line)]);
         }
     }
-    notes.say(&[
-        Part::Text("`"),
-        Part::Bytes(word),
-        Part::Text("` is not a command; `help` lists the commands"),
-    ])
+    say_of_word(notes, word, "` is not a command; `help` lists the commands")
 }
 
 /// Says that a line which begins with this word has a word too many, and shows its form.
@@ -367,8 +197,8 @@ pub fn tell_help(notes: &mut Notes, word: &[u8]) -> Result<(), AllocError> {
         notes.say(&[Part::Text(
             "a line is a seat, from 1 to 16, and a command; a line without a seat is one of seat 1",
         )])?;
-        for form in COMMANDS.iter().chain(&DIRECTIVES) {
-            tell_form(notes, form)?;
+        for line in COMMANDS.iter().chain(&DIRECTIVES) {
+            notes.say(&[Part::Text(line)])?;
         }
         return notes.say(&[Part::Text("`#` begins a comment")]);
     }
