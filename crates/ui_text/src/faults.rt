@@ -1,8 +1,9 @@
 //! The faults of a program text.
 
+use crate::forms::say_of_word;
 use crate::names::{Declaration, DeclaredAs, find_declaration, near_name, process_around};
 use crate::notes::{Notes, Part};
-use crate::source::is_word_byte;
+use crate::source::{prefix_word, suffix_word};
 use dbg_base::{FaultKind, ProgFault};
 use std::alloc::{AllocError, Global};
 
@@ -58,29 +59,37 @@ fn is_before_action(before: &[u8]) -> bool {
     matches!(before.trim_ascii_end().last(), Some(b':' | b','))
 }
 
-// Whether this word is where an action of a command is expected: before the place of a fault, or at it.
-fn is_for_action(before: &[u8], at: &[u8], word: &[u8]) -> bool {
-    if prefix_word(at) == word && is_before_action(before) {
-        return true;
+// The word where an action of a command is expected: at the place of a fault, or before it. It is empty if there is none.
+fn action_word<'a>(before: &'a [u8], at: &'a [u8]) -> &'a [u8] {
+    if is_before_action(before) {
+        return prefix_word(at);
     }
+    let word = suffix_word(before);
     let length = before.len().saturating_sub(word.len());
-    ends_with_word(before, word) && is_before_action(before.get(..length).unwrap_or(&[]))
+    if is_before_action(before.get(..length).unwrap_or(&[])) {
+        word
+    } else {
+        &[]
+    }
+}
+
+// Whether this is one of these words.
+fn is_one_of(word: &[u8], words: &[&str]) -> bool {
+    words.iter().any(|one| one.as_bytes() == word)
 }
 
 // What to write in place of words of other languages that begin here.
 fn foreign_word(before: &[u8], at: &[u8]) -> Option<&'static str> {
-    if is_for_action(before, at, b"if") {
-        return Some(
-            "there is no `if`: each case is a command of its own, with its guard after `when`",
-        );
+    let action = action_word(before, at);
+    if action == b"if".as_slice() {
+        Some("there is no `if`: each case is a command of its own, with its guard after `when`")
+    } else if action == b"for".as_slice() {
+        Some("`for` repeats whole commands: `for i: 1..3 { .. }`")
+    } else if prefix_word(at) == b"var".as_slice() && matches!(before.last(), Some(b';' | b'}')) {
+        Some("the variables of a process come before its commands")
+    } else {
+        None
     }
-    if is_for_action(before, at, b"for") {
-        return Some("`for` repeats whole commands: `for i: 1..3 { .. }`");
-    }
-    if prefix_word(at) == b"var".as_slice() && matches!(before.last(), Some(b';' | b'}')) {
-        return Some("the variables of a process come before its commands");
-    }
-    None
 }
 
 /// How to write what is probably meant at this offset, if it is the sign or the word of another language.
@@ -108,7 +117,8 @@ fn mend(before: &[u8], at: &[u8]) -> Option<&'static str> {
     if at.starts_with(b"!") {
         return Some("write `and`, `or`, `not`, and for unequal `!=`");
     }
-    if is_before_name(before.trim_ascii_end()) {
+    let last = suffix_word(before.trim_ascii_end());
+    if is_one_of(last, &["var", "process", "send", "recv"]) {
         return Some(
             "a name is expected: a small letter, and then small letters, digits and `_`; a reserved word is not a name",
         );
@@ -122,24 +132,6 @@ struct UnknownName<'a> {
     text: &'a [u8],
     at: usize,
     name: &'a [u8],
-}
-
-// The word at the start.
-fn prefix_word(bytes: &[u8]) -> &[u8] {
-    let length = bytes.iter().take_while(|byte| is_word_byte(**byte)).count();
-    bytes.get(..length).unwrap_or(bytes)
-}
-
-// Whether bytes end with this word, as a whole.
-fn ends_with_word(bytes: &[u8], word: &[u8]) -> bool {
-    let Some(length) = bytes.len().checked_sub(word.len()) else {
-        return false;
-    };
-    let is_begun = match length.checked_sub(1) {
-        Some(last) => bytes.get(last).copied().is_some_and(is_word_byte),
-        None => false,
-    };
-    bytes.ends_with(word) && !is_begun
 }
 
 impl<'a> UnknownName<'a> {
@@ -169,10 +161,8 @@ impl<'a> UnknownName<'a> {
             .strip_suffix(b"(".as_slice())
             .unwrap_or(&[])
             .trim_ascii_end();
-        ends_with_word(before, b"send")
-            || ends_with_word(before, b"recv")
-            || ends_with_word(open, b"sent")
-            || ends_with_word(open, b"got")
+        is_one_of(suffix_word(before), &["send", "recv"])
+            || is_one_of(suffix_word(open), &["sent", "got"])
     }
 
     // What the name may be, by what it is declared as. None if nothing can be said.
@@ -216,7 +206,7 @@ impl<'a> UnknownName<'a> {
         let found = find_declaration(self.text, self.name);
         let misuse = found.and_then(|found| self.misuse(&found));
         if let Some(misuse) = misuse {
-            return notes.say(&[Part::Text("`"), Part::Bytes(self.name), Part::Text(misuse)]);
+            return say_of_word(notes, self.name, misuse);
         }
         match self.near(notes.alloc())? {
             Some(name) => notes.say(&[
@@ -236,14 +226,6 @@ pub fn tell_no_end_line(notes: &mut Notes) -> Result<(), AllocError> {
     notes.say(&[Part::Text(
         "no line is `%%`: this line ends the program, and command lines follow it",
     )])
-}
-
-// Whether a name is due after these bytes.
-fn is_before_name(before: &[u8]) -> bool {
-    ends_with_word(before, b"var")
-        || ends_with_word(before, b"process")
-        || ends_with_word(before, b"send")
-        || ends_with_word(before, b"recv")
 }
 
 /// Says how a fault of a program text may be corrected, if that is known: which symbol is missing, or which name may be meant.

@@ -1,7 +1,7 @@
 //! The names that a program text declares, as far as its words tell.
 
 use crate::forms::are_near;
-use crate::source::is_word_byte;
+use crate::source::prefix_word;
 use std::alloc::{AllocError, Global};
 
 /// What a name is declared as.
@@ -24,90 +24,71 @@ pub struct Declaration<'a> {
     pub is_family: bool,
 }
 
-// The words of a text that are not in comments, in order, with their offsets.
-#[derive(Drop)]
-struct CodeWords<'a> {
-    text: &'a [u8],
-    from: usize,
-    is_comment: bool,
-}
-
-impl<'a> CodeWords<'a> {
-    fn of(text: &'a [u8]) -> CodeWords<'a> {
-        CodeWords {
-            text,
-            from: 0,
-            is_comment: false,
-        }
-    }
-
-    // The bytes up to the next one that is in no word, and that byte. The bytes are empty in a comment.
-    fn next(&mut self) -> Option<(usize, &'a [u8])> {
-        let at = self.from;
-        let rest = self.text.get(at..)?;
-        let length = rest.iter().take_while(|byte| is_word_byte(**byte)).count();
-        let word = if self.is_comment {
-            &[]
-        } else {
-            rest.get(..length).unwrap_or(&[])
-        };
-        match rest.get(length) {
-            Some(b'#') => self.is_comment = true,
-            Some(b'\n') => self.is_comment = false,
-            _ => {}
-        }
-        self.from = at.saturating_add(length).saturating_add(1);
-        Some((at, word))
-    }
-}
+// The words before names, with what they declare.
+const DECLARING: [(&str, DeclaredAs); 4] = [
+    ("process", DeclaredAs::Process),
+    ("var", DeclaredAs::Variable),
+    ("const", DeclaredAs::Constant),
+    ("let", DeclaredAs::Definition),
+];
 
 // What the name after this word is declared as.
 fn declares(word: &[u8]) -> Option<DeclaredAs> {
-    if word == b"process".as_slice() {
-        Some(DeclaredAs::Process)
-    } else if word == b"var".as_slice() {
-        Some(DeclaredAs::Variable)
-    } else if word == b"const".as_slice() {
-        Some(DeclaredAs::Constant)
-    } else if word == b"let".as_slice() {
-        Some(DeclaredAs::Definition)
-    } else {
-        None
-    }
+    let mut words = DECLARING.iter();
+    let (_, kind) = words.find(|(declaring, _)| declaring.as_bytes() == word)?;
+    Some(*kind)
 }
 
-// The declarations of a text, in order.
+// The declarations of a text that are not in comments, in order.
 #[derive(Drop)]
 struct Declarations<'a> {
-    words: CodeWords<'a>,
+    text: &'a [u8],
+    from: usize,
+    is_comment: bool,
+    // What the last word declares.
     before: Option<DeclaredAs>,
 }
 
 impl<'a> Declarations<'a> {
     fn of(text: &'a [u8]) -> Declarations<'a> {
         Declarations {
-            words: CodeWords::of(text),
+            text,
+            from: 0,
+            is_comment: false,
             before: None,
         }
     }
 
+    // The declaration whose name begins here, if one does. Goes past the word, and the byte after it.
+    fn pass_word(&mut self) -> Option<Declaration<'a>> {
+        let at = self.from;
+        let name = prefix_word(self.text.get(at..).unwrap_or(&[]));
+        let end = at.saturating_add(name.len());
+        let is_code = !self.is_comment && !name.is_empty();
+        match self.text.get(end) {
+            Some(b'#') => self.is_comment = true,
+            Some(b'\n') => self.is_comment = false,
+            _ => {}
+        }
+        self.from = end.saturating_add(1);
+        if !is_code {
+            return None;
+        }
+        let kind = self.before;
+        self.before = declares(name);
+        Some(Declaration {
+            name,
+            kind: kind?,
+            at,
+            is_family: self.text.get(end) == Some(&b'['),
+        })
+    }
+
     fn next(&mut self) -> Option<Declaration<'a>> {
-        let text = self.words.text;
-        for _ in 0..=text.len() {
-            let (at, name) = self.words.next()?;
-            if name.is_empty() {
-                continue;
-            }
-            let before = self.before;
-            self.before = declares(name);
-            if let Some(kind) = before {
-                let is_family = text.get(at.saturating_add(name.len())) == Some(&b'[');
-                return Some(Declaration {
-                    name,
-                    kind,
-                    at,
-                    is_family,
-                });
+        for _ in self.from..=self.text.len() {
+            let found = self.pass_word();
+            if found.is_some() {
+                return found;
             }
         }
         None
@@ -151,19 +132,19 @@ pub(crate) fn near_name<'a>(
     Ok(None)
 }
 
-/// The part of a text that declares the process in which this offset is.
+/// The part of a text from the name of the process in which this offset is, up to the name of the next process.
 pub(crate) fn process_around(text: &[u8], at: usize) -> &[u8] {
-    let mut words = CodeWords::of(text);
+    let mut declarations = Declarations::of(text);
     let mut begin = 0usize;
     for _ in 0..=text.len() {
-        let Some((from, word)) = words.next() else {
+        let Some(found) = declarations.next() else {
             break;
         };
-        if word == b"process".as_slice() {
-            if from > at {
-                return text.get(begin..from).unwrap_or(&[]);
+        if found.kind == DeclaredAs::Process {
+            if found.at > at {
+                return text.get(begin..found.at).unwrap_or(&[]);
             }
-            begin = from;
+            begin = found.at;
         }
     }
     text.get(begin..).unwrap_or(&[])

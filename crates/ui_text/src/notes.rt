@@ -93,15 +93,9 @@ impl NoteLine {
 }
 
 /// The lines of an explanation.
-#[derive(Debug)]
+#[derive(Debug, Drop)]
 pub struct Notes {
     lines: Vec<NoteLine>,
-}
-
-impl Drop for Notes {
-    fn drop(self) {
-        let Notes { lines: _ } = self;
-    }
 }
 
 impl Notes {

@@ -3,19 +3,16 @@
 use dbg_base::{Choice, Pid};
 use std::alloc::{AllocError, Global};
 
-/// A line of a text: its number, from 1, and its bytes, without blanks at its ends.
+/// A line of a text: its number, from 1.
 #[derive(Clone, Copy, Debug)]
 pub struct TextLine {
     pub number: usize,
-    from: usize,
-    to: usize,
 }
 
-// The offset at which a command begins, its line, and its label. A command without a label has an empty one.
+// The offset at which a command begins, and its label. A command without a label has an empty one.
 #[derive(Debug, Drop)]
 struct CommandPlace {
     at: usize,
-    line: TextLine,
     label: Vec<u8>,
 }
 
@@ -23,7 +20,7 @@ struct CommandPlace {
 const SHOWN: usize = 160;
 
 /// A program's text, as it was written, with the place of each command.
-#[derive(Debug)]
+#[derive(Debug, Drop)]
 pub struct ProgramText {
     text: Vec<u8>,
     // The offset at which each line begins.
@@ -32,68 +29,27 @@ pub struct ProgramText {
     commands: Vec<Vec<CommandPlace>>,
 }
 
-impl Drop for ProgramText {
-    fn drop(self) {
-        let ProgramText {
-            text: _,
-            starts: _,
-            commands: _,
-        } = self;
-    }
-}
-
 /// Whether a word may have this byte.
 pub fn is_word_byte(byte: u8) -> bool {
     byte.is_ascii_lowercase() || byte.is_ascii_digit() || byte == b'_'
 }
 
-// Notes the line of a word that begins a process or a command.
-fn note_word(
-    commands: &mut Vec<Vec<CommandPlace>>,
-    alloc: Global,
-    word: &[u8],
-    at: usize,
-    line: TextLine,
-) -> Result<(), AllocError> {
-    if word == b"process".as_slice() {
-        commands.push(Vec::new(alloc))?;
-    } else if word == b"when".as_slice() {
-        if let Some(process) = commands.last_mut() {
-            let label = Vec::new(alloc);
-            process.push(CommandPlace { at, line, label })?;
-        }
-    }
-    Ok(())
+/// The word at the start.
+pub(crate) fn prefix_word(bytes: &[u8]) -> &[u8] {
+    let mut words = bytes.split(|byte| !is_word_byte(*byte));
+    words.next().unwrap_or(bytes)
 }
 
-// The place of each command of a plain program.
-fn places(alloc: Global, text: &[u8]) -> Result<Vec<Vec<CommandPlace>>, AllocError> {
-    let mut commands = Vec::new(alloc);
-    let mut number = 0usize;
-    let mut from = 0usize;
-    for line in text.split(|byte| *byte == b'\n') {
-        number = number.saturating_add(1);
-        let to = from.saturating_add(line.len());
-        let place = TextLine { number, from, to };
-        let mut at = from;
-        for word in line.split(|byte| !is_word_byte(*byte)) {
-            note_word(&mut commands, alloc, word, at, place)?;
-            at = at.saturating_add(word.len()).saturating_add(1);
-        }
-        from = to.saturating_add(1);
-    }
-    Ok(commands)
-}
-
-// The offset at which each line of a text begins.
-fn line_starts(alloc: Global, text: &[u8]) -> Result<Vec<usize>, AllocError> {
-    let mut starts = Vec::new(alloc);
-    let mut from = 0usize;
-    for line in text.split(|byte| *byte == b'\n') {
-        starts.push(from)?;
-        from = from.saturating_add(line.len()).saturating_add(1);
-    }
-    Ok(starts)
+/// The word at the end.
+pub(crate) fn suffix_word(bytes: &[u8]) -> &[u8] {
+    let length = bytes
+        .iter()
+        .rev()
+        .take_while(|byte| is_word_byte(**byte))
+        .count();
+    bytes
+        .get(bytes.len().saturating_sub(length)..)
+        .unwrap_or(bytes)
 }
 
 // The text up to a `;`, in one line.
@@ -126,18 +82,30 @@ fn one_line(alloc: Global, text: &[u8]) -> Result<Vec<u8>, AllocError> {
 impl ProgramText {
     /// The text of a program of the process language. Error: memory ran out.
     pub fn new(alloc: Global, text: &[u8]) -> Result<ProgramText, AllocError> {
-        Ok(ProgramText {
-            text: Vec::from_slice(alloc, text)?,
-            starts: line_starts(alloc, text)?,
-            commands: places(alloc, text)?,
-        })
+        let mut program = ProgramText::without_commands(alloc, text)?;
+        let mut at = 0usize;
+        for word in text.split(|byte| !is_word_byte(*byte)) {
+            if word == b"process".as_slice() {
+                program.add_process(alloc)?;
+            } else if word == b"when".as_slice() {
+                program.add_command(alloc, at, None)?;
+            }
+            at = at.saturating_add(word.len()).saturating_add(1);
+        }
+        Ok(program)
     }
 
     /// A text whose processes and commands are added in the order of the program. Error: memory ran out.
     pub fn without_commands(alloc: Global, text: &[u8]) -> Result<ProgramText, AllocError> {
+        let mut starts = Vec::new(alloc);
+        let mut from = 0usize;
+        for line in text.split(|byte| *byte == b'\n') {
+            starts.push(from)?;
+            from = from.saturating_add(line.len()).saturating_add(1);
+        }
         Ok(ProgramText {
             text: Vec::from_slice(alloc, text)?,
-            starts: line_starts(alloc, text)?,
+            starts,
             commands: Vec::new(alloc),
         })
     }
@@ -145,22 +113,6 @@ impl ProgramText {
     /// The whole text.
     pub fn text(&self) -> &[u8] {
         self.text.as_slice()
-    }
-
-    // The line of the byte at this offset, or the last line.
-    fn line_at(&self, at: usize) -> TextLine {
-        let mut number = 0usize;
-        let mut from = 0usize;
-        let mut to = self.text.len();
-        for start in &self.starts {
-            if *start > at {
-                to = start.saturating_sub(1);
-                break;
-            }
-            number = number.saturating_add(1);
-            from = *start;
-        }
-        TextLine { number, from, to }
     }
 
     /// Adds the next process. Error: memory ran out.
@@ -176,10 +128,9 @@ impl ProgramText {
         at: usize,
         label: Option<&[u8]>,
     ) -> Result<(), AllocError> {
-        let line = self.line_at(at);
         let label = Vec::from_slice(alloc, label.unwrap_or(&[]))?;
         if let Some(process) = self.commands.last_mut() {
-            process.push(CommandPlace { at, line, label })?;
+            process.push(CommandPlace { at, label })?;
         }
         Ok(())
     }
@@ -191,8 +142,9 @@ impl ProgramText {
 
     /// The line at which a command begins.
     pub fn place(&self, pid: Pid, choice: Choice) -> Option<TextLine> {
-        let command = self.command(pid, choice)?;
-        Some(command.line)
+        let at = self.command(pid, choice)?.at;
+        let number = self.starts.partition_point(|start| *start <= at);
+        Some(TextLine { number })
     }
 
     /// The label of a command, with its indices. It is empty if the command has none.
@@ -229,9 +181,12 @@ impl ProgramText {
 
     /// The bytes of a line, without blanks at its ends.
     pub fn line(&self, place: TextLine) -> &[u8] {
-        self.text
-            .get(place.from..place.to)
-            .unwrap_or(&[])
-            .trim_ascii()
+        let starts = self.starts.as_slice();
+        let from = starts
+            .get(place.number.saturating_sub(1))
+            .copied()
+            .unwrap_or(0);
+        let to = starts.get(place.number).copied().unwrap_or(self.text.len());
+        self.text.get(from..to).unwrap_or(&[]).trim_ascii()
     }
 }
