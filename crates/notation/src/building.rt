@@ -21,12 +21,14 @@ pub(crate) struct CommandOrigin {
     pub(crate) at: usize,
 }
 
-/// A process of the plain program: its name, the declaration that it comes from, the values of its members, and its commands.
+/// A process of the plain program: its name, the declaration that it comes from, the values of its members and of its constants, and its
+/// commands.
 #[derive(Drop)]
 pub(crate) struct ProcessCopy {
     pub(crate) name: Vec<u8>,
     pub(crate) declaration: usize,
     pub(crate) members: Vec<i64>,
+    pub(crate) constants: Vec<Option<ConstantValue>>,
     pub(crate) commands: Vec<CommandOrigin>,
 }
 
@@ -124,7 +126,7 @@ impl<'a> Builder<'a> {
                 .environment
                 .enter_all(ranges, values.as_slice())?;
             self.variable_copy(variable, values.as_slice())?;
-            self.writer.environment.leave_all(before);
+            self.writer.environment.leave(before);
         }
         Ok(())
     }
@@ -211,7 +213,10 @@ impl<'a> Builder<'a> {
         if depth == 0 {
             return Err(ExpansionStop::Bad(Problem::DeepNesting, binder.at));
         }
-        let members = self.writer.environment.range(binder, UNFOLDING)?;
+        let members = self
+            .writer
+            .environment
+            .range(binder, UNFOLDING, usize::MAX)?;
         for member in &members {
             let before = self.writer.environment.enter(binder.member, *member)?;
             self.indices.push(*member)?;
@@ -236,6 +241,16 @@ impl<'a> Builder<'a> {
         Ok(())
     }
 
+    // Notes the values that the constants of a process have in its last copy.
+    fn note_constants(&mut self, process: &ProcessNode) -> Result<(), AllocError> {
+        let environment = &self.writer.environment;
+        let constants = environment.values(process.first_constant, process.constants)?;
+        if let Some(copy) = self.processes.last_mut() {
+            copy.constants = constants;
+        }
+        Ok(())
+    }
+
     // Writes the process for these members.
     fn process_copy(
         &mut self,
@@ -253,9 +268,11 @@ impl<'a> Builder<'a> {
             name,
             declaration,
             members: Vec::from_slice(alloc, values)?,
+            constants: Vec::new(alloc),
             commands: Vec::new(alloc),
         })?;
         self.items(process.items.as_slice(), REPEATS)?;
+        self.note_constants(process)?;
         self.writer.text.line(b"", process.close)?;
         self.writer.token(b"}", process.close)
     }
@@ -274,7 +291,7 @@ impl<'a> Builder<'a> {
                 .environment
                 .enter_all(ranges, values.as_slice())?;
             self.process_copy(process, declaration, values.as_slice())?;
-            self.writer.environment.leave_all(before);
+            self.writer.environment.leave(before);
         }
         Ok(())
     }

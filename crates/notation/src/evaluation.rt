@@ -86,9 +86,9 @@ impl<'a> Environment<'a> {
             Expression::Count(at, _, _) => Err(ExpansionStop::Bad(Problem::CountComputed, *at)),
             Expression::Call(at, number, arguments) => {
                 let definition = self.definition(*number, *at)?;
-                let before = self.bind(definition, arguments.as_slice())?;
+                self.bind(definition, arguments.as_slice())?;
                 let value = self.value(&definition.body, inner)?;
-                self.unbind(definition, before.as_slice());
+                self.unbind();
                 Ok(value)
             }
             Expression::Not(_, operand) => {
@@ -173,12 +173,13 @@ impl<'a> Environment<'a> {
         }
     }
 
-    /// The members of a range for which its condition holds, in order.
+    /// The members of a range for which its condition holds, in order, or so many of them as are wanted at most.
     #[cycle(evaluation)]
     pub(crate) fn range(
         &mut self,
         binder: &'a Binder,
         depth: u32,
+        most: usize,
     ) -> Result<Vec<i64>, ExpansionStop> {
         let low = self.number(&binder.low, depth)?;
         let high = self.number(&binder.high, depth)?;
@@ -188,7 +189,7 @@ impl<'a> Environment<'a> {
             let Some(value) = next else {
                 break;
             };
-            if value > high {
+            if value > high || members.len() >= most {
                 break;
             }
             let inner = self.step(depth, binder.at)?;
@@ -266,7 +267,7 @@ impl<'a> Environment<'a> {
     fn each(&mut self, each: &'a Each, depth: u32) -> Result<ConstantValue, ExpansionStop> {
         let inner = self.step(depth, each.at)?;
         let least = self.least(each, inner)?;
-        let members = self.range(&each.binder, inner)?;
+        let members = self.range(&each.binder, inner, usize::MAX)?;
         let count = count_of(members.len());
         match each.form {
             FormNode::Sum => self.sum(each, members.as_slice(), inner),

@@ -186,13 +186,3 @@ pub(crate) fn has_notation(tokens: &[SourceToken]) -> bool {
         )
     })
 }
-
-/// Whether a line of these tokens may have an expression.
-pub(crate) fn needs_names(tokens: &[SourceToken]) -> bool {
-    tokens.iter().any(|token| {
-        matches!(
-            token.kind,
-            SourceTokenKind::Mark(Mark::OpenBracket | Mark::OpenParenthesis | Mark::Colon)
-        )
-    })
-}

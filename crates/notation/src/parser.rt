@@ -70,11 +70,13 @@ fn is_reserved(word: &[u8]) -> bool {
 }
 
 impl<'a> ModelParser<'a> {
-    /// Reads these tokens of the text, from the first on. Offsets begin with `base`, and the numbers of members with `members`.
+    /// Reads these tokens of the text, from the first on, over these names. Offsets begin with `base`, and the numbers of members with
+    /// `members`.
     pub(crate) fn new(
         alloc: Global,
         text: &'a [u8],
         tokens: &'a [SourceToken],
+        scope: ModelScope<'a>,
         base: usize,
         members: usize,
     ) -> ModelParser<'a> {
@@ -85,7 +87,7 @@ impl<'a> ModelParser<'a> {
             next: 0,
             base,
             members,
-            scope: ModelScope::new(alloc),
+            scope,
             tables: Tables::new(alloc),
             declaration: None,
             repeats: 0,

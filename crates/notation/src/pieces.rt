@@ -2,13 +2,15 @@
 
 use crate::expansion::Expansion;
 use crate::fault::ExpansionStop;
-use crate::finding::{family_declarations, named_declaration};
-use crate::lexer::{has_notation, needs_names};
+use crate::finding::declarations_of;
+use crate::lexer::has_notation;
 use crate::limits::NESTING;
 use crate::parser::ModelParser;
+use crate::scope::{ModelNames, ModelScope};
 use crate::syntax::{Binder, Expression, Reference};
 use crate::token::{Mark, SourceToken, SourceTokenKind};
-use std::alloc::{AllocError, Global};
+use dbg_base::Name;
+use std::alloc::Global;
 
 /// What some bytes of a line stand for.
 #[derive(Drop)]
@@ -40,31 +42,34 @@ pub(crate) struct LinePiece {
     pub(crate) meant: Meant,
 }
 
-/// A line: the ranges before it, and its pieces in order.
+/// A line: the ranges before it, its pieces in order, and the names of the members of its ranges and forms.
 #[derive(Drop)]
 pub(crate) struct LinePieces {
     pub(crate) ranges: Vec<Binder>,
     pub(crate) pieces: Vec<LinePiece>,
+    pub(crate) members: Vec<Name>,
 }
 
 /// Divides a line into pieces.
 #[derive(Drop)]
 pub(crate) struct Divider<'a> {
-    pub(crate) parser: ModelParser<'a>,
+    parser: ModelParser<'a>,
     expansion: &'a Expansion,
 }
 
 impl<'a> Divider<'a> {
-    /// Divides the line of these tokens.
+    /// Divides the line of these tokens, where the model has these names.
     pub(crate) fn new(
         alloc: Global,
         expansion: &'a Expansion,
+        names: &'a ModelNames,
         line: &'a [u8],
         tokens: &'a [SourceToken],
     ) -> Divider<'a> {
+        let scope = ModelScope::new(alloc, Some(names));
         let members = expansion.model.tables.members.len();
         Divider {
-            parser: ModelParser::new(alloc, line, tokens, expansion.source, members),
+            parser: ModelParser::new(alloc, line, tokens, scope, expansion.source, members),
             expansion,
         }
     }
@@ -80,45 +85,16 @@ impl<'a> Divider<'a> {
         self.parser.token().at
     }
 
-    // Makes the names of a declaration visible, or those of the whole model.
-    fn declare(&mut self, declaration: Option<usize>) -> Result<(), AllocError> {
-        let expansion = self.expansion;
-        for visible in &expansion.model.tables.visible {
-            if visible.declaration == declaration {
-                self.parser
-                    .scope
-                    .declare(visible.name.bytes(), visible.binding)?;
-            }
-        }
-        Ok(())
-    }
-
     // Whether indices follow the next token.
     fn has_indices(&self) -> bool {
         self.parser.has_mark_after(1, Mark::OpenBracket)
-    }
-
-    // The declarations that may have made the process that a name with indices names; None alone where there is none.
-    fn declarations_of(&self, name: &Reference) -> Result<Vec<Option<usize>>, AllocError> {
-        let alloc = self.parser.alloc;
-        let bytes = name.name.bytes();
-        let mut found = if name.indices.is_empty() {
-            named_declaration(alloc, self.expansion.built.processes.as_slice(), bytes)?
-        } else {
-            let declarations = self.expansion.model.declarations.as_slice();
-            family_declarations(alloc, declarations, bytes, name.indices.len())?
-        };
-        if found.is_empty() {
-            found.push(None)?;
-        }
-        Ok(found)
     }
 
     // A name with indices, which becomes a piece. The answer is the declarations that may have made the process of this name.
     fn name(&mut self, pieces: &mut Vec<LinePiece>) -> Result<Vec<Option<usize>>, ExpansionStop> {
         let from = self.start();
         let reference = self.parser.reference(NESTING)?;
-        let declarations = self.declarations_of(&reference)?;
+        let declarations = declarations_of(self.parser.alloc, self.expansion, &reference)?;
         let to = self.end();
         pieces.push(LinePiece {
             from,
@@ -170,10 +146,9 @@ impl<'a> Divider<'a> {
     ) -> Result<Option<Expression>, ExpansionStop> {
         let first = self.parser.place();
         let mark = self.parser.scope.mark();
-        if declaration.is_some() {
-            self.declare(declaration)?;
-        }
+        self.parser.scope.process = declaration;
         let read = self.parser.primary(NESTING);
+        self.parser.scope.process = None;
         self.parser.scope.leave(mark);
         match read {
             Ok(expression) if self.parser.place() == end => Ok(Some(expression)),
@@ -359,9 +334,6 @@ impl<'a> Divider<'a> {
 
     /// The pieces of the line.
     pub(crate) fn line(&mut self) -> Result<LinePieces, ExpansionStop> {
-        if needs_names(self.parser.between(0, self.parser.count())) {
-            self.declare(None)?;
-        }
         let mut pieces = Vec::new(self.parser.alloc);
         let mut ranges = Vec::new(self.parser.alloc);
         self.seat();
@@ -377,6 +349,11 @@ impl<'a> Divider<'a> {
             self.seat();
         }
         self.commands(&mut pieces)?;
-        Ok(LinePieces { ranges, pieces })
+        let members = Vec::from_slice(self.parser.alloc, self.parser.tables.members.as_slice())?;
+        Ok(LinePieces {
+            ranges,
+            pieces,
+            members,
+        })
     }
 }

@@ -1,14 +1,16 @@
 //! Writes the plain lines that the pieces of a command line stand for.
 
 use crate::building::{ProcessCopy, put_indices};
+use crate::environment::Environment;
 use crate::expansion::Expansion;
 use crate::fault::{ExpansionStop, Problem};
 use crate::finding::{find_command, find_process};
 use crate::lexer::tokens;
 use crate::limits::{COPIES, UNFOLDING};
+use crate::lines::PlainLines;
 use crate::pieces::{LinePiece, LinePieces, Meant, Reading};
 use crate::plain_text::PlainText;
-use crate::syntax::{Binder, DeclarationNode, Expression, ItemNode, Reference};
+use crate::syntax::{Binder, DeclarationNode, Expression, Reference};
 use crate::token::{SourceToken, part};
 use crate::writing::Writer;
 use dbg_base::limits::INPUT_BYTES;
@@ -21,12 +23,12 @@ pub(crate) struct Renderer<'a> {
     pub(crate) writer: Writer<'a>,
     expansion: &'a Expansion,
     line: &'a [u8],
-    // The name that was written last.
-    process: Vec<u8>,
-    // The line that is written.
-    output: Vec<u8>,
-    // How many bytes the lines before have.
-    written: usize,
+    pieces: &'a LinePieces,
+    /// The name that was written last.
+    pub(crate) process: Vec<u8>,
+    plain: &'a mut PlainLines,
+    // How many bytes the lines of other command lines have.
+    start: usize,
     /// Where the piece begins that is written.
     pub(crate) from: usize,
 }
@@ -57,45 +59,48 @@ fn have_same_tokens(alloc: Global, left: &[u8], right: &[u8]) -> Result<bool, Al
 }
 
 impl<'a> Renderer<'a> {
+    /// Appends what it writes to these lines.
     pub(crate) fn new(
         alloc: Global,
         expansion: &'a Expansion,
         line: &'a [u8],
-    ) -> Result<Self, AllocError> {
-        let mut writer = Writer::new(alloc, &expansion.model.tables)?;
-        for (number, value) in expansion.built.constants.iter().enumerate() {
-            if let Some(value) = value {
-                writer.environment.set_constant(number, *value);
-            }
-        }
-        Ok(Renderer {
-            writer,
+        pieces: &'a LinePieces,
+        plain: &'a mut PlainLines,
+    ) -> Self {
+        let tables = &expansion.model.tables;
+        let constants = expansion.built.constants.as_slice();
+        let mut environment = Environment::knowing(alloc, tables, constants);
+        environment.line_members = pieces.members.as_slice();
+        let text = PlainText::new(alloc);
+        let start = plain.length();
+        Renderer {
+            writer: Writer { environment, text },
             expansion,
             line,
+            pieces,
             process: Vec::new(alloc),
-            output: Vec::new(alloc),
-            written: 0,
+            plain,
+            start,
             from: 0,
-        })
+        }
     }
 
     fn alloc(&self) -> Global {
         self.writer.environment.alloc
     }
 
-    // The lines become too long.
-    fn too_long(&self) -> ExpansionStop {
-        let at = self.expansion.source.saturating_add(self.from);
-        ExpansionStop::Bad(Problem::LongText, at)
+    // A fault at the piece that is written.
+    fn fault(&self, problem: Problem) -> ExpansionStop {
+        ExpansionStop::Bad(problem, self.expansion.source.saturating_add(self.from))
     }
 
     // Writes bytes, unless the lines become too long.
     fn put(&mut self, bytes: &[u8]) -> Result<(), ExpansionStop> {
-        let used = self.written.saturating_add(self.output.len());
+        let used = self.plain.length().saturating_sub(self.start);
         if bytes.len() > INPUT_BYTES.saturating_sub(used) {
-            return Err(self.too_long());
+            return Err(self.fault(Problem::LongText));
         }
-        self.output.extend_from_slice(bytes)?;
+        self.plain.put(bytes)?;
         Ok(())
     }
 
@@ -140,23 +145,13 @@ impl<'a> Renderer<'a> {
         Err(ExpansionStop::Bad(Problem::NoLabel, reference.at))
     }
 
-    // Computes the constants among these items.
-    fn constants(&mut self, items: &'a [ItemNode]) -> Result<(), ExpansionStop> {
-        for item in items {
-            if let ItemNode::Constant(constant) = item {
-                self.writer.constant(constant)?;
-            }
-        }
-        Ok(())
-    }
-
     // The plain text of a predicate.
     fn plain(&mut self, expression: &'a Expression) -> Result<(), ExpansionStop> {
         self.writer.text = PlainText::new(self.alloc());
         self.writer.expression(expression, UNFOLDING)
     }
 
-    // The plain text of a predicate over this process, where the members of its family are visible.
+    // The plain text of a predicate over this process, where the members of its family and its constants are visible.
     fn plain_in(
         &mut self,
         copy: &'a ProcessCopy,
@@ -166,14 +161,12 @@ impl<'a> Renderer<'a> {
         let Some(DeclarationNode::Process(process)) = declaration else {
             return self.plain(expression);
         };
-        let ranges = process.ranges.as_slice();
-        let before = self
-            .writer
-            .environment
-            .enter_all(ranges, copy.members.as_slice())?;
-        self.constants(process.items.as_slice())?;
+        let environment = &mut self.writer.environment;
+        environment.set_own(process.first_constant, copy.constants.as_slice());
+        let before = environment.enter_all(process.ranges.as_slice(), copy.members.as_slice())?;
         self.plain(expression)?;
-        self.writer.environment.leave_all(before);
+        self.writer.environment.leave(before);
+        self.writer.environment.set_own(0, &[]);
         Ok(())
     }
 
@@ -246,7 +239,7 @@ impl<'a> Renderer<'a> {
     fn copies(&mut self, ranges: &'a [Binder]) -> Result<Vec<Vec<i64>>, ExpansionStop> {
         let tuples = self.writer.environment.combinations(ranges, COPIES)?;
         if tuples.len() > COPIES {
-            return Err(self.too_long());
+            return Err(self.fault(Problem::ManyCopies));
         }
         Ok(tuples)
     }
@@ -269,7 +262,7 @@ impl<'a> Renderer<'a> {
                 .environment
                 .enter_all(ranges, values.as_slice())?;
             self.part(pieces, from, to)?;
-            self.writer.environment.leave_all(before);
+            self.writer.environment.leave(before);
         }
         Ok(())
     }
@@ -294,23 +287,20 @@ impl<'a> Renderer<'a> {
         self.copy(at, self.line.len())
     }
 
-    /// A line for each member of the ranges.
-    pub(crate) fn lines(&mut self, pieces: &'a LinePieces) -> Result<Vec<Vec<u8>>, ExpansionStop> {
+    /// Writes a line for each member of the ranges.
+    pub(crate) fn lines(&mut self) -> Result<(), ExpansionStop> {
+        let pieces = self.pieces;
         let ranges = pieces.ranges.as_slice();
         let tuples = self.copies(ranges)?;
-        let mut lines = Vec::new(self.alloc());
         for values in &tuples {
             let before = self
                 .writer
                 .environment
                 .enter_all(ranges, values.as_slice())?;
             self.whole(pieces.pieces.as_slice())?;
-            self.writer.environment.leave_all(before);
-            let alloc = self.alloc();
-            let line = std::mem::replace(&mut self.output, Vec::new(alloc));
-            self.written = self.written.saturating_add(line.len());
-            lines.push(line)?;
+            self.writer.environment.leave(before);
+            self.plain.end_line()?;
         }
-        Ok(lines)
+        Ok(())
     }
 }

@@ -106,6 +106,9 @@ fn problem_text(problem: Problem) -> &'static str {
         Problem::DeepUnfolding => "definitions are put into one another more than 512 deep",
         Problem::LongText => "the plain text would have more than 1048576 bytes",
         Problem::MuchWork => "the expansion takes more than 2000000 steps",
+        Problem::SessionWork => "the lines of a session take more than 10000000 steps",
+        Problem::ManyCopies =>
+            "one line stands for at most 65536 plain lines, and a breakpoint has at most as many parts",
         Problem::Plain(kind) => plain_text(kind),
     }
 }
@@ -155,7 +158,9 @@ pub fn likely(problem: Problem) -> Option<&'static str> {
         Problem::NoLabel => Some(
             "a label has the values of the members of each `for` around it: `hear[2]`",
         ),
-        Problem::LongText | Problem::MuchWork => Some("a range is too large"),
+        Problem::LongText | Problem::MuchWork | Problem::SessionWork | Problem::ManyCopies => {
+            Some("a range is too large")
+        }
         Problem::Plain(FaultKind::Limit) => Some(
             "a program has at most 32 processes, and a process 32 variables and 64 commands; 32 parentheses can be open",
         ),

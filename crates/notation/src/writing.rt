@@ -185,9 +185,9 @@ impl<'a> Writer<'a> {
         arguments: &'a [Expression],
         depth: u32,
     ) -> Result<(), ExpansionStop> {
-        let before = self.environment.bind(definition, arguments)?;
+        self.environment.bind(definition, arguments)?;
         self.expression(&definition.body, depth)?;
-        self.environment.unbind(definition, before.as_slice());
+        self.environment.unbind();
         Ok(())
     }
 
@@ -301,7 +301,7 @@ impl<'a> Writer<'a> {
     #[cycle(writing)]
     fn each(&mut self, each: &'a Each, depth: u32) -> Result<(), ExpansionStop> {
         let least = self.environment.least(each, depth)?;
-        let members = self.environment.range(&each.binder, depth)?;
+        let members = self.environment.range(&each.binder, depth, usize::MAX)?;
         match each.form {
             FormNode::AtLeast => self.at_least(each, least, members.as_slice(), depth),
             form => self.joined(each, form, members.as_slice(), depth),

@@ -5,7 +5,7 @@ use super::expressions::is_form;
 use crate::fault::{ExpansionStop, Expected, Problem};
 use crate::limits::{NESTING, PARAMETERS, REPEATS};
 use crate::model::ParsedModel;
-use crate::scope::Binding;
+use crate::scope::{Binding, ModelScope};
 use crate::syntax::{
     ActionNode, AssignmentNode, Binder, CommandNode, Constant, DeclarationNode, Definition,
     ItemNode, Label, ProcessNode, Reference, VariableNode,
@@ -261,6 +261,7 @@ impl<'a> ModelParser<'a> {
         let name = self.name()?;
         let mark = self.scope.mark();
         self.declaration = Some(number);
+        let first_constant = self.tables.constants;
         let ranges = self.ranges()?;
         let open = self.mark(Mark::OpenBrace)?;
         let items = self.items(REPEATS)?;
@@ -272,6 +273,8 @@ impl<'a> ModelParser<'a> {
             name_at: name.at,
             name: name.name,
             ranges,
+            first_constant,
+            constants: self.tables.constants.saturating_sub(first_constant),
             open,
             items,
             close,
@@ -308,12 +311,13 @@ impl<'a> ModelParser<'a> {
 }
 
 /// The model that these tokens of the text write.
-pub(crate) fn model(
+pub(crate) fn model<'a>(
     alloc: Global,
-    text: &[u8],
-    tokens: &[SourceToken],
+    text: &'a [u8],
+    tokens: &'a [SourceToken],
 ) -> Result<ParsedModel, ExpansionStop> {
-    let mut parser = ModelParser::new(alloc, text, tokens, 0, 0);
+    let scope = ModelScope::new(alloc, None);
+    let mut parser = ModelParser::new(alloc, text, tokens, scope, 0, 0);
     let declarations = parser.declarations()?;
     let ModelParser { tables, .. } = parser;
     Ok(ParsedModel {
