@@ -2,7 +2,7 @@
 
 ghost use Rattle.std.specs.Prelude.{◌≡◌, ◌+◌, IfOk};
 
-use crate::fault::{ExpansionStop, MemberValue, Problem};
+use crate::fault::{Expanding, ExpansionStop, MemberValue, Problem};
 use crate::limits::{SESSION_STEPS, STEPS};
 use crate::model::Tables;
 use crate::syntax::{Binder, Definition, Expression};
@@ -91,7 +91,7 @@ impl<'a> Environment<'a> {
     }
 
     /// Takes a step, at this offset, so deep.
-    pub(crate) fn step(&mut self, depth: u32, at: usize) -> Result<u32, ExpansionStop>
+    pub(crate) fn step(&mut self, depth: u32, at: usize) -> Expanding<u32>
         ensures { IfOk result (λ inner. inner + 1 ≡ depth) }
     {
         if self.steps == 0 {
@@ -109,11 +109,7 @@ impl<'a> Environment<'a> {
     }
 
     /// The value of a constant.
-    pub(crate) fn constant(
-        &self,
-        number: usize,
-        at: usize,
-    ) -> Result<ConstantValue, ExpansionStop> {
+    pub(crate) fn constant(&self, number: usize, at: usize) -> Expanding<ConstantValue> {
         let own = self.own.get(number.wrapping_sub(self.own_first));
         let known = own.or(self.known.get(number));
         match known.or(self.constants.get(number)) {
@@ -198,24 +194,8 @@ impl<'a> Environment<'a> {
         self.kept = self.kept.max(self.copy);
     }
 
-    /// A definition.
-    pub(crate) fn definition(
-        &self,
-        number: usize,
-        at: usize,
-    ) -> Result<&'a Definition, ExpansionStop> {
-        match self.tables.definitions.get(number) {
-            Some(definition) => Ok(definition),
-            None => Err(ExpansionStop::Bad(Problem::NotADefinition, at)),
-        }
-    }
-
     /// The argument that a parameter stands for.
-    pub(crate) fn argument(
-        &self,
-        number: usize,
-        at: usize,
-    ) -> Result<&'a Expression, ExpansionStop> {
+    pub(crate) fn argument(&self, number: usize, at: usize) -> Expanding<&'a Expression> {
         for bound in self.arguments.iter().rev() {
             if let Some(argument) = bound.values.get(number.wrapping_sub(bound.first)) {
                 return Ok(argument);
@@ -224,21 +204,23 @@ impl<'a> Environment<'a> {
         Err(ExpansionStop::Bad(Problem::VariableComputed, at))
     }
 
-    /// Lets the parameters of a definition stand for these arguments.
-    pub(crate) fn bind(
+    /// Lets the parameters of a definition stand for these arguments. The answer is its expression.
+    pub(crate) fn begin_call(
         &mut self,
-        definition: &Definition,
-        arguments: &'a [Expression],
-    ) -> Result<(), AllocError> {
-        self.arguments.push(Arguments {
-            first: definition.first,
-            values: arguments,
-        })?;
-        Ok(())
+        number: usize,
+        at: usize,
+        values: &'a [Expression],
+    ) -> Expanding<&'a Expression> {
+        let Some(definition) = self.tables.definitions.get(number) else {
+            return Err(ExpansionStop::Bad(Problem::NotADefinition, at));
+        };
+        let first = definition.first;
+        self.arguments.push(Arguments { first, values })?;
+        Ok(&definition.body)
     }
 
     /// Lets the parameters of the definition that was put in last stand for what they stood for.
-    pub(crate) fn unbind(&mut self) {
+    pub(crate) fn end_call(&mut self) {
         let _ = self.arguments.pop();
     }
 

@@ -1,7 +1,7 @@
 //! The members of families of processes and variables.
 
 use crate::environment::Environment;
-use crate::fault::ExpansionStop;
+use crate::fault::Expanding;
 use crate::limits::UNFOLDING;
 use crate::syntax::Binder;
 
@@ -13,7 +13,7 @@ impl<'a> Environment<'a> {
         binder: &'a Binder,
         tuples: &[Vec<i64>],
         limit: usize,
-    ) -> Result<Vec<Vec<i64>>, ExpansionStop> {
+    ) -> Expanding<Vec<Vec<i64>>> {
         let mut longer = Vec::new(self.alloc);
         for tuple in tuples {
             let before = self.enter_all(outer, tuple.as_slice())?;
@@ -36,7 +36,7 @@ impl<'a> Environment<'a> {
         &mut self,
         ranges: &'a [Binder],
         limit: usize,
-    ) -> Result<Vec<Vec<i64>>, ExpansionStop> {
+    ) -> Expanding<Vec<Vec<i64>>> {
         let mut tuples = Vec::new(self.alloc);
         tuples.push(Vec::new(self.alloc))?;
         for (i, binder) in ranges.iter().enumerate() {

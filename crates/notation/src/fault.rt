@@ -139,6 +139,9 @@ pub(crate) enum ExpansionStop {
     Bad(Problem, usize),
 }
 
+/// What is expanded, or why work stopped.
+pub(crate) type Expanding<T> = Result<T, ExpansionStop>;
+
 impl From<AllocError> for ExpansionStop {
     fn from(_error: AllocError) -> ExpansionStop {
         ExpansionStop::Memory
@@ -165,9 +168,4 @@ impl<T: Drop> From<AllocFailed<T>> for NotationError {
     fn from(_error: AllocFailed<T>) -> NotationError {
         NotationError::Memory
     }
-}
-
-/// Something else is expected at this offset.
-pub(crate) fn due(what: Expected, at: usize) -> ExpansionStop {
-    ExpansionStop::Bad(Problem::Expected(what), at)
 }

@@ -42,20 +42,14 @@ pub(crate) fn find_process<'a>(
     processes: &'a [ProcessCopy],
     name: &[u8],
 ) -> Option<&'a ProcessCopy> {
-    for process in processes {
-        if process.name.as_slice() == name {
-            return Some(process);
-        }
-    }
-    None
+    processes
+        .iter()
+        .find(|process| process.name.as_slice() == name)
 }
 
 /// The number of the command of this label.
 pub(crate) fn find_command(commands: &[CommandOrigin], label: &[u8]) -> Option<usize> {
-    for (number, command) in commands.iter().enumerate() {
-        if command.label.as_slice() == label {
-            return Some(number);
-        }
-    }
-    None
+    commands
+        .iter()
+        .position(|command| command.label.as_slice() == label)
 }

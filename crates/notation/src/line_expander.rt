@@ -4,7 +4,7 @@ ghost use Rattle.std.specs.Prelude.{length, IfErr};
 ghost use Rattle.notation.specs.Places.{IsInside};
 
 use crate::expansion::{Expansion, failed, failed_in};
-use crate::fault::{ExpansionStop, NotationError};
+use crate::fault::{Expanding, ExpansionStop, NotationError};
 use crate::lexer::tokens;
 use crate::limits::SESSION_STEPS;
 use crate::lines::PlainLines;
@@ -71,7 +71,7 @@ impl<'a> LineExpander<'a> {
     }
 
     // The pieces of a line.
-    fn divided(&self, line: &[u8]) -> Result<LinePieces, ExpansionStop> {
+    fn divided(&self, line: &[u8]) -> Expanding<LinePieces> {
         let tokens = tokens(self.alloc, line)?;
         let names = &self.names;
         let mut divider = Divider::new(self.alloc, self.expansion, names, line, tokens.as_slice());

@@ -3,7 +3,7 @@
 use crate::building::{ProcessCopy, put_indices};
 use crate::environment::Environment;
 use crate::expansion::Expansion;
-use crate::fault::{ExpansionStop, Problem};
+use crate::fault::{Expanding, ExpansionStop, Problem};
 use crate::finding::{find_command, find_process};
 use crate::lexer::tokens;
 use crate::limits::{COPIES, UNFOLDING};
@@ -11,7 +11,7 @@ use crate::lines::PlainLines;
 use crate::pieces::{LinePiece, LinePieces, Meant, Reading};
 use crate::plain_text::PlainText;
 use crate::syntax::{Binder, DeclarationNode, Expression, Reference};
-use crate::token::{SourceToken, part};
+use crate::token::part;
 use crate::writing::Writer;
 use dbg_base::limits::INPUT_BYTES;
 use itoa::Buffer;
@@ -34,28 +34,15 @@ pub(crate) struct Renderer<'a> {
 }
 
 // Whether two texts have the same tokens.
-fn are_same(
-    left: &[u8],
-    left_tokens: &[SourceToken],
-    right: &[u8],
-    right_tokens: &[SourceToken],
-) -> bool {
-    if left_tokens.len() != right_tokens.len() {
-        return false;
-    }
-    for (one, other) in left_tokens.iter().zip(right_tokens) {
-        if part(left, one.at, one.length) != part(right, other.at, other.length) {
-            return false;
-        }
-    }
-    true
-}
-
-// Whether two texts have the same tokens.
 fn have_same_tokens(alloc: Global, left: &[u8], right: &[u8]) -> Result<bool, AllocError> {
     let left_tokens = tokens(alloc, left)?;
     let right_tokens = tokens(alloc, right)?;
-    Ok(are_same(left, left_tokens.as_slice(), right, right_tokens.as_slice()))
+    for (one, other) in left_tokens.iter().zip(&right_tokens) {
+        if part(left, one.at, one.length) != part(right, other.at, other.length) {
+            return Ok(false);
+        }
+    }
+    Ok(left_tokens.len() == right_tokens.len())
 }
 
 impl<'a> Renderer<'a> {
@@ -89,13 +76,19 @@ impl<'a> Renderer<'a> {
         self.writer.environment.alloc
     }
 
+    // The process of the name that was written last.
+    fn last_process(&self) -> Option<&'a ProcessCopy> {
+        let processes: &'a [ProcessCopy] = self.expansion.built.processes.as_slice();
+        find_process(processes, self.process.as_slice())
+    }
+
     // A fault at the piece that is written.
     fn fault(&self, problem: Problem) -> ExpansionStop {
         ExpansionStop::Bad(problem, self.expansion.source.saturating_add(self.from))
     }
 
     // Writes bytes, unless the lines become too long.
-    fn put(&mut self, bytes: &[u8]) -> Result<(), ExpansionStop> {
+    fn put(&mut self, bytes: &[u8]) -> Expanding<()> {
         let used = self.plain.length().saturating_sub(self.start);
         if bytes.len() > INPUT_BYTES.saturating_sub(used) {
             return Err(self.fault(Problem::LongText));
@@ -105,13 +98,13 @@ impl<'a> Renderer<'a> {
     }
 
     // Writes the bytes of the line from one offset to another.
-    fn copy(&mut self, from: usize, to: usize) -> Result<(), ExpansionStop> {
+    fn copy(&mut self, from: usize, to: usize) -> Expanding<()> {
         let line = self.line;
         self.put(part(line, from, to.saturating_sub(from)))
     }
 
     // Writes a name.
-    fn name(&mut self, reference: &'a Reference) -> Result<(), ExpansionStop> {
+    fn name(&mut self, reference: &'a Reference) -> Expanding<()> {
         let name = self.writer.name_of(reference, UNFOLDING)?;
         self.put(name.as_slice())?;
         self.process = name;
@@ -119,7 +112,7 @@ impl<'a> Renderer<'a> {
     }
 
     // The label that a name with indices is.
-    fn label_text(&mut self, reference: &'a Reference) -> Result<Vec<u8>, ExpansionStop> {
+    fn label_text(&mut self, reference: &'a Reference) -> Expanding<Vec<u8>> {
         let mut indices = Vec::new(self.alloc());
         for index in &reference.indices {
             indices.push(self.writer.environment.number(index, UNFOLDING)?)?;
@@ -130,10 +123,9 @@ impl<'a> Renderer<'a> {
     }
 
     // Writes the number of the command of a label. A name that is no label remains.
-    fn label(&mut self, reference: &'a Reference) -> Result<(), ExpansionStop> {
+    fn label(&mut self, reference: &'a Reference) -> Expanding<()> {
         let label = self.label_text(reference)?;
-        let processes = self.expansion.built.processes.as_slice();
-        if let Some(process) = find_process(processes, self.process.as_slice()) {
+        if let Some(process) = self.last_process() {
             if let Some(number) = find_command(process.commands.as_slice(), label.as_slice()) {
                 let mut buffer = Buffer::new();
                 return self.put(buffer.format(number).as_bytes());
@@ -146,17 +138,13 @@ impl<'a> Renderer<'a> {
     }
 
     // The plain text of a predicate.
-    fn plain(&mut self, expression: &'a Expression) -> Result<(), ExpansionStop> {
+    fn plain(&mut self, expression: &'a Expression) -> Expanding<()> {
         self.writer.text = PlainText::new(self.alloc());
         self.writer.expression(expression, UNFOLDING)
     }
 
     // The plain text of a predicate over this process, where the members of its family and its constants are visible.
-    fn plain_in(
-        &mut self,
-        copy: &'a ProcessCopy,
-        expression: &'a Expression,
-    ) -> Result<(), ExpansionStop> {
+    fn plain_in(&mut self, copy: &'a ProcessCopy, expression: &'a Expression) -> Expanding<()> {
         let declaration = self.expansion.model.declarations.get(copy.declaration);
         let Some(DeclarationNode::Process(process)) = declaration else {
             return self.plain(expression);
@@ -171,13 +159,8 @@ impl<'a> Renderer<'a> {
     }
 
     // The plain text of a predicate over the last process.
-    fn plain_reading(&mut self, readings: &'a [Reading]) -> Result<(), ExpansionStop> {
-        let expansion = self.expansion;
-        let found = find_process(
-            expansion.built.processes.as_slice(),
-            self.process.as_slice(),
-        );
-        if let Some(copy) = found {
+    fn plain_reading(&mut self, readings: &'a [Reading]) -> Expanding<()> {
+        if let Some(copy) = self.last_process() {
             for reading in readings {
                 if reading.declaration == Some(copy.declaration) {
                     return self.plain_in(copy, &reading.expression);
@@ -191,11 +174,7 @@ impl<'a> Renderer<'a> {
     }
 
     // Writes a predicate. One that is plain remains as it is.
-    fn predicate(
-        &mut self,
-        piece: &'a LinePiece,
-        readings: &'a [Reading],
-    ) -> Result<(), ExpansionStop> {
+    fn predicate(&mut self, piece: &'a LinePiece, readings: &'a [Reading]) -> Expanding<()> {
         self.plain_reading(readings)?;
         let line = self.line;
         let written = part(line, piece.from, piece.to.saturating_sub(piece.from));
@@ -209,7 +188,7 @@ impl<'a> Renderer<'a> {
     }
 
     // Writes the plain text of a piece that is not a repetition.
-    fn piece(&mut self, piece: &'a LinePiece) -> Result<(), ExpansionStop> {
+    fn piece(&mut self, piece: &'a LinePiece) -> Expanding<()> {
         self.from = piece.from;
         match &piece.meant {
             Meant::Name(reference) => self.name(reference),
@@ -220,12 +199,7 @@ impl<'a> Renderer<'a> {
     }
 
     // Writes the bytes of the line from one offset to another, where these pieces are among them.
-    fn part(
-        &mut self,
-        pieces: &'a [LinePiece],
-        from: usize,
-        to: usize,
-    ) -> Result<(), ExpansionStop> {
+    fn part(&mut self, pieces: &'a [LinePiece], from: usize, to: usize) -> Expanding<()> {
         let mut at = from;
         for piece in pieces {
             self.copy(at, piece.from)?;
@@ -236,7 +210,7 @@ impl<'a> Renderer<'a> {
     }
 
     // The values of the members of these ranges.
-    fn copies(&mut self, ranges: &'a [Binder]) -> Result<Vec<Vec<i64>>, ExpansionStop> {
+    fn copies(&mut self, ranges: &'a [Binder]) -> Expanding<Vec<Vec<i64>>> {
         let tuples = self.writer.environment.combinations(ranges, COPIES)?;
         if tuples.len() > COPIES {
             return Err(self.fault(Problem::ManyCopies));
@@ -251,16 +225,14 @@ impl<'a> Renderer<'a> {
         pieces: &'a [LinePiece],
         from: usize,
         to: usize,
-    ) -> Result<(), ExpansionStop> {
+    ) -> Expanding<()> {
         let tuples = self.copies(ranges)?;
         for (number, values) in tuples.iter().enumerate() {
             if number > 0 {
                 self.put(b" ")?;
             }
-            let before = self
-                .writer
-                .environment
-                .enter_all(ranges, values.as_slice())?;
+            let environment = &mut self.writer.environment;
+            let before = environment.enter_all(ranges, values.as_slice())?;
             self.part(pieces, from, to)?;
             self.writer.environment.leave(before);
         }
@@ -268,7 +240,7 @@ impl<'a> Renderer<'a> {
     }
 
     // Writes a line.
-    fn whole(&mut self, pieces: &'a [LinePiece]) -> Result<(), ExpansionStop> {
+    fn whole(&mut self, pieces: &'a [LinePiece]) -> Expanding<()> {
         let mut at = 0usize;
         let mut next = 0usize;
         for (number, piece) in pieces.iter().enumerate() {
@@ -288,15 +260,13 @@ impl<'a> Renderer<'a> {
     }
 
     /// Writes a line for each member of the ranges.
-    pub(crate) fn lines(&mut self) -> Result<(), ExpansionStop> {
+    pub(crate) fn lines(&mut self) -> Expanding<()> {
         let pieces = self.pieces;
         let ranges = pieces.ranges.as_slice();
         let tuples = self.copies(ranges)?;
         for values in &tuples {
-            let before = self
-                .writer
-                .environment
-                .enter_all(ranges, values.as_slice())?;
+            let environment = &mut self.writer.environment;
+            let before = environment.enter_all(ranges, values.as_slice())?;
             self.whole(pieces.pieces.as_slice())?;
             self.writer.environment.leave(before);
             self.plain.end_line()?;

@@ -70,6 +70,7 @@ fn words_that_are_text_are_given(rt: HostRuntime) {
 #[derive(Drop)]
 struct Stumbles {
     taken: Vec<u8>,
+    count: usize,
     left: usize,
     fault: Option<ErrorKind>,
     calls: usize,
@@ -91,6 +92,7 @@ impl Write for Stumbles {
         }
         let count = buf.len().min(4);
         self.taken.extend_from_slice(&buf[..count])?;
+        self.count = self.count.saturating_add(count);
         Ok(count)
     }
 
@@ -106,13 +108,15 @@ impl StyledWrite for &mut Stumbles {
     }
 
     fn set_style(&mut self, style: Style) {
-        let _pushed = self.styles.push((self.taken.len(), style));
+        let count = self.count;
+        let _pushed = self.styles.push((count, style));
     }
 }
 
 fn make_stumbles(alloc: Global, left: usize, fault: Option<ErrorKind>) -> Stumbles {
     Stumbles {
         taken: Vec::new(alloc),
+        count: 0,
         left,
         fault,
         calls: 0,
