@@ -1,6 +1,6 @@
 -- The output of an interactive session besides the replies.
 use Rattle.std.proofs.Common.{◌≡◌, ℕ, true, List, [], ◌∷◌, ◌++◌, refl, sym, ap, ◌∙◌, inl, inr}
-use Rattle.std.specs.Prelude.{Option, Some, None, Result, Ok, Err, IsErrAnd}
+use Rattle.std.specs.Prelude.{Result, Ok, Err, IsErrAnd}
 use Rattle.std.specs.List.{AllByRecursion}
 use Rattle.std.proofs.lemmas.List.{append-nil}
 use Rattle.std.proofs.lemmas.List.Concat.{flat_map-append}
@@ -11,26 +11,16 @@ use Rattle.shell_print.specs.declared.outcome.ServeFault.{ServeFault}
 use Rattle.shell_print.specs.Writing.{Writes}
 use Rattle.shell_print.proofs.WriteLemmas.{prefix_then, stopped, writes_then}
 use Rattle.shell_input.specs.Spans.{is_unended}
-use Rattle.shell_serve.specs.Sources.{Given}
 use Rattle.shell_serve.specs.Sessions.{MayBeQuiet, WritesForm}
-use Rattle.ui_session.specs.Dialogues.{explanation_line, explanation_text, IsExplanation, IsEcho, IsEchoOf, IsGap, interactive}
+use Rattle.ui_session.specs.Dialogues.{explanation_line, explanation_text, IsExplanation, IsEcho, IsGap, interactive}
 
 -- nothing is explained
 none_explained : IsExplanation []
 none_explained = ([], tt, refl)
 
-quiet_before : (line : Given) → IsEchoOf line []
-quiet_before None = ([], inl refl)
-quiet_before (Some line) = inl refl
-
 -- the replies may be the only output
 pub quiet : MayBeQuiet interactive
-quiet = record { before = quiet_before; explains = none_explained }
-
--- the echo of a line for which memory ran out
-pub lost_echo : {A : Type 0} {r : Result A ServeFault} {a b : Seen} (line : List ℕ) → WritesForm (IsEcho line) a r b
-    → WritesForm (IsEchoOf None) a r b
-lost_echo line wrote = record { text = wrote.text; form = (line, wrote.form); written = wrote.written }
+quiet = record { before = λ line. inl refl; explains = none_explained }
 
 all_more : (lines : List (List ℕ)) (line : List ℕ) → AllByRecursion (λ l. is_unended l ≡ true) lines → is_unended line ≡ true
     → AllByRecursion (λ l. is_unended l ≡ true) (lines ++ line ∷ [])

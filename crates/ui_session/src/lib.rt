@@ -3,10 +3,10 @@
 
 mod dialogue;
 mod directives;
+mod refusing;
 mod typed;
 mod written;
 
 pub use dialogue::Dialogue;
 pub use directives::is_directive;
 pub use typed::Typed;
-pub use written::explain;

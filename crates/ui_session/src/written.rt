@@ -74,7 +74,7 @@ fn write_lines<W: Sink>(lines: &[NoteLine], writer: &mut W) -> Result<(), ServeF
 }
 
 /// Writes an explanation, and flushes it.
-pub fn explain<W: Sink>(notes: &Notes, writer: &mut W) -> Result<(), ServeFault>
+pub(crate) fn explain<W: Sink>(notes: &Notes, writer: &mut W) -> Result<(), ServeFault>
     ensures written { WritesForm IsExplanation (W.seen writer.old) result (W.seen writer.new) }
 {
     let written = write_lines(notes.lines(), writer);
