@@ -6,7 +6,7 @@ use std::alloc::{AllocError, Global};
 use strsim::osa_distance;
 
 // The commands, which make calls: the form of the line, after the seat, and what the line does. Words in brackets, and those after a `;`, may
-// be missing. `..` stands for more words.
+// be missing. `..` means more words.
 const COMMANDS: [&str; 20] = [
     "`next P [N]`: process P makes its first command that fires, up to N times: a refusal or a halt ends that",
     "`step P K`: process P makes its command number K, from 0",
