@@ -1,7 +1,7 @@
 //! Processes, variables and commands, written in the process language.
 
 use crate::environment::ConstantValue;
-use crate::fault::{Expanding, ExpansionStop, Problem};
+use crate::fault::{ExpansionStop, Problem};
 use crate::limits::{REPEATS, UNFOLDING};
 use crate::model::Tables;
 use crate::syntax::{
@@ -21,14 +21,12 @@ pub(crate) struct CommandOrigin {
     pub(crate) at: usize,
 }
 
-/// A process of the plain program: its name, the declaration that it comes from, the values of its members and of its constants, and its
-/// commands.
+/// A process of the plain program: its name, the declaration that it comes from, the values of its members, and its commands.
 #[derive(Drop)]
 pub(crate) struct ProcessCopy {
     pub(crate) name: Vec<u8>,
     pub(crate) declaration: usize,
     pub(crate) members: Vec<i64>,
-    pub(crate) constants: Vec<Option<ConstantValue>>,
     pub(crate) commands: Vec<CommandOrigin>,
 }
 
@@ -42,7 +40,12 @@ pub(crate) struct Builder<'a> {
 }
 
 // The name of a member of a family.
-fn member_name(alloc: Global, name: &Name, values: &[i64], at: usize) -> Expanding<Vec<u8>> {
+fn member_name(
+    alloc: Global,
+    name: &Name,
+    values: &[i64],
+    at: usize,
+) -> Result<Vec<u8>, ExpansionStop> {
     let mut text = Vec::from_slice(alloc, name.bytes())?;
     for value in values {
         put_index(&mut text, *value, at)?;
@@ -84,15 +87,16 @@ impl<'a> Builder<'a> {
     }
 
     // Computes a constant.
-    fn constant(&mut self, constant: &'a Constant) -> Expanding<()> {
-        let environment = &mut self.writer.environment;
-        let value = environment.value(&constant.value, UNFOLDING)?;
-        environment.set_constant(constant.number, value);
-        Ok(())
+    fn constant(&mut self, constant: &'a Constant) -> Result<(), ExpansionStop> {
+        self.writer.constant(constant)
     }
 
     // Writes the variable for these members.
-    fn variable_copy(&mut self, variable: &'a VariableNode, values: &[i64]) -> Expanding<()> {
+    fn variable_copy(
+        &mut self,
+        variable: &'a VariableNode,
+        values: &[i64],
+    ) -> Result<(), ExpansionStop> {
         let alloc = self.alloc();
         let writer = &mut self.writer;
         let start = writer.environment.number(&variable.value, UNFOLDING)?;
@@ -111,20 +115,22 @@ impl<'a> Builder<'a> {
     }
 
     // Writes a variable, or each of a family: no more than the first 33, since the process language reports the 33rd.
-    fn variable(&mut self, variable: &'a VariableNode) -> Expanding<()> {
+    fn variable(&mut self, variable: &'a VariableNode) -> Result<(), ExpansionStop> {
         let ranges = variable.ranges.as_slice();
         let tuples = self.writer.environment.combinations(ranges, PROCESSES)?;
         for values in &tuples {
-            let environment = &mut self.writer.environment;
-            let before = environment.enter_all(ranges, values.as_slice())?;
+            let before = self
+                .writer
+                .environment
+                .enter_all(ranges, values.as_slice())?;
             self.variable_copy(variable, values.as_slice())?;
-            self.writer.environment.leave(before);
+            self.writer.environment.leave_all(before);
         }
         Ok(())
     }
 
     // The label of a command in the present copy, or nothing.
-    fn label(&self, command: &CommandNode) -> Expanding<Vec<u8>> {
+    fn label(&self, command: &CommandNode) -> Result<Vec<u8>, ExpansionStop> {
         let Some(label) = command.label else {
             return Ok(Vec::new(self.alloc()));
         };
@@ -134,7 +140,7 @@ impl<'a> Builder<'a> {
     }
 
     // Notes a command: its label, which no other command of the process may have, and its place.
-    fn note_command(&mut self, command: &CommandNode) -> Expanding<()> {
+    fn note_command(&mut self, command: &CommandNode) -> Result<(), ExpansionStop> {
         let label = self.label(command)?;
         let at = match command.label {
             Some(label) => label.at,
@@ -150,7 +156,7 @@ impl<'a> Builder<'a> {
     }
 
     // Writes an assignment.
-    fn assignment(&mut self, assignment: &'a AssignmentNode) -> Expanding<()> {
+    fn assignment(&mut self, assignment: &'a AssignmentNode) -> Result<(), ExpansionStop> {
         let writer = &mut self.writer;
         writer.reference(&assignment.target, UNFOLDING)?;
         writer.token(b":=", assignment.at)?;
@@ -158,7 +164,7 @@ impl<'a> Builder<'a> {
     }
 
     // Writes what a command does besides its assignments.
-    fn action(&mut self, action: &'a ActionNode) -> Expanding<()> {
+    fn action(&mut self, action: &'a ActionNode) -> Result<(), ExpansionStop> {
         let writer = &mut self.writer;
         match action {
             ActionNode::Local => Ok(()),
@@ -176,7 +182,7 @@ impl<'a> Builder<'a> {
     }
 
     // Writes a command.
-    fn command(&mut self, command: &'a CommandNode) -> Expanding<()> {
+    fn command(&mut self, command: &'a CommandNode) -> Result<(), ExpansionStop> {
         self.note_command(command)?;
         self.writer.text.line(b"  ", command.at)?;
         self.writer.token(b"when", command.at)?;
@@ -196,12 +202,16 @@ impl<'a> Builder<'a> {
 
     // Writes the items for each member of a range.
     #[cycle(copies)]
-    fn repeat(&mut self, binder: &'a Binder, items: &'a [ItemNode], depth: u32) -> Expanding<()> {
+    fn repeat(
+        &mut self,
+        binder: &'a Binder,
+        items: &'a [ItemNode],
+        depth: u32,
+    ) -> Result<(), ExpansionStop> {
         if depth == 0 {
             return Err(ExpansionStop::Bad(Problem::DeepNesting, binder.at));
         }
-        let environment = &mut self.writer.environment;
-        let members = environment.range(binder, UNFOLDING, usize::MAX)?;
+        let members = self.writer.environment.range(binder, UNFOLDING)?;
         for member in &members {
             let before = self.writer.environment.enter(binder.member, *member)?;
             self.indices.push(*member)?;
@@ -214,7 +224,7 @@ impl<'a> Builder<'a> {
 
     // Writes items, in order.
     #[cycle(copies)]
-    fn items(&mut self, items: &'a [ItemNode], depth: u32) -> Expanding<()> {
+    fn items(&mut self, items: &'a [ItemNode], depth: u32) -> Result<(), ExpansionStop> {
         for item in items {
             match item {
                 ItemNode::Constant(constant) => self.constant(constant)?,
@@ -226,23 +236,13 @@ impl<'a> Builder<'a> {
         Ok(())
     }
 
-    // Notes the values that the constants of a process have in its last copy.
-    fn note_constants(&mut self, process: &ProcessNode) -> Result<(), AllocError> {
-        let environment = &self.writer.environment;
-        let constants = environment.values(process.first_constant, process.constants)?;
-        if let Some(copy) = self.processes.last_mut() {
-            copy.constants = constants;
-        }
-        Ok(())
-    }
-
     // Writes the process for these members.
     fn process_copy(
         &mut self,
         process: &'a ProcessNode,
         declaration: usize,
         values: &[i64],
-    ) -> Expanding<()> {
+    ) -> Result<(), ExpansionStop> {
         let alloc = self.alloc();
         let name = member_name(alloc, &process.name, values, process.name_at)?;
         self.writer.text.line(b"", process.at)?;
@@ -253,30 +253,37 @@ impl<'a> Builder<'a> {
             name,
             declaration,
             members: Vec::from_slice(alloc, values)?,
-            constants: Vec::new(alloc),
             commands: Vec::new(alloc),
         })?;
         self.items(process.items.as_slice(), REPEATS)?;
-        self.note_constants(process)?;
         self.writer.text.line(b"", process.close)?;
         self.writer.token(b"}", process.close)
     }
 
     // Writes a process, or each of a family: no more than the first 33, since the process language reports the 33rd.
-    fn process(&mut self, process: &'a ProcessNode, declaration: usize) -> Expanding<()> {
+    fn process(
+        &mut self,
+        process: &'a ProcessNode,
+        declaration: usize,
+    ) -> Result<(), ExpansionStop> {
         let ranges = process.ranges.as_slice();
         let tuples = self.writer.environment.combinations(ranges, PROCESSES)?;
         for values in &tuples {
-            let environment = &mut self.writer.environment;
-            let before = environment.enter_all(ranges, values.as_slice())?;
+            let before = self
+                .writer
+                .environment
+                .enter_all(ranges, values.as_slice())?;
             self.process_copy(process, declaration, values.as_slice())?;
-            self.writer.environment.leave(before);
+            self.writer.environment.leave_all(before);
         }
         Ok(())
     }
 
     /// Writes all declarations of a model, in order.
-    pub(crate) fn model(&mut self, declarations: &'a [DeclarationNode]) -> Expanding<()> {
+    pub(crate) fn model(
+        &mut self,
+        declarations: &'a [DeclarationNode],
+    ) -> Result<(), ExpansionStop> {
         for (number, declaration) in declarations.iter().enumerate() {
             match declaration {
                 DeclarationNode::Constant(constant) => self.constant(constant)?,
@@ -286,6 +293,15 @@ impl<'a> Builder<'a> {
         if !self.writer.text.bytes.is_empty() {
             self.writer.text.line(b"", 0)?;
         }
+        Ok(())
+    }
+}
+
+impl<'a> Writer<'a> {
+    /// Computes a constant.
+    pub(crate) fn constant(&mut self, constant: &'a Constant) -> Result<(), ExpansionStop> {
+        let value: ConstantValue = self.environment.value(&constant.value, UNFOLDING)?;
+        self.environment.set_constant(constant.number, value);
         Ok(())
     }
 }

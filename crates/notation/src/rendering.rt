@@ -1,17 +1,15 @@
 //! Writes the plain lines that the pieces of a command line stand for.
 
 use crate::building::{ProcessCopy, put_indices};
-use crate::environment::Environment;
 use crate::expansion::Expansion;
-use crate::fault::{Expanding, ExpansionStop, Problem};
+use crate::fault::{ExpansionStop, Problem};
 use crate::finding::{find_command, find_process};
 use crate::lexer::tokens;
 use crate::limits::{COPIES, UNFOLDING};
-use crate::lines::PlainLines;
 use crate::pieces::{LinePiece, LinePieces, Meant, Reading};
 use crate::plain_text::PlainText;
-use crate::syntax::{Binder, DeclarationNode, Expression, Reference};
-use crate::token::part;
+use crate::syntax::{Binder, DeclarationNode, Expression, ItemNode, Reference};
+use crate::token::{SourceToken, part};
 use crate::writing::Writer;
 use dbg_base::limits::INPUT_BYTES;
 use itoa::Buffer;
@@ -23,88 +21,92 @@ pub(crate) struct Renderer<'a> {
     pub(crate) writer: Writer<'a>,
     expansion: &'a Expansion,
     line: &'a [u8],
-    pieces: &'a LinePieces,
-    /// The name that was written last.
-    pub(crate) process: Vec<u8>,
-    plain: &'a mut PlainLines,
-    // How many bytes the lines of other command lines have.
-    start: usize,
+    // The name that was written last.
+    process: Vec<u8>,
+    // The line that is written.
+    output: Vec<u8>,
+    // How many bytes the lines before have.
+    written: usize,
     /// Where the piece begins that is written.
     pub(crate) from: usize,
+}
+
+// Whether two texts have the same tokens.
+fn are_same(
+    left: &[u8],
+    left_tokens: &[SourceToken],
+    right: &[u8],
+    right_tokens: &[SourceToken],
+) -> bool {
+    if left_tokens.len() != right_tokens.len() {
+        return false;
+    }
+    for (one, other) in left_tokens.iter().zip(right_tokens) {
+        if part(left, one.at, one.length) != part(right, other.at, other.length) {
+            return false;
+        }
+    }
+    true
 }
 
 // Whether two texts have the same tokens.
 fn have_same_tokens(alloc: Global, left: &[u8], right: &[u8]) -> Result<bool, AllocError> {
     let left_tokens = tokens(alloc, left)?;
     let right_tokens = tokens(alloc, right)?;
-    for (one, other) in left_tokens.iter().zip(&right_tokens) {
-        if part(left, one.at, one.length) != part(right, other.at, other.length) {
-            return Ok(false);
-        }
-    }
-    Ok(left_tokens.len() == right_tokens.len())
+    Ok(are_same(left, left_tokens.as_slice(), right, right_tokens.as_slice()))
 }
 
 impl<'a> Renderer<'a> {
-    /// Appends what it writes to these lines.
     pub(crate) fn new(
         alloc: Global,
         expansion: &'a Expansion,
         line: &'a [u8],
-        pieces: &'a LinePieces,
-        plain: &'a mut PlainLines,
-    ) -> Self {
-        let tables = &expansion.model.tables;
-        let constants = expansion.built.constants.as_slice();
-        let mut environment = Environment::knowing(alloc, tables, constants);
-        environment.line_members = pieces.members.as_slice();
-        let text = PlainText::new(alloc);
-        let start = plain.length();
-        Renderer {
-            writer: Writer { environment, text },
+    ) -> Result<Self, AllocError> {
+        let mut writer = Writer::new(alloc, &expansion.model.tables)?;
+        for (number, value) in expansion.built.constants.iter().enumerate() {
+            if let Some(value) = value {
+                writer.environment.set_constant(number, *value);
+            }
+        }
+        Ok(Renderer {
+            writer,
             expansion,
             line,
-            pieces,
             process: Vec::new(alloc),
-            plain,
-            start,
+            output: Vec::new(alloc),
+            written: 0,
             from: 0,
-        }
+        })
     }
 
     fn alloc(&self) -> Global {
         self.writer.environment.alloc
     }
 
-    // The process of the name that was written last.
-    fn last_process(&self) -> Option<&'a ProcessCopy> {
-        let processes: &'a [ProcessCopy] = self.expansion.built.processes.as_slice();
-        find_process(processes, self.process.as_slice())
-    }
-
-    // A fault at the piece that is written.
-    fn fault(&self, problem: Problem) -> ExpansionStop {
-        ExpansionStop::Bad(problem, self.expansion.source.saturating_add(self.from))
+    // The lines become too long.
+    fn too_long(&self) -> ExpansionStop {
+        let at = self.expansion.source.saturating_add(self.from);
+        ExpansionStop::Bad(Problem::LongText, at)
     }
 
     // Writes bytes, unless the lines become too long.
-    fn put(&mut self, bytes: &[u8]) -> Expanding<()> {
-        let used = self.plain.length().saturating_sub(self.start);
+    fn put(&mut self, bytes: &[u8]) -> Result<(), ExpansionStop> {
+        let used = self.written.saturating_add(self.output.len());
         if bytes.len() > INPUT_BYTES.saturating_sub(used) {
-            return Err(self.fault(Problem::LongText));
+            return Err(self.too_long());
         }
-        self.plain.put(bytes)?;
+        self.output.extend_from_slice(bytes)?;
         Ok(())
     }
 
     // Writes the bytes of the line from one offset to another.
-    fn copy(&mut self, from: usize, to: usize) -> Expanding<()> {
+    fn copy(&mut self, from: usize, to: usize) -> Result<(), ExpansionStop> {
         let line = self.line;
         self.put(part(line, from, to.saturating_sub(from)))
     }
 
     // Writes a name.
-    fn name(&mut self, reference: &'a Reference) -> Expanding<()> {
+    fn name(&mut self, reference: &'a Reference) -> Result<(), ExpansionStop> {
         let name = self.writer.name_of(reference, UNFOLDING)?;
         self.put(name.as_slice())?;
         self.process = name;
@@ -112,7 +114,7 @@ impl<'a> Renderer<'a> {
     }
 
     // The label that a name with indices is.
-    fn label_text(&mut self, reference: &'a Reference) -> Expanding<Vec<u8>> {
+    fn label_text(&mut self, reference: &'a Reference) -> Result<Vec<u8>, ExpansionStop> {
         let mut indices = Vec::new(self.alloc());
         for index in &reference.indices {
             indices.push(self.writer.environment.number(index, UNFOLDING)?)?;
@@ -123,9 +125,10 @@ impl<'a> Renderer<'a> {
     }
 
     // Writes the number of the command of a label. A name that is no label remains.
-    fn label(&mut self, reference: &'a Reference) -> Expanding<()> {
+    fn label(&mut self, reference: &'a Reference) -> Result<(), ExpansionStop> {
         let label = self.label_text(reference)?;
-        if let Some(process) = self.last_process() {
+        let processes = self.expansion.built.processes.as_slice();
+        if let Some(process) = find_process(processes, self.process.as_slice()) {
             if let Some(number) = find_command(process.commands.as_slice(), label.as_slice()) {
                 let mut buffer = Buffer::new();
                 return self.put(buffer.format(number).as_bytes());
@@ -137,30 +140,51 @@ impl<'a> Renderer<'a> {
         Err(ExpansionStop::Bad(Problem::NoLabel, reference.at))
     }
 
+    // Computes the constants among these items.
+    fn constants(&mut self, items: &'a [ItemNode]) -> Result<(), ExpansionStop> {
+        for item in items {
+            if let ItemNode::Constant(constant) = item {
+                self.writer.constant(constant)?;
+            }
+        }
+        Ok(())
+    }
+
     // The plain text of a predicate.
-    fn plain(&mut self, expression: &'a Expression) -> Expanding<()> {
+    fn plain(&mut self, expression: &'a Expression) -> Result<(), ExpansionStop> {
         self.writer.text = PlainText::new(self.alloc());
         self.writer.expression(expression, UNFOLDING)
     }
 
-    // The plain text of a predicate over this process, where the members of its family and its constants are visible.
-    fn plain_in(&mut self, copy: &'a ProcessCopy, expression: &'a Expression) -> Expanding<()> {
+    // The plain text of a predicate over this process, where the members of its family are visible.
+    fn plain_in(
+        &mut self,
+        copy: &'a ProcessCopy,
+        expression: &'a Expression,
+    ) -> Result<(), ExpansionStop> {
         let declaration = self.expansion.model.declarations.get(copy.declaration);
         let Some(DeclarationNode::Process(process)) = declaration else {
             return self.plain(expression);
         };
-        let environment = &mut self.writer.environment;
-        environment.set_own(process.first_constant, copy.constants.as_slice());
-        let before = environment.enter_all(process.ranges.as_slice(), copy.members.as_slice())?;
+        let ranges = process.ranges.as_slice();
+        let before = self
+            .writer
+            .environment
+            .enter_all(ranges, copy.members.as_slice())?;
+        self.constants(process.items.as_slice())?;
         self.plain(expression)?;
-        self.writer.environment.leave(before);
-        self.writer.environment.set_own(0, &[]);
+        self.writer.environment.leave_all(before);
         Ok(())
     }
 
     // The plain text of a predicate over the last process.
-    fn plain_reading(&mut self, readings: &'a [Reading]) -> Expanding<()> {
-        if let Some(copy) = self.last_process() {
+    fn plain_reading(&mut self, readings: &'a [Reading]) -> Result<(), ExpansionStop> {
+        let expansion = self.expansion;
+        let found = find_process(
+            expansion.built.processes.as_slice(),
+            self.process.as_slice(),
+        );
+        if let Some(copy) = found {
             for reading in readings {
                 if reading.declaration == Some(copy.declaration) {
                     return self.plain_in(copy, &reading.expression);
@@ -174,7 +198,11 @@ impl<'a> Renderer<'a> {
     }
 
     // Writes a predicate. One that is plain remains as it is.
-    fn predicate(&mut self, piece: &'a LinePiece, readings: &'a [Reading]) -> Expanding<()> {
+    fn predicate(
+        &mut self,
+        piece: &'a LinePiece,
+        readings: &'a [Reading],
+    ) -> Result<(), ExpansionStop> {
         self.plain_reading(readings)?;
         let line = self.line;
         let written = part(line, piece.from, piece.to.saturating_sub(piece.from));
@@ -188,7 +216,7 @@ impl<'a> Renderer<'a> {
     }
 
     // Writes the plain text of a piece that is not a repetition.
-    fn piece(&mut self, piece: &'a LinePiece) -> Expanding<()> {
+    fn piece(&mut self, piece: &'a LinePiece) -> Result<(), ExpansionStop> {
         self.from = piece.from;
         match &piece.meant {
             Meant::Name(reference) => self.name(reference),
@@ -199,7 +227,12 @@ impl<'a> Renderer<'a> {
     }
 
     // Writes the bytes of the line from one offset to another, where these pieces are among them.
-    fn part(&mut self, pieces: &'a [LinePiece], from: usize, to: usize) -> Expanding<()> {
+    fn part(
+        &mut self,
+        pieces: &'a [LinePiece],
+        from: usize,
+        to: usize,
+    ) -> Result<(), ExpansionStop> {
         let mut at = from;
         for piece in pieces {
             self.copy(at, piece.from)?;
@@ -210,10 +243,10 @@ impl<'a> Renderer<'a> {
     }
 
     // The values of the members of these ranges.
-    fn copies(&mut self, ranges: &'a [Binder]) -> Expanding<Vec<Vec<i64>>> {
+    fn copies(&mut self, ranges: &'a [Binder]) -> Result<Vec<Vec<i64>>, ExpansionStop> {
         let tuples = self.writer.environment.combinations(ranges, COPIES)?;
         if tuples.len() > COPIES {
-            return Err(self.fault(Problem::ManyCopies));
+            return Err(self.too_long());
         }
         Ok(tuples)
     }
@@ -225,22 +258,24 @@ impl<'a> Renderer<'a> {
         pieces: &'a [LinePiece],
         from: usize,
         to: usize,
-    ) -> Expanding<()> {
+    ) -> Result<(), ExpansionStop> {
         let tuples = self.copies(ranges)?;
         for (number, values) in tuples.iter().enumerate() {
             if number > 0 {
                 self.put(b" ")?;
             }
-            let environment = &mut self.writer.environment;
-            let before = environment.enter_all(ranges, values.as_slice())?;
+            let before = self
+                .writer
+                .environment
+                .enter_all(ranges, values.as_slice())?;
             self.part(pieces, from, to)?;
-            self.writer.environment.leave(before);
+            self.writer.environment.leave_all(before);
         }
         Ok(())
     }
 
     // Writes a line.
-    fn whole(&mut self, pieces: &'a [LinePiece]) -> Expanding<()> {
+    fn whole(&mut self, pieces: &'a [LinePiece]) -> Result<(), ExpansionStop> {
         let mut at = 0usize;
         let mut next = 0usize;
         for (number, piece) in pieces.iter().enumerate() {
@@ -259,18 +294,23 @@ impl<'a> Renderer<'a> {
         self.copy(at, self.line.len())
     }
 
-    /// Writes a line for each member of the ranges.
-    pub(crate) fn lines(&mut self) -> Expanding<()> {
-        let pieces = self.pieces;
+    /// A line for each member of the ranges.
+    pub(crate) fn lines(&mut self, pieces: &'a LinePieces) -> Result<Vec<Vec<u8>>, ExpansionStop> {
         let ranges = pieces.ranges.as_slice();
         let tuples = self.copies(ranges)?;
+        let mut lines = Vec::new(self.alloc());
         for values in &tuples {
-            let environment = &mut self.writer.environment;
-            let before = environment.enter_all(ranges, values.as_slice())?;
+            let before = self
+                .writer
+                .environment
+                .enter_all(ranges, values.as_slice())?;
             self.whole(pieces.pieces.as_slice())?;
-            self.writer.environment.leave(before);
-            self.plain.end_line()?;
+            self.writer.environment.leave_all(before);
+            let alloc = self.alloc();
+            let line = std::mem::replace(&mut self.output, Vec::new(alloc));
+            self.written = self.written.saturating_add(line.len());
+            lines.push(line)?;
         }
-        Ok(())
+        Ok(lines)
     }
 }

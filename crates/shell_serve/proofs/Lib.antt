@@ -4,4 +4,3 @@ pub mod SessionLemmas
 mod InputSessionLemmas
 mod RunLemmas
 pub mod SeatLemmas
-pub mod InputSourceLemmas

@@ -1,5 +1,3 @@
-pub mod Sources
-pub mod InputSteps
 pub mod Sessions
 pub mod Plain
 pub mod Serving

@@ -3,9 +3,10 @@
 ghost use Rattle.shell_serve.specs.Plain.{plain};
 
 use crate::observer::Observer;
-use dbg_base::{Call, Refusal, Said};
+use dbg_base::{Refusal, Said};
 use dbg_command::SessionView;
-use shell_io::{GivenLine, Sink};
+use proc_lang::ProgFault;
+use shell_io::Sink;
 use shell_print::ServeFault;
 use std::alloc::Global;
 
@@ -13,7 +14,7 @@ use std::alloc::Global;
 #[derive(Drop)]
 pub(crate) struct Silent;
 
-impl<N> Observer<N> for Silent {
+impl<R> Observer<R> for Silent {
     ghost manner = { plain };
 
     fn is_directive(&self, _line: &[u8]) -> bool {
@@ -31,7 +32,8 @@ impl<N> Observer<N> for Silent {
     fn before<W: Sink>(
         &mut self,
         _alloc: Global,
-        _line: &GivenLine<'_, N>,
+        _line: &[u8],
+        _reader: &R,
         _writer: &mut W,
     ) -> Result<(), ServeFault> {
         Ok(())
@@ -51,8 +53,6 @@ impl<N> Observer<N> for Silent {
         &mut self,
         _alloc: Global,
         _view: SessionView<'_>,
-        _line: &GivenLine<'_, N>,
-        _call: &Call,
         _said: &Said,
         _writer: &mut W,
     ) -> Result<(), ServeFault> {
@@ -63,8 +63,26 @@ impl<N> Observer<N> for Silent {
         &mut self,
         _alloc: Global,
         _view: SessionView<'_>,
-        _line: &GivenLine<'_, N>,
+        _line: &[u8],
         _refusal: &Refusal,
+        _writer: &mut W,
+    ) -> Result<(), ServeFault> {
+        Ok(())
+    }
+
+    fn explain_fault<W: Sink>(
+        &mut self,
+        _alloc: Global,
+        _text: &[u8],
+        _fault: &ProgFault,
+        _writer: &mut W,
+    ) -> Result<(), ServeFault> {
+        Ok(())
+    }
+
+    fn explain_no_end_line<W: Sink>(
+        &mut self,
+        _alloc: Global,
         _writer: &mut W,
     ) -> Result<(), ServeFault> {
         Ok(())

@@ -1,3 +1,1 @@
-pub mod LineSources
-pub mod Talks
 pub mod Tests

@@ -1,24 +1,25 @@
 //! The commands of a program, with the names that its author gave them.
 
-use crate::expanding::{write_fault, write_notes};
-use crate::written_program::{ReadText, WrittenProgram, read_text};
-use dbg_base::{Choice, Name, Pid};
-use proc_lang::Program;
+use crate::expanding::{write_fault, write_text};
+use crate::model::{Model, ProgramKind, kind_of};
+use dbg_base::{Choice, Pid};
+use itoa::Buffer;
+use proc_lang::{Program, parse_program};
 use shell_input::{Input, read_program_text, text_alone};
 use shell_io::{Sink, Source};
 use shell_print::{ServeFault, Served, tell_too_long};
 use std::alloc::{AllocError, Global};
-use ui_text::{Notes, Part};
+use ui_text::ProgramText;
 
 // The name of a process in the text of its author.
 fn written_name(
     alloc: Global,
     program: &Program,
-    written: &WrittenProgram,
+    model: Option<&Model>,
     pid: Pid,
 ) -> Result<Vec<u8>, AllocError> {
-    let found = match written.expansion() {
-        Some(expansion) => expansion.process_name(alloc, pid)?,
+    let found = match model {
+        Some(model) => model.expansion().process_name(alloc, pid)?,
         None => None,
     };
     match (found, program.process_name(pid)) {
@@ -30,54 +31,67 @@ fn written_name(
 
 // Appends the line of a command.
 fn put_command(
-    notes: &mut Notes,
-    plain: Name,
-    number: u32,
-    line: usize,
-    name: &[u8],
-    label: &[u8],
+    text: &mut Vec<u8>,
+    source: &ProgramText,
+    plain: &[u8],
+    written: &[u8],
+    pid: Pid,
+    choice: Choice,
 ) -> Result<(), AllocError> {
-    notes.say(&[Part::Name(plain), Part::Text("\t")])?;
-    notes.add(&[Part::Number(i64::from(number)), Part::Text("\t")])?;
-    notes.add(&[Part::Count(line), Part::Text("\t")])?;
-    notes.add(&[Part::Bytes(name), Part::Text("\t")])?;
-    notes.add(&[Part::Bytes(label)])
+    let mut number = Buffer::new();
+    text.extend_from_slice(plain)?;
+    text.push(b'\t')?;
+    text.extend_from_slice(number.format(choice.0).as_bytes())?;
+    text.push(b'\t')?;
+    let line = match source.place(pid, choice) {
+        Some(line) => line.number,
+        None => 0,
+    };
+    text.extend_from_slice(number.format(line).as_bytes())?;
+    text.push(b'\t')?;
+    text.extend_from_slice(written)?;
+    text.push(b'\t')?;
+    text.extend_from_slice(source.label(pid, choice))?;
+    text.push(b'\n')?;
+    Ok(())
 }
 
 // Appends the lines of the commands of a process.
 fn put_process(
     alloc: Global,
-    notes: &mut Notes,
+    text: &mut Vec<u8>,
+    source: &ProgramText,
     program: &Program,
-    written: &WrittenProgram,
+    model: Option<&Model>,
     pid: Pid,
 ) -> Result<(), AllocError> {
     let Some(plain) = program.process_name(pid) else {
         return Ok(());
     };
-    let name = written_name(alloc, program, written, pid)?;
-    let text = written.text();
+    let written = written_name(alloc, program, model, pid)?;
     for number in 0..program.commands(pid) {
         let choice = Choice(number);
-        let line = text.place(pid, choice).map_or(0, |place| place.number);
-        let label = text.label(pid, choice);
-        put_command(notes, plain, number, line, name.as_slice(), label)?;
+        put_command(text, source, plain.bytes(), written.as_slice(), pid, choice)?;
     }
     Ok(())
 }
 
-// Writes the lines of the commands of a program.
+// Writes the lines of the commands of a plain program, or of the one that a model means.
 fn write_commands<W: Sink>(
     alloc: Global,
-    program: &Program,
-    written: &WrittenProgram,
+    plain: &[u8],
+    source: &ProgramText,
+    model: Option<&Model>,
     writer: &mut W,
 ) -> Result<Served, ServeFault> {
-    let mut notes = Notes::new(alloc);
+    let Ok(program) = parse_program(alloc, plain) else {
+        return Err(ServeFault::Memory);
+    };
+    let mut text = Vec::new(alloc);
     for p in 0..program.processes() {
-        put_process(alloc, &mut notes, program, written, Pid(p))?;
+        put_process(alloc, &mut text, source, &program, model, Pid(p))?;
     }
-    write_notes(&notes, writer)?;
+    write_text(text.as_slice(), writer)?;
     Ok(Served::Done)
 }
 
@@ -96,8 +110,15 @@ pub fn name_commands<R: Source, W: Sink, E: Sink>(
     let Some(text) = text_alone(&input, end) else {
         return tell_too_long(errors);
     };
-    match read_text(alloc, text)? {
-        ReadText::Program(written, program) => write_commands(alloc, &program, &written, writer),
-        ReadText::Wrong(fault) => write_fault(alloc, text, &fault, errors),
+    match kind_of(alloc, text)? {
+        ProgramKind::Plain => {
+            let source = ProgramText::new(alloc, text)?;
+            write_commands(alloc, text, &source, None, writer)
+        }
+        ProgramKind::Model(model) => {
+            let plain = model.expansion().plain();
+            write_commands(alloc, plain, model.source(), Some(&model), writer)
+        }
+        ProgramKind::Wrong(fault) => write_fault(alloc, text, &fault, errors),
     }
 }

@@ -3,12 +3,10 @@
 
 mod dialogue;
 mod directives;
-mod room;
+mod refusing;
 mod typed;
 mod written;
 
 pub use dialogue::Dialogue;
 pub use directives::is_directive;
-pub use room::Room;
 pub use typed::Typed;
-pub use written::explain;

@@ -3,7 +3,7 @@
 ghost use Rattle.std.specs.Prelude.{◌≡◌, ◌+◌, IfOk};
 
 use super::{Level, ModelParser, is_reserved};
-use crate::fault::{Expanding, ExpansionStop, Expected, Problem};
+use crate::fault::{ExpansionStop, Expected, Problem};
 use crate::scope::Binding;
 use crate::syntax::{Binder, Each, Expression, FormNode, Link, Reference, enclosed};
 use crate::token::{Mark, SourceTokenKind};
@@ -11,26 +11,34 @@ use dbg_base::Direction;
 
 // The form that a word begins.
 fn form_of(word: &[u8]) -> Option<FormNode> {
-    match word {
-        b"all" => Some(FormNode::All),
-        b"some" => Some(FormNode::Some),
-        b"sum" => Some(FormNode::Sum),
-        b"at_least" => Some(FormNode::AtLeast),
-        _ => None,
+    if word == b"all".as_slice() {
+        return Some(FormNode::All);
     }
+    if word == b"some".as_slice() {
+        return Some(FormNode::Some);
+    }
+    if word == b"sum".as_slice() {
+        return Some(FormNode::Sum);
+    }
+    if word == b"at_least".as_slice() {
+        return Some(FormNode::AtLeast);
+    }
+    None
 }
 
 // What a word says that is counted.
 fn direction_of(word: &[u8]) -> Option<Direction> {
-    match word {
-        b"sent" => Some(Direction::Sent),
-        b"got" => Some(Direction::Got),
-        _ => None,
+    if word == b"sent".as_slice() {
+        return Some(Direction::Sent);
     }
+    if word == b"got".as_slice() {
+        return Some(Direction::Got);
+    }
+    None
 }
 
 // As many arguments are found as are wanted.
-fn check_arguments(wanted: usize, found: usize, at: usize) -> Expanding<()> {
+fn check_arguments(wanted: usize, found: usize, at: usize) -> Result<(), ExpansionStop> {
     if wanted == found {
         return Ok(());
     }
@@ -44,7 +52,7 @@ pub(super) fn is_form(word: &[u8]) -> bool {
 
 impl<'a> ModelParser<'a> {
     // One bracket more is open, of so many that may be.
-    fn deeper(&self, depth: u32) -> Expanding<u32>
+    fn deeper(&self, depth: u32) -> Result<u32, ExpansionStop>
         ensures { IfOk result (λ inner. inner + 1 ≡ depth) }
     {
         if depth == 0 {
@@ -55,7 +63,7 @@ impl<'a> ModelParser<'a> {
 
     /// Operands with operators of this precedence between them.
     #[cycle(expressions)]
-    pub(crate) fn chain(&mut self, level: Level, depth: u32) -> Expanding<Expression> {
+    pub(crate) fn chain(&mut self, level: Level, depth: u32) -> Result<Expression, ExpansionStop> {
         let at = self.at();
         let first = self.operand(level, depth)?;
         if self.operator(level).is_none() {
@@ -80,7 +88,7 @@ impl<'a> ModelParser<'a> {
 
     // An operand of an operator of this precedence.
     #[cycle(expressions)]
-    fn operand(&mut self, level: Level, depth: u32) -> Expanding<Expression> {
+    fn operand(&mut self, level: Level, depth: u32) -> Result<Expression, ExpansionStop> {
         match level {
             Level::Or => self.chain(Level::And, depth),
             Level::And => self.truth(depth),
@@ -91,7 +99,7 @@ impl<'a> ModelParser<'a> {
 
     // A `not` and its operand, or at most one comparison.
     #[cycle(expressions)]
-    fn truth(&mut self, depth: u32) -> Expanding<Expression> {
+    fn truth(&mut self, depth: u32) -> Result<Expression, ExpansionStop> {
         let at = self.at();
         if self.is_word(b"not") {
             let inner = self.deeper(depth)?;
@@ -120,7 +128,7 @@ impl<'a> ModelParser<'a> {
 
     // A minus and its operand, or an operand without a minus.
     #[cycle(expressions)]
-    fn signed(&mut self, depth: u32) -> Expanding<Expression> {
+    fn signed(&mut self, depth: u32) -> Result<Expression, ExpansionStop> {
         let at = self.at();
         if !self.is_mark(Mark::Minus) {
             return self.primary(depth);
@@ -133,7 +141,7 @@ impl<'a> ModelParser<'a> {
 
     /// A number, a word and what belongs to it, or an expression in parentheses.
     #[cycle(expressions)]
-    pub(crate) fn primary(&mut self, depth: u32) -> Expanding<Expression> {
+    pub(crate) fn primary(&mut self, depth: u32) -> Result<Expression, ExpansionStop> {
         let at = self.at();
         match self.token().kind {
             SourceTokenKind::Number(number) => {
@@ -154,7 +162,7 @@ impl<'a> ModelParser<'a> {
 
     // What begins with a word: a truth value, a count of messages, a form, a definition with its arguments, or a name.
     #[cycle(expressions)]
-    fn spoken(&mut self, depth: u32) -> Expanding<Expression> {
+    fn spoken(&mut self, depth: u32) -> Result<Expression, ExpansionStop> {
         let at = self.at();
         let Some(word) = self.word() else {
             return Err(self.unexpected(Expected::Expression));
@@ -184,7 +192,11 @@ impl<'a> ModelParser<'a> {
     }
 
     // What a name without arguments stands for.
-    fn looked_up(&mut self, reference: Reference, word: &[u8]) -> Expanding<Expression> {
+    fn looked_up(
+        &mut self,
+        reference: Reference,
+        word: &[u8],
+    ) -> Result<Expression, ExpansionStop> {
         if !reference.indices.is_empty() {
             return Ok(Expression::Name(reference));
         }
@@ -203,7 +215,7 @@ impl<'a> ModelParser<'a> {
 
     /// A name with its indices.
     #[cycle(expressions)]
-    pub(crate) fn reference(&mut self, depth: u32) -> Expanding<Reference> {
+    pub(crate) fn reference(&mut self, depth: u32) -> Result<Reference, ExpansionStop> {
         let written = self.name()?;
         let mut indices = Vec::new(self.alloc);
         for _ in self.next..self.tokens.len() {
@@ -225,7 +237,7 @@ impl<'a> ModelParser<'a> {
 
     // A definition and its arguments.
     #[cycle(expressions)]
-    fn call(&mut self, depth: u32) -> Expanding<Expression> {
+    fn call(&mut self, depth: u32) -> Result<Expression, ExpansionStop> {
         let name = self.name()?;
         let Some(Binding::Definition(number, wanted)) = self.scope.meaning(name.name.bytes()) else {
             return Err(ExpansionStop::Bad(Problem::NotADefinition, name.at));
@@ -236,9 +248,10 @@ impl<'a> ModelParser<'a> {
         for _ in self.next..self.tokens.len() {
             let argument = self.chain(Level::Or, inner)?;
             arguments.push(argument)?;
-            if !self.passes_mark(Mark::Comma) {
+            if !self.is_mark(Mark::Comma) {
                 break;
             }
+            self.pass();
         }
         self.mark(Mark::CloseParenthesis)?;
         check_arguments(wanted, arguments.len(), name.at)?;
@@ -247,7 +260,7 @@ impl<'a> ModelParser<'a> {
 
     // `all`, `some`, `sum` or `at_least`.
     #[cycle(expressions)]
-    fn each(&mut self, form: FormNode, depth: u32) -> Expanding<Expression> {
+    fn each(&mut self, form: FormNode, depth: u32) -> Result<Expression, ExpansionStop> {
         let at = self.at();
         let inner = self.deeper(depth)?;
         self.pass();
@@ -277,9 +290,10 @@ impl<'a> ModelParser<'a> {
 
     /// A member, its range, and the condition after `where`.
     #[cycle(expressions)]
-    pub(crate) fn binder(&mut self, depth: u32) -> Expanding<Binder> {
+    pub(crate) fn binder(&mut self, depth: u32) -> Result<Binder, ExpansionStop> {
         let mut binder = self.ranged(depth)?;
-        if self.passes_word(b"where") {
+        if self.is_word(b"where") {
+            self.pass();
             binder.condition = Some(self.chain(Level::Or, depth)?);
         }
         Ok(binder)
@@ -287,7 +301,7 @@ impl<'a> ModelParser<'a> {
 
     /// A member and its range.
     #[cycle(expressions)]
-    pub(crate) fn ranged(&mut self, depth: u32) -> Expanding<Binder> {
+    pub(crate) fn ranged(&mut self, depth: u32) -> Result<Binder, ExpansionStop> {
         let name = self.name()?;
         self.mark(Mark::Colon)?;
         let low = self.chain(Level::Sum, depth)?;

@@ -2,10 +2,10 @@
 
 use super::ModelParser;
 use super::expressions::is_form;
-use crate::fault::{Expanding, ExpansionStop, Expected, Problem};
+use crate::fault::{ExpansionStop, Expected, Problem};
 use crate::limits::{NESTING, PARAMETERS, REPEATS};
 use crate::model::ParsedModel;
-use crate::scope::{Binding, ModelScope};
+use crate::scope::Binding;
 use crate::syntax::{
     ActionNode, AssignmentNode, Binder, CommandNode, Constant, DeclarationNode, Definition,
     ItemNode, Label, ProcessNode, Reference, VariableNode,
@@ -14,8 +14,13 @@ use crate::token::{Mark, SourceToken};
 use std::alloc::Global;
 
 impl<'a> ModelParser<'a> {
+    // A name with its indices, outside an expression.
+    fn place_name(&mut self) -> Result<Reference, ExpansionStop> {
+        self.reference(NESTING)
+    }
+
     // `const`, a name and its value.
-    fn constant(&mut self) -> Expanding<Constant> {
+    fn constant(&mut self) -> Result<Constant, ExpansionStop> {
         self.pass();
         let name = self.name()?;
         self.mark(Mark::Equals)?;
@@ -27,26 +32,37 @@ impl<'a> ModelParser<'a> {
         Ok(Constant { number, value })
     }
 
+    // One parameter.
+    fn parameter(&mut self) -> Result<(), ExpansionStop> {
+        let name = self.name()?;
+        let number = self.tables.parameters;
+        self.tables.parameters = number.saturating_add(1);
+        let bytes = self.bytes(name.token);
+        if let Some(old) = self.scope.declare(bytes, Binding::Parameter(number))? {
+            return Err(ExpansionStop::Bad(Problem::NameTaken(old), name.at));
+        }
+        Ok(())
+    }
+
     // The parameters of a definition, in parentheses, if it has any. The answer is how many there are.
-    fn parameters(&mut self) -> Expanding<usize> {
-        if !self.passes_mark(Mark::OpenParenthesis) {
+    fn parameters(&mut self) -> Result<usize, ExpansionStop> {
+        if !self.is_mark(Mark::OpenParenthesis) {
             return Ok(0);
         }
+        self.pass();
         for count in 1..=PARAMETERS {
-            let name = self.name()?;
-            let number = self.tables.parameters;
-            self.tables.parameters = number.saturating_add(1);
-            self.declare(&name, Binding::Parameter(number))?;
-            if !self.passes_mark(Mark::Comma) {
+            self.parameter()?;
+            if !self.is_mark(Mark::Comma) {
                 self.mark(Mark::CloseParenthesis)?;
                 return Ok(count);
             }
+            self.pass();
         }
         Err(ExpansionStop::Bad(Problem::ManyParameters, self.at()))
     }
 
     // `let`, a name, its parameters and its expression.
-    fn definition(&mut self) -> Expanding<()> {
+    fn definition(&mut self) -> Result<(), ExpansionStop> {
         self.pass();
         let name = self.name()?;
         if is_form(name.name.bytes()) {
@@ -67,12 +83,13 @@ impl<'a> ModelParser<'a> {
     }
 
     // The ranges of a family, each in brackets.
-    fn ranges(&mut self) -> Expanding<Vec<Binder>> {
+    fn ranges(&mut self) -> Result<Vec<Binder>, ExpansionStop> {
         let mut ranges = Vec::new(self.alloc);
         for _ in self.next..self.tokens.len() {
-            if !self.passes_mark(Mark::OpenBracket) {
+            if !self.is_mark(Mark::OpenBracket) {
                 break;
             }
+            self.pass();
             let binder = self.ranged(NESTING)?;
             self.mark(Mark::CloseBracket)?;
             ranges.push(binder)?;
@@ -81,7 +98,7 @@ impl<'a> ModelParser<'a> {
     }
 
     // A variable, or a family of variables.
-    fn variable(&mut self) -> Expanding<VariableNode> {
+    fn variable(&mut self) -> Result<VariableNode, ExpansionStop> {
         let at = self.at();
         self.pass();
         let name = self.name()?;
@@ -104,49 +121,52 @@ impl<'a> ModelParser<'a> {
     }
 
     // An assignment.
-    fn assignment(&mut self) -> Expanding<AssignmentNode> {
+    fn assignment(&mut self) -> Result<AssignmentNode, ExpansionStop> {
         if !self.is_name() {
             return Err(self.unexpected(Expected::Action));
         }
-        let target = self.reference(NESTING)?;
+        let target = self.place_name()?;
         let at = self.mark(Mark::Becomes)?;
         let value = self.expression()?;
         Ok(AssignmentNode { target, at, value })
     }
 
     // A send or a receive, if there is one.
-    fn action(&mut self) -> Expanding<ActionNode> {
+    fn action(&mut self) -> Result<ActionNode, ExpansionStop> {
         let at = self.at();
-        if self.passes_word(b"send") {
-            let target = self.reference(NESTING)?;
+        if self.is_word(b"send") {
+            self.pass();
+            let target = self.place_name()?;
             let value = self.expression()?;
             return Ok(ActionNode::Send(at, target, value));
         }
-        if self.passes_word(b"recv") {
-            let source = self.reference(NESTING)?;
-            let variable = self.reference(NESTING)?;
+        if self.is_word(b"recv") {
+            self.pass();
+            let source = self.place_name()?;
+            let variable = self.place_name()?;
             return Ok(ActionNode::Receive(at, source, variable));
         }
         Ok(ActionNode::Local)
     }
 
     // The assignments of a command: after commas, and the first one too where there is an action before it.
-    fn assignments(&mut self, action: &ActionNode) -> Expanding<Vec<AssignmentNode>> {
+    fn assignments(&mut self, action: &ActionNode) -> Result<Vec<AssignmentNode>, ExpansionStop> {
         let mut assignments = Vec::new(self.alloc);
         if matches!(action, ActionNode::Local) {
             assignments.push(self.assignment()?)?;
         }
         for _ in self.next..self.tokens.len() {
-            if !self.passes_mark(Mark::Comma) {
+            if !self.is_mark(Mark::Comma) {
                 break;
             }
+            self.pass();
             assignments.push(self.assignment()?)?;
         }
         Ok(assignments)
     }
 
     // A command, which may have a label.
-    fn command(&mut self, label: Option<Label>) -> Expanding<CommandNode> {
+    fn command(&mut self, label: Option<Label>) -> Result<CommandNode, ExpansionStop> {
         let at = self.at();
         self.pass();
         let guard = self.expression()?;
@@ -166,7 +186,7 @@ impl<'a> ModelParser<'a> {
     }
 
     // A label, and its command.
-    fn labelled(&mut self) -> Expanding<CommandNode> {
+    fn labelled(&mut self) -> Result<CommandNode, ExpansionStop> {
         if !self.is_name() || !self.has_mark_after(1, Mark::Colon) {
             return Err(self.unexpected(Expected::Item));
         }
@@ -183,7 +203,7 @@ impl<'a> ModelParser<'a> {
 
     // `for`, its member and its items, where so many `for` may still be open.
     #[cycle(items)]
-    fn repeat(&mut self, depth: u32) -> Expanding<ItemNode> {
+    fn repeat(&mut self, depth: u32) -> Result<ItemNode, ExpansionStop> {
         if depth == 0 {
             return Err(ExpansionStop::Bad(Problem::DeepNesting, self.at()));
         }
@@ -201,7 +221,7 @@ impl<'a> ModelParser<'a> {
 
     // An item that is no definition.
     #[cycle(items)]
-    fn item(&mut self, depth: u32) -> Expanding<ItemNode> {
+    fn item(&mut self, depth: u32) -> Result<ItemNode, ExpansionStop> {
         if self.is_word(b"const") {
             return Ok(ItemNode::Constant(self.constant()?));
         }
@@ -219,7 +239,7 @@ impl<'a> ModelParser<'a> {
 
     // All items up to a `}`.
     #[cycle(items)]
-    fn items(&mut self, depth: u32) -> Expanding<Vec<ItemNode>> {
+    fn items(&mut self, depth: u32) -> Result<Vec<ItemNode>, ExpansionStop> {
         let mut items = Vec::new(self.alloc);
         for _ in self.next..self.tokens.len() {
             if self.is_mark(Mark::CloseBrace) {
@@ -235,13 +255,12 @@ impl<'a> ModelParser<'a> {
     }
 
     // A process, or a family of processes.
-    fn process(&mut self, number: usize) -> Expanding<ProcessNode> {
+    fn process(&mut self, number: usize) -> Result<ProcessNode, ExpansionStop> {
         let at = self.at();
         self.pass();
         let name = self.name()?;
         let mark = self.scope.mark();
         self.declaration = Some(number);
-        let first_constant = self.tables.constants;
         let ranges = self.ranges()?;
         let open = self.mark(Mark::OpenBrace)?;
         let items = self.items(REPEATS)?;
@@ -253,8 +272,6 @@ impl<'a> ModelParser<'a> {
             name_at: name.at,
             name: name.name,
             ranges,
-            first_constant,
-            constants: self.tables.constants.saturating_sub(first_constant),
             open,
             items,
             close,
@@ -262,7 +279,7 @@ impl<'a> ModelParser<'a> {
     }
 
     // A declaration that is no definition; so many are before it.
-    fn declaration(&mut self, number: usize) -> Expanding<DeclarationNode> {
+    fn declaration(&mut self, number: usize) -> Result<DeclarationNode, ExpansionStop> {
         if self.is_word(b"const") {
             return Ok(DeclarationNode::Constant(self.constant()?));
         }
@@ -273,7 +290,7 @@ impl<'a> ModelParser<'a> {
     }
 
     // All declarations.
-    fn declarations(&mut self) -> Expanding<Vec<DeclarationNode>> {
+    fn declarations(&mut self) -> Result<Vec<DeclarationNode>, ExpansionStop> {
         let mut declarations = Vec::new(self.alloc);
         for _ in self.next..self.tokens.len() {
             if self.is_at_end() {
@@ -291,13 +308,12 @@ impl<'a> ModelParser<'a> {
 }
 
 /// The model that these tokens of the text write.
-pub(crate) fn model<'a>(
+pub(crate) fn model(
     alloc: Global,
-    text: &'a [u8],
-    tokens: &'a [SourceToken],
-) -> Expanding<ParsedModel> {
-    let scope = ModelScope::new(alloc, None);
-    let mut parser = ModelParser::new(alloc, text, tokens, scope, 0, 0);
+    text: &[u8],
+    tokens: &[SourceToken],
+) -> Result<ParsedModel, ExpansionStop> {
+    let mut parser = ModelParser::new(alloc, text, tokens, 0, 0);
     let declarations = parser.declarations()?;
     let ModelParser { tables, .. } = parser;
     Ok(ParsedModel {
