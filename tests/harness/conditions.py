@@ -4,8 +4,8 @@ from pathlib import Path
 
 # An item that a file declares at its left edge, or a function, with what stands between its name and its body.
 OWNER = re.compile(r"(?m)^(?:impl\b[^{]*|pub trait [^{]*)")
-FUNCTION = re.compile(r"(?m)^( *)pub (?:const )?fn (\w+)((?:.|\n)*?)(?=^\1\{|\{\}$|;$)", re.MULTILINE)
-METHOD = re.compile(r"(?m)^( +)fn (\w+)((?:.|\n)*?)(?=^\1\{|\{\}$|;$)", re.MULTILINE)
+FUNCTION = re.compile(r"(?m)^( *)pub (?:const )?fn (\w+)((?:.|\n)*?)(?=^\1\{| \{$|\{\}$|;$)", re.MULTILINE)
+METHOD = re.compile(r"(?m)^( +)fn (\w+)((?:.|\n)*?)(?=^\1\{| \{$|\{\}$|;$)", re.MULTILINE)
 
 
 def without_comments(text):

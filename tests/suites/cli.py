@@ -8,6 +8,9 @@ CLI = TESTS / "cli"
 COUNTER = "process c { var n = 0; when (n < 30000) : n := (n + 1); }\n%%\n"
 LAST_LINES = 6  # of a session that reaches a limit, in its page
 
+# Processes whose names are the beginnings of command words.
+NAMED_LIKE_WORDS = "".join(f"process {name} {{ var x = 0; go: when x < 9 : x := x + 1; }}\n" for name in ["p[i: 1..2]", "a", "arm"]) + "%%\n"
+
 # Files for `talk`. Each has a page of the same name.
 TALKS = ["directives", "lists", "directives_with_a_seat", "refusals", "more_refusals", "batches", "refused", "notation_session", "notation_fault",
          "advice_after_a_refused_undo", "advice_after_a_refused_arm", "advice_at_two_halts", "seats_and_long_lines",
@@ -34,7 +37,11 @@ RUNS = [
     ("expand_short_lines", "expand short_lines.rdbg", ""),
     ("expand_short_lines_in_notation", "expand short_lines_expected_in_notation.rdbg", ""),
     ("expand_short_line_fault", "expand short_lines_in_notation.rdbg", ""),
-    ("expand_too_many_lines", "expand -", "process c { }\n%%\nnext c 100000\nnext c 100000\n"),
+    ("expand_refused_lines", "expand -", "process c { }\n%%\nnext c 100000\nnext c 100000\n"),
+    ("expand_until_a_refusal", "expand", "process p { var x = 0; when x < 1 : x := x + 1; }\n%%\nnext p 4\nvars p\nquit\nnext p\n"),
+    ("expand_too_many_lines", "expand -", "process c[i: 1..1] { }\n%%\n" + 3 * "for i: 1..65536 : breaks\n"),
+    ("talk_for_in_a_breakpoint", "talk", NAMED_LIKE_WORDS + "for i: 1..2 : break z[i] p[i] (x = 9) for j: 1..1: a (x = i)\nbreaks\n"),
+    ("talk_short_word_after_for", "talk", NAMED_LIKE_WORDS + "for i: 1..2 : bre n[i] for j: 1..2: p[j] (x = i)\nfor i: 1..1 for j: 1..2 where i < j : ne p[j]\n"),
     ("talk_in_notation_from_input", "talk", "process a[i: 1..2] { var x = i; leave: when x > 0 : x := x - 1; }\n%%\nstep a[2] leave\non\nstep a[1] leav\n"),
     ("check_notation", "check --explain notation.rdbg", ""),
     ("draw_notation", "draw notation.rdbg", "step station[1] pass\n"),

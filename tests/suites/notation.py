@@ -66,7 +66,34 @@ def check_direct(suite, example, plain):
     suite.same(f"{example.name}: its size", *(size.output.decode() for size in sizes))
 
 
+# A session with seats, whose lines are repeated, stop early, and end with `quit`.
+PLAYED = """process p[i: 1..2] { var x = 0; go: when x < 3 : x := x + 1; }
+%%
+1 next p[1] 2
+2 break late p[1] (x = 3) p[2] (x = 2)
+1 next p[1] 5   # the third is refused
+for i: 1..2 : 1 next p[i] 2
+1 step p[2] go
+1 undo p[2]
+1 back
+quit
+1 next p[1]
+"""
+
+
+def check_played(suite):
+    """What `expand` prints is what `talk` plays: each line, followed by the reply that a run gives to it."""
+    expanded = suite.rdbg("expand", given=PLAYED).output.decode()
+    program, end, lines = expanded.partition(END_OF_PROGRAM)
+    lines = [line for line in lines.splitlines() if line and line != "quit"]
+    replies = suite.rdbg("run", given=program + end + "".join(f"{line}\n" for line in lines)).output.decode().splitlines()
+    played = "".join(f"{line}\n{reply}\n" for line, reply in zip(lines, replies))
+    talk = without_explanations(suite.rdbg("talk", given=PLAYED).output).decode()
+    suite.same("a session with repeated lines, as it is expanded", played, talk.removesuffix("quit\n"))
+
+
 def run(suite):
+    check_played(suite)
     written = sorted((EXAMPLES / "notation").glob("*.rdbg"))
     for example in written:
         expanded = suite.rdbg("expand", example)

@@ -1,7 +1,7 @@
 //! Processes, variables and commands, written in the process language.
 
 use crate::environment::ConstantValue;
-use crate::fault::{ExpansionStop, Problem};
+use crate::fault::{Expanding, ExpansionStop, Problem};
 use crate::limits::{REPEATS, UNFOLDING};
 use crate::model::Tables;
 use crate::syntax::{
@@ -21,12 +21,14 @@ pub(crate) struct CommandOrigin {
     pub(crate) at: usize,
 }
 
-/// A process of the plain program: its name, the declaration that it comes from, the values of its members, and its commands.
+/// A process of the plain program: its name, the declaration that it comes from, the values of its members and of its constants, and its
+/// commands.
 #[derive(Drop)]
 pub(crate) struct ProcessCopy {
     pub(crate) name: Vec<u8>,
     pub(crate) declaration: usize,
     pub(crate) members: Vec<i64>,
+    pub(crate) constants: Vec<Option<ConstantValue>>,
     pub(crate) commands: Vec<CommandOrigin>,
 }
 
@@ -40,12 +42,7 @@ pub(crate) struct Builder<'a> {
 }
 
 // The name of a member of a family.
-fn member_name(
-    alloc: Global,
-    name: &Name,
-    values: &[i64],
-    at: usize,
-) -> Result<Vec<u8>, ExpansionStop> {
+fn member_name(alloc: Global, name: &Name, values: &[i64], at: usize) -> Expanding<Vec<u8>> {
     let mut text = Vec::from_slice(alloc, name.bytes())?;
     for value in values {
         put_index(&mut text, *value, at)?;
@@ -87,16 +84,15 @@ impl<'a> Builder<'a> {
     }
 
     // Computes a constant.
-    fn constant(&mut self, constant: &'a Constant) -> Result<(), ExpansionStop> {
-        self.writer.constant(constant)
+    fn constant(&mut self, constant: &'a Constant) -> Expanding<()> {
+        let environment = &mut self.writer.environment;
+        let value = environment.value(&constant.value, UNFOLDING)?;
+        environment.set_constant(constant.number, value);
+        Ok(())
     }
 
     // Writes the variable for these members.
-    fn variable_copy(
-        &mut self,
-        variable: &'a VariableNode,
-        values: &[i64],
-    ) -> Result<(), ExpansionStop> {
+    fn variable_copy(&mut self, variable: &'a VariableNode, values: &[i64]) -> Expanding<()> {
         let alloc = self.alloc();
         let writer = &mut self.writer;
         let start = writer.environment.number(&variable.value, UNFOLDING)?;
@@ -115,22 +111,20 @@ impl<'a> Builder<'a> {
     }
 
     // Writes a variable, or each of a family: no more than the first 33, since the process language reports the 33rd.
-    fn variable(&mut self, variable: &'a VariableNode) -> Result<(), ExpansionStop> {
+    fn variable(&mut self, variable: &'a VariableNode) -> Expanding<()> {
         let ranges = variable.ranges.as_slice();
         let tuples = self.writer.environment.combinations(ranges, PROCESSES)?;
         for values in &tuples {
-            let before = self
-                .writer
-                .environment
-                .enter_all(ranges, values.as_slice())?;
+            let environment = &mut self.writer.environment;
+            let before = environment.enter_all(ranges, values.as_slice())?;
             self.variable_copy(variable, values.as_slice())?;
-            self.writer.environment.leave_all(before);
+            self.writer.environment.leave(before);
         }
         Ok(())
     }
 
     // The label of a command in the present copy, or nothing.
-    fn label(&self, command: &CommandNode) -> Result<Vec<u8>, ExpansionStop> {
+    fn label(&self, command: &CommandNode) -> Expanding<Vec<u8>> {
         let Some(label) = command.label else {
             return Ok(Vec::new(self.alloc()));
         };
@@ -140,7 +134,7 @@ impl<'a> Builder<'a> {
     }
 
     // Notes a command: its label, which no other command of the process may have, and its place.
-    fn note_command(&mut self, command: &CommandNode) -> Result<(), ExpansionStop> {
+    fn note_command(&mut self, command: &CommandNode) -> Expanding<()> {
         let label = self.label(command)?;
         let at = match command.label {
             Some(label) => label.at,
@@ -156,7 +150,7 @@ impl<'a> Builder<'a> {
     }
 
     // Writes an assignment.
-    fn assignment(&mut self, assignment: &'a AssignmentNode) -> Result<(), ExpansionStop> {
+    fn assignment(&mut self, assignment: &'a AssignmentNode) -> Expanding<()> {
         let writer = &mut self.writer;
         writer.reference(&assignment.target, UNFOLDING)?;
         writer.token(b":=", assignment.at)?;
@@ -164,7 +158,7 @@ impl<'a> Builder<'a> {
     }
 
     // Writes what a command does besides its assignments.
-    fn action(&mut self, action: &'a ActionNode) -> Result<(), ExpansionStop> {
+    fn action(&mut self, action: &'a ActionNode) -> Expanding<()> {
         let writer = &mut self.writer;
         match action {
             ActionNode::Local => Ok(()),
@@ -182,7 +176,7 @@ impl<'a> Builder<'a> {
     }
 
     // Writes a command.
-    fn command(&mut self, command: &'a CommandNode) -> Result<(), ExpansionStop> {
+    fn command(&mut self, command: &'a CommandNode) -> Expanding<()> {
         self.note_command(command)?;
         self.writer.text.line(b"  ", command.at)?;
         self.writer.token(b"when", command.at)?;
@@ -202,16 +196,12 @@ impl<'a> Builder<'a> {
 
     // Writes the items for each member of a range.
     #[cycle(copies)]
-    fn repeat(
-        &mut self,
-        binder: &'a Binder,
-        items: &'a [ItemNode],
-        depth: u32,
-    ) -> Result<(), ExpansionStop> {
+    fn repeat(&mut self, binder: &'a Binder, items: &'a [ItemNode], depth: u32) -> Expanding<()> {
         if depth == 0 {
             return Err(ExpansionStop::Bad(Problem::DeepNesting, binder.at));
         }
-        let members = self.writer.environment.range(binder, UNFOLDING)?;
+        let environment = &mut self.writer.environment;
+        let members = environment.range(binder, UNFOLDING, usize::MAX)?;
         for member in &members {
             let before = self.writer.environment.enter(binder.member, *member)?;
             self.indices.push(*member)?;
@@ -224,7 +214,7 @@ impl<'a> Builder<'a> {
 
     // Writes items, in order.
     #[cycle(copies)]
-    fn items(&mut self, items: &'a [ItemNode], depth: u32) -> Result<(), ExpansionStop> {
+    fn items(&mut self, items: &'a [ItemNode], depth: u32) -> Expanding<()> {
         for item in items {
             match item {
                 ItemNode::Constant(constant) => self.constant(constant)?,
@@ -236,13 +226,23 @@ impl<'a> Builder<'a> {
         Ok(())
     }
 
+    // Notes the values that the constants of a process have in its last copy.
+    fn note_constants(&mut self, process: &ProcessNode) -> Result<(), AllocError> {
+        let environment = &self.writer.environment;
+        let constants = environment.values(process.first_constant, process.constants)?;
+        if let Some(copy) = self.processes.last_mut() {
+            copy.constants = constants;
+        }
+        Ok(())
+    }
+
     // Writes the process for these members.
     fn process_copy(
         &mut self,
         process: &'a ProcessNode,
         declaration: usize,
         values: &[i64],
-    ) -> Result<(), ExpansionStop> {
+    ) -> Expanding<()> {
         let alloc = self.alloc();
         let name = member_name(alloc, &process.name, values, process.name_at)?;
         self.writer.text.line(b"", process.at)?;
@@ -253,37 +253,30 @@ impl<'a> Builder<'a> {
             name,
             declaration,
             members: Vec::from_slice(alloc, values)?,
+            constants: Vec::new(alloc),
             commands: Vec::new(alloc),
         })?;
         self.items(process.items.as_slice(), REPEATS)?;
+        self.note_constants(process)?;
         self.writer.text.line(b"", process.close)?;
         self.writer.token(b"}", process.close)
     }
 
     // Writes a process, or each of a family: no more than the first 33, since the process language reports the 33rd.
-    fn process(
-        &mut self,
-        process: &'a ProcessNode,
-        declaration: usize,
-    ) -> Result<(), ExpansionStop> {
+    fn process(&mut self, process: &'a ProcessNode, declaration: usize) -> Expanding<()> {
         let ranges = process.ranges.as_slice();
         let tuples = self.writer.environment.combinations(ranges, PROCESSES)?;
         for values in &tuples {
-            let before = self
-                .writer
-                .environment
-                .enter_all(ranges, values.as_slice())?;
+            let environment = &mut self.writer.environment;
+            let before = environment.enter_all(ranges, values.as_slice())?;
             self.process_copy(process, declaration, values.as_slice())?;
-            self.writer.environment.leave_all(before);
+            self.writer.environment.leave(before);
         }
         Ok(())
     }
 
     /// Writes all declarations of a model, in order.
-    pub(crate) fn model(
-        &mut self,
-        declarations: &'a [DeclarationNode],
-    ) -> Result<(), ExpansionStop> {
+    pub(crate) fn model(&mut self, declarations: &'a [DeclarationNode]) -> Expanding<()> {
         for (number, declaration) in declarations.iter().enumerate() {
             match declaration {
                 DeclarationNode::Constant(constant) => self.constant(constant)?,
@@ -293,15 +286,6 @@ impl<'a> Builder<'a> {
         if !self.writer.text.bytes.is_empty() {
             self.writer.text.line(b"", 0)?;
         }
-        Ok(())
-    }
-}
-
-impl<'a> Writer<'a> {
-    /// Computes a constant.
-    pub(crate) fn constant(&mut self, constant: &'a Constant) -> Result<(), ExpansionStop> {
-        let value: ConstantValue = self.environment.value(&constant.value, UNFOLDING)?;
-        self.environment.set_constant(constant.number, value);
         Ok(())
     }
 }

@@ -2,10 +2,10 @@
 
 ghost use Rattle.std.specs.Prelude.{◌≡◌, ◌+◌, IfOk};
 
-use crate::fault::{ExpansionStop, MemberValue, Problem};
-use crate::limits::STEPS;
+use crate::fault::{Expanding, ExpansionStop, MemberValue, Problem};
+use crate::limits::{SESSION_STEPS, STEPS};
 use crate::model::Tables;
-use crate::syntax::{Definition, Expression};
+use crate::syntax::{Binder, Definition, Expression};
 use dbg_base::Name;
 use std::alloc::{AllocError, Global};
 
@@ -24,86 +24,84 @@ pub(crate) struct CopyOf {
     pub(crate) value: i64,
 }
 
-/// What a member and the copy were before.
+/// The arguments of a definition, whose parameters are numbered from `first` on.
 #[derive(Clone, Copy)]
-pub(crate) struct SavedValues {
-    member: usize,
-    value: i64,
-    copy: usize,
+struct Arguments<'a> {
+    first: usize,
+    values: &'a [Expression],
 }
 
 /// The values of names.
 #[derive(Drop)]
 pub(crate) struct Environment<'a> {
     pub(crate) alloc: Global,
-    definitions: &'a [Definition],
-    pub(crate) names: Vec<Name>,
+    tables: &'a Tables,
+    /// The names of the members that a command line adds to those of the model.
+    pub(crate) line_members: &'a [Name],
+    /// The constants that are computed here.
     pub(crate) constants: Vec<Option<ConstantValue>>,
-    members: Vec<i64>,
-    arguments: Vec<Option<&'a Expression>>,
+    // The constants of the model, where they were computed before.
+    known: &'a [Option<ConstantValue>],
+    // The constants of the present process, where they were computed before, from this number on.
+    own_first: usize,
+    own: &'a [Option<ConstantValue>],
+    // The arguments of the definitions that are put in, the innermost last.
+    arguments: Vec<Arguments<'a>>,
     pub(crate) copies: Vec<CopyOf>,
     /// The present copy.
     pub(crate) copy: usize,
     /// The last copy that something refers to.
     pub(crate) kept: usize,
     steps: u32,
-}
-
-// So many constants without a value.
-fn no_values(alloc: Global, count: usize) -> Result<Vec<Option<ConstantValue>>, AllocError> {
-    let mut values = Vec::new(alloc);
-    for _ in 0..count {
-        values.push(None)?;
-    }
-    Ok(values)
-}
-
-// So many members, whose values are not given yet.
-fn no_members(alloc: Global, count: usize) -> Result<Vec<i64>, AllocError> {
-    let mut members = Vec::new(alloc);
-    for _ in 0..count {
-        members.push(0)?;
-    }
-    Ok(members)
-}
-
-// So many parameters without arguments.
-fn no_arguments<'a>(
-    alloc: Global,
-    count: usize,
-) -> Result<Vec<Option<&'a Expression>>, AllocError> {
-    let mut arguments = Vec::new(alloc);
-    for _ in 0..count {
-        arguments.push(None)?;
-    }
-    Ok(arguments)
+    /// How many steps are left to all lines of the session.
+    pub(crate) session_steps: u32,
 }
 
 impl<'a> Environment<'a> {
-    /// No name has a value yet.
-    pub(crate) fn new(alloc: Global, tables: &'a Tables) -> Result<Environment<'a>, AllocError> {
-        Ok(Environment {
+    /// The constants have these values.
+    pub(crate) fn knowing(
+        alloc: Global,
+        tables: &'a Tables,
+        known: &'a [Option<ConstantValue>],
+    ) -> Environment<'a> {
+        Environment {
             alloc,
-            definitions: tables.definitions.as_slice(),
-            names: Vec::from_slice(alloc, tables.members.as_slice())?,
-            constants: no_values(alloc, tables.constants)?,
-            members: no_members(alloc, tables.members.len())?,
-            arguments: no_arguments(alloc, tables.parameters)?,
+            tables,
+            line_members: &[],
+            constants: Vec::new(alloc),
+            known,
+            own_first: 0,
+            own: &[],
+            arguments: Vec::new(alloc),
             copies: Vec::new(alloc),
             copy: 0,
             kept: 0,
             steps: STEPS,
-        })
+            session_steps: SESSION_STEPS,
+        }
+    }
+
+    /// No constant has a value yet.
+    pub(crate) fn new(alloc: Global, tables: &'a Tables) -> Result<Environment<'a>, AllocError> {
+        let mut environment = Environment::knowing(alloc, tables, &[]);
+        for _ in 0..tables.constants {
+            environment.constants.push(None)?;
+        }
+        Ok(environment)
     }
 
     /// Takes a step, at this offset, so deep.
-    pub(crate) fn step(&mut self, depth: u32, at: usize) -> Result<u32, ExpansionStop>
+    pub(crate) fn step(&mut self, depth: u32, at: usize) -> Expanding<u32>
         ensures { IfOk result (λ inner. inner + 1 ≡ depth) }
     {
         if self.steps == 0 {
             return Err(ExpansionStop::Bad(Problem::MuchWork, at));
         }
+        if self.session_steps == 0 {
+            return Err(ExpansionStop::Bad(Problem::SessionWork, at));
+        }
         self.steps -= 1;
+        self.session_steps -= 1;
         if depth == 0 {
             return Err(ExpansionStop::Bad(Problem::DeepUnfolding, at));
         }
@@ -111,12 +109,10 @@ impl<'a> Environment<'a> {
     }
 
     /// The value of a constant.
-    pub(crate) fn constant(
-        &self,
-        number: usize,
-        at: usize,
-    ) -> Result<ConstantValue, ExpansionStop> {
-        match self.constants.get(number) {
+    pub(crate) fn constant(&self, number: usize, at: usize) -> Expanding<ConstantValue> {
+        let own = self.own.get(number.wrapping_sub(self.own_first));
+        let known = own.or(self.known.get(number));
+        match known.or(self.constants.get(number)) {
             Some(Some(value)) => Ok(*value),
             _ => Err(ExpansionStop::Bad(Problem::VariableComputed, at)),
         }
@@ -129,51 +125,68 @@ impl<'a> Environment<'a> {
         }
     }
 
-    /// These are further members.
-    pub(crate) fn add_members(&mut self, names: &[Name]) -> Result<(), AllocError> {
-        for name in names {
-            self.names.push(*name)?;
-            self.members.push(0)?;
+    /// The values of so many constants, from this number on.
+    pub(crate) fn values(
+        &self,
+        first: usize,
+        count: usize,
+    ) -> Result<Vec<Option<ConstantValue>>, AllocError> {
+        match self.constants.get(first..first.saturating_add(count)) {
+            Some(values) => Vec::from_slice(self.alloc, values),
+            None => Ok(Vec::new(self.alloc)),
         }
-        Ok(())
     }
 
-    /// The value of a member.
+    /// The constants from this number on have these values, which those of a process have in one of its copies.
+    pub(crate) fn set_own(&mut self, first: usize, own: &'a [Option<ConstantValue>]) {
+        self.own_first = first;
+        self.own = own;
+    }
+
+    /// The value of a member: that in the innermost copy for it.
     pub(crate) fn member(&self, number: usize) -> i64 {
-        self.members.get(number).copied().unwrap_or(0)
-    }
-
-    // Gives a member a value.
-    fn set_member(&mut self, number: usize, value: i64) {
-        if let Some(place) = self.members.get_mut(number) {
-            *place = value;
+        let mut copy = self.copy;
+        for _ in 0..self.copies.len() {
+            let Some(made) = self.copies.get(copy.wrapping_sub(1)) else {
+                break;
+            };
+            if made.member == number {
+                return made.value;
+            }
+            copy = made.parent;
         }
+        0
     }
 
-    /// Begins the copy in which the member has this value.
-    pub(crate) fn enter(&mut self, member: usize, value: i64) -> Result<SavedValues, AllocError> {
-        let before = SavedValues {
-            member,
-            value: self.member(member),
-            copy: self.copy,
-        };
-        self.set_member(member, value);
+    /// Begins the copy in which the member has this value. The answer is the copy that it is in.
+    pub(crate) fn enter(&mut self, member: usize, value: i64) -> Result<usize, AllocError> {
+        let parent = self.copy;
         self.copies.push(CopyOf {
-            parent: self.copy,
+            parent,
             member,
             value,
         })?;
         self.copy = self.copies.len();
+        Ok(parent)
+    }
+
+    /// Begins the copy in which the members of these ranges have these values. The answer is the copy that it is in.
+    pub(crate) fn enter_all(
+        &mut self,
+        ranges: &[Binder],
+        values: &[i64],
+    ) -> Result<usize, AllocError> {
+        let before = self.copy;
+        for (binder, value) in ranges.iter().zip(values) {
+            self.enter(binder.member, *value)?;
+        }
         Ok(before)
     }
 
-    /// Ends a copy. It is forgotten if nothing refers to it.
-    pub(crate) fn leave(&mut self, before: SavedValues) {
-        if self.copies.len() == self.copy && self.copies.len() > self.kept {
-            let _ = self.copies.pop();
-        }
-        self.set_member(before.member, before.value);
-        self.copy = before.copy;
+    /// Ends the copies that were begun after this one. They are forgotten if nothing refers to them.
+    pub(crate) fn leave(&mut self, before: usize) {
+        self.copies.truncate(self.kept.max(before));
+        self.copy = before;
     }
 
     /// Something refers to the present copy.
@@ -181,81 +194,49 @@ impl<'a> Environment<'a> {
         self.kept = self.kept.max(self.copy);
     }
 
-    /// A definition.
-    pub(crate) fn definition(
-        &self,
-        number: usize,
-        at: usize,
-    ) -> Result<&'a Definition, ExpansionStop> {
-        match self.definitions.get(number) {
-            Some(definition) => Ok(definition),
-            None => Err(ExpansionStop::Bad(Problem::NotADefinition, at)),
-        }
-    }
-
     /// The argument that a parameter stands for.
-    pub(crate) fn argument(
-        &self,
+    pub(crate) fn argument(&self, number: usize, at: usize) -> Expanding<&'a Expression> {
+        for bound in self.arguments.iter().rev() {
+            if let Some(argument) = bound.values.get(number.wrapping_sub(bound.first)) {
+                return Ok(argument);
+            }
+        }
+        Err(ExpansionStop::Bad(Problem::VariableComputed, at))
+    }
+
+    /// Lets the parameters of a definition stand for these arguments. The answer is its expression.
+    pub(crate) fn begin_call(
+        &mut self,
         number: usize,
         at: usize,
-    ) -> Result<&'a Expression, ExpansionStop> {
-        match self.arguments.get(number) {
-            Some(Some(argument)) => Ok(*argument),
-            _ => Err(ExpansionStop::Bad(Problem::VariableComputed, at)),
-        }
+        values: &'a [Expression],
+    ) -> Expanding<&'a Expression> {
+        let Some(definition) = self.tables.definitions.get(number) else {
+            return Err(ExpansionStop::Bad(Problem::NotADefinition, at));
+        };
+        let first = definition.first;
+        self.arguments.push(Arguments { first, values })?;
+        Ok(&definition.body)
     }
 
-    // Lets a parameter stand for this. The answer is what it stood for.
-    fn set_argument(
-        &mut self,
-        number: usize,
-        argument: Option<&'a Expression>,
-    ) -> Option<&'a Expression> {
-        match self.arguments.get_mut(number) {
-            Some(place) => {
-                let before = *place;
-                *place = argument;
-                before
-            }
-            None => None,
-        }
-    }
-
-    /// Lets the parameters of a definition stand for these arguments. The answer is what they stood for.
-    pub(crate) fn bind(
-        &mut self,
-        definition: &Definition,
-        arguments: &'a [Expression],
-    ) -> Result<Vec<Option<&'a Expression>>, AllocError> {
-        let mut before = Vec::new(self.alloc);
-        for (i, argument) in arguments.iter().enumerate() {
-            before.push(self.set_argument(definition.first.saturating_add(i), Some(argument)))?;
-        }
-        Ok(before)
-    }
-
-    /// Lets the parameters of a definition stand for what they stood for.
-    pub(crate) fn unbind(&mut self, definition: &Definition, before: &[Option<&'a Expression>]) {
-        for (i, argument) in before.iter().enumerate() {
-            let _ = self.set_argument(definition.first.saturating_add(i), *argument);
-        }
+    /// Lets the parameters of the definition that was put in last stand for what they stood for.
+    pub(crate) fn end_call(&mut self) {
+        let _ = self.arguments.pop();
     }
 
     /// The members in whose copies the present one is, the outermost first.
-    pub(crate) fn members_of(&self, copy: usize) -> Result<Vec<MemberValue>, AllocError> {
-        member_values(
-            self.alloc,
-            self.names.as_slice(),
-            self.copies.as_slice(),
-            copy,
-        )
+    pub(crate) fn present_members(&self) -> Result<Vec<MemberValue>, AllocError> {
+        let names = self.tables.members.as_slice();
+        let copies = self.copies.as_slice();
+        member_values(self.alloc, names, self.line_members, copies, self.copy)
     }
 }
 
-/// The members in whose copies this one is, the outermost first.
+/// The members in whose copies this one is, the outermost first. The members have these names, and then those of the line.
 pub(crate) fn member_values(
     alloc: Global,
     names: &[Name],
+    line_names: &[Name],
     copies: &[CopyOf],
     copy: usize,
 ) -> Result<Vec<MemberValue>, AllocError> {
@@ -265,7 +246,8 @@ pub(crate) fn member_values(
         let Some(made) = copies.get(copy.wrapping_sub(1)) else {
             break;
         };
-        if let Some(name) = names.get(made.member) {
+        let in_line = line_names.get(made.member.wrapping_sub(names.len()));
+        if let Some(name) = names.get(made.member).or(in_line) {
             values.push(MemberValue {
                 name: *name,
                 value: made.value,

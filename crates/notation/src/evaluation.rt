@@ -1,20 +1,18 @@
 //! Values that are computed during expansion, with the arithmetic of the process language.
 
 use crate::environment::{ConstantValue, Environment};
-use crate::fault::{ExpansionStop, Problem};
+use crate::fault::{Expanding, ExpansionStop, Problem};
 use crate::syntax::{Binder, Each, Expression, FormNode, Link, place};
 use dbg_base::Operator;
 
 // The number, if it is in range.
-fn in_range(number: Option<i64>, at: usize) -> Result<ConstantValue, ExpansionStop> {
-    match number {
-        Some(number) => Ok(ConstantValue::Number(number)),
-        None => Err(ExpansionStop::Bad(Problem::Overflow, at)),
-    }
+fn in_range(number: Option<i64>, at: usize) -> Expanding<ConstantValue> {
+    let number = number.ok_or(ExpansionStop::Bad(Problem::Overflow, at))?;
+    Ok(ConstantValue::Number(number))
 }
 
 // A number that is an operand.
-fn number_of(value: ConstantValue, at: usize) -> Result<i64, ExpansionStop> {
+fn number_of(value: ConstantValue, at: usize) -> Expanding<i64> {
     match value {
         ConstantValue::Number(number) => Ok(number),
         ConstantValue::Truth(_) => Err(ExpansionStop::Bad(Problem::NumberExpected, at)),
@@ -22,36 +20,24 @@ fn number_of(value: ConstantValue, at: usize) -> Result<i64, ExpansionStop> {
 }
 
 // A truth value that is an operand.
-fn truth_of(value: ConstantValue, at: usize) -> Result<bool, ExpansionStop> {
+fn truth_of(value: ConstantValue, at: usize) -> Expanding<bool> {
     match value {
         ConstantValue::Truth(truth) => Ok(truth),
         ConstantValue::Number(_) => Err(ExpansionStop::Bad(Problem::TruthExpected, at)),
     }
 }
 
-// A division, at this offset.
-fn divide(operator: Operator, x: i64, y: i64, at: usize) -> Result<ConstantValue, ExpansionStop> {
-    if y == 0 {
-        return Err(ExpansionStop::Bad(Problem::DivisionByZero, at));
-    }
-    match operator {
-        Operator::Divide => in_range(x.checked_div(y), at),
-        _ => in_range(x.checked_rem(y), at),
-    }
-}
-
 // What two numbers give; the operator is at this offset.
-fn calculate(
-    operator: Operator,
-    x: i64,
-    y: i64,
-    at: usize,
-) -> Result<ConstantValue, ExpansionStop> {
+fn calculate(operator: Operator, x: i64, y: i64, at: usize) -> Expanding<ConstantValue> {
     match operator {
         Operator::Add => in_range(x.checked_add(y), at),
         Operator::Subtract => in_range(x.checked_sub(y), at),
         Operator::Multiply => in_range(x.checked_mul(y), at),
-        Operator::Divide | Operator::Remainder => divide(operator, x, y, at),
+        Operator::Divide | Operator::Remainder if y == 0 => {
+            Err(ExpansionStop::Bad(Problem::DivisionByZero, at))
+        }
+        Operator::Divide => in_range(x.checked_div(y), at),
+        Operator::Remainder => in_range(x.checked_rem(y), at),
         Operator::Equal => Ok(ConstantValue::Truth(x == y)),
         Operator::NotEqual => Ok(ConstantValue::Truth(x != y)),
         Operator::Less => Ok(ConstantValue::Truth(x < y)),
@@ -69,7 +55,7 @@ impl<'a> Environment<'a> {
         &mut self,
         expression: &'a Expression,
         depth: u32,
-    ) -> Result<ConstantValue, ExpansionStop> {
+    ) -> Expanding<ConstantValue> {
         let inner = self.step(depth, place(expression))?;
         match expression {
             Expression::Number(_, number) => Ok(ConstantValue::Number(*number)),
@@ -85,15 +71,13 @@ impl<'a> Environment<'a> {
             }
             Expression::Count(at, _, _) => Err(ExpansionStop::Bad(Problem::CountComputed, *at)),
             Expression::Call(at, number, arguments) => {
-                let definition = self.definition(*number, *at)?;
-                let before = self.bind(definition, arguments.as_slice())?;
-                let value = self.value(&definition.body, inner)?;
-                self.unbind(definition, before.as_slice());
+                let body = self.begin_call(*number, *at, arguments.as_slice())?;
+                let value = self.value(body, inner)?;
+                self.end_call();
                 Ok(value)
             }
             Expression::Not(_, operand) => {
-                let truth = self.truth(operand, inner)?;
-                Ok(ConstantValue::Truth(!truth))
+                Ok(ConstantValue::Truth(!self.truth(operand, inner)?))
             }
             Expression::Negate(at, operand) => {
                 let number = self.number(operand, inner)?;
@@ -106,22 +90,14 @@ impl<'a> Environment<'a> {
 
     /// The number that an expression gives.
     #[cycle(evaluation)]
-    pub(crate) fn number(
-        &mut self,
-        expression: &'a Expression,
-        depth: u32,
-    ) -> Result<i64, ExpansionStop> {
+    pub(crate) fn number(&mut self, expression: &'a Expression, depth: u32) -> Expanding<i64> {
         let value = self.value(expression, depth)?;
         number_of(value, place(expression))
     }
 
     /// The truth value that an expression gives.
     #[cycle(evaluation)]
-    pub(crate) fn truth(
-        &mut self,
-        expression: &'a Expression,
-        depth: u32,
-    ) -> Result<bool, ExpansionStop> {
+    pub(crate) fn truth(&mut self, expression: &'a Expression, depth: u32) -> Expanding<bool> {
         let value = self.value(expression, depth)?;
         truth_of(value, place(expression))
     }
@@ -134,14 +110,13 @@ impl<'a> Environment<'a> {
         at: usize,
         link: &'a Link,
         depth: u32,
-    ) -> Result<ConstantValue, ExpansionStop> {
+    ) -> Expanding<ConstantValue> {
         if matches!(link.operator, Operator::And | Operator::Or) {
             let decided = matches!(link.operator, Operator::Or);
             if truth_of(left, at)? == decided {
                 return Ok(left);
             }
-            let right = self.truth(&link.operand, depth)?;
-            return Ok(ConstantValue::Truth(right));
+            return Ok(ConstantValue::Truth(self.truth(&link.operand, depth)?));
         }
         let x = number_of(left, at)?;
         let y = self.number(&link.operand, depth)?;
@@ -155,7 +130,7 @@ impl<'a> Environment<'a> {
         first: &'a Expression,
         links: &'a [Link],
         depth: u32,
-    ) -> Result<ConstantValue, ExpansionStop> {
+    ) -> Expanding<ConstantValue> {
         let at = place(first);
         let mut value = self.value(first, depth)?;
         for link in links {
@@ -166,20 +141,21 @@ impl<'a> Environment<'a> {
 
     // Whether the condition of a range holds.
     #[cycle(evaluation)]
-    fn holds(&mut self, binder: &'a Binder, depth: u32) -> Result<bool, ExpansionStop> {
+    fn holds(&mut self, binder: &'a Binder, depth: u32) -> Expanding<bool> {
         match &binder.condition {
             Some(condition) => self.truth(condition, depth),
             None => Ok(true),
         }
     }
 
-    /// The members of a range for which its condition holds, in order.
+    /// The members of a range for which its condition holds, in order, or so many of them as are wanted at most.
     #[cycle(evaluation)]
     pub(crate) fn range(
         &mut self,
         binder: &'a Binder,
         depth: u32,
-    ) -> Result<Vec<i64>, ExpansionStop> {
+        most: usize,
+    ) -> Expanding<Vec<i64>> {
         let low = self.number(&binder.low, depth)?;
         let high = self.number(&binder.high, depth)?;
         let mut members = Vec::new(self.alloc);
@@ -188,7 +164,7 @@ impl<'a> Environment<'a> {
             let Some(value) = next else {
                 break;
             };
-            if value > high {
+            if value > high || members.len() >= most {
                 break;
             }
             let inner = self.step(depth, binder.at)?;
@@ -204,12 +180,7 @@ impl<'a> Environment<'a> {
 
     // The value of the expression for one member.
     #[cycle(evaluation)]
-    fn at_member(
-        &mut self,
-        each: &'a Each,
-        member: i64,
-        depth: u32,
-    ) -> Result<ConstantValue, ExpansionStop> {
+    fn at_member(&mut self, each: &'a Each, member: i64, depth: u32) -> Expanding<ConstantValue> {
         let before = self.enter(each.binder.member, member)?;
         let value = self.value(&each.body, depth)?;
         self.leave(before);
@@ -218,12 +189,7 @@ impl<'a> Environment<'a> {
 
     // The sum over these members, the first half and the rest.
     #[cycle(evaluation)]
-    fn sum(
-        &mut self,
-        each: &'a Each,
-        members: &[i64],
-        depth: u32,
-    ) -> Result<ConstantValue, ExpansionStop> {
+    fn sum(&mut self, each: &'a Each, members: &[i64], depth: u32) -> Expanding<ConstantValue> {
         match members {
             [] => return Ok(ConstantValue::Number(0)),
             [only] => return self.at_member(each, *only, depth),
@@ -244,13 +210,10 @@ impl<'a> Environment<'a> {
         least: i64,
         members: &[i64],
         depth: u32,
-    ) -> Result<bool, ExpansionStop> {
+    ) -> Expanding<bool> {
         let mut missing = least;
         for (i, member) in members.iter().enumerate() {
-            if missing <= 0 {
-                break;
-            }
-            if missing > count_of(members.len().saturating_sub(i)) {
+            if missing <= 0 || missing > count_of(members.len().saturating_sub(i)) {
                 break;
             }
             let value = self.at_member(each, *member, depth)?;
@@ -263,31 +226,23 @@ impl<'a> Environment<'a> {
 
     // The value of a form.
     #[cycle(evaluation)]
-    fn each(&mut self, each: &'a Each, depth: u32) -> Result<ConstantValue, ExpansionStop> {
+    fn each(&mut self, each: &'a Each, depth: u32) -> Expanding<ConstantValue> {
         let inner = self.step(depth, each.at)?;
         let least = self.least(each, inner)?;
-        let members = self.range(&each.binder, inner)?;
-        let count = count_of(members.len());
-        match each.form {
-            FormNode::Sum => self.sum(each, members.as_slice(), inner),
-            FormNode::All => {
-                let all = self.at_least(each, count, members.as_slice(), inner)?;
-                Ok(ConstantValue::Truth(all))
-            }
-            FormNode::Some => {
-                let some = self.at_least(each, 1, members.as_slice(), inner)?;
-                Ok(ConstantValue::Truth(some))
-            }
-            FormNode::AtLeast => {
-                let enough = self.at_least(each, least, members.as_slice(), inner)?;
-                Ok(ConstantValue::Truth(enough))
-            }
-        }
+        let members = self.range(&each.binder, inner, usize::MAX)?;
+        let wanted = match each.form {
+            FormNode::Sum => return self.sum(each, members.as_slice(), inner),
+            FormNode::All => count_of(members.len()),
+            FormNode::Some => 1,
+            FormNode::AtLeast => least,
+        };
+        let enough = self.at_least(each, wanted, members.as_slice(), inner)?;
+        Ok(ConstantValue::Truth(enough))
     }
 
     /// The number of `at_least`, and 0 for other forms.
     #[cycle(evaluation)]
-    pub(crate) fn least(&mut self, each: &'a Each, depth: u32) -> Result<i64, ExpansionStop> {
+    pub(crate) fn least(&mut self, each: &'a Each, depth: u32) -> Expanding<i64> {
         match &each.least {
             Some(least) => self.number(least, depth),
             None => Ok(0),

@@ -59,7 +59,7 @@ pub(crate) fn failed_in(
 ) -> NotationError
     ensures { IsInside length result }
 {
-    match environment.members_of(environment.copy) {
+    match environment.present_members() {
         Ok(members) => failed(stop, members, length),
         Err(_) => NotationError::Memory,
     }
@@ -193,7 +193,7 @@ impl Expansion {
             None => 0,
         };
         let names = self.model.tables.members.as_slice();
-        member_values(alloc, names, self.built.copies.as_slice(), copy)
+        member_values(alloc, names, &[], self.built.copies.as_slice(), copy)
     }
 
     /// A fault of the plain program, at its place in the source.

@@ -1,32 +1,11 @@
 //! The members of families of processes and variables.
 
-use crate::environment::{Environment, SavedValues};
-use crate::fault::ExpansionStop;
+use crate::environment::Environment;
+use crate::fault::Expanding;
 use crate::limits::UNFOLDING;
 use crate::syntax::Binder;
-use std::alloc::AllocError;
 
 impl<'a> Environment<'a> {
-    /// Begins the copy in which the members of these ranges have these values.
-    pub(crate) fn enter_all(
-        &mut self,
-        ranges: &[Binder],
-        values: &[i64],
-    ) -> Result<Vec<SavedValues>, AllocError> {
-        let mut before = Vec::new(self.alloc);
-        for (binder, value) in ranges.iter().zip(values) {
-            before.push(self.enter(binder.member, *value)?)?;
-        }
-        Ok(before)
-    }
-
-    /// Ends copies, the innermost first.
-    pub(crate) fn leave_all(&mut self, before: Vec<SavedValues>) {
-        for entered in before.iter().rev() {
-            self.leave(*entered);
-        }
-    }
-
     // The values of the members of these ranges, and of one more range: all, or more than this limit.
     fn longer(
         &mut self,
@@ -34,13 +13,13 @@ impl<'a> Environment<'a> {
         binder: &'a Binder,
         tuples: &[Vec<i64>],
         limit: usize,
-    ) -> Result<Vec<Vec<i64>>, ExpansionStop> {
+    ) -> Expanding<Vec<Vec<i64>>> {
         let mut longer = Vec::new(self.alloc);
         for tuple in tuples {
             let before = self.enter_all(outer, tuple.as_slice())?;
-            let members = self.range(binder, UNFOLDING)?;
-            self.leave_all(before);
-            for member in members.iter().take(limit.saturating_add(1)) {
+            let members = self.range(binder, UNFOLDING, limit.saturating_add(1))?;
+            self.leave(before);
+            for member in &members {
                 let mut values = Vec::from_slice(self.alloc, tuple.as_slice())?;
                 values.push(*member)?;
                 longer.push(values)?;
@@ -57,7 +36,7 @@ impl<'a> Environment<'a> {
         &mut self,
         ranges: &'a [Binder],
         limit: usize,
-    ) -> Result<Vec<Vec<i64>>, ExpansionStop> {
+    ) -> Expanding<Vec<Vec<i64>>> {
         let mut tuples = Vec::new(self.alloc);
         tuples.push(Vec::new(self.alloc))?;
         for (i, binder) in ranges.iter().enumerate() {

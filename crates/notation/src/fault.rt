@@ -82,8 +82,12 @@ pub enum Problem {
     DeepUnfolding,
     /// The plain text has more than 1,048,576 bytes.
     LongText,
-    /// The expansion takes more than 2,000,000 steps.
+    /// The expansion of a text or of a line takes more than 2,000,000 steps.
     MuchWork,
+    /// The lines of a session take more than 10,000,000 steps.
+    SessionWork,
+    /// A `for` before a line, or in a breakpoint, has more than 65,536 members.
+    ManyCopies,
     /// A fault that the process language finds in the plain text.
     Plain(FaultKind),
 }
@@ -135,6 +139,9 @@ pub(crate) enum ExpansionStop {
     Bad(Problem, usize),
 }
 
+/// What is expanded, or why work stopped.
+pub(crate) type Expanding<T> = Result<T, ExpansionStop>;
+
 impl From<AllocError> for ExpansionStop {
     fn from(_error: AllocError) -> ExpansionStop {
         ExpansionStop::Memory
@@ -161,9 +168,4 @@ impl<T: Drop> From<AllocFailed<T>> for NotationError {
     fn from(_error: AllocFailed<T>) -> NotationError {
         NotationError::Memory
     }
-}
-
-/// Something else is expected at this offset.
-pub(crate) fn due(what: Expected, at: usize) -> ExpansionStop {
-    ExpansionStop::Bad(Problem::Expected(what), at)
 }

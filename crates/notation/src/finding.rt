@@ -1,39 +1,38 @@
 //! Processes, commands and declarations, found by their names.
 
 use crate::building::{CommandOrigin, ProcessCopy};
-use crate::syntax::DeclarationNode;
+use crate::expansion::Expansion;
+use crate::syntax::{DeclarationNode, Reference};
 use std::alloc::{AllocError, Global};
 
-/// The declaration of the process of this plain name.
-pub(crate) fn named_declaration(
-    alloc: Global,
-    processes: &[ProcessCopy],
-    name: &[u8],
-) -> Result<Vec<Option<usize>>, AllocError> {
-    let mut found = Vec::new(alloc);
-    for process in processes {
-        if process.name.as_slice() == name {
-            found.push(Some(process.declaration))?;
-            break;
-        }
+// Whether the name may be that of the process: its plain name, or that of its family with so many indices.
+fn may_name(expansion: &Expansion, process: &ProcessCopy, name: &Reference) -> bool {
+    if name.indices.is_empty() {
+        return process.name.as_slice() == name.name.bytes();
     }
-    Ok(found)
+    match expansion.model.declarations.get(process.declaration) {
+        Some(DeclarationNode::Process(declared)) => {
+            declared.name == name.name && declared.ranges.len() == name.indices.len()
+        }
+        _ => false,
+    }
 }
 
-/// The declarations of families of this name with so many ranges.
-pub(crate) fn family_declarations(
+/// The declarations that may have made the process of this name; None alone where there is none.
+pub(crate) fn declarations_of(
     alloc: Global,
-    declarations: &[DeclarationNode],
-    name: &[u8],
-    ranges: usize,
+    expansion: &Expansion,
+    name: &Reference,
 ) -> Result<Vec<Option<usize>>, AllocError> {
     let mut found = Vec::new(alloc);
-    for (number, declaration) in declarations.iter().enumerate() {
-        if let DeclarationNode::Process(process) = declaration {
-            if process.name.bytes() == name && process.ranges.len() == ranges {
-                found.push(Some(number))?;
-            }
+    for process in &expansion.built.processes {
+        let declaration = Some(process.declaration);
+        if may_name(expansion, process, name) && found.last() != Some(&declaration) {
+            found.push(declaration)?;
         }
+    }
+    if found.is_empty() {
+        found.push(None)?;
     }
     Ok(found)
 }
@@ -43,20 +42,14 @@ pub(crate) fn find_process<'a>(
     processes: &'a [ProcessCopy],
     name: &[u8],
 ) -> Option<&'a ProcessCopy> {
-    for process in processes {
-        if process.name.as_slice() == name {
-            return Some(process);
-        }
-    }
-    None
+    processes
+        .iter()
+        .find(|process| process.name.as_slice() == name)
 }
 
 /// The number of the command of this label.
 pub(crate) fn find_command(commands: &[CommandOrigin], label: &[u8]) -> Option<usize> {
-    for (number, command) in commands.iter().enumerate() {
-        if command.label.as_slice() == label {
-            return Some(number);
-        }
-    }
-    None
+    commands
+        .iter()
+        .position(|command| command.label.as_slice() == label)
 }

@@ -3,20 +3,13 @@
 ghost use Rattle.std.specs.Prelude.{◌≤◌, length};
 
 use crate::fault::Problem;
-use crate::token::{Mark, SourceToken, SourceTokenKind};
+use crate::plain_text::{is_space, is_word_byte};
+use crate::token::{MARKS, Mark, SourceToken, SourceTokenKind, part};
 use dbg_base::limits::NAME_BYTES;
 use std::alloc::{AllocError, Global};
 
-fn is_space(byte: u8) -> bool {
-    byte == b' ' || byte == b'\t' || byte == b'\n' || byte == b'\r'
-}
-
-fn is_word_byte(byte: u8) -> bool {
-    byte.is_ascii_lowercase() || byte.is_ascii_digit() || byte == b'_'
-}
-
-/// How many bytes at the start are blanks, line ends and comments.
-pub(crate) fn gap_length(bytes: &[u8]) -> usize
+// How many bytes at the start are blanks, line ends and comments.
+fn gap_length(bytes: &[u8]) -> usize
     ensures { result ≤ length bytes.now }
 {
     let mut in_comment = false;
@@ -26,30 +19,6 @@ pub(crate) fn gap_length(bytes: &[u8]) -> usize
         } else if *byte == b'#' {
             in_comment = true;
         } else if !is_space(*byte) {
-            return i;
-        }
-    }
-    bytes.len()
-}
-
-// How many bytes at the start may be in a word.
-fn word_length(bytes: &[u8]) -> usize
-    ensures { result ≤ length bytes.now }
-{
-    for (i, byte) in bytes.iter().enumerate() {
-        if !is_word_byte(*byte) {
-            return i;
-        }
-    }
-    bytes.len()
-}
-
-// How many digits are at the start.
-fn digit_length(bytes: &[u8]) -> usize
-    ensures { result ≤ length bytes.now }
-{
-    for (i, byte) in bytes.iter().enumerate() {
-        if !byte.is_ascii_digit() {
             return i;
         }
     }
@@ -66,61 +35,20 @@ fn number_value(digits: &[u8]) -> Option<i64> {
     Some(value)
 }
 
-// The mark of two bytes, if it is one.
-fn double_mark(first: u8, second: u8) -> Option<Mark> {
-    match (first, second) {
-        (b':', b'=') => Some(Mark::Becomes),
-        (b'!', b'=') => Some(Mark::NotEquals),
-        (b'<', b'=') => Some(Mark::AtMost),
-        (b'>', b'=') => Some(Mark::AtLeast),
-        (b'.', b'.') => Some(Mark::Range),
-        _ => None,
-    }
-}
-
-// The mark of one byte, if it is one.
-fn single_mark(byte: u8) -> Option<Mark> {
-    match byte {
-        b'{' => Some(Mark::OpenBrace),
-        b'}' => Some(Mark::CloseBrace),
-        b'(' => Some(Mark::OpenParenthesis),
-        b')' => Some(Mark::CloseParenthesis),
-        b'[' => Some(Mark::OpenBracket),
-        b']' => Some(Mark::CloseBracket),
-        b';' => Some(Mark::Semicolon),
-        b':' => Some(Mark::Colon),
-        b',' => Some(Mark::Comma),
-        b'=' => Some(Mark::Equals),
-        b'<' => Some(Mark::LessThan),
-        b'>' => Some(Mark::GreaterThan),
-        b'+' => Some(Mark::Plus),
-        b'-' => Some(Mark::Minus),
-        b'*' => Some(Mark::Star),
-        b'/' => Some(Mark::Slash),
-        b'%' => Some(Mark::Percent),
-        _ => None,
-    }
-}
-
 // The mark at the start and how many bytes it has, or what is wrong there.
 fn prefix_mark(bytes: &[u8]) -> (SourceTokenKind, usize) {
-    if let [first, second, ..] = bytes {
-        if let Some(mark) = double_mark(*first, *second) {
-            return (SourceTokenKind::Mark(mark), 2);
+    for (text, mark) in &MARKS {
+        if bytes.starts_with(text.as_bytes()) {
+            return (SourceTokenKind::Mark(*mark), text.len());
         }
     }
-    match bytes {
-        [first, ..] => match single_mark(*first) {
-            Some(mark) => (SourceTokenKind::Mark(mark), 1),
-            None => (SourceTokenKind::Wrong(Problem::Byte), 1),
-        },
-        [] => (SourceTokenKind::End, 0),
-    }
+    (SourceTokenKind::Wrong(Problem::Byte), 1)
 }
 
 // The word at the start.
 fn prefix_word(bytes: &[u8]) -> (SourceTokenKind, usize) {
-    let length = word_length(bytes);
+    let end = bytes.iter().position(|byte| !is_word_byte(*byte));
+    let length = end.unwrap_or(bytes.len());
     if length > NAME_BYTES {
         return (SourceTokenKind::Wrong(Problem::LongWord), length);
     }
@@ -129,8 +57,9 @@ fn prefix_word(bytes: &[u8]) -> (SourceTokenKind, usize) {
 
 // The number at the start.
 fn prefix_number(bytes: &[u8]) -> (SourceTokenKind, usize) {
-    let length = digit_length(bytes);
-    match number_value(&bytes[..length]) {
+    let end = bytes.iter().position(|byte| !byte.is_ascii_digit());
+    let length = end.unwrap_or(bytes.len());
+    match number_value(part(bytes, 0, length)) {
         Some(value) => (SourceTokenKind::Number(value), length),
         None => (SourceTokenKind::Wrong(Problem::LargeNumber), length),
     }
@@ -183,16 +112,6 @@ pub(crate) fn has_notation(tokens: &[SourceToken]) -> bool {
         matches!(
             token.kind,
             SourceTokenKind::Mark(Mark::OpenBracket | Mark::CloseBracket | Mark::Range)
-        )
-    })
-}
-
-/// Whether a line of these tokens may have an expression.
-pub(crate) fn needs_names(tokens: &[SourceToken]) -> bool {
-    tokens.iter().any(|token| {
-        matches!(
-            token.kind,
-            SourceTokenKind::Mark(Mark::OpenBracket | Mark::OpenParenthesis | Mark::Colon)
         )
     })
 }

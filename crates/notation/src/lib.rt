@@ -1,7 +1,7 @@
 //! The model notation: a layer over the process language.
 //!
 //! A text in the notation is expanded into a text of the process language. `expand` does so, and knows for each token of the plain text
-//! from which place of the source it comes. `Expansion::expand_line` does the same for a command line.
+//! from which place of the source it comes. A `LineExpander` does the same for the command lines of a session.
 #![tactic(auto)]
 
 mod building;
@@ -14,6 +14,7 @@ mod fault;
 mod finding;
 mod lexer;
 pub mod limits;
+mod line_expander;
 mod lines;
 mod model;
 mod parser;
@@ -29,7 +30,8 @@ mod writing;
 
 pub use expansion::{Expansion, expand, line_and_column};
 pub use fault::{Expected, Fault, Meaning, MemberValue, NotationError, Problem};
+pub use line_expander::LineExpander;
 pub use lines::PlainLines;
 pub use sentences::{likely, message};
-pub use session::{expand_program, expand_session};
+pub use session::{ExpandedProgram, expand_program};
 pub use token::Mark;

@@ -12,7 +12,10 @@ pub const PARAMETERS: usize = 64;
 /// How deep expressions may be put into one another during expansion: each definition, argument, parenthesis and half of an `all` counts
 /// one.
 pub const UNFOLDING: u32 = 512;
-/// The most steps of an expansion: each part of an expression that is written or computed, and each member of a range, is one.
+/// The most steps of an expansion, and of a command line: each part of an expression that is written or computed, and each member of a range,
+/// is one.
 pub const STEPS: u32 = 2_000_000;
+/// The most steps of all command lines of a session.
+pub const SESSION_STEPS: u32 = 10_000_000;
 /// The most lines that one command line with `for` stands for, and the most parts of a breakpoint.
 pub const COPIES: usize = 65_536;

@@ -1,107 +1,77 @@
-//! The plain lines that a command line stands for.
+//! The plain lines that command lines stand for.
 
-ghost use Rattle.std.specs.Prelude.{length, IfErr};
-ghost use Rattle.notation.specs.Places.{IsInside};
+use std::alloc::{AllocError, Global};
 
-use crate::expansion::{Expansion, failed, failed_in};
-use crate::fault::{ExpansionStop, NotationError};
-use crate::lexer::tokens;
-use crate::pieces::{Divider, LinePieces};
-use crate::rendering::Renderer;
-use dbg_base::limits::LINE_BYTES;
-use std::alloc::Global;
-
-/// The plain lines that a command line stands for, each without a line end.
+/// Plain lines, each without a line end. They share one text, so a buffer that is cleared and filled again needs no new memory.
 #[derive(Debug, Drop)]
 pub struct PlainLines {
-    lines: Vec<Vec<u8>>,
+    text: Vec<u8>,
+    // Where each line ends in the text.
+    ends: Vec<usize>,
 }
 
 impl PlainLines {
-    /// The lines, in order.
-    pub fn lines(&self) -> &[Vec<u8>] {
-        self.lines.as_slice()
-    }
-}
-
-// The line without its comment, and without the blanks before it.
-fn without_comment(line: &[u8]) -> &[u8] {
-    match line.iter().position(|byte| *byte == b'#') {
-        Some(at) => line.get(..at).unwrap_or(line).trim_ascii_end(),
-        None => line,
-    }
-}
-
-// A fault at its place in the line. What is in the model is shown at the piece that uses it.
-fn placed(stop: ExpansionStop, base: usize, from: usize) -> ExpansionStop {
-    match stop {
-        ExpansionStop::Memory => ExpansionStop::Memory,
-        ExpansionStop::Bad(problem, at) if at >= base => ExpansionStop::Bad(
-            problem,
-            at.saturating_sub(base),
-        ),
-        ExpansionStop::Bad(problem, _) => ExpansionStop::Bad(problem, from),
-    }
-}
-
-// Whether the line is an expected reply.
-fn is_expectation(line: &[u8]) -> bool {
-    line.trim_ascii_start().first() == Some(&b'>')
-}
-
-impl Expansion {
-    // The lines that these pieces stand for. Faults are at most at this offset.
-    fn rendered(
-        &self,
-        alloc: Global,
-        line: &[u8],
-        pieces: &LinePieces,
-        divider: &Divider<'_>,
-        length: usize,
-    ) -> Result<PlainLines, NotationError>
-        ensures { IfErr result (IsInside length) }
-    {
-        let mut renderer = Renderer::new(alloc, self, line)?;
-        let members = divider.parser.tables.members.as_slice();
-        renderer.writer.environment.add_members(members)?;
-        match renderer.lines(pieces) {
-            Ok(lines) => Ok(PlainLines { lines }),
-            Err(stop) => {
-                let stop = placed(stop, self.source, renderer.from);
-                Err(failed_in(&renderer.writer.environment, stop, length))
-            }
+    /// No line.
+    pub fn new(alloc: Global) -> PlainLines {
+        PlainLines {
+            text: Vec::new(alloc),
+            ends: Vec::new(alloc),
         }
     }
 
-    // The lines that a line without a comment stands for. Faults are at most at this offset.
-    fn expand_bare(
-        &self,
-        alloc: Global,
-        line: &[u8],
-        length: usize,
-    ) -> Result<PlainLines, NotationError>
-        ensures { IfErr result (IsInside length) }
-    {
-        let tokens = tokens(alloc, line)?;
-        let mut divider = Divider::new(alloc, self, line, tokens.as_slice());
-        match divider.line() {
-            Ok(pieces) => self.rendered(alloc, line, &pieces, &divider, length),
-            Err(stop) => {
-                let stop = placed(stop, self.source, 0);
-                Err(failed(stop, Vec::new(alloc), length))
-            }
+    /// Forgets all lines.
+    pub fn clear(&mut self) {
+        self.truncate(0);
+    }
+
+    /// How many lines there are.
+    pub fn count(&self) -> usize {
+        self.ends.len()
+    }
+
+    // Where the line of this number begins in the text.
+    fn start(&self, number: usize) -> usize {
+        match number.checked_sub(1) {
+            Some(before) => self.ends.get(before).copied().unwrap_or(self.text.len()),
+            None => 0,
         }
     }
 
-    /// The plain line or lines that a command line stands for. A line that has nothing of the notation stays as it is.
-    pub fn expand_line(&self, alloc: Global, line: &[u8]) -> Result<PlainLines, NotationError>
-        ensures { IfErr result (IsInside (length line.now)) }
-    {
-        if line.len() > LINE_BYTES || is_expectation(line) {
-            let mut lines = Vec::new(alloc);
-            lines.push(Vec::from_slice(alloc, line)?)?;
-            return Ok(PlainLines { lines });
+    /// The line of this number, or nothing if there is none.
+    pub fn line(&self, number: usize) -> &[u8] {
+        match self.ends.get(number) {
+            Some(end) => self.text.get(self.start(number)..*end).unwrap_or(&[]),
+            None => &[],
         }
-        self.expand_bare(alloc, without_comment(line), line.len())
+    }
+
+    /// Appends a line as it is.
+    pub fn push(&mut self, line: &[u8]) -> Result<(), AllocError> {
+        self.ends.reserve(1)?;
+        self.put(line)?;
+        self.end_line()
+    }
+
+    /// How many bytes there are.
+    pub(crate) fn length(&self) -> usize {
+        self.text.len()
+    }
+
+    /// Appends bytes to the line that is written.
+    pub(crate) fn put(&mut self, bytes: &[u8]) -> Result<(), AllocError> {
+        self.text.extend_from_slice(bytes)
+    }
+
+    /// Ends the line that is written.
+    pub(crate) fn end_line(&mut self) -> Result<(), AllocError> {
+        self.ends.push(self.text.len())?;
+        Ok(())
+    }
+
+    /// Forgets all lines but the first ones, and the line that is written.
+    pub(crate) fn truncate(&mut self, count: usize) {
+        let start = self.start(count);
+        self.text.truncate(start);
+        self.ends.truncate(count);
     }
 }

@@ -3,7 +3,7 @@
 mod expressions;
 mod items;
 
-use crate::fault::{ExpansionStop, Expected, Problem, due};
+use crate::fault::{Expanding, ExpansionStop, Expected, Problem};
 use crate::limits::NESTING;
 use crate::model::{Tables, Visible};
 use crate::scope::{Binding, ModelScope};
@@ -35,8 +35,9 @@ pub(crate) struct Written {
 pub(crate) struct ModelParser<'a> {
     pub(crate) alloc: Global,
     text: &'a [u8],
-    tokens: &'a [SourceToken],
-    next: usize,
+    pub(crate) tokens: &'a [SourceToken],
+    /// The number of the next token.
+    pub(crate) next: usize,
     // What is added to the offsets of the text.
     base: usize,
     // How many members are numbered already.
@@ -49,32 +50,24 @@ pub(crate) struct ModelParser<'a> {
     repeats: u32,
 }
 
-// Whether the word is reserved in the process language.
+// The reserved words of the process language.
+const RESERVED: [&str; 12] = [
+    "process", "var", "when", "send", "recv", "true", "false", "and", "or", "not", "sent", "got",
+];
+
+// Whether the word is reserved.
 fn is_reserved(word: &[u8]) -> bool {
-    [
-        b"process".as_slice(),
-        b"var".as_slice(),
-        b"when".as_slice(),
-        b"send".as_slice(),
-        b"recv".as_slice(),
-        b"true".as_slice(),
-        b"false".as_slice(),
-        b"and".as_slice(),
-        b"or".as_slice(),
-        b"not".as_slice(),
-        b"sent".as_slice(),
-        b"got".as_slice(),
-    ]
-    .iter()
-    .any(|reserved| *reserved == word)
+    RESERVED.iter().any(|reserved| reserved.as_bytes() == word)
 }
 
 impl<'a> ModelParser<'a> {
-    /// Reads these tokens of the text, from the first on. Offsets begin with `base`, and the numbers of members with `members`.
+    /// Reads these tokens of the text, from the first on, over these names. Offsets begin with `base`, and the numbers of members with
+    /// `members`.
     pub(crate) fn new(
         alloc: Global,
         text: &'a [u8],
         tokens: &'a [SourceToken],
+        scope: ModelScope<'a>,
         base: usize,
         members: usize,
     ) -> ModelParser<'a> {
@@ -85,16 +78,16 @@ impl<'a> ModelParser<'a> {
             next: 0,
             base,
             members,
-            scope: ModelScope::new(alloc),
+            scope,
             tables: Tables::new(alloc),
             declaration: None,
             repeats: 0,
         }
     }
 
-    // The token so many after the next one.
-    fn token_after(&self, count: usize) -> SourceToken {
-        match self.tokens.get(self.next.saturating_add(count)) {
+    // The token of this number; after the last one the end of the text.
+    fn token_numbered(&self, number: usize) -> SourceToken {
+        match self.tokens.get(number) {
             Some(token) => *token,
             None => SourceToken {
                 at: self.text.len(),
@@ -106,7 +99,7 @@ impl<'a> ModelParser<'a> {
 
     /// The next token.
     pub(crate) fn token(&self) -> SourceToken {
-        self.token_after(0)
+        self.token_numbered(self.next)
     }
 
     /// The offset of the next token.
@@ -116,34 +109,7 @@ impl<'a> ModelParser<'a> {
 
     /// The token before the next one.
     pub(crate) fn token_before(&self) -> SourceToken {
-        match self.tokens.get(self.next.wrapping_sub(1)) {
-            Some(token) => *token,
-            None => SourceToken {
-                at: 0,
-                length: 0,
-                kind: SourceTokenKind::End,
-            },
-        }
-    }
-
-    /// How many tokens there are.
-    pub(crate) fn count(&self) -> usize {
-        self.tokens.len()
-    }
-
-    /// The tokens from one number to another.
-    pub(crate) fn between(&self, from: usize, to: usize) -> &'a [SourceToken] {
-        self.tokens.get(from..to).unwrap_or(&[])
-    }
-
-    /// The number of the next token.
-    pub(crate) fn place(&self) -> usize {
-        self.next
-    }
-
-    /// Continues with the token of this number.
-    pub(crate) fn go_to(&mut self, place: usize) {
-        self.next = place;
+        self.token_numbered(self.next.wrapping_sub(1))
     }
 
     /// Passes the next token.
@@ -167,18 +133,33 @@ impl<'a> ModelParser<'a> {
 
     /// Whether the next token is this word.
     pub(crate) fn is_word(&self, word: &[u8]) -> bool {
-        match self.word() {
-            Some(found) => found == word,
-            None => false,
-        }
+        self.word() == Some(word)
     }
 
     /// Whether the token so many after the next one is this mark.
     pub(crate) fn has_mark_after(&self, count: usize, mark: Mark) -> bool {
-        match self.token_after(count).kind {
+        match self.token_numbered(self.next.saturating_add(count)).kind {
             SourceTokenKind::Mark(found) => found == mark,
             _ => false,
         }
+    }
+
+    /// Passes the next token if it is this word. The answer is whether it was.
+    pub(crate) fn passes_word(&mut self, word: &[u8]) -> bool {
+        let found = self.is_word(word);
+        if found {
+            self.pass();
+        }
+        found
+    }
+
+    /// Passes the next token if it is this mark. The answer is whether it was.
+    pub(crate) fn passes_mark(&mut self, mark: Mark) -> bool {
+        let found = self.is_mark(mark);
+        if found {
+            self.pass();
+        }
+        found
     }
 
     /// Whether the next token is this mark.
@@ -187,20 +168,19 @@ impl<'a> ModelParser<'a> {
     }
 
     /// Passes this mark. The answer is its offset.
-    pub(crate) fn mark(&mut self, mark: Mark) -> Result<usize, ExpansionStop> {
+    pub(crate) fn mark(&mut self, mark: Mark) -> Expanding<usize> {
         let at = self.at();
-        if !self.is_mark(mark) {
-            return Err(self.unexpected(Expected::Mark(mark)));
+        if self.passes_mark(mark) {
+            return Ok(at);
         }
-        self.pass();
-        Ok(at)
+        Err(self.unexpected(Expected::Mark(mark)))
     }
 
     /// Something else is expected in place of the next token, or the next token is none.
     pub(crate) fn unexpected(&self, what: Expected) -> ExpansionStop {
         match self.token().kind {
             SourceTokenKind::Wrong(problem) => ExpansionStop::Bad(problem, self.at()),
-            _ => due(what, self.at()),
+            _ => ExpansionStop::Bad(Problem::Expected(what), self.at()),
         }
     }
 
@@ -218,7 +198,7 @@ impl<'a> ModelParser<'a> {
     }
 
     /// A name.
-    pub(crate) fn name(&mut self) -> Result<Written, ExpansionStop> {
+    pub(crate) fn name(&mut self) -> Expanding<Written> {
         let at = self.at();
         let token = self.token();
         if let Some(bytes) = self.word() {
@@ -233,12 +213,12 @@ impl<'a> ModelParser<'a> {
     }
 
     /// Gives a name a meaning, unless it has another one here.
-    pub(crate) fn declare(&mut self, name: &Written, new: Binding) -> Result<(), ExpansionStop> {
+    pub(crate) fn declare(&mut self, name: &Written, new: Binding) -> Expanding<()> {
         let bytes = self.bytes(name.token);
         if let Some(old) = self.scope.declare(bytes, new)? {
             return Err(ExpansionStop::Bad(Problem::NameTaken(old), name.at));
         }
-        if self.repeats == 0 && new != Binding::Variable {
+        if self.repeats == 0 && !matches!(new, Binding::Variable | Binding::Parameter(_)) {
             self.tables.visible.push(Visible {
                 name: name.name,
                 binding: new,
@@ -276,7 +256,7 @@ impl<'a> ModelParser<'a> {
     }
 
     /// An expression.
-    pub(crate) fn expression(&mut self) -> Result<Expression, ExpansionStop> {
+    pub(crate) fn expression(&mut self) -> Expanding<Expression> {
         self.chain(Level::Or, NESTING)
     }
 }

@@ -1,14 +1,16 @@
 //! What a command line is made of: which of its bytes stand for something else.
 
 use crate::expansion::Expansion;
-use crate::fault::ExpansionStop;
-use crate::finding::{family_declarations, named_declaration};
-use crate::lexer::{has_notation, needs_names};
+use crate::fault::{Expanding, ExpansionStop};
+use crate::finding::declarations_of;
+use crate::lexer::has_notation;
 use crate::limits::NESTING;
 use crate::parser::ModelParser;
+use crate::scope::{ModelNames, ModelScope};
 use crate::syntax::{Binder, Expression, Reference};
 use crate::token::{Mark, SourceToken, SourceTokenKind};
-use std::alloc::{AllocError, Global};
+use dbg_base::Name;
+use std::alloc::Global;
 
 /// What some bytes of a line stand for.
 #[derive(Drop)]
@@ -40,32 +42,37 @@ pub(crate) struct LinePiece {
     pub(crate) meant: Meant,
 }
 
-/// A line: the ranges before it, and its pieces in order.
+/// A line: the ranges before it, its pieces in order, and the names of the members of its ranges and forms.
 #[derive(Drop)]
 pub(crate) struct LinePieces {
     pub(crate) ranges: Vec<Binder>,
     pub(crate) pieces: Vec<LinePiece>,
+    pub(crate) members: Vec<Name>,
 }
 
 /// Divides a line into pieces.
 #[derive(Drop)]
 pub(crate) struct Divider<'a> {
-    pub(crate) parser: ModelParser<'a>,
+    parser: ModelParser<'a>,
     expansion: &'a Expansion,
+    pieces: Vec<LinePiece>,
 }
 
 impl<'a> Divider<'a> {
-    /// Divides the line of these tokens.
+    /// Divides the line of these tokens, where the model has these names.
     pub(crate) fn new(
         alloc: Global,
         expansion: &'a Expansion,
+        names: &'a ModelNames,
         line: &'a [u8],
         tokens: &'a [SourceToken],
     ) -> Divider<'a> {
+        let scope = ModelScope::new(alloc, Some(names));
         let members = expansion.model.tables.members.len();
         Divider {
-            parser: ModelParser::new(alloc, line, tokens, expansion.source, members),
+            parser: ModelParser::new(alloc, line, tokens, scope, expansion.source, members),
             expansion,
+            pieces: Vec::new(alloc),
         }
     }
 
@@ -80,16 +87,10 @@ impl<'a> Divider<'a> {
         self.parser.token().at
     }
 
-    // Makes the names of a declaration visible, or those of the whole model.
-    fn declare(&mut self, declaration: Option<usize>) -> Result<(), AllocError> {
-        let expansion = self.expansion;
-        for visible in &expansion.model.tables.visible {
-            if visible.declaration == declaration {
-                self.parser
-                    .scope
-                    .declare(visible.name.bytes(), visible.binding)?;
-            }
-        }
+    // Appends the piece from this offset to the end of the last token that was passed.
+    fn put(&mut self, from: usize, meant: Meant) -> Expanding<()> {
+        let to = self.end();
+        self.pieces.push(LinePiece { from, to, meant })?;
         Ok(())
     }
 
@@ -98,44 +99,22 @@ impl<'a> Divider<'a> {
         self.parser.has_mark_after(1, Mark::OpenBracket)
     }
 
-    // The declarations that may have made the process that a name with indices names; None alone where there is none.
-    fn declarations_of(&self, name: &Reference) -> Result<Vec<Option<usize>>, AllocError> {
-        let alloc = self.parser.alloc;
-        let bytes = name.name.bytes();
-        let mut found = if name.indices.is_empty() {
-            named_declaration(alloc, self.expansion.built.processes.as_slice(), bytes)?
-        } else {
-            let declarations = self.expansion.model.declarations.as_slice();
-            family_declarations(alloc, declarations, bytes, name.indices.len())?
-        };
-        if found.is_empty() {
-            found.push(None)?;
-        }
-        Ok(found)
-    }
-
     // A name with indices, which becomes a piece. The answer is the declarations that may have made the process of this name.
-    fn name(&mut self, pieces: &mut Vec<LinePiece>) -> Result<Vec<Option<usize>>, ExpansionStop> {
+    fn name(&mut self) -> Expanding<Vec<Option<usize>>> {
         let from = self.start();
         let reference = self.parser.reference(NESTING)?;
-        let declarations = self.declarations_of(&reference)?;
-        let to = self.end();
-        pieces.push(LinePiece {
-            from,
-            to,
-            meant: Meant::Name(reference),
-        })?;
+        let declarations = declarations_of(self.parser.alloc, self.expansion, &reference)?;
+        self.put(from, Meant::Name(reference))?;
         Ok(declarations)
     }
 
     // `for` and its ranges, up to the colon.
-    fn ranges(&mut self) -> Result<Vec<Binder>, ExpansionStop> {
+    fn ranges(&mut self) -> Expanding<Vec<Binder>> {
         let mut ranges = Vec::new(self.parser.alloc);
-        for _ in 0..self.parser.count() {
-            if !self.parser.is_word(b"for") {
+        for _ in 0..self.parser.tokens.len() {
+            if !self.parser.passes_word(b"for") {
                 break;
             }
-            self.parser.pass();
             ranges.push(self.parser.binder(NESTING)?)?;
         }
         self.parser.mark(Mark::Colon)?;
@@ -145,7 +124,7 @@ impl<'a> Divider<'a> {
     // Passes the parenthesis at the next token, and all up to the one that closes it.
     fn pass_parentheses(&mut self) {
         let mut open = 0usize;
-        for _ in 0..self.parser.count() {
+        for _ in 0..self.parser.tokens.len() {
             if self.parser.is_at_end() {
                 break;
             }
@@ -167,18 +146,18 @@ impl<'a> Divider<'a> {
         &mut self,
         declaration: Option<usize>,
         end: usize,
-    ) -> Result<Option<Expression>, ExpansionStop> {
-        let first = self.parser.place();
+    ) -> Expanding<Option<Expression>> {
+        let first = self.parser.next;
         let mark = self.parser.scope.mark();
-        if declaration.is_some() {
-            self.declare(declaration)?;
-        }
+        self.parser.scope.process = declaration;
         let read = self.parser.primary(NESTING);
+        self.parser.scope.process = None;
         self.parser.scope.leave(mark);
+        let tokens = self.parser.tokens.get(first..end).unwrap_or(&[]);
         match read {
-            Ok(expression) if self.parser.place() == end => Ok(Some(expression)),
+            Ok(expression) if self.parser.next == end => Ok(Some(expression)),
             Err(ExpansionStop::Memory) => Err(ExpansionStop::Memory),
-            Err(stop) if has_notation(self.parser.between(first, end)) => Err(stop),
+            Err(stop) if has_notation(tokens) => Err(stop),
             _ => Ok(None),
         }
     }
@@ -189,10 +168,10 @@ impl<'a> Divider<'a> {
         declarations: &[Option<usize>],
         first: usize,
         end: usize,
-    ) -> Result<Vec<Reading>, ExpansionStop> {
+    ) -> Expanding<Vec<Reading>> {
         let mut readings = Vec::new(self.parser.alloc);
         for declaration in declarations {
-            self.parser.go_to(first);
+            self.parser.next = first;
             if let Some(expression) = self.enclosed(*declaration, end)? {
                 readings.push(Reading {
                     declaration: *declaration,
@@ -200,43 +179,34 @@ impl<'a> Divider<'a> {
                 })?;
             }
         }
-        self.parser.go_to(end);
+        self.parser.next = end;
         Ok(readings)
     }
 
     // The predicate of a part, which becomes a piece if it is in parentheses and is an expression.
-    fn predicate(
-        &mut self,
-        declarations: &[Option<usize>],
-        pieces: &mut Vec<LinePiece>,
-    ) -> Result<(), ExpansionStop> {
+    fn predicate(&mut self, declarations: &[Option<usize>]) -> Expanding<()> {
         if !self.parser.is_mark(Mark::OpenParenthesis) {
-            self.word(pieces)?;
+            self.word()?;
             return Ok(());
         }
         let from = self.start();
-        let first = self.parser.place();
+        let first = self.parser.next;
         self.pass_parentheses();
-        let end = self.parser.place();
-        let to = self.end();
+        let end = self.parser.next;
         let readings = self.readings(declarations, first, end)?;
         if !readings.is_empty() {
-            pieces.push(LinePiece {
-                from,
-                to,
-                meant: Meant::Predicate(readings),
-            })?;
+            self.put(from, Meant::Predicate(readings))?;
         }
         Ok(())
     }
 
     // A process and its predicate.
-    fn part(&mut self, pieces: &mut Vec<LinePiece>) -> Result<(), ExpansionStop> {
+    fn part(&mut self) -> Expanding<()> {
         if !self.parser.is_name() {
-            return self.word(pieces);
+            return self.word();
         }
-        let declarations = self.name(pieces)?;
-        self.predicate(declarations.as_slice(), pieces)
+        let declarations = self.name()?;
+        self.predicate(declarations.as_slice())
     }
 
     // Whether the next tokens begin a range: `for`, a name and a colon.
@@ -245,29 +215,26 @@ impl<'a> Divider<'a> {
     }
 
     // A part for each member of ranges.
-    fn repeat(&mut self, pieces: &mut Vec<LinePiece>) -> Result<(), ExpansionStop> {
+    fn repeat(&mut self) -> Expanding<()> {
         let from = self.start();
         let mark = self.parser.scope.mark();
         let ranges = self.ranges()?;
         let start = self.start();
-        let place = pieces.len();
-        self.part(pieces)?;
+        let place = self.pieces.len();
+        self.part()?;
         self.parser.scope.leave(mark);
         let to = self.end();
-        let count = pieces.len().saturating_sub(place);
-        let repeat = LinePiece {
-            from,
-            to,
-            meant: Meant::Repeat(ranges, start, count),
-        };
-        pieces.insert(place.min(pieces.len()), repeat)?;
+        let count = self.pieces.len().saturating_sub(place);
+        let meant = Meant::Repeat(ranges, start, count);
+        let repeat = LinePiece { from, to, meant };
+        self.pieces.insert(place.min(self.pieces.len()), repeat)?;
         Ok(())
     }
 
     // A word, or another token. A name with indices becomes a piece.
-    fn word(&mut self, pieces: &mut Vec<LinePiece>) -> Result<(), ExpansionStop> {
+    fn word(&mut self) -> Expanding<()> {
         if self.parser.is_name() && self.has_indices() {
-            self.name(pieces)?;
+            self.name()?;
         } else {
             self.parser.pass();
         }
@@ -280,68 +247,61 @@ impl<'a> Divider<'a> {
     }
 
     // `break`, a name, and parts.
-    fn breakpoint(&mut self, pieces: &mut Vec<LinePiece>) -> Result<(), ExpansionStop> {
+    fn breakpoint(&mut self) -> Expanding<()> {
         self.parser.pass();
         if !self.is_at_end() {
-            self.word(pieces)?;
+            self.word()?;
         }
-        for _ in 0..self.parser.count() {
+        for _ in 0..self.parser.tokens.len() {
             if self.is_at_end() {
                 break;
             }
             if self.is_at_range() {
-                self.repeat(pieces)?;
+                self.repeat()?;
             } else {
-                self.part(pieces)?;
+                self.part()?;
             }
         }
         Ok(())
     }
 
     // `step`, a process, and a label in place of a number.
-    fn step(&mut self, pieces: &mut Vec<LinePiece>) -> Result<(), ExpansionStop> {
+    fn step(&mut self) -> Expanding<()> {
         self.parser.pass();
         if !self.parser.is_name() {
             return Ok(());
         }
-        self.name(pieces)?;
+        self.name()?;
         if !self.parser.is_name() {
             return Ok(());
         }
         let from = self.start();
         let reference = self.parser.reference(NESTING)?;
-        let to = self.end();
-        pieces.push(LinePiece {
-            from,
-            to,
-            meant: Meant::Label(reference),
-        })?;
+        self.put(from, Meant::Label(reference))?;
         Ok(())
     }
 
     // One command, up to the end of the line or to a semicolon.
-    fn command(&mut self, pieces: &mut Vec<LinePiece>) -> Result<(), ExpansionStop> {
+    fn command(&mut self) -> Expanding<()> {
         if self.parser.is_word(b"break") {
-            self.breakpoint(pieces)?;
+            self.breakpoint()?;
         } else if self.parser.is_word(b"step") {
-            self.step(pieces)?;
+            self.step()?;
         }
-        for _ in 0..self.parser.count() {
+        for _ in 0..self.parser.tokens.len() {
             if self.is_at_end() {
                 break;
             }
-            self.word(pieces)?;
+            self.word()?;
         }
         Ok(())
     }
 
     // Commands, with semicolons between them.
-    fn commands(&mut self, pieces: &mut Vec<LinePiece>) -> Result<(), ExpansionStop> {
-        if self.parser.is_word(b"batch") {
-            self.parser.pass();
-        }
-        for _ in 0..self.parser.count() {
-            self.command(pieces)?;
+    fn commands(&mut self) -> Expanding<()> {
+        self.parser.passes_word(b"batch");
+        for _ in 0..self.parser.tokens.len() {
+            self.command()?;
             if self.parser.is_at_end() {
                 break;
             }
@@ -358,25 +318,25 @@ impl<'a> Divider<'a> {
     }
 
     /// The pieces of the line.
-    pub(crate) fn line(&mut self) -> Result<LinePieces, ExpansionStop> {
-        if needs_names(self.parser.between(0, self.parser.count())) {
-            self.declare(None)?;
-        }
-        let mut pieces = Vec::new(self.parser.alloc);
+    pub(crate) fn line(&mut self) -> Expanding<LinePieces> {
         let mut ranges = Vec::new(self.parser.alloc);
         self.seat();
         if self.is_at_range() {
             let from = self.start();
             ranges = self.ranges()?;
             let to = self.start();
-            pieces.push(LinePiece {
-                from,
-                to,
-                meant: Meant::Nothing,
-            })?;
+            let meant = Meant::Nothing;
+            self.pieces.push(LinePiece { from, to, meant })?;
             self.seat();
         }
-        self.commands(&mut pieces)?;
-        Ok(LinePieces { ranges, pieces })
+        self.commands()?;
+        let alloc = self.parser.alloc;
+        let members = Vec::from_slice(alloc, self.parser.tables.members.as_slice())?;
+        let pieces = std::mem::replace(&mut self.pieces, Vec::new(alloc));
+        Ok(LinePieces {
+            ranges,
+            pieces,
+            members,
+        })
     }
 }

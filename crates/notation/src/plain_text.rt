@@ -5,7 +5,7 @@ ghost use Rattle.notation.specs.TokenCounts.{are_joined, begins_token, token_cou
 ghost use Rattle.dbg_base.specs.Tokens.{is_space, is_word_byte};
 ghost use Rattle.dbg_base.specs.declared.limits.TheConstants.{INPUT_BYTES};
 
-use crate::fault::{ExpansionStop, Problem};
+use crate::fault::{Expanding, ExpansionStop, Problem};
 use dbg_base::limits::INPUT_BYTES;
 use std::alloc::{AllocError, Global};
 
@@ -38,7 +38,7 @@ impl PlainText {
     }
 
     // Writes these bytes, unless the text becomes too long. A fault is at this offset of the source.
-    fn put(&mut self, bytes: &[u8], at: usize) -> Result<(), ExpansionStop> {
+    fn put(&mut self, bytes: &[u8], at: usize) -> Expanding<()> {
         if bytes.len() > INPUT_BYTES.saturating_sub(self.bytes.len()) {
             return Err(ExpansionStop::Bad(Problem::LongText, at));
         }
@@ -47,7 +47,7 @@ impl PlainText {
     }
 
     /// Begins a line, with so many blanks.
-    pub(crate) fn line(&mut self, indent: &[u8], at: usize) -> Result<(), ExpansionStop> {
+    pub(crate) fn line(&mut self, indent: &[u8], at: usize) -> Expanding<()> {
         if !self.bytes.is_empty() {
             self.put(b"\n", at)?;
         }
@@ -57,12 +57,7 @@ impl PlainText {
     }
 
     /// Writes a token, after a blank where one belongs there. It comes from this offset of the source, in this copy.
-    pub(crate) fn token(
-        &mut self,
-        token: &[u8],
-        at: usize,
-        copy: usize,
-    ) -> Result<(), ExpansionStop> {
+    pub(crate) fn token(&mut self, token: &[u8], at: usize, copy: usize) -> Expanding<()> {
         if !self.tight {
             self.put(b" ", at)?;
         }
@@ -79,15 +74,15 @@ impl PlainText {
     }
 }
 
-// Whether a byte may be in a word or a number.
-fn is_word_byte(byte: u8) -> bool
+/// Whether a byte may be in a word or a number.
+pub(crate) fn is_word_byte(byte: u8) -> bool
     ensures { result ≡ is_word_byte byte }
 {
     byte.is_ascii_lowercase() || byte.is_ascii_digit() || byte == b'_'
 }
 
-// Whether a byte only separates tokens.
-fn is_space(byte: u8) -> bool
+/// Whether a byte only separates tokens.
+pub(crate) fn is_space(byte: u8) -> bool
     ensures { result ≡ is_space byte }
 {
     byte == b' ' || byte == b'\t' || byte == b'\n' || byte == b'\r'

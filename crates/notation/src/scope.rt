@@ -1,6 +1,7 @@
 //! What names mean at a place of the text.
 
 use crate::fault::Meaning;
+use crate::model::Visible;
 use std::alloc::{AllocError, Global};
 use std::collections::BTreeMap;
 
@@ -45,25 +46,76 @@ struct Declared<'a> {
     before: Option<Binding>,
 }
 
+/// The names of a model that command lines may use: those of the whole model, and those of each process by its declaration.
+#[derive(Drop)]
+pub(crate) struct ModelNames {
+    whole: BTreeMap<Vec<u8>, Binding>,
+    own: BTreeMap<usize, BTreeMap<Vec<u8>, Binding>>,
+}
+
+impl ModelNames {
+    /// The names of a model.
+    pub(crate) fn new(alloc: Global, visible: &[Visible]) -> Result<ModelNames, AllocError> {
+        let mut names = ModelNames {
+            whole: BTreeMap::new(alloc),
+            own: BTreeMap::new(alloc),
+        };
+        for visible in visible {
+            names.add(alloc, visible)?;
+        }
+        Ok(names)
+    }
+
+    fn add(&mut self, alloc: Global, visible: &Visible) -> Result<(), AllocError> {
+        let name = Vec::from_slice(alloc, visible.name.bytes())?;
+        match visible.declaration {
+            None => self.whole.insert(name, visible.binding)?,
+            Some(number) => self
+                .own
+                .entry(number)?
+                .or_insert(BTreeMap::new(alloc))
+                .insert(name, visible.binding)?,
+        };
+        Ok(())
+    }
+
+    // What the name means in the whole model, or else in the process of this declaration.
+    fn meaning(&self, name: &[u8], declaration: Option<usize>) -> Option<Binding> {
+        if let Some(binding) = self.whole.get(name) {
+            return Some(*binding);
+        }
+        self.own.get(&declaration?)?.get(name).copied()
+    }
+}
+
 /// The names that are visible.
 #[derive(Drop)]
 pub(crate) struct ModelScope<'a> {
     meanings: BTreeMap<&'a [u8], Binding>,
     declared: Vec<Declared<'a>>,
+    // For a command line, the names of its model.
+    model: Option<&'a ModelNames>,
+    /// The declaration of the process whose names are visible.
+    pub(crate) process: Option<usize>,
 }
 
 impl<'a> ModelScope<'a> {
-    /// No name is visible.
-    pub(crate) fn new(alloc: Global) -> ModelScope<'a> {
+    /// No name is visible, but those of a model.
+    pub(crate) fn new(alloc: Global, model: Option<&'a ModelNames>) -> ModelScope<'a> {
         ModelScope {
             meanings: BTreeMap::new(alloc),
             declared: Vec::new(alloc),
+            model,
+            process: None,
         }
     }
 
     /// What the name means.
     pub(crate) fn meaning(&self, name: &[u8]) -> Option<Binding> {
-        self.meanings.get(name).copied()
+        match self.meanings.get(name) {
+            Some(binding) => Some(*binding),
+            None => self.model?.meaning(name, self.process),
+        }
     }
 
     /// Gives the name a meaning. The answer is what it means already, if it cannot have both.
@@ -72,14 +124,13 @@ impl<'a> ModelScope<'a> {
         name: &'a [u8],
         new: Binding,
     ) -> Result<Option<Meaning>, AllocError> {
-        let before = self.meaning(name);
-        if let Some(old) = before {
+        if let Some(old) = self.meaning(name) {
             if old.clashes(new) {
                 return Ok(Some(old.meaning()));
             }
         }
+        let before = self.meanings.insert(name, new)?;
         self.declared.push(Declared { name, before })?;
-        self.meanings.insert(name, new)?;
         Ok(None)
     }
 

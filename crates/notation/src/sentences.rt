@@ -2,38 +2,9 @@
 
 use crate::expansion::line_and_column;
 use crate::fault::{Expected, Fault, Meaning, Problem};
-use crate::token::Mark;
+use crate::token::{Mark, mark_text, part};
 use dbg_base::FaultKind;
-use itoa::Buffer;
 use std::alloc::{AllocError, Global};
-
-// A mark as it is written.
-fn mark_text(mark: Mark) -> &'static str {
-    match mark {
-        Mark::OpenBrace => "`{`",
-        Mark::CloseBrace => "`}`",
-        Mark::OpenParenthesis => "`(`",
-        Mark::CloseParenthesis => "`)`",
-        Mark::OpenBracket => "`[`",
-        Mark::CloseBracket => "`]`",
-        Mark::Semicolon => "`;`",
-        Mark::Colon => "`:`",
-        Mark::Becomes => "`:=`",
-        Mark::Comma => "`,`",
-        Mark::Equals => "`=`",
-        Mark::NotEquals => "`!=`",
-        Mark::LessThan => "`<`",
-        Mark::AtMost => "`<=`",
-        Mark::GreaterThan => "`>`",
-        Mark::AtLeast => "`>=`",
-        Mark::Plus => "`+`",
-        Mark::Minus => "`-`",
-        Mark::Star => "`*`",
-        Mark::Slash => "`/`",
-        Mark::Percent => "`%`",
-        Mark::Range => "`..`",
-    }
-}
 
 // What is expected.
 fn expected_text(expected: Expected) -> &'static str {
@@ -106,6 +77,9 @@ fn problem_text(problem: Problem) -> &'static str {
         Problem::DeepUnfolding => "definitions are put into one another more than 512 deep",
         Problem::LongText => "the plain text would have more than 1048576 bytes",
         Problem::MuchWork => "the expansion takes more than 2000000 steps",
+        Problem::SessionWork => "the lines of a session take more than 10000000 steps",
+        Problem::ManyCopies =>
+            "one line stands for at most 65536 plain lines, and a breakpoint has at most as many parts",
         Problem::Plain(kind) => plain_text(kind),
     }
 }
@@ -155,7 +129,9 @@ pub fn likely(problem: Problem) -> Option<&'static str> {
         Problem::NoLabel => Some(
             "a label has the values of the members of each `for` around it: `hear[2]`",
         ),
-        Problem::LongText | Problem::MuchWork => Some("a range is too large"),
+        Problem::LongText | Problem::MuchWork | Problem::SessionWork | Problem::ManyCopies => {
+            Some("a range is too large")
+        }
         Problem::Plain(FaultKind::Limit) => Some(
             "a program has at most 32 processes, and a process 32 variables and 64 commands; 32 parentheses can be open",
         ),
@@ -163,45 +139,28 @@ pub fn likely(problem: Problem) -> Option<&'static str> {
     }
 }
 
-// Appends a number.
-fn put_number(line: &mut Vec<u8>, number: i64) -> Result<(), AllocError> {
-    let mut buffer = Buffer::new();
-    line.extend_from_slice(buffer.format(number).as_bytes())
-}
-
-// Appends a count.
-fn put_count(line: &mut Vec<u8>, number: usize) -> Result<(), AllocError> {
-    let mut buffer = Buffer::new();
-    line.extend_from_slice(buffer.format(number).as_bytes())
-}
-
-// Appends what is wrong.
-fn put_problem(line: &mut Vec<u8>, problem: Problem) -> Result<(), AllocError> {
-    line.extend_from_slice(problem_text(problem).as_bytes())?;
+// What is wrong.
+fn problem_line(alloc: Global, problem: Problem) -> Result<String, AllocError> {
+    let text = problem_text(problem);
     match problem {
-        Problem::Expected(_) => line.extend_from_slice(b" is expected here"),
+        Problem::Expected(Expected::Mark(_)) => format!(in alloc; "`{text}` is expected here"),
+        Problem::Expected(_) => format!(in alloc; "{text} is expected here"),
         Problem::Arguments { wanted, found } => {
-            line.extend_from_slice(b": ")?;
-            put_count(line, wanted)?;
-            line.extend_from_slice(b", and here are ")?;
-            put_count(line, found)
+            format!(in alloc; "{text}: {wanted}, and here are {found}")
         }
-        _ => Ok(()),
+        _ => format!(in alloc; "{text}"),
     }
 }
 
 // Appends in which copy a fault is.
-fn put_members(line: &mut Vec<u8>, fault: &Fault) -> Result<(), AllocError> {
-    for (number, member) in fault.members().iter().enumerate() {
-        let joint: &[u8] = if number == 0 {
-            b", in the copy with "
-        } else {
-            b", "
-        };
-        line.extend_from_slice(joint)?;
+fn put_members(line: &mut Vec<u8>, alloc: Global, fault: &Fault) -> Result<(), AllocError> {
+    let mut joint = ", in the copy with ";
+    for member in fault.members() {
+        line.extend_from_slice(joint.as_bytes())?;
         line.extend_from_slice(member.name.bytes())?;
-        line.extend_from_slice(b" = ")?;
-        put_number(line, member.value)?;
+        let value = format!(in alloc; " = {}", member.value)?;
+        line.extend_from_slice(value.as_bytes())?;
+        joint = ", ";
     }
     Ok(())
 }
@@ -227,7 +186,7 @@ fn put_marked(
     at: usize,
 ) -> Result<(), AllocError> {
     let (from, length) = line_bytes(text, at);
-    let line = crate::token::part(text, from, length).trim_ascii_end();
+    let line = part(text, from, length).trim_ascii_end();
     lines.push(Vec::from_slice(alloc, line)?)?;
     let mut mark = Vec::new(alloc);
     for byte in line.iter().take(at.saturating_sub(from)) {
@@ -243,15 +202,10 @@ fn put_marked(
 pub fn message(alloc: Global, text: &[u8], fault: &Fault) -> Result<Vec<Vec<u8>>, AllocError> {
     let (line, column) = line_and_column(text, fault.at());
     let mut lines = Vec::new(alloc);
-    let mut head = Vec::from_slice(alloc, b"line ")?;
-    put_count(&mut head, line)?;
-    head.extend_from_slice(b", column ")?;
-    put_count(&mut head, column)?;
-    lines.push(head)?;
+    lines.push(format!(in alloc; "line {line}, column {column}")?.into_bytes())?;
     put_marked(&mut lines, alloc, text, fault.at())?;
-    let mut wrong = Vec::new(alloc);
-    put_problem(&mut wrong, fault.problem())?;
-    put_members(&mut wrong, fault)?;
+    let mut wrong = problem_line(alloc, fault.problem())?.into_bytes();
+    put_members(&mut wrong, alloc, fault)?;
     lines.push(wrong)?;
     if let Some(meant) = likely(fault.problem()) {
         lines.push(Vec::from_slice(alloc, meant.as_bytes())?)?;

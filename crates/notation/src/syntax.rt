@@ -141,13 +141,15 @@ pub(crate) enum ItemNode {
     Repeat(Binder, Vec<ItemNode>),
 }
 
-/// A process, or a family of processes, with the offsets of its braces.
+/// A process, or a family of processes, with the offsets of its braces. So many constants are in it, numbered from the first on.
 #[derive(Drop)]
 pub(crate) struct ProcessNode {
     pub(crate) at: usize,
     pub(crate) name_at: usize,
     pub(crate) name: Name,
     pub(crate) ranges: Vec<Binder>,
+    pub(crate) first_constant: usize,
+    pub(crate) constants: usize,
     pub(crate) open: usize,
     pub(crate) items: Vec<ItemNode>,
     pub(crate) close: usize,

@@ -54,3 +54,39 @@ pub(crate) fn part(text: &[u8], at: usize, length: usize) -> &[u8] {
     let rest = text.get(at..).unwrap_or(&[]);
     rest.get(..length).unwrap_or(rest)
 }
+
+/// The marks as they are written. A mark that begins another one is after it.
+pub(crate) const MARKS: [(&str, Mark); 22] = [
+    (":=", Mark::Becomes),
+    ("!=", Mark::NotEquals),
+    ("<=", Mark::AtMost),
+    (">=", Mark::AtLeast),
+    ("..", Mark::Range),
+    ("{", Mark::OpenBrace),
+    ("}", Mark::CloseBrace),
+    ("(", Mark::OpenParenthesis),
+    (")", Mark::CloseParenthesis),
+    ("[", Mark::OpenBracket),
+    ("]", Mark::CloseBracket),
+    (";", Mark::Semicolon),
+    (":", Mark::Colon),
+    (",", Mark::Comma),
+    ("=", Mark::Equals),
+    ("<", Mark::LessThan),
+    (">", Mark::GreaterThan),
+    ("+", Mark::Plus),
+    ("-", Mark::Minus),
+    ("*", Mark::Star),
+    ("/", Mark::Slash),
+    ("%", Mark::Percent),
+];
+
+/// A mark as it is written.
+pub(crate) fn mark_text(mark: Mark) -> &'static str {
+    for (text, written) in &MARKS {
+        if *written == mark {
+            return text;
+        }
+    }
+    ""
+}

@@ -2,10 +2,10 @@
 
 use crate::environment::{ConstantValue, Environment};
 use crate::evaluation::{count_of, halves};
-use crate::fault::{ExpansionStop, Problem};
+use crate::fault::{Expanding, ExpansionStop, Problem};
 use crate::model::Tables;
 use crate::plain_text::PlainText;
-use crate::syntax::{Definition, Each, Expression, FormNode, Link, Reference, place};
+use crate::syntax::{Each, Expression, FormNode, Link, Reference, place};
 use dbg_base::{Direction, Operator};
 use itoa::Buffer;
 use std::alloc::{AllocError, Global};
@@ -46,7 +46,7 @@ fn form_texts(form: FormNode) -> (&'static [u8], &'static [u8]) {
 }
 
 /// Appends `_` and a number that is not below 0.
-pub(crate) fn put_index(name: &mut Vec<u8>, number: i64, at: usize) -> Result<(), ExpansionStop> {
+pub(crate) fn put_index(name: &mut Vec<u8>, number: i64, at: usize) -> Expanding<()> {
     if number < 0 {
         return Err(ExpansionStop::Bad(Problem::BelowZero, at));
     }
@@ -66,25 +66,25 @@ impl<'a> Writer<'a> {
     }
 
     /// Writes a token, which comes from this offset of the source.
-    pub(crate) fn token(&mut self, token: &[u8], at: usize) -> Result<(), ExpansionStop> {
+    pub(crate) fn token(&mut self, token: &[u8], at: usize) -> Expanding<()> {
         self.environment.keep();
         self.text.token(token, at, self.environment.copy)
     }
 
     /// Writes a token right after the one before.
-    pub(crate) fn joined_token(&mut self, token: &[u8], at: usize) -> Result<(), ExpansionStop> {
+    pub(crate) fn joined_token(&mut self, token: &[u8], at: usize) -> Expanding<()> {
         self.text.join();
         self.token(token, at)
     }
 
     /// Writes the digits of a number, without its sign.
-    pub(crate) fn magnitude(&mut self, number: i64, at: usize) -> Result<(), ExpansionStop> {
+    pub(crate) fn magnitude(&mut self, number: i64, at: usize) -> Expanding<()> {
         let mut buffer = Buffer::new();
         self.token(buffer.format(number.unsigned_abs()).as_bytes(), at)
     }
 
     // Writes a value: a number below 0 in parentheses.
-    fn value(&mut self, value: ConstantValue, at: usize) -> Result<(), ExpansionStop> {
+    fn value(&mut self, value: ConstantValue, at: usize) -> Expanding<()> {
         match value {
             ConstantValue::Truth(true) => self.token(b"true", at),
             ConstantValue::Truth(false) => self.token(b"false", at),
@@ -99,11 +99,7 @@ impl<'a> Writer<'a> {
     }
 
     /// The plain name of a name with indices.
-    pub(crate) fn name_of(
-        &mut self,
-        reference: &'a Reference,
-        depth: u32,
-    ) -> Result<Vec<u8>, ExpansionStop> {
+    pub(crate) fn name_of(&mut self, reference: &'a Reference, depth: u32) -> Expanding<Vec<u8>> {
         let mut name = Vec::from_slice(self.environment.alloc, reference.name.bytes())?;
         for index in &reference.indices {
             let number = self.environment.number(index, depth)?;
@@ -113,11 +109,7 @@ impl<'a> Writer<'a> {
     }
 
     /// Writes a name with indices.
-    pub(crate) fn reference(
-        &mut self,
-        reference: &'a Reference,
-        depth: u32,
-    ) -> Result<(), ExpansionStop> {
+    pub(crate) fn reference(&mut self, reference: &'a Reference, depth: u32) -> Expanding<()> {
         let name = self.name_of(reference, depth)?;
         self.token(name.as_slice(), reference.at)
     }
@@ -129,7 +121,7 @@ impl<'a> Writer<'a> {
         direction: Direction,
         other: &'a Reference,
         depth: u32,
-    ) -> Result<(), ExpansionStop> {
+    ) -> Expanding<()> {
         match direction {
             Direction::Sent => self.token(b"sent", at)?,
             Direction::Got => self.token(b"got", at)?,
@@ -141,11 +133,7 @@ impl<'a> Writer<'a> {
 
     /// Writes an expression, where so many levels are left.
     #[cycle(writing)]
-    pub(crate) fn expression(
-        &mut self,
-        expression: &'a Expression,
-        depth: u32,
-    ) -> Result<(), ExpansionStop> {
+    pub(crate) fn expression(&mut self, expression: &'a Expression, depth: u32) -> Expanding<()> {
         let inner = self.environment.step(depth, place(expression))?;
         match expression {
             Expression::Number(at, number) => self.value(ConstantValue::Number(*number), *at),
@@ -165,8 +153,11 @@ impl<'a> Writer<'a> {
             Expression::Name(reference) => self.reference(reference, inner),
             Expression::Count(at, direction, other) => self.count(*at, *direction, other, inner),
             Expression::Call(at, number, arguments) => {
-                let definition = self.environment.definition(*number, *at)?;
-                self.call(definition, arguments.as_slice(), inner)
+                let environment = &mut self.environment;
+                let body = environment.begin_call(*number, *at, arguments.as_slice())?;
+                self.expression(body, inner)?;
+                self.environment.end_call();
+                Ok(())
             }
             Expression::Not(at, operand) => self.unary(b"not", *at, operand, inner),
             Expression::Negate(at, operand) => self.unary(b"-", *at, operand, inner),
@@ -177,20 +168,6 @@ impl<'a> Writer<'a> {
         }
     }
 
-    // Writes a definition, with its arguments put in.
-    #[cycle(writing)]
-    fn call(
-        &mut self,
-        definition: &'a Definition,
-        arguments: &'a [Expression],
-        depth: u32,
-    ) -> Result<(), ExpansionStop> {
-        let before = self.environment.bind(definition, arguments)?;
-        self.expression(&definition.body, depth)?;
-        self.environment.unbind(definition, before.as_slice());
-        Ok(())
-    }
-
     // Writes an operator with one operand.
     #[cycle(writing)]
     fn unary(
@@ -199,7 +176,7 @@ impl<'a> Writer<'a> {
         at: usize,
         operand: &'a Expression,
         depth: u32,
-    ) -> Result<(), ExpansionStop> {
+    ) -> Expanding<()> {
         self.token(b"(", at)?;
         self.token(operator, at)?;
         self.expression(operand, depth)?;
@@ -214,7 +191,7 @@ impl<'a> Writer<'a> {
         first: &'a Expression,
         links: &'a [Link],
         depth: u32,
-    ) -> Result<(), ExpansionStop> {
+    ) -> Expanding<()> {
         for _ in links {
             self.token(b"(", at)?;
         }
@@ -229,7 +206,7 @@ impl<'a> Writer<'a> {
 
     // Writes the expression for one member.
     #[cycle(writing)]
-    fn at_member(&mut self, each: &'a Each, member: i64, depth: u32) -> Result<(), ExpansionStop> {
+    fn at_member(&mut self, each: &'a Each, member: i64, depth: u32) -> Expanding<()> {
         let before = self.environment.enter(each.binder.member, member)?;
         self.expression(&each.body, depth)?;
         self.environment.leave(before);
@@ -244,7 +221,7 @@ impl<'a> Writer<'a> {
         form: FormNode,
         members: &[i64],
         depth: u32,
-    ) -> Result<(), ExpansionStop> {
+    ) -> Expanding<()> {
         let (operator, nothing) = form_texts(form);
         match members {
             [] => return self.token(nothing, each.at),
@@ -268,7 +245,7 @@ impl<'a> Writer<'a> {
         least: i64,
         members: &[i64],
         depth: u32,
-    ) -> Result<(), ExpansionStop> {
+    ) -> Expanding<()> {
         let count = count_of(members.len());
         if least <= 0 {
             return self.token(b"true", each.at);
@@ -299,9 +276,9 @@ impl<'a> Writer<'a> {
 
     // Writes a form.
     #[cycle(writing)]
-    fn each(&mut self, each: &'a Each, depth: u32) -> Result<(), ExpansionStop> {
+    fn each(&mut self, each: &'a Each, depth: u32) -> Expanding<()> {
         let least = self.environment.least(each, depth)?;
-        let members = self.environment.range(&each.binder, depth)?;
+        let members = self.environment.range(&each.binder, depth, usize::MAX)?;
         match each.form {
             FormNode::AtLeast => self.at_least(each, least, members.as_slice(), depth),
             form => self.joined(each, form, members.as_slice(), depth),

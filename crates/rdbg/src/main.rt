@@ -1,7 +1,6 @@
 //! The program `rdbg`: passes its arguments to `asked` and its streams to `serve`, `check` or `run_crew`, and ends with their status.
 #![tactic(auto)]
 
-mod held;
 mod output;
 mod paint;
 mod serving;
@@ -13,23 +12,19 @@ mod words;
 use clap::error::ErrorKind;
 use dbg_shell::{Coloring, Job, Request, Work, asked, check, crew_status, run_crew, status};
 use output::Output;
-use paint::{Look, Painted};
+use paint::{Look, Painted, Stream};
 use serving::run;
-use shell_io::{Noted, Sink, Source, one_after_the_other};
-use std::alloc::Global;
-use std::fs::File;
-use std::io::{Error, IsTerminal, Read};
+use shell_io::{Noted, Sink, one_after_the_other};
+use std::io::{Error, IsTerminal};
 use std::process::ExitCode;
 use std::sync::Wait;
 use std::thread::Threads;
 use std::{env, io};
-use typing::{Asks, FileInput, Typing, open};
+use typing::{Device, FileInput, Typing, open};
 use ui_diagram::{PictureForm, WIDTH};
 use ui_repl::{
-    SESSION_BYTES, Tested, converse, draw, draw_status, expand, explain, fill_session,
-    name_commands, test_session,
+    Tested, draw, draw_status, expand, explain, fill_session, name_commands, talk, test_session,
 };
-use ui_session::Typed;
 use words::{WordsFault, words};
 
 static VERSION: &str = "rdbg 1.0";
@@ -40,79 +35,55 @@ const NOT_WRITTEN: u8 = 1;
 // The status if a session did not have the expected replies.
 const DIFFERS: u8 = 1;
 
-// Does this job from this reader to this writer, and returns the exit status.
-fn job_from<R: Threads + Wait + Sync, I: Source, W: Sink>(
-    rt: &R,
-    alloc: Global,
-    job: Job,
-    reader: &mut I,
-    writer: &mut W,
-) -> u8 {
-    match job {
-        Job::Run => run(alloc, reader, writer),
-        Job::Check => status(&check(alloc, reader, writer)),
-        Job::Crew(turns) => crew_status(&run_crew(rt, alloc, turns, reader, writer)),
+// What this work reads: the file of this name, standard input, or one after the other. `-` means standard input. Nobody is to type what a
+// picture or an expanded session is made of.
+fn device_of<'a>(
+    rt: &'a HostRuntime,
+    work: Option<Work<'_>>,
+    name: &str,
+) -> io::Result<Device<'a>> {
+    let is_terminal = rt.stdin().is_terminal();
+    let is_typed = is_terminal && matches!(work, Some(Work::Talk(_)));
+    if name == "-" {
+        return Ok(Device::Input(Typing::new(rt, is_typed, false)));
     }
+    // At a terminal, the program ends with the file.
+    let file = FileInput::new(open(rt, name)?, is_typed);
+    let reads_on = match work {
+        Some(Work::Job(Job::Run) | Work::Talk(_)) => true,
+        Some(Work::Expand | Work::Draw(_)) => !is_terminal,
+        _ => false,
+    };
+    if !reads_on {
+        return Ok(Device::File(file));
+    }
+    let input = Typing::new(rt, is_typed, true);
+    Ok(Device::Both(one_after_the_other(file, input)))
 }
 
 // Does this work from this input to this writer, and returns the exit status.
-fn work_from<R: Threads + Wait + Sync, I: Read + Typed + Drop, W: Sink, E: Sink>(
+fn do_work<R: Threads + Wait + Sync, W: Sink, E: Sink>(
     rt: &HostRuntime,
     threads: &R,
     work: Work<'_>,
-    input: I,
+    input: Device<'_>,
     writer: &mut W,
     errors: &mut E,
 ) -> u8 {
     let alloc = rt.alloc();
+    let mut reader = Noted::new(input);
     match work {
-        Work::Job(job) => job_from(threads, alloc, job, &mut Noted::new(input), writer),
-        Work::Explain => status(&explain(alloc, &mut Noted::new(input), writer)),
-        Work::Expand => status(&expand(alloc, &mut Noted::new(input), writer, errors)),
-        Work::NameCommands => {
-            status(&name_commands(alloc, &mut Noted::new(input), writer, errors))
+        Work::Job(Job::Run) => run(alloc, &mut reader, writer),
+        Work::Job(Job::Check) => status(&check(alloc, &mut reader, writer)),
+        Work::Job(Job::Crew(turns)) => {
+            crew_status(&run_crew(threads, alloc, turns, &mut reader, writer))
         }
-        Work::Talk(_) => status(&converse(alloc, picture_width(rt), input, writer)),
-        Work::Draw(picture) => draw_status(&draw(alloc, picture, input, writer, errors)),
+        Work::Explain => status(&explain(alloc, &mut reader, writer)),
+        Work::Expand => status(&expand(alloc, &mut reader, writer, errors)),
+        Work::NameCommands => status(&name_commands(alloc, &mut reader, writer, errors)),
+        Work::Talk(_) => status(&talk(alloc, picture_width(rt), &mut reader, writer)),
+        Work::Draw(picture) => { draw_status(&draw(alloc, picture, &mut reader, writer, errors)) }
     }
-}
-
-// Whether standard input follows a file. Nobody is to type what a picture or an expanded session is made of.
-fn reads_on(work: Work<'_>, is_typed: bool) -> bool {
-    match work {
-        Work::Job(Job::Run) | Work::Talk(_) => true,
-        Work::Expand | Work::Draw(_) => !is_typed,
-        Work::Job(Job::Check | Job::Crew(_)) | Work::Explain | Work::NameCommands => false,
-    }
-}
-
-// Whether a person types an interactive session.
-fn is_typed_session(work: Work<'_>, is_typed: bool) -> bool {
-    is_typed && matches!(work, Work::Talk(_))
-}
-
-// Does the work with this file.
-fn work_with_file<R: Threads + Wait + Sync, W: Sink, E: Sink>(
-    rt: &HostRuntime,
-    threads: &R,
-    work: Work<'_>,
-    file: File,
-    writer: &mut W,
-    errors: &mut E,
-) -> u8 {
-    let is_typed = rt.stdin().is_terminal();
-    if !reads_on(work, is_typed) {
-        let input = FileInput::new(file);
-        return work_from(rt, threads, work, input, writer, errors);
-    }
-    // At a terminal, the program ends with the file.
-    let (file, asks) = if is_typed_session(work, is_typed) {
-        (FileInput::with_end_line(file), Asks::Lines)
-    } else {
-        (FileInput::new(file), Asks::Nothing)
-    };
-    let input = one_after_the_other(file, Typing::new(rt, asks));
-    work_from(rt, threads, work, input, writer, errors)
 }
 
 // Reports that a file cannot be read, and returns the status of a usage error.
@@ -123,31 +94,18 @@ fn tell_unreadable(rt: &HostRuntime, name: &str, error: &Error) -> u8 {
     2
 }
 
-// The bytes of a session, up to one byte more than an input may have. `-` means standard input.
-fn read_session(rt: &HostRuntime, name: &str) -> io::Result<Vec<u8>> {
-    let mut session = Vec::new(rt.alloc());
-    if name == "-" {
-        rt.stdin().take(SESSION_BYTES).read_to_end(&mut session)?;
-    } else {
-        open(rt, name)?
-            .take(SESSION_BYTES)
-            .read_to_end(&mut session)?;
-    }
-    Ok(session)
-}
-
 // Plays the sessions of these files. Returns the largest status of them all.
 fn test<W: Sink>(rt: &HostRuntime, files: &[&str], writer: &mut W) -> u8 {
     let mut worst = 0;
     for name in files {
-        let session = match read_session(rt, name) {
-            Ok(session) => session,
+        let mut session = match device_of(rt, None, name) {
+            Ok(device) => Noted::new(device),
             Err(error) => {
                 worst = worst.max(tell_unreadable(rt, name, &error));
                 continue;
             }
         };
-        match test_session(rt.alloc(), name, session.as_slice(), writer) {
+        match test_session(rt.alloc(), name, &mut session, writer) {
             Ok(Tested::Passed) => {}
             Ok(Tested::Failed) => worst = worst.max(DIFFERS),
             Err(fault) => return fault.status(),
@@ -158,35 +116,9 @@ fn test<W: Sink>(rt: &HostRuntime, files: &[&str], writer: &mut W) -> u8 {
 
 // Writes the session of this file with its replies, and returns the exit status.
 fn fill<W: Sink, E: Sink>(rt: &HostRuntime, name: &str, writer: &mut W, errors: &mut E) -> u8 {
-    match read_session(rt, name) {
-        Ok(session) => status(&fill_session(rt.alloc(), session.as_slice(), writer, errors)),
+    match device_of(rt, None, name) {
+        Ok(device) => { status(&fill_session(rt.alloc(), &mut Noted::new(device), writer, errors)) }
         Err(error) => tell_unreadable(rt, name, &error),
-    }
-}
-
-// Does the work, and returns the exit status.
-fn do_work<R: Threads + Wait + Sync, W: Sink, E: Sink>(
-    rt: &HostRuntime,
-    threads: &R,
-    work: Work<'_>,
-    file: Option<&str>,
-    writer: &mut W,
-    errors: &mut E,
-) -> u8 {
-    match file {
-        // `-` means standard input.
-        Some(name) if name != "-" => match open(rt, name) {
-            Ok(file) => work_with_file(rt, threads, work, file, writer, errors),
-            Err(error) => tell_unreadable(rt, name, &error),
-        },
-        _ => {
-            let asks = match work {
-                Work::Talk(_) => Asks::Program,
-                _ => Asks::Nothing,
-            };
-            let input = Typing::new(rt, asks);
-            work_from(rt, threads, work, input, writer, errors)
-        }
     }
 }
 
@@ -235,11 +167,16 @@ fn do_request<R: Threads + Wait + Sync>(
     request: &Request<'_>,
 ) -> u8 {
     let look = look_of(rt, request);
-    let mut writer = Output::new(Painted::new(rt.alloc(), rt.stdout(), look));
-    let mut errors = Output::new(Painted::new(rt.alloc(), rt.stderr(), Look::Visible));
+    let (output, errors) = (Stream::Output(rt.stdout()), Stream::Errors(rt.stderr()));
+    let mut writer = Output::new(Painted::new(rt.alloc(), output, look));
+    let mut errors = Output::new(Painted::new(rt.alloc(), errors, Look::Visible));
     match request {
         Request::Work(work, file) => {
-            do_work(rt, threads, *work, *file, &mut writer, &mut errors)
+            let name = file.unwrap_or("-");
+            match device_of(rt, Some(*work), name) {
+                Ok(input) => do_work(rt, threads, *work, input, &mut writer, &mut errors),
+                Err(error) => tell_unreadable(rt, name, &error),
+            }
         }
         Request::Test(files) => test(rt, files.as_slice(), &mut writer),
         Request::Fill(file) => fill(rt, file, &mut writer, &mut errors),

@@ -2,12 +2,11 @@
 
 ghost use Rattle.std.specs.Io.{WritesAtMost};
 
-use crate::held::{Held, plain_length, write_fully};
 use shell_io::{Style, StyledWrite};
 use std::alloc::{AllocError, Global};
 use std::io;
-use std::io::Write;
-use ui_text::{Start, escaped, put_visible, start_of};
+use std::io::{ErrorKind, Stderr, Stdout, Write};
+use ui_text::put_visible;
 
 // Escape sequences that set how text looks: Select Graphic Rendition of ISO 6429.
 const PLAIN: &str = "\x1b[0m";
@@ -36,15 +35,37 @@ pub(crate) enum Look {
     Coloured,
 }
 
-/// A writer for text. In colours, it shows styles, and marks the replies that refuse a line or say that a breakpoint halts the session.
+/// A standard stream for output.
 #[derive(Drop)]
-pub(crate) struct Painted<W> {
-    inner: W,
+pub(crate) enum Stream {
+    Output(Stdout),
+    Errors(Stderr),
+}
+
+impl Write for Stream {
+    fn write(&mut self, bytes: &[u8]) -> io::Result<usize> {
+        match self {
+            Stream::Output(stream) => stream.write(bytes),
+            Stream::Errors(stream) => stream.write(bytes),
+        }
+    }
+
+    fn flush(&mut self) -> io::Result<()> {
+        match self {
+            Stream::Output(stream) => stream.flush(),
+            Stream::Errors(stream) => stream.flush(),
+        }
+    }
+}
+
+/// A writer for text, which it writes in whole lines. In colours, it shows styles.
+#[derive(Drop)]
+pub(crate) struct Painted {
+    inner: Stream,
     look: Look,
-    held: Held,
     // The style of the next bytes.
     style: Style,
-    // In colours, the line that has no end yet: first what is painted, and then bytes of one style.
+    // The text that is not written yet: first what is painted, and then bytes of one style in the last line.
     painted: Vec<u8>,
     run: Vec<u8>,
     run_style: Style,
@@ -60,6 +81,8 @@ fn sequence_of(style: Style) -> &'static str {
         }
         Style::Value | Style::Halt => BOLD,
         Style::Place => FAINT,
+        Style::Refusal => RED,
+        Style::Halted(_) => INVERSE,
     }
 }
 
@@ -73,34 +96,41 @@ fn put(text: &mut Vec<u8>, sequence: &str, bytes: &[u8]) -> Result<(), AllocErro
     text.extend_from_slice(PLAIN.as_bytes())
 }
 
-// Where the last two words of a reply begin, if they say that a breakpoint halts the session. A number is no breakpoint.
-fn halt_in(reply: &[u8]) -> Option<usize> {
-    let blank = reply.iter().rposition(|byte| *byte == b' ')?;
-    let (before, name) = (reply.get(..blank)?, reply.get(blank..)?);
-    let is_halt = before.starts_with(b"ok") && before.ends_with(b" halted");
-    if !is_halt || name.get(1)?.is_ascii_digit() {
-        return None;
-    }
-    Some(blank.saturating_sub("halted".len()))
+// Appends bytes of one style.
+fn put_run(text: &mut Vec<u8>, style: Style, bytes: &[u8]) -> Result<(), AllocError> {
+    let rest = match style {
+        Style::Halted(length) => {
+            let at = bytes.len().saturating_sub(length);
+            put_visible(text, bytes.get(..at).unwrap_or(&[]))?;
+            bytes.get(at..).unwrap_or(&[])
+        }
+        _ => bytes,
+    };
+    put(text, sequence_of(style), rest)
 }
 
-// Appends a line without styles, which may be a reply.
-fn put_reply(text: &mut Vec<u8>, line: &[u8]) -> Result<(), AllocError> {
-    if line.starts_with(b"no ") || line.starts_with(b"program refused") {
-        return put(text, RED, line);
+// Writes all of the bytes. A write that failed is not tried again.
+fn write_fully(stream: &mut Stream, bytes: &[u8]) -> io::Result<()> {
+    let mut rest = bytes;
+    for _ in 0..bytes.len() {
+        if rest.is_empty() {
+            break;
+        }
+        let count = stream.write(rest)?;
+        if count == 0 {
+            return Err(io::Error::from(ErrorKind::WriteZero));
+        }
+        rest = rest.get(count..).unwrap_or(&[]);
     }
-    let at = halt_in(line).unwrap_or(line.len());
-    put_visible(text, line.get(..at).unwrap_or(&[]))?;
-    put(text, INVERSE, line.get(at..).unwrap_or(&[]))
+    Ok(())
 }
 
-impl<W: Write> Painted<W> {
-    /// A writer on top of this one.
-    pub(crate) fn new(alloc: Global, inner: W, look: Look) -> Painted<W> {
+impl Painted {
+    /// A writer on top of this stream.
+    pub(crate) fn new(alloc: Global, inner: Stream, look: Look) -> Painted {
         Painted {
             inner,
             look,
-            held: Held::new(),
             style: Style::Plain,
             painted: Vec::new(alloc),
             run: Vec::new(alloc),
@@ -110,12 +140,17 @@ impl<W: Write> Painted<W> {
 
     // Paints the bytes of one style.
     fn paint_run(&mut self) -> Result<(), AllocError> {
-        put(
-            &mut self.painted,
-            sequence_of(self.run_style),
-            self.run.as_slice(),
-        )?;
+        put_run(&mut self.painted, self.run_style, self.run.as_slice())?;
         self.run.clear();
+        Ok(())
+    }
+
+    // Paints the end of a line, and of its style.
+    fn end_line(&mut self) -> Result<(), AllocError> {
+        self.paint_run()?;
+        self.painted.extend_from_slice(b"\n")?;
+        self.style = Style::Plain;
+        self.run_style = Style::Plain;
         Ok(())
     }
 
@@ -126,104 +161,30 @@ impl<W: Write> Painted<W> {
         Ok(())
     }
 
-    // Writes the line, which is complete.
-    fn write_line(&mut self) -> io::Result<()> {
-        if self.painted.is_empty() && self.run_style == Style::Plain {
-            put_reply(&mut self.painted, self.run.as_slice())?;
-            self.run.clear();
-        } else {
-            self.paint_run()?;
-        }
-        self.painted.push(b'\n')?;
-        self.write_painted()
-    }
-
-    fn write_coloured(&mut self, bytes: &[u8]) -> io::Result<()> {
-        if self.style != self.run_style {
-            self.paint_run()?;
-            self.run_style = self.style;
-        }
-        for byte in bytes {
-            if *byte == b'\n' {
-                self.write_line()?;
-            } else {
-                self.run.push(*byte)?;
-            }
-        }
-        Ok(())
-    }
-
-    // Writes the bytes that are held, as far as they are whole characters or part of none.
-    fn write_held(&mut self) -> io::Result<()> {
-        for _ in 0..self.held.bytes().len() {
-            let held = self.held;
-            let Some(first) = held.bytes().first() else {
-                break;
-            };
-            match start_of(held.bytes()) {
-                Start::Part => break,
-                Start::Character(length) => {
-                    write_fully(&mut self.inner, held.bytes().get(..length).unwrap_or(&[]))?;
-                    self.held = held.without(length);
-                }
-                Start::Hidden => {
-                    write_fully(&mut self.inner, &escaped(*first))?;
-                    self.held = held.without(1);
-                }
-            }
-        }
-        Ok(())
-    }
-
-    // Writes bytes as text. It allocates nothing.
-    fn write_visible(&mut self, bytes: &[u8]) -> io::Result<()> {
-        let mut rest = bytes;
-        for _ in 0..bytes.len() {
-            if rest.is_empty() {
-                break;
-            }
-            let length = if self.held.bytes().is_empty() {
-                plain_length(rest)
-            } else {
-                0
-            };
-            if length > 0 {
-                write_fully(&mut self.inner, rest.get(..length).unwrap_or(&[]))?;
-                rest = rest.get(length..).unwrap_or(&[]);
-            } else if let Some((first, others)) = rest.split_first() {
-                self.held.push(*first);
-                self.write_held()?;
-                rest = others;
-            }
-        }
-        Ok(())
-    }
-
-    // Writes bytes for a person. It has a function of its own because most bytes are written as they are.
+    // Writes bytes for a person, up to their last line end. It has a function of its own because most bytes are written as they are.
     #[inline(never)]
     fn write_text(&mut self, bytes: &[u8]) -> io::Result<usize>
         ensures { WritesAtMost result bytes.now }
     {
-        if self.look == Look::Coloured {
-            self.write_coloured(bytes)?;
-        } else {
-            self.write_visible(bytes)?;
+        if self.style != self.run_style {
+            self.paint_run()?;
+            self.run_style = self.style;
+        }
+        for piece in bytes.split_inclusive(|byte| *byte == b'\n') {
+            let line = piece.strip_suffix(b"\n".as_slice());
+            self.run.extend_from_slice(line.unwrap_or(piece))?;
+            if line.is_some() {
+                self.end_line()?;
+            }
+        }
+        if self.painted.last() == Some(&b'\n') {
+            self.write_painted()?;
         }
         Ok(bytes.len())
     }
-
-    // Writes the bytes of a character that did not come to its end.
-    fn write_rest(&mut self) -> io::Result<()> {
-        let held = self.held;
-        self.held = Held::new();
-        for byte in held.bytes() {
-            write_fully(&mut self.inner, &escaped(*byte))?;
-        }
-        Ok(())
-    }
 }
 
-impl<W: Write> Write for Painted<W> {
+impl Write for Painted {
     fn write(&mut self, bytes: &[u8]) -> io::Result<usize> {
         match self.look {
             Look::Raw => self.inner.write(bytes),
@@ -232,14 +193,15 @@ impl<W: Write> Write for Painted<W> {
     }
 
     fn flush(&mut self) -> io::Result<()> {
-        self.write_rest()?;
-        self.paint_run()?;
-        self.write_painted()?;
+        if self.look != Look::Raw {
+            self.paint_run()?;
+            self.write_painted()?;
+        }
         self.inner.flush()
     }
 }
 
-impl<W: Write> StyledWrite for Painted<W> {
+impl StyledWrite for Painted {
     fn shows_styles(&self) -> bool {
         self.look == Look::Coloured
     }

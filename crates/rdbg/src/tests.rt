@@ -3,7 +3,7 @@
 use crate::output::Output;
 use crate::words::{WordsFault, words};
 use shell_io::{Sink, Style, StyledWrite};
-use std::alloc::{AllocError, Global};
+use std::alloc::Global;
 use std::env::{Env, FillError};
 use std::io;
 use std::io::{ErrorKind, Write};
@@ -126,20 +126,6 @@ fn make_stumbles(alloc: Global, left: usize, fault: Option<ErrorKind>) -> Stumbl
     }
 }
 
-// Bytes of which each differs from those near it.
-fn make_text(alloc: Global, length: u32) -> Result<Vec<u8>, AllocError> {
-    let mut text = Vec::new(alloc);
-    for i in 0..length {
-        text.push((i % 251) as u8)?;
-    }
-    Ok(text)
-}
-
-// A part of a text.
-fn part(text: &[u8], from: usize, to: usize) -> &[u8] {
-    text.get(from..to).unwrap_or(&[])
-}
-
 #[test]
 fn a_write_that_failed_is_not_tried_again(rt: HostRuntime) -> Result<(), Fail> {
     let alloc = rt.alloc();
@@ -164,51 +150,37 @@ fn a_write_that_failed_is_not_tried_again(rt: HostRuntime) -> Result<(), Fail> {
 }
 
 #[test]
-fn dropping_the_output_writes_nothing(rt: HostRuntime) -> Result<(), Fail> {
-    let mut stumbles = make_stumbles(rt.alloc(), 100, None);
-    let mut output = Output::new(&mut stumbles);
-    assert_eq!(rt; output.write(b"lost")?, 4);
-    drop(output);
-    assert_eq!(rt; stumbles.calls, 0);
-    Ok(())
-}
-
-#[test]
-fn bytes_go_out_in_order(rt: HostRuntime) -> Result<(), Fail> {
-    let alloc = rt.alloc();
-    let text = make_text(alloc, 20_000)?;
-    let mut stumbles = make_stumbles(alloc, 100_000, None);
-    let mut output = Output::new(&mut stumbles);
-    let mut rest = text.as_slice();
-    for size in [1, 7, 8_192, 9_000, 8_192] {
-        let piece = &rest[..rest.len().min(size)];
-        let count = output.write(piece)?;
-        assert!(rt; count > 0);
-        rest = rest.get(count..).unwrap_or(&[]);
-    }
-    assert!(rt; rest.is_empty());
-    output.flush()?;
-    drop(output);
-    assert_eq!(rt; stumbles.flushes, 1);
-    assert_eq!(rt; stumbles.taken.as_slice(), text.as_slice());
-    Ok(())
-}
-
-#[test]
 fn bytes_and_styles_go_out_in_order(rt: HostRuntime) -> Result<(), Fail> {
     let alloc = rt.alloc();
-    let text = make_text(alloc, 8_300)?;
-    let text = text.as_slice();
+    // Each byte differs from those near it.
+    let mut text = Vec::new(alloc);
+    for i in 0..28_300u32 {
+        text.push((i % 251) as u8)?;
+    }
     let mut stumbles = make_stumbles(alloc, 100_000, None);
     let mut output = Output::new(&mut stumbles);
-    assert_eq!(rt; output.write(part(text, 0, 100))?, 100);
-    output.set_style(Style::Value)?;
-    // These bytes fill the buffer.
-    assert_eq!(rt; output.write(part(text, 100, 8_292))?, 8_192);
-    assert_eq!(rt; output.write(part(text, 8_292, 8_297))?, 5);
-    output.set_style(Style::Place)?;
-    output.set_style(Style::Plain)?;
-    assert_eq!(rt; output.write(part(text, 8_297, 8_300))?, 3);
+    // The lengths of pieces, how much of each is taken, and the styles that are set after it. The second piece fills the buffer.
+    let steps: [(usize, usize, &[Style]); 9] = [
+        (100, 100, &[Style::Value]),
+        (8_192, 8_192, &[]),
+        (5, 5, &[Style::Place, Style::Plain]),
+        (3, 3, &[]),
+        (1, 1, &[]),
+        (7, 7, &[]),
+        (8_192, 8_181, &[]),
+        (9_000, 8_192, &[]),
+        (8_192, 3_619, &[]),
+    ];
+    let mut rest = text.as_slice();
+    for (size, taken, styles) in steps {
+        let piece = &rest[..rest.len().min(size)];
+        assert_eq!(rt; output.write(piece)?, taken);
+        rest = rest.get(taken..).unwrap_or(&[]);
+        for style in styles {
+            output.set_style(*style)?;
+        }
+    }
+    assert!(rt; rest.is_empty());
     output.flush()?;
     drop(output);
     let styles = [
@@ -216,20 +188,26 @@ fn bytes_and_styles_go_out_in_order(rt: HostRuntime) -> Result<(), Fail> {
         (8_297, Style::Place),
         (8_297, Style::Plain),
     ];
+    assert_eq!(rt; stumbles.flushes, 1);
     assert_eq!(rt; stumbles.styles.as_slice(), styles.as_slice());
-    assert_eq!(rt; stumbles.taken.as_slice(), text);
+    assert_eq!(rt; stumbles.taken.as_slice(), text.as_slice());
     Ok(())
 }
 
 #[test]
-fn a_writer_that_shows_no_styles_gets_none(rt: HostRuntime) -> Result<(), Fail> {
-    let mut stumbles = make_stumbles(rt.alloc(), 100, None);
-    stumbles.shows_styles = false;
-    let mut output = Output::new(&mut stumbles);
-    assert_eq!(rt; output.write(b"kept")?, 4);
-    output.set_style(Style::Value)?;
-    drop(output);
-    assert_eq!(rt; stumbles.calls, 0);
-    assert!(rt; stumbles.styles.is_empty());
+fn dropping_the_output_writes_nothing(rt: HostRuntime) -> Result<(), Fail> {
+    for shows_styles in [true, false] {
+        let mut stumbles = make_stumbles(rt.alloc(), 100, None);
+        stumbles.shows_styles = shows_styles;
+        let mut output = Output::new(&mut stumbles);
+        assert_eq!(rt; output.write(b"lost")?, 4);
+        // A style is for a writer that shows it, and writes the bytes before it there.
+        if !shows_styles {
+            output.set_style(Style::Value)?;
+        }
+        drop(output);
+        assert_eq!(rt; stumbles.calls, 0);
+        assert!(rt; stumbles.styles.is_empty());
+    }
     Ok(())
 }

@@ -1,81 +1,56 @@
 //! The readers of the program: standard input and files.
 
+use shell_input::is_end_line;
+use shell_io::ClosedLines;
 use std::fs::{File, OpenFile};
 use std::io;
-use std::io::{Error, ErrorKind, IsTerminal, Read, Stdin};
+use std::io::{Chain, Error, ErrorKind, Read, Stdin};
 use ui_session::Typed;
 
-// How much of a line `%%` a line is so far.
-#[derive(Clone, Copy, PartialEq, Eq)]
-enum EndMark {
-    Nothing,
-    OnePercent,
-    TwoPercents,
-    Return,
-    Other,
-}
-
-impl EndMark {
-    // With the next byte of the line.
-    fn with(self, byte: u8) -> EndMark {
-        match (self, byte) {
-            (EndMark::Nothing, b'%') => EndMark::OnePercent,
-            (EndMark::OnePercent, b'%') => EndMark::TwoPercents,
-            (EndMark::TwoPercents, b'\r') => EndMark::Return,
-            _ => EndMark::Other,
-        }
-    }
-
-    fn is_whole(self) -> bool {
-        matches!(self, EndMark::TwoPercents | EndMark::Return)
-    }
-}
+// How many bytes of a line are kept: more than a line `%%` has.
+const KEPT: usize = 4;
 
 // Whether a line `%%` was read.
 #[derive(Clone, Copy)]
 struct ProgramEnd {
-    line: EndMark,
+    // The first bytes of the present line, and how many of these it has.
+    line: [u8; KEPT],
+    length: usize,
     is_passed: bool,
 }
 
 impl ProgramEnd {
-    fn new() -> ProgramEnd {
+    fn new(is_passed: bool) -> ProgramEnd {
         ProgramEnd {
-            line: EndMark::Nothing,
-            is_passed: false,
+            line: [0; KEPT],
+            length: 0,
+            is_passed,
         }
     }
 
     // Looks at the next bytes. After the first line `%%` there is nothing to look for.
     fn note(&mut self, bytes: &[u8]) {
-        if self.is_passed {
-            return;
-        }
         for byte in bytes {
+            if self.is_passed {
+                return;
+            }
             if *byte == b'\n' {
-                self.is_passed = self.is_passed || self.line.is_whole();
-                self.line = EndMark::Nothing;
-            } else {
-                self.line = self.line.with(*byte);
+                self.is_passed = self.is_passed_at_end();
+                self.length = 0;
+            } else if let Some(kept) = self.line.get_mut(self.length) {
+                *kept = *byte;
+                self.length = self.length.saturating_add(1);
             }
         }
     }
 
     // The end of the bytes ends a line, too.
     fn is_passed_at_end(&self) -> bool {
-        self.is_passed || self.line.is_whole()
+        match self.line.get(..self.length) {
+            Some(line) => self.is_passed || is_end_line(line),
+            None => self.is_passed,
+        }
     }
-}
-
-/// What standard input is for.
-#[derive(Clone, Copy, PartialEq, Eq)]
-pub(crate) enum Asks {
-    /// Nobody is asked.
-    Nothing,
-    /// A program, and then lines of a session.
-    Program,
-    /// Lines of a session. The program is in a file.
-    Lines,
 }
 
 /// Standard input. At a terminal it prompts for each line of an interactive session.
@@ -83,44 +58,28 @@ pub(crate) enum Asks {
 pub(crate) struct Typing<'a> {
     rt: &'a HostRuntime,
     input: Stdin,
-    // Whether lines are typed.
-    is_terminal: bool,
-    asks: Asks,
+    prompts: bool,
     end: ProgramEnd,
     // Whether the prompt for the next line was written.
     is_begun: bool,
 }
 
 impl<'a> Typing<'a> {
-    /// Standard input, which prompts for what it asks if it is a terminal.
-    pub(crate) fn new(rt: &'a HostRuntime, asks: Asks) -> Typing<'a> {
-        let input = rt.stdin();
-        let is_terminal = input.is_terminal();
+    /// Standard input, which prompts if a person types a session: for the program, unless it is in a file, and then for lines.
+    pub(crate) fn new(rt: &'a HostRuntime, prompts: bool, is_program_read: bool) -> Typing<'a> {
         Typing {
             rt,
-            input,
-            is_terminal,
-            asks: if is_terminal { asks } else { Asks::Nothing },
-            end: ProgramEnd::new(),
+            input: rt.stdin(),
+            prompts,
+            end: ProgramEnd::new(is_program_read),
             is_begun: false,
         }
     }
 
-    // A prompt that cannot be written is left out.
-    fn prompt(&self) {
-        let _ = match self.asks {
-            Asks::Nothing => Ok(()),
-            Asks::Program if !self.end.is_passed => eprint!(self.rt; "program> "),
-            Asks::Program | Asks::Lines => eprint!(self.rt; "> "),
-        };
-    }
-}
-
-impl Typing<'_> {
-    // Ends the line of the prompt, at the end of the input. A line end that cannot be written is left out.
-    fn end_line(&self) {
-        if self.asks != Asks::Nothing {
-            let _ = eprint!(self.rt; "\n");
+    // Writes a prompt, or the line end after the last one. What cannot be written is left out.
+    fn prompt(&self, text: &str) {
+        if self.prompts {
+            let _ = eprint!(self.rt; "{text}");
         }
     }
 }
@@ -128,19 +87,17 @@ impl Typing<'_> {
 impl Read for Typing<'_> {
     fn read(&mut self, bytes: &mut [u8]) -> io::Result<usize> {
         self.is_begun = true;
-        self.prompt();
+        self.prompt(if self.end.is_passed {
+            "> "
+        } else {
+            "program> "
+        });
         let count = self.input.read(bytes)?;
         if count == 0 {
-            self.end_line();
+            self.prompt("\n");
         }
         self.end.note(bytes.get(..count).unwrap_or(&[]));
         Ok(count)
-    }
-}
-
-impl Typed for Typing<'_> {
-    fn is_typed(&self) -> bool {
-        self.is_begun && self.is_terminal
     }
 }
 
@@ -154,25 +111,15 @@ pub(crate) struct FileInput {
     end: ProgramEnd,
     // What is read after the file.
     rest: &'static [u8],
-    ends_program: bool,
 }
 
 impl FileInput {
-    /// The bytes of the file.
-    pub(crate) fn new(file: File) -> FileInput {
+    /// The bytes of the file. If it is to end the program, a line `%%` follows if no line of the file is one.
+    pub(crate) fn new(file: File, ends_program: bool) -> FileInput {
         FileInput {
             file,
-            end: ProgramEnd::new(),
+            end: ProgramEnd::new(!ends_program),
             rest: &[],
-            ends_program: false,
-        }
-    }
-
-    /// The bytes of the file, and a line `%%` after them if no line of the file is one.
-    pub(crate) fn with_end_line(file: File) -> FileInput {
-        FileInput {
-            ends_program: true,
-            ..FileInput::new(file)
         }
     }
 }
@@ -184,17 +131,46 @@ impl Read for FileInput {
         if count > 0 || bytes.is_empty() {
             return Ok(count);
         }
-        if self.ends_program && !self.end.is_passed_at_end() {
+        if !self.end.is_passed_at_end() {
             self.rest = END_LINE;
         }
-        self.ends_program = false;
+        self.end.is_passed = true;
         self.rest.read(bytes)
     }
 }
 
-impl Typed for FileInput {
+/// What a session is read from.
+#[derive(Drop)]
+pub(crate) enum Device<'a> {
+    File(FileInput),
+    Input(Typing<'a>),
+    /// A file, and then standard input.
+    Both(Chain<ClosedLines<FileInput>, Typing<'a>>),
+}
+
+impl Read for Device<'_> {
+    fn read(&mut self, bytes: &mut [u8]) -> io::Result<usize> {
+        match self {
+            Device::File(file) => file.read(bytes),
+            Device::Input(input) => input.read(bytes),
+            Device::Both(both) => both.read(bytes),
+        }
+    }
+}
+
+impl Typed for Typing<'_> {
     fn is_typed(&self) -> bool {
-        false
+        self.prompts && self.is_begun
+    }
+}
+
+impl Typed for Device<'_> {
+    fn is_typed(&self) -> bool {
+        match self {
+            Device::File(_) => false,
+            Device::Input(input) => input.is_typed(),
+            Device::Both(both) => both.get_ref().1.is_typed(),
+        }
     }
 }
 

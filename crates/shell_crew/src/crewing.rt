@@ -29,6 +29,7 @@ use shell_io::{Sink, Source};
 use shell_print::{ServeFault, hand_on, tell_fault, tell_too_long, tell_too_many_turns};
 use std::alloc::Global;
 use std::marker::Brand;
+use std::mem;
 use std::sync::Wait;
 use std::thread::Threads;
 
@@ -62,7 +63,7 @@ fn give_rounds<
     }
 }
 
-// Gives all rounds at a desk, and compares its journal with the answers that the seats got.
+// Gives all rounds at a desk, and compares its journal with the answers that the seats got. The memory of the desk is left to the process.
 fn settle_run<
     R: Threads + Wait + Sync,
     L: Run + Send + Sync,
@@ -85,8 +86,16 @@ fn settle_run<
 {
     let processes = opening.program.processes();
     let (desk, seats) = opening.desk::<L, C>(alloc)?;
-    let seats = give_rounds(rt, alloc, make, &desk, seats, processes, turns)?;
-    Ok(desk.settle(rt, &seats))
+    let closing = match give_rounds(rt, alloc, make, &desk, seats, processes, turns) {
+        Ok(seats) => {
+            let closing = desk.settle(rt, &seats);
+            mem::forget(seats);
+            Ok(closing)
+        }
+        Err(refusal) => Err(refusal),
+    };
+    mem::forget(desk);
+    closing
 }
 
 // Runs this program with as many seats as processes, and at most 16.
@@ -173,7 +182,8 @@ fn crew_text<R: Threads + Wait + Sync, C: Command, M: Fn(Pid) -> Result<C, Refus
 /// At the end it writes how many calls were entered. They must be a history that a single caller could have made, with exactly the answers
 /// that each seat got; otherwise it writes that the journal differs. Like `check` it reports a refused program text, and one that does not
 /// end within 1,048,576 bytes. If there would be more than 100,000 calls it reports that, and no worker starts. After a read fault, or
-/// if memory for the workers runs out, it writes nothing. A command that is refused as out of memory is not entered.
+/// if memory for the workers runs out, it writes nothing. A command that is refused as out of memory is not entered. When the run ends, the
+/// memory of its session is left to the process, which ends with it.
 pub fn run_crew<R: Threads + Wait + Sync, I: Source, W: Sink>(
     rt: &R,
     alloc: Global,

@@ -5,4 +5,4 @@ mod framing;
 mod program_text;
 
 pub use framing::{Input, Next, Span};
-pub use program_text::{TextEnd, read_program_text, text_alone};
+pub use program_text::{TextEnd, is_end_line, read_program_text, text_alone};

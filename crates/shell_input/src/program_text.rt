@@ -27,7 +27,8 @@ pub enum TextEnd {
     TooLong,
 }
 
-fn is_end_line(line: &[u8]) -> bool
+/// Whether a line ends the program text.
+pub fn is_end_line(line: &[u8]) -> bool
     ensures { result ≡ is_end_line line.now }
 {
     without_return(line) == b"%%".as_slice()

@@ -1,8 +1,9 @@
-//! Readers and writers that know whether they have failed. A device that has failed is not called again.
+//! Readers and writers that know whether they have failed: a device that has failed is not called again. A line of a session.
 #![tactic(auto)]
 
 mod closed_lines;
 mod fixed_buffer;
+mod given_line;
 mod health;
 mod noted;
 mod streams;
@@ -10,6 +11,7 @@ mod style;
 
 pub use closed_lines::{ClosedLines, one_after_the_other};
 pub use fixed_buffer::FixedBuffer;
+pub use given_line::GivenLine;
 pub use health::Health;
 pub use noted::Noted;
 pub use streams::{Sink, Source};

@@ -7,7 +7,7 @@ use std::io::Write;
 /// What bytes are, which decides how they look.
 #[derive(Clone, Copy, Debug, PartialEq, Eq)]
 pub enum Style {
-    /// A reply, or plain words.
+    /// Plain words, or another reply.
     Plain,
     /// A line of a session that is written again.
     Echo,
@@ -19,6 +19,10 @@ pub enum Style {
     Place,
     /// What halts the session.
     Halt,
+    /// A reply that refuses something.
+    Refusal,
+    /// A reply whose last bytes, so many, say that a breakpoint halts the session.
+    Halted(usize),
 }
 
 /// A writer that may show styles.
@@ -26,7 +30,7 @@ pub trait StyledWrite: Write {
     /// Whether it shows styles.
     fn shows_styles(&self) -> bool;
 
-    /// Sets the style of the next bytes.
+    /// Sets the style of the next bytes, up to the end of their line.
     fn set_style(&mut self, style: Style)
         ensures { Keeps (Self.contents self.old) (Self.contents self.new) };
 }

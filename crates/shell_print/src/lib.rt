@@ -9,9 +9,9 @@ mod reply;
 mod words;
 
 pub use notices::{
-    hand_on, print_differs, print_settled, tell_fault, tell_no_end_line, tell_size, tell_too_long,
-    tell_too_many_turns,
+    hand_on, print_differs, print_settled, set_style, tell_fault, tell_no_end_line, tell_size,
+    tell_too_long, tell_too_many_turns,
 };
 pub use outcome::{ServeFault, Served, status};
 pub use parts::write_whole;
-pub use reply::{print_refusal, print_reply, print_said, question};
+pub use reply::{print_refusal, print_reply, print_said, question, reply_style};

@@ -15,13 +15,23 @@ use crate::parts::write_line;
 use crate::pieces::{Item, Piece, Term};
 use dbg_base::Pid;
 use proc_lang::{ProgFault, Program};
-use shell_io::Sink;
+use shell_io::{Sink, Style};
 
 // Flushes the writer.
 fn flush<W: Sink>(writer: &mut W) -> Result<(), ServeFault>
     ensures { Writes (W.seen writer.old) (W.seen writer.new) result [] }
 {
     match writer.flush() {
+        Ok(()) => Ok(()),
+        Err(_) => Err(ServeFault::Write),
+    }
+}
+
+/// Sets the style of the next bytes.
+pub fn set_style<W: Sink>(style: Style, writer: &mut W) -> Result<(), ServeFault>
+    ensures { Writes (W.seen writer.old) (W.seen writer.new) result [] }
+{
+    match writer.set_style(style) {
         Ok(()) => Ok(()),
         Err(_) => Err(ServeFault::Write),
     }

@@ -22,7 +22,7 @@ use crate::pieces::{Amounts, Item, Names, Piece, Term, Words};
 use crate::words::{append_count, append_process};
 use dbg_base::{Answer, Call, Choice, Cut, Done, Name, Pid, Query, Refusal, Reply, Said};
 use proc_lang::Program;
-use shell_io::{FixedBuffer, Sink};
+use shell_io::{FixedBuffer, Sink, Style};
 
 // Room for the line of an event: `ok`, a process, a count, `halted` with a breakpoint, and the line end.
 const EVENT: usize = 120;
@@ -317,6 +317,18 @@ pub fn print_reply<W: Sink>(
         (as_line (reply_text (program_of program.now) (call_of call.now) said.now)) }
 {
     print_said(program, &question(call), said, writer)
+}
+
+/// The style of the line that answers a call.
+pub fn reply_style(said: &Said) -> Style {
+    match said {
+        Said::Refused(_) => Style::Refusal,
+        Said::Accepted(reply) => match reply.halted {
+            Some(name) => Style::Halted("halted ".len().saturating_add(name.bytes().len())),
+            None => Style::Plain,
+        },
+        Said::Answered(_) => Style::Plain,
+    }
 }
 
 /// Writes the line that refuses a command line, with its line end. Failures are as for `print_reply`.

@@ -49,27 +49,15 @@ module _ (M : Manner) (P : Program) (bytes : List ℕ) (J : Journal) where
     written = record { whole = appended_none a; part = tt; fault = tt };
   }
 
-  -- the refusal of the line was written, and then an explanation or none
-  pub refusal_replied : {A B : Type 0} {u : A} {r : Result B ServeFault} (refusal : Refusal) (a b c : Seen) → IsParsed P bytes (Err refusal)
-      → Writes {A = A} a b (Ok u) (as_line (refusal_text P refusal)) → WritesForm M.explains b r c → WritesReply M P bytes J a r c J
-  refusal_replied refusal a b c parsed wrote reported = record {
+  -- the refusal of the line was written, and then an explanation or none, or a prefix of that
+  pub refusal_replied : {B : Type 0} {r : Result B ServeFault} (refusal : Refusal) (a c : Seen) → IsParsed P bytes (Err refusal)
+      → WritesForm (IsExplained M (as_line (refusal_text P refusal))) a r c → WritesReply M P bytes J a r c J
+  refusal_replied refusal a c parsed told = record {
     reply = as_line (refusal_text P refusal);
-    reported = reported.text;
+    reported = told.form.0;
     answers = (Err refusal, parsed, (refl, refl));
-    explains = reported.form;
-    written = writes_then wrote reported.written;
-  }
-
-  -- or it was not written in full
-  pub refusal_stopped : {A B : Type 0} {e : ServeFault} {r : Result B ServeFault} (refusal : Refusal) (a b : Seen) → MayBeQuiet M
-      → IsParsed P bytes (Err refusal) → Writes {A = A} a b (Err e) (as_line (refusal_text P refusal)) → IsErrAnd r (λ f. f ≡ e)
-      → WritesReply M P bytes J a r b J
-  refusal_stopped refusal a b quiet parsed wrote same = record {
-    reply = as_line (refusal_text P refusal);
-    reported = [];
-    answers = (Err refusal, parsed, (refl, refl));
-    explains = quiet.explains;
-    written = stopped [] wrote same;
+    explains = told.form.1;
+    written = writes_same told.form.2 told.written;
   }
 
 -- what was written for an entry was written for the same entry

@@ -4,3 +4,4 @@ pub mod SessionLemmas
 mod InputSessionLemmas
 mod RunLemmas
 pub mod SeatLemmas
+pub mod InputSourceLemmas

@@ -1,8 +1,7 @@
 -- The seats of a run.
-use Rattle.std.proofs.Common.{◌≡◌, ℕ, suc, ◌-◌, ◌<◌, ◌≤◌, List, ◌++◌, length, get_or, take, drop, sym, ◌∙◌, subst, arith}
+use Rattle.std.proofs.Common.{◌≡◌, ℕ, suc, ◌-◌, ◌<◌, ◌≤◌, List, get_or, ◌∙◌, arith}
 use Rattle.dbg_base.specs.declared.limits.TheConstants.{SEATS}
 use Rattle.dbg_desk.specs.Desks.{SeatState}
-use Rattle.shell_input.proofs.Lists.{lent_back}
 use Rattle.shell_serve.specs.Answering.{AreAllSeats}
 
 -- the seat that is looked up by a number has this number
@@ -12,8 +11,3 @@ is_number seats n other are some few =
     let within : n - 1 < SEATS = omega (arith, some, few) in
     let at : suc (n - 1) ≡ n = omega (arith, some) in
     are.numbered (n - 1) other within ∙ at
-
--- the seats that a function returns are all seats, if those that it got were
-pub all_back : (n : ℕ) (old new : List SeatState) → n ≡ length old → AreAllSeats old → AreAllSeats new
-    → AreAllSeats (take n (new ++ drop (length new) old))
-all_back n old new long were are = subst AreAllSeats (sym (lent_back n old new long (are.all ∙ sym were.all))) are

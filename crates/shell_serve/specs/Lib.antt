@@ -1,3 +1,5 @@
+pub mod Sources
+pub mod InputSteps
 pub mod Sessions
 pub mod Plain
 pub mod Serving

@@ -1,15 +1,22 @@
 -- What `serve` does with an input.
-use Rattle.std.specs.Prelude.{◌≡◌, ℕ, ◌≤◌, List, ◌++◌, length, Option, Some, None, ◌⊎◌}
+use Rattle.std.specs.Prelude.{◌≡◌, ℕ, ◌≤◌, List, ◌++◌, length, Option, Some, None, ◌⊎◌, if◌then◌else◌}
 use Rattle.dbg_base.specs.declared.limits.TheConstants.{INPUT_BYTES}
 use Rattle.dbg_base.specs.Trees.{Program}
 use Rattle.dbg_base.specs.Checks.{Reads, IsFault}
-use Rattle.dbg_base.specs.Shell.{Parts, parts_of, read_lines, WholeText, Text}
+use Rattle.dbg_base.specs.Shell.{Parts, parts_of, read_lines, is_too_long, WholeText, Text}
 use Rattle.dbg_base.specs.declared.fault.ProgFault.{ProgFault}
 use Rattle.shell_io.specs.Seen.{Seen}
 use Rattle.shell_print.specs.declared.outcome.Served.{Served}
-use Rattle.shell_print.specs.declared.outcome.Served.TheVariants.{Refused}
+use Rattle.shell_print.specs.declared.outcome.Served.TheVariants.{Done, Refused, TooLong}
 use Rattle.shell_input.specs.Written.{WritesSome}
-use Rattle.shell_serve.specs.Sessions.{end_of, unended}
+
+-- the result of a run whose program was read
+abbrev pub end_of : List ℕ → Served
+end_of input = if is_too_long input then TooLong else Done
+
+-- the result of a run whose program text has no end
+abbrev pub unended : List ℕ → Served
+unended input = if is_too_long input then TooLong else Refused
 
 -- A run over the input ends like this, by whether the program text before the line `%%` is a program or has a fault.
 abbrev pub EndsParts : List ℕ → Option Parts → Served → Type 0

@@ -1,4 +1,5 @@
-//! Sessions whose input is a program text and the lines after it. An observer may explain each line; `serve` runs without one.
+//! Sessions: lines that a source gives become calls of one session, and an observer may explain each answer. `serve` is a session whose
+//! lines are those of an input, without an observer.
 //!
 //! `play` makes each plan of a line a command of its kind. No other module knows the kinds.
 #![tactic(auto)]
@@ -9,8 +10,10 @@ mod running;
 mod serving;
 mod session;
 mod silent;
+mod source;
 
 pub use observer::Observer;
 pub use running::play;
 pub use serving::serve;
 pub use session::answer;
+pub use source::{Answer, LineSource};

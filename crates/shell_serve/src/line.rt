@@ -1,6 +1,7 @@
 //! One line of a session.
 
-ghost use Rattle.std.specs.Prelude.{◌≡◌, ◌<◌, ◌≤◌, ℕ, List, Ok, Some, not, IfOk, IfErr, IfSome};
+ghost use Rattle.std.specs.Prelude.{◌≡◌, ◌<◌, ◌≤◌, ℕ, List, [], Ok, Some, false, IfOk, IfErr, IfSome};
+ghost use Rattle.std.specs.Option.{option_map};
 ghost use Rattle.dbg_base.specs.declared.limits.TheConstants.{SEATS};
 ghost use Rattle.dbg_base.specs.Journals.{IsLegal, Entry};
 ghost use Rattle.dbg_base.specs.Fits.{FitsRefusal};
@@ -9,35 +10,70 @@ ghost use Rattle.dbg_base.specs.Shell.{as_line};
 ghost use Rattle.shell_parse.specs.Lines.{IsParsed, IsGivable, IsLineGivable, IsLineRefusal};
 ghost use Rattle.shell_print.specs.Writing.{Writes};
 ghost use Rattle.shell_print.specs.declared.outcome.ServeFault.TheVariants.{Write};
-ghost use Rattle.shell_serve.specs.Answering.{IsMaker, AreAllSeats, IsLast, HasLast};
-ghost use Rattle.shell_serve.specs.Sessions.{MayBeQuiet, IsExplained, WritesForm, WritesLine, WritesReply};
+ghost use Rattle.shell_serve.specs.Answering.{IsMaker, AreAllSeats, IsLast, HasLast, answer_of, is_end};
+ghost use Rattle.shell_serve.specs.Sessions.{MayBeQuiet, IsExplained, WritesForm, WritesLine, WritesReply, WritesAnswer, ends_session};
 
 use crate::observer::Observer;
 use crate::session::answer;
+use crate::source::Answer;
 use dbg_base::{Refusal, Said};
 use dbg_command::{Command, Givable};
 use dbg_desk::{Locked, Run, Seat};
-use shell_io::Sink;
+use shell_io::{GivenLine, Sink, Style};
 use shell_parse::{Line, parse_line, parse_process_line, parse_seatless_line};
-use shell_print::{ServeFault, hand_on, print_refusal, print_reply};
+use shell_print::{ServeFault, hand_on, print_refusal, print_reply, reply_style, set_style};
 use std::alloc::Global;
 
+// How a call was answered to which this was said.
+fn answer_of(said: &Said) -> Answer
+    ensures said { result ≡ answer_of said.now }
+    ensures goes_on { is_end result ≡ false }
+{
+    match said {
+        Said::Refused(_) => Answer::Refused,
+        Said::Answered(_) => Answer::Accepted,
+        Said::Accepted(reply) => match reply.halted {
+            Some(_) => Answer::Halted,
+            None => Answer::Accepted,
+        },
+    }
+}
+
+// Sets the style of the reply that is written next, if the observer marks replies. There is no answer if no call was entered.
+#[inline(always)]
+fn mark<T: Observer<N>, N, W: Sink>(
+    observer: &T,
+    said: Option<&Said>,
+    writer: &mut W,
+) -> Result<(), ServeFault>
+    ensures { Writes (W.seen writer.old) (W.seen writer.new) result [] }
+{
+    if !observer.marks_replies() {
+        return Ok(());
+    }
+    set_style(said.map_or(Style::Refusal, reply_style), writer)
+}
+
 // Writes the reply to the call that was entered last, and the explanation. The reply is flushed before it is explained.
-fn tell_entered<L: Run, C: Command, T: Observer<R>, R, W: Sink>(
+fn tell_entered<L: Run, C: Command, T: Observer<N>, N, W: Sink>(
     alloc: Global,
     observer: &mut T,
     locked: &Locked<L, C>,
+    line: &GivenLine<'_, N>,
     writer: &mut W,
-) -> Result<(), ServeFault>
+) -> Result<Answer, ServeFault>
     requires quiet { MayBeQuiet T.manner }
     requires last { HasLast L.program locked.now.journal }
-    ensures { (entry : Entry) → IsLast locked.now.journal entry → WritesForm
+    ensures told { (entry : Entry) → IsLast locked.now.journal entry → WritesForm
         (IsExplained T.manner (as_line (reply_text L.program entry.call entry.said))) (W.seen writer.old) result (W.seen writer.new) }
+    ensures goes_on { IfOk result (λ answer. is_end answer ≡ false) }
 {
     let entry = locked.last_entry();
+    mark(observer, Some(&entry.said), writer)?;
     let written = print_reply(locked.program(), &entry.call, &entry.said, writer);
     hand_on(written, writer)?;
-    observer.explain_call(alloc, locked.view(), &entry.said, writer)
+    observer.explain_call(alloc, locked.view(), line, &entry.call, &entry.said, writer)?;
+    Ok(answer_of(&entry.said))
 }
 
 // Writes a refusal, and flushes it.
@@ -53,21 +89,25 @@ fn write_refusal<L: Run, C: Command, W: Sink>(
     hand_on(written, writer)
 }
 
-// Writes the reply to a call that was not entered, and the explanation.
-fn tell_left_out<L: Run, C: Command, T: Observer<R>, R, W: Sink>(
+// Refuses a line of which no call was entered, and explains that.
+fn refuse_line<L: Run, C: Command, T: Observer<N>, N, W: Sink>(
     alloc: Global,
     observer: &mut T,
     locked: &Locked<L, C>,
-    refusal: Refusal,
+    line: &GivenLine<'_, N>,
+    refusal: &Refusal,
     writer: &mut W,
-) -> Result<(), ServeFault>
+) -> Result<Answer, ServeFault>
     requires quiet { MayBeQuiet T.manner }
-    requires fits { FitsRefusal L.program refusal }
-    ensures { WritesForm (IsExplained T.manner (as_line (refusal_text L.program refusal))) (W.seen writer.old) result
+    requires fits { FitsRefusal L.program refusal.now }
+    ensures told { WritesForm (IsExplained T.manner (as_line (refusal_text L.program refusal.now))) (W.seen writer.old) result
         (W.seen writer.new) }
+    ensures goes_on { IfOk result (λ answer. is_end answer ≡ false) }
 {
-    write_refusal(locked, &refusal, writer)?;
-    observer.explain_call(alloc, locked.view(), &Said::Refused(refusal), writer)
+    mark(observer, None, writer)?;
+    write_refusal(locked, refusal, writer)?;
+    observer.explain_refusal(alloc, locked.view(), line, refusal, writer)?;
+    Ok(Answer::Refused)
 }
 
 // Makes the call that a command line asks for. The reply is flushed before it is explained.
@@ -76,8 +116,8 @@ fn answer_call<
     L: Run,
     C: Command,
     M: Fn(Givable) -> Result<C, Refusal>,
-    T: Observer<R>,
-    R,
+    T: Observer<N>,
+    N,
     W: Sink,
 >(
     alloc: Global,
@@ -85,25 +125,27 @@ fn answer_call<
     observer: &mut T,
     locked: &mut Locked<L, C>,
     seats: &mut [Seat<L>],
+    line: &GivenLine<'_, N>,
     asked: Line,
     writer: &mut W,
-) -> Result<(), ServeFault>
+) -> Result<Answer, ServeFault>
     requires makes { (M.IsAlwaysCallable make.now) × IsMaker (M.post make.now) C.IsFresh C.order }
     requires seats { AreAllSeats seats.old }
     requires quiet { MayBeQuiet T.manner }
     requires seat { (0 < asked.seat) × (asked.seat ≤ SEATS) }
     requires givable { IsGivable asked.call }
     ensures seats { AreAllSeats seats.new }
-    ensures answers { (line : List ℕ) → IsParsed L.program line (Ok (Some asked))
-        → WritesReply T.manner L.program line locked.old.journal (W.seen writer.old) result (W.seen writer.new) locked.new.journal }
+    ensures goes_on { IfOk result (λ answer. is_end answer ≡ false) }
+    ensures answers { (bytes : List ℕ) → IsParsed L.program bytes (Ok (Some asked))
+        → WritesReply T.manner L.program bytes locked.old.journal (W.seen writer.old) result (W.seen writer.new) locked.new.journal }
 {
     let Line { seat, call } = asked;
     let seat = &mut seats[seat as usize - 1];
     observer.prepare(alloc, locked.view(), &call);
     let entered = answer(locked, alloc, make, seat, call);
     match entered {
-        Ok(()) => tell_entered(alloc, observer, locked, writer),
-        Err(refusal) => tell_left_out(alloc, observer, locked, refusal, writer),
+        Ok(()) => tell_entered(alloc, observer, locked, line, writer),
+        Err(refusal) => refuse_line(alloc, observer, locked, line, &refusal, writer),
     }
 }
 
@@ -113,8 +155,8 @@ fn answer_parsed<
     L: Run,
     C: Command,
     M: Fn(Givable) -> Result<C, Refusal>,
-    T: Observer<R>,
-    R,
+    T: Observer<N>,
+    N,
     W: Sink,
 >(
     alloc: Global,
@@ -122,10 +164,10 @@ fn answer_parsed<
     observer: &mut T,
     locked: &mut Locked<L, C>,
     seats: &mut [Seat<L>],
-    line: &[u8],
+    line: &GivenLine<'_, N>,
     parsed: Result<Option<Line>, Refusal>,
     writer: &mut W,
-) -> Result<(), ServeFault>
+) -> Result<Answer, ServeFault>
     requires makes { (M.IsAlwaysCallable make.now) × IsMaker (M.post make.now) C.IsFresh C.order }
     requires seats { AreAllSeats seats.old }
     requires quiet { MayBeQuiet T.manner }
@@ -133,16 +175,14 @@ fn answer_parsed<
     requires seat { IfOk parsed (λ line. IfSome line (λ asked. (0 < asked.seat) × (asked.seat ≤ SEATS))) }
     requires refuses { (bytes : List ℕ) × IfErr parsed (IsLineRefusal bytes) }
     ensures seats { AreAllSeats seats.new }
+    ensures goes_on { IfOk result (λ answer. is_end answer ≡ false) }
     ensures answers { (bytes : List ℕ) → IsParsed L.program bytes parsed
         → WritesReply T.manner L.program bytes locked.old.journal (W.seen writer.old) result (W.seen writer.new) locked.new.journal }
 {
     match parsed {
-        Ok(Some(asked)) => answer_call(alloc, make, observer, locked, seats, asked, writer),
-        Ok(None) => Ok(()),
-        Err(refusal) => {
-            write_refusal(locked, &refusal, writer)?;
-            observer.explain_refusal(alloc, locked.view(), line, &refusal, writer)
-        }
+        Ok(Some(asked)) => answer_call(alloc, make, observer, locked, seats, line, asked, writer),
+        Ok(None) => Ok(Answer::Nothing),
+        Err(refusal) => refuse_line(alloc, observer, locked, line, &refusal, writer),
     }
 }
 
@@ -151,8 +191,8 @@ fn answer_command<
     L: Run,
     C: Command,
     M: Fn(Givable) -> Result<C, Refusal>,
-    T: Observer<R>,
-    R,
+    T: Observer<N>,
+    N,
     W: Sink,
 >(
     alloc: Global,
@@ -160,34 +200,44 @@ fn answer_command<
     observer: &mut T,
     locked: &mut Locked<L, C>,
     seats: &mut [Seat<L>],
-    line: &[u8],
+    line: &GivenLine<'_, N>,
+    played: &[u8],
     writer: &mut W,
-) -> Result<(), ServeFault>
+) -> Result<Answer, ServeFault>
     requires makes { (M.IsAlwaysCallable make.now) × IsMaker (M.post make.now) C.IsFresh C.order }
     requires seats { AreAllSeats seats.old }
     requires quiet { MayBeQuiet T.manner }
     ensures seats { AreAllSeats seats.new }
-    ensures answers { WritesReply T.manner L.program (T.manner.seated line.now) locked.old.journal (W.seen writer.old) result
+    ensures goes_on { IfOk result (λ answer. is_end answer ≡ false) }
+    ensures answers { WritesReply T.manner L.program (T.manner.seated played.now) locked.old.journal (W.seen writer.old) result
         (W.seen writer.new) locked.new.journal }
 {
-    let parsed = if observer.needs_seat(line) {
-        parse_seatless_line(alloc, locked.program(), line)
-    } else if let Some(short) = parse_process_line(locked.program(), line) {
+    let parsed = if observer.needs_seat(played) {
+        parse_seatless_line(alloc, locked.program(), played)
+    } else if let Some(short) = parse_process_line(locked.program(), played) {
         // Most lines are of this kind.
-        return answer_call(alloc, make, observer, locked, seats, short.line(), writer);
+        let asked = short.line();
+        return answer_call(alloc, make, observer, locked, seats, line, asked, writer);
     } else {
-        parse_line(alloc, locked.program(), line)
+        parse_line(alloc, locked.program(), played)
     };
     answer_parsed(alloc, make, observer, locked, seats, line, parsed, writer)
 }
 
-/// Answers a line, and returns whether the session continues. The output is flushed before the next line is read.
-pub(crate) fn answer_line<
+// The answer to a line, which may end the session.
+fn ended_if(ends: bool, answer: Answer) -> Answer
+    ensures { is_end answer ≡ false → is_end result ≡ ends }
+{
+    if ends { Answer::Ended } else { answer }
+}
+
+// Answers a line that was made.
+fn answer_made<
     L: Run,
     C: Command,
     M: Fn(Givable) -> Result<C, Refusal>,
-    T: Observer<R>,
-    R,
+    T: Observer<N>,
+    N,
     W: Sink,
 >(
     alloc: Global,
@@ -195,25 +245,56 @@ pub(crate) fn answer_line<
     observer: &mut T,
     locked: &mut Locked<L, C>,
     seats: &mut [Seat<L>],
-    line: &[u8],
-    reader: &R,
+    line: &GivenLine<'_, N>,
+    played: &[u8],
     writer: &mut W,
-) -> Result<bool, ServeFault>
+) -> Result<Answer, ServeFault>
     requires makes { (M.IsAlwaysCallable make.now) × IsMaker (M.post make.now) C.IsFresh C.order }
     requires seats { AreAllSeats seats.old }
     requires quiet { MayBeQuiet T.manner }
     ensures seats { AreAllSeats seats.new }
-    ensures answers { IsLegal L.program locked.old.journal → WritesLine T.manner L.program line.now locked.old.journal (W.seen writer.old)
-        result (W.seen writer.new) locked.new.journal }
-    ensures goes_on { IfOk result (λ goes_on. goes_on ≡ not (T.manner.ends line.now)) }
+    ensures answers { WritesAnswer T.manner L.program played.now locked.old.journal (W.seen writer.old) result (W.seen writer.new)
+        locked.new.journal }
+    ensures goes_on { IfOk result (λ answer. is_end answer ≡ T.manner.ends played.now) }
+{
+    let ends = observer.ends(played);
+    if observer.is_directive(played) {
+        observer.direct(alloc, locked.view(), played, writer)?;
+        return Ok(ended_if(ends, Answer::Nothing));
+    }
+    let answer = answer_command(alloc, make, observer, locked, seats, line, played, writer)?;
+    Ok(ended_if(ends, answer))
+}
+
+/// Answers a line. The output is flushed before the next line is read.
+pub(crate) fn answer_line<
+    L: Run,
+    C: Command,
+    M: Fn(Givable) -> Result<C, Refusal>,
+    T: Observer<N>,
+    N,
+    W: Sink,
+>(
+    alloc: Global,
+    make: &M,
+    observer: &mut T,
+    locked: &mut Locked<L, C>,
+    seats: &mut [Seat<L>],
+    line: &GivenLine<'_, N>,
+    writer: &mut W,
+) -> Result<Answer, ServeFault>
+    requires makes { (M.IsAlwaysCallable make.now) × IsMaker (M.post make.now) C.IsFresh C.order }
+    requires seats { AreAllSeats seats.old }
+    requires quiet { MayBeQuiet T.manner }
+    ensures seats { AreAllSeats seats.new }
+    ensures answers { let given = option_map (λ bytes. bytes.now) line.now.played in IsLegal L.program locked.old.journal
+        → WritesLine T.manner L.program given locked.old.journal (W.seen writer.old) result (W.seen writer.new) locked.new.journal }
+    ensures goes_on { IfOk result (λ answer. is_end answer ≡ ends_session T.manner (option_map (λ bytes. bytes.now) line.now.played)) }
     ensures fault { IfErr result (λ fault. fault ≡ Write) }
 {
-    observer.before(alloc, line, reader, writer)?;
-    let goes_on = !observer.ends(line);
-    if observer.is_directive(line) {
-        observer.direct(alloc, locked.view(), line, writer)?;
-        return Ok(goes_on);
+    observer.before(alloc, line, writer)?;
+    match line.played {
+        Some(played) => { answer_made(alloc, make, observer, locked, seats, line, played, writer) }
+        None => refuse_line(alloc, observer, locked, line, &Refusal::Memory, writer),
     }
-    answer_command(alloc, make, observer, locked, seats, line, writer)?;
-    Ok(goes_on)
 }

@@ -2,29 +2,22 @@
 
 ghost use Rattle.std.specs.Prelude.{◌≡◌, ◌++◌, Bool, codes};
 ghost use Rattle.std.specs.Bool.{MatchBool};
+ghost use Rattle.std.specs.Option.{option_map};
+ghost use Rattle.dbg_base.specs.Calls.{call_of};
+ghost use Rattle.dbg_base.specs.Fits.{FitsCall, FitsRefusal};
+ghost use Rattle.proc_lang.specs.Programs.{program_of};
 ghost use Rattle.shell_serve.specs.Sessions.{Manner, WritesForm};
 
 use dbg_base::{Call, Refusal, Said};
 use dbg_command::SessionView;
-use proc_lang::{ProgFault, Program};
-use shell_io::Sink;
+use shell_io::{GivenLine, Sink};
 use shell_print::ServeFault;
-use std::alloc::{AllocError, Global};
+use std::alloc::Global;
 
 /// The observer of a session. It may write before a line is answered, after the reply, and for a line that makes no call. It borrows the
-/// session, so it does not change it. Its output is of its manner. It asks the reader only whether a line was typed.
-pub trait Observer<R> {
+/// session, so it does not change it. Its output is of its manner.
+pub trait Observer<N> {
     ghost manner: { Manner };
-
-    /// The program with this text was read. Error: memory ran out.
-    fn begin(
-        &mut self,
-        _alloc: Global,
-        _program: &Program,
-        _text: &[u8],
-    ) -> Result<(), AllocError> {
-        Ok(())
-    }
 
     /// Whether the line is answered without a call.
     fn is_directive(&self, line: &[u8]) -> bool
@@ -38,15 +31,20 @@ pub trait Observer<R> {
     fn needs_seat(&self, line: &[u8]) -> bool
         ensures { MatchBool result (manner.seated line.now ≡ codes "1 " ++ line.now) (manner.seated line.now ≡ line.now) };
 
+    /// Whether replies are marked with their styles.
+    fn marks_replies(&self) -> bool {
+        false
+    }
+
     /// Writes the output that comes before the answer to the line.
     fn before<W: Sink>(
         &mut self,
         alloc: Global,
-        line: &[u8],
-        reader: &R,
+        line: &GivenLine<'_, N>,
         writer: &mut W,
     ) -> Result<(), ServeFault>
-        ensures { WritesForm (manner.before line.now) (W.seen writer.old) result (W.seen writer.new) };
+        ensures { WritesForm (manner.before (option_map (λ bytes. bytes.now) line.now.played)) (W.seen writer.old) result
+            (W.seen writer.new) };
 
     /// Answers a directive.
     fn direct<W: Sink>(
@@ -61,43 +59,29 @@ pub trait Observer<R> {
     /// A call is about to be made.
     fn prepare(&mut self, _alloc: Global, _view: SessionView<'_>, _call: &Call) {}
 
-    /// Explains the answer to that call.
+    /// Explains the answer to that call of this line, which was entered.
     fn explain_call<W: Sink>(
         &mut self,
         alloc: Global,
         view: SessionView<'_>,
+        line: &GivenLine<'_, N>,
+        call: &Call,
         said: &Said,
         writer: &mut W,
     ) -> Result<(), ServeFault>
+        requires { FitsCall (program_of view.program.now) (call_of call.now) said.now }
         ensures { WritesForm manner.explains (W.seen writer.old) result (W.seen writer.new) };
 
-    /// Explains why a line is refused without a call.
+    /// Explains why a line is refused of which no call was entered.
     fn explain_refusal<W: Sink>(
         &mut self,
         alloc: Global,
         view: SessionView<'_>,
-        line: &[u8],
+        line: &GivenLine<'_, N>,
         refusal: &Refusal,
         writer: &mut W,
     ) -> Result<(), ServeFault>
-        ensures { WritesForm manner.explains (W.seen writer.old) result (W.seen writer.new) };
-
-    /// Explains why the program is refused.
-    fn explain_fault<W: Sink>(
-        &mut self,
-        alloc: Global,
-        text: &[u8],
-        fault: &ProgFault,
-        writer: &mut W,
-    ) -> Result<(), ServeFault>
-        ensures { WritesForm manner.explains (W.seen writer.old) result (W.seen writer.new) };
-
-    /// Explains that no line ends the program.
-    fn explain_no_end_line<W: Sink>(
-        &mut self,
-        alloc: Global,
-        writer: &mut W,
-    ) -> Result<(), ServeFault>
+        requires { FitsRefusal (program_of view.program.now) refusal.now }
         ensures { WritesForm manner.explains (W.seen writer.old) result (W.seen writer.new) };
 
     /// The session is over.

@@ -13,8 +13,10 @@ ghost use Rattle.shell_serve.specs.Serving.{ServesInput, BreaksInput};
 
 use crate::running::play;
 use crate::silent::Silent;
+use proc_lang::{ProgError, parse_program};
+use shell_input::{Input, TextEnd, read_program_text};
 use shell_io::{Sink, Source};
-use shell_print::{ServeFault, Served};
+use shell_print::{ServeFault, Served, tell_fault, tell_no_end_line, tell_too_long};
 use std::alloc::Global;
 
 /// Reads a program text up to a line `%%`. Then answers each command line after it, in order: a reply is written and flushed before the
@@ -54,5 +56,17 @@ pub fn serve<R: Source, W: Sink>(
     // However it ends, at most 1,048,577 bytes were read.
     ensures few { IfSome (R.remaining reader.old) (λ input. ReadsFew input (R.remaining reader.new)) }
 {
-    play(alloc, &mut Silent, reader, writer)
+    let mut input = Input::new(alloc)?;
+    match read_program_text(&mut input, reader)? {
+        TextEnd::Before(span) => {
+            let text = input.before(span);
+            match parse_program(alloc, text) {
+                Ok(program) => play(alloc, &mut Silent, program, &mut input, reader, writer),
+                Err(ProgError::Bad(fault)) => tell_fault(&fault, writer),
+                Err(ProgError::Memory) => Err(ServeFault::Memory),
+            }
+        }
+        TextEnd::End => tell_no_end_line(writer),
+        TextEnd::TooLong => tell_too_long(writer),
+    }
 }

@@ -3,10 +3,9 @@
 ghost use Rattle.shell_serve.specs.Plain.{plain};
 
 use crate::observer::Observer;
-use dbg_base::{Refusal, Said};
+use dbg_base::{Call, Refusal, Said};
 use dbg_command::SessionView;
-use proc_lang::ProgFault;
-use shell_io::Sink;
+use shell_io::{GivenLine, Sink};
 use shell_print::ServeFault;
 use std::alloc::Global;
 
@@ -14,7 +13,7 @@ use std::alloc::Global;
 #[derive(Drop)]
 pub(crate) struct Silent;
 
-impl<R> Observer<R> for Silent {
+impl<N> Observer<N> for Silent {
     ghost manner = { plain };
 
     fn is_directive(&self, _line: &[u8]) -> bool {
@@ -32,8 +31,7 @@ impl<R> Observer<R> for Silent {
     fn before<W: Sink>(
         &mut self,
         _alloc: Global,
-        _line: &[u8],
-        _reader: &R,
+        _line: &GivenLine<'_, N>,
         _writer: &mut W,
     ) -> Result<(), ServeFault> {
         Ok(())
@@ -53,6 +51,8 @@ impl<R> Observer<R> for Silent {
         &mut self,
         _alloc: Global,
         _view: SessionView<'_>,
+        _line: &GivenLine<'_, N>,
+        _call: &Call,
         _said: &Said,
         _writer: &mut W,
     ) -> Result<(), ServeFault> {
@@ -63,26 +63,8 @@ impl<R> Observer<R> for Silent {
         &mut self,
         _alloc: Global,
         _view: SessionView<'_>,
-        _line: &[u8],
+        _line: &GivenLine<'_, N>,
         _refusal: &Refusal,
-        _writer: &mut W,
-    ) -> Result<(), ServeFault> {
-        Ok(())
-    }
-
-    fn explain_fault<W: Sink>(
-        &mut self,
-        _alloc: Global,
-        _text: &[u8],
-        _fault: &ProgFault,
-        _writer: &mut W,
-    ) -> Result<(), ServeFault> {
-        Ok(())
-    }
-
-    fn explain_no_end_line<W: Sink>(
-        &mut self,
-        _alloc: Global,
         _writer: &mut W,
     ) -> Result<(), ServeFault> {
         Ok(())

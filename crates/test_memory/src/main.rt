@@ -13,21 +13,24 @@ mod scripts;
 mod sessions;
 mod streams;
 mod trial;
+mod typist;
 
 use std::alloc::{AllocError, Global};
 use std::io::Write;
 use std::sync::Wait;
 use std::thread::Threads;
-use streams::StreamRoom;
+use streams::{Server, StreamRoom};
 
-// Reports the results of `serve`, `check` and `run_crew`.
+// Reports the results of `serve`, `talk`, `check` and `run_crew`.
 fn tell_streams<R: Threads + Wait + Sync>(
     rt: &R,
     alloc: Global,
     report: &mut Vec<u8>,
 ) -> Result<(), AllocError> {
     let mut rooms = StreamRoom::new(alloc)?;
-    streams::tell_served(alloc, &mut rooms, report)?;
+    for server in [Server::Run, Server::Talk] {
+        streams::tell_served(alloc, server, &mut rooms, report)?;
+    }
     streams::tell_checked(alloc, &mut rooms, report);
     streams::tell_crewed(rt, alloc, &mut rooms, report);
     Ok(())

@@ -44,17 +44,27 @@ fn without_blanks(alloc: Global, text: &[u8]) -> Result<String, AllocError> {
 // The plain text of a model without blanks, if the process language accepts it, or its fault.
 fn expanded(alloc: Global, text: &[u8]) -> Result<String, AllocError> {
     match expand_program(alloc, text) {
-        Ok(expansion) => without_blanks(alloc, expansion.plain()),
+        Ok(expanded) => without_blanks(alloc, expanded.expansion.plain()),
         Err(error) => reported(alloc, error, text),
     }
 }
 
 // A fault with its line and column, in one line.
 fn reported(alloc: Global, error: NotationError, text: &[u8]) -> Result<String, AllocError> {
+    reported_from(alloc, error, text, 0)
+}
+
+// A fault of the part of a text that begins at this offset, with its line and column in the text.
+fn reported_from(
+    alloc: Global,
+    error: NotationError,
+    text: &[u8],
+    from: usize,
+) -> Result<String, AllocError> {
     match error {
         NotationError::Memory => format!(in alloc; "memory"),
         NotationError::Bad(fault) => {
-            let (line, column) = line_and_column(text, fault.at());
+            let (line, column) = line_and_column(text, from.saturating_add(fault.at()));
             let problem = fault.problem();
             format!(in alloc; "{problem:?} in {line}:{column}")
         }

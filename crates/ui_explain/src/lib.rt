@@ -6,6 +6,7 @@ mod answers;
 mod batches;
 mod breakpoints;
 mod commands;
+mod counted;
 mod cuts;
 mod depths;
 mod directive;
@@ -23,6 +24,7 @@ mod values;
 mod view;
 
 pub use accepted::Before;
+pub use counted::{BreakpointChange, CountedCommand, CountedCommands};
 pub use directive::Directive;
 pub use explainer::{Echo, Explainer};
 pub use expressions::ProcessView;

@@ -148,7 +148,7 @@ impl SourceView<'_> {
         Ok(())
     }
 
-    /// Says why a command line is refused without a call. A line that names no seat is one of the first seat.
+    /// Says why a command line is refused of which no call was entered. A line that names no seat is one of the first seat.
     pub fn tell_bad_line(
         &self,
         alloc: Global,
@@ -167,6 +167,7 @@ impl SourceView<'_> {
         }
         let (command, arguments) = next_word(rest);
         match refusal {
+            Refusal::JournalFull => self.tell_remedy(alloc, notes, refusal)?,
             Refusal::BadLine => self.tell_form_of(notes, seat, command, arguments)?,
             Refusal::UnknownProcess if command != b"batch".as_slice() => self.tell_unknown(
                 notes, command, arguments,

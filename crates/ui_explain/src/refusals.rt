@@ -275,7 +275,7 @@ impl SourceView<'_> {
     }
 
     // Says what the person can do after a refusal that does not depend on the command.
-    fn tell_remedy(
+    pub(crate) fn tell_remedy(
         &self,
         alloc: Global,
         notes: &mut Notes,

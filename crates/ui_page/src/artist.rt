@@ -1,14 +1,13 @@
 //! A picture of one state of a session.
 
-use dbg_base::{Refusal, Said};
+use dbg_base::{Call, Refusal, Said};
 use dbg_command::SessionView;
-use proc_lang::Program;
 use std::alloc::{AllocError, Global};
 use ui_diagram::{Moment, Picture, PictureForm, draw_mermaid, draw_text, write_log};
 use ui_drawing::draw_drawing;
-use ui_explain::Explainer;
+use ui_explain::{CountedCommand, Explainer};
 use ui_text::{NoteLine, Notes};
-use ui_timeline::{Selection, unknown_name};
+use ui_timeline::Selection;
 
 // Lines, each with a line end.
 fn with_line_ends(alloc: Global, lines: &[NoteLine]) -> Result<Vec<u8>, AllocError> {
@@ -50,8 +49,6 @@ fn is_halt(said: &Said) -> bool {
 #[derive(Drop)]
 pub struct Artist<'a> {
     wanted: Picture<'a>,
-    // A name of a process that the picture is to show, and that the program does not have.
-    unknown: Option<&'a [u8]>,
     picture: Option<Vec<u8>>,
     is_out_of_memory: bool,
 }
@@ -61,15 +58,9 @@ impl<'a> Artist<'a> {
     pub fn new(wanted: Picture<'a>) -> Artist<'a> {
         Artist {
             wanted,
-            unknown: None,
             picture: None,
             is_out_of_memory: false,
         }
-    }
-
-    /// The first name of a process that the picture is to show, and that the program does not have. Then there is no picture.
-    pub fn unknown_name(&self) -> Option<&'a [u8]> {
-        self.unknown
     }
 
     /// Whether memory ran out.
@@ -86,9 +77,6 @@ impl<'a> Artist<'a> {
     }
 
     fn draw(&mut self, alloc: Global, view: SessionView<'_>) {
-        if self.unknown.is_some() {
-            return;
-        }
         match picture_of(alloc, self.wanted, view) {
             Ok(picture) => self.picture = Some(picture),
             Err(_) => self.is_out_of_memory = true,
@@ -96,16 +84,16 @@ impl<'a> Artist<'a> {
     }
 }
 
-impl Explainer for Artist<'_> {
-    fn begin(&mut self, _alloc: Global, program: &Program, _text: &[u8]) -> Result<(), AllocError> {
-        self.unknown = self
-            .wanted
-            .only
-            .and_then(|list| unknown_name(program, list));
-        Ok(())
-    }
-
-    fn explain_call(&mut self, alloc: Global, view: SessionView<'_>, said: &Said) -> Notes {
+impl<N> Explainer<N> for Artist<'_> {
+    fn explain_call(
+        &mut self,
+        alloc: Global,
+        view: SessionView<'_>,
+        _call: &Call,
+        said: &Said,
+        _reply: &[u8],
+        _taken_back: Option<CountedCommand<'_>>,
+    ) -> Notes {
         let is_first = self.picture.is_none() && !self.is_out_of_memory;
         if self.wanted.moment == Moment::Halt && is_first && is_halt(said) {
             self.draw(alloc, view);

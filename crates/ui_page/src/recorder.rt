@@ -10,16 +10,17 @@ mod trail;
 
 use crate::data::{Incomplete, PageData};
 use crate::list::{List, text_value};
-use breakpoints::{BreakpointChange, Breakpoints};
+use breakpoints::Breakpoints;
 use causal_world::World;
 use dbg_base::{Call, Choice, Done, Pid, Plan, Refusal, Reply, Said};
 use dbg_command::SessionView;
 use lines::RecordedLines;
 use proc_lang::Program;
 use serde_json::{Map, Value};
+use shell_io::GivenLine;
 use std::alloc::{AllocError, Global};
-use ui_explain::{Echo, Explainer};
-use ui_text::{Notes, ProgramText, Transcript};
+use ui_explain::{BreakpointChange, CountedCommand, Echo, Explainer};
+use ui_text::{Notes, ProgramText};
 
 // The kind of a call, as far as a page needs it.
 #[derive(Clone, Copy)]
@@ -29,19 +30,9 @@ enum CallKind {
     // The process makes an event of its redo line.
     Again(Pid),
     Undo(Pid),
-    Batch(BreakpointChange),
+    Batch,
     Back,
     Other,
-}
-
-// How these commands, one after the other, may change breakpoints.
-fn change_by(plans: &[Plan]) -> BreakpointChange {
-    let sets = |plan: &Plan| matches!(plan, Plan::Break(_, _) | Plan::Clear(_));
-    if plans.iter().any(sets) {
-        BreakpointChange::Replaced
-    } else {
-        BreakpointChange::Batch
-    }
 }
 
 fn kind_of(call: &Call) -> CallKind {
@@ -49,26 +40,29 @@ fn kind_of(call: &Call) -> CallKind {
         Call::Give(Plan::Step(pid, _) | Plan::Next(pid)) => CallKind::Further(*pid),
         Call::Give(Plan::Redo(pid)) => CallKind::Again(*pid),
         Call::Give(Plan::Undo(pid)) => CallKind::Undo(*pid),
-        Call::Give(Plan::Batch(plans)) => CallKind::Batch(change_by(plans.as_slice())),
+        Call::Give(Plan::Batch(_)) => CallKind::Batch,
         Call::Give(_) | Call::Ask(_) => CallKind::Other,
         Call::Back => CallKind::Back,
     }
 }
 
+// How an accepted command may have changed breakpoints. `back` may have changed what the command changed that it takes back.
+fn change_by(call: &Call, taken_back: Option<CountedCommand<'_>>) -> BreakpointChange {
+    match (call, taken_back) {
+        (Call::Back, Some(command)) => command.change,
+        (Call::Back, None) => BreakpointChange::Replaced,
+        _ => BreakpointChange::by(call),
+    }
+}
+
 /// Records what each line did.
 #[derive(Drop)]
-pub struct Recorder<'a> {
+pub struct Recorder {
     alloc: Global,
-    // The program as it was written, if it is not the one that is played.
-    source: Option<&'a ProgramText>,
     lines: RecordedLines,
     breakpoints: Breakpoints,
-    // The call that is about to be made.
-    kind: CallKind,
     // The world before a batch.
     before: Option<World>,
-    // How each command that counts may have changed breakpoints.
-    changes: Vec<BreakpointChange>,
     is_incomplete: bool,
 }
 
@@ -153,20 +147,19 @@ fn program_value(
     Ok(Value::Object(members))
 }
 
-impl<'a> Recorder<'a> {
-    /// A recorder of a session in which no line was answered. The page shows the commands as this source has them, or without one as the
-    /// program has them.
-    pub fn new(alloc: Global, source: Option<&'a ProgramText>) -> Recorder<'a> {
-        Recorder {
+impl Recorder {
+    /// A recorder of a session of this program in which no line was answered. The page shows the commands as this text has them.
+    pub fn new(alloc: Global, program: &Program, text: &ProgramText) -> Recorder {
+        let mut recorder = Recorder {
             alloc,
-            source,
             lines: RecordedLines::new(alloc),
             breakpoints: Breakpoints::new(alloc),
-            kind: CallKind::Other,
             before: None,
-            changes: Vec::new(alloc),
             is_incomplete: false,
-        }
+        };
+        let put = recorder.put_program(program, text);
+        recorder.note(put);
+        recorder
     }
 
     /// Whether something was not recorded, since memory ran out.
@@ -200,10 +193,15 @@ impl<'a> Recorder<'a> {
     }
 
     // What an accepted command did to the processes, as an operation.
-    fn put_command(&mut self, view: SessionView<'_>, reply: &Reply) -> Result<(), AllocError> {
+    fn put_command(
+        &mut self,
+        view: SessionView<'_>,
+        call: &Call,
+        reply: &Reply,
+    ) -> Result<(), AllocError> {
         let world = view.world;
         let operations = self.lines.operations();
-        match self.kind {
+        match kind_of(call) {
             CallKind::Further(pid) => operations.made("e", view.program, world, pid),
             CallKind::Again(pid) => operations.made("r", view.program, world, pid),
             CallKind::Undo(pid) => {
@@ -211,7 +209,7 @@ impl<'a> Recorder<'a> {
                 undo.number(i64::from(pid.0))?;
                 operations.list(undo)
             }
-            CallKind::Batch(_) => self.put_batch(view),
+            CallKind::Batch => self.put_batch(view),
             CallKind::Back => {
                 let back = operations.another_of("b")?;
                 operations.list(back)
@@ -227,57 +225,47 @@ impl<'a> Recorder<'a> {
         }
     }
 
-    // How an accepted command may have changed breakpoints. `back` may have changed what the command changed that it takes back.
-    fn change(&mut self) -> Result<BreakpointChange, AllocError> {
-        let change = match self.kind {
-            CallKind::Back => return Ok(self.changes.pop().unwrap_or(BreakpointChange::Replaced)),
-            CallKind::Batch(change) => change,
-            _ => BreakpointChange::Followed,
-        };
-        self.changes.push(change)?;
-        Ok(change)
-    }
-
-    fn put_all(&mut self, view: SessionView<'_>, reply: &Reply) -> Result<(), Refusal> {
-        self.put_command(view, reply)?;
-        let change = self.change()?;
+    fn put_all(
+        &mut self,
+        view: SessionView<'_>,
+        call: &Call,
+        reply: &Reply,
+        change: BreakpointChange,
+    ) -> Result<(), Refusal> {
+        self.put_command(view, call, reply)?;
         let operations = self.lines.operations();
         self.breakpoints.put_changes(operations, view, change)
     }
 
-    // The present line is answered.
-    fn end_line(&mut self) {
-        let ended = self.lines.end(self.alloc);
+    // The present line has this reply.
+    fn end_line(&mut self, reply: &[u8]) {
+        let ended = self.lines.end(self.alloc, reply);
         self.note(ended);
     }
 
-    /// What was recorded: the program, what each line did, and the lines with their replies, which are those of this output.
-    pub fn session(self, output: &Transcript) -> Result<PageData, Incomplete>
+    /// What was recorded: the program, what each line did, and the lines with their replies.
+    pub fn session(self) -> Result<PageData, Incomplete>
         ensures lines { IfOk result (λ page. ∥ ArePageLines page.bytes.items ∥₁) }
     {
-        self.lines.with_replies(self.alloc, output)
+        self.lines.with_replies(self.alloc)
     }
 }
 
-impl Explainer for Recorder<'_> {
-    fn begin(&mut self, alloc: Global, program: &Program, text: &[u8]) -> Result<(), AllocError> {
-        let put = match self.source {
-            Some(source) => self.put_program(program, source),
-            None => self.put_program(program, &ProgramText::new(alloc, text)?),
-        };
-        self.note(put);
-        Ok(())
+impl<N> Explainer<N> for Recorder {
+    fn keeps_replies(&self) -> bool {
+        true
     }
 
-    fn hear(&mut self, _alloc: Global, line: &[u8], _is_typed: bool) -> Echo {
-        let begun = self.lines.begin(self.alloc, line);
+    fn hear(&mut self, _alloc: Global, line: &GivenLine<'_, N>) -> Echo {
+        let begun = self
+            .lines
+            .begin(self.alloc, line.played.unwrap_or(line.written));
         self.note(begun);
         Echo::Nothing
     }
 
     fn prepare(&mut self, _alloc: Global, view: SessionView<'_>, call: &Call) {
-        self.kind = kind_of(call);
-        if let CallKind::Batch(_) = self.kind {
+        if let CallKind::Batch = kind_of(call) {
             match view.world.copy() {
                 Ok(before) => self.before = Some(before),
                 Err(_) => self.is_incomplete = true,
@@ -285,13 +273,21 @@ impl Explainer for Recorder<'_> {
         }
     }
 
-    fn explain_call(&mut self, alloc: Global, view: SessionView<'_>, said: &Said) -> Notes {
-        if let Said::Accepted(reply) = said {
-            let reported = self.put_all(view, reply);
+    fn explain_call(
+        &mut self,
+        alloc: Global,
+        view: SessionView<'_>,
+        call: &Call,
+        said: &Said,
+        reply: &[u8],
+        taken_back: Option<CountedCommand<'_>>,
+    ) -> Notes {
+        if let Said::Accepted(accepted) = said {
+            let reported = self.put_all(view, call, accepted, change_by(call, taken_back));
             self.note(reported);
         }
         self.before = None;
-        self.end_line();
+        self.end_line(reply);
         Notes::new(alloc)
     }
 
@@ -299,10 +295,12 @@ impl Explainer for Recorder<'_> {
         &mut self,
         alloc: Global,
         _view: SessionView<'_>,
-        _line: &[u8],
+        _line: &GivenLine<'_, N>,
         _refusal: &Refusal,
+        reply: &[u8],
     ) -> Notes {
-        self.end_line();
+        self.before = None;
+        self.end_line(reply);
         Notes::new(alloc)
     }
 }

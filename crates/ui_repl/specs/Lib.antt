@@ -1,1 +1,3 @@
+pub mod LineSources
+pub mod Talks
 pub mod Tests

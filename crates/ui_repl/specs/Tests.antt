@@ -6,7 +6,7 @@ use Rattle.ui_repl.specs.declared.comparing.PlayedLine.TheVariants as line
 
 -- the last reply to the line
 abbrev pub has_reply : PlayedLine → List ℕ → Bool
-has_reply (line.Answered reply) wanted = bytes_eq reply.now wanted
+has_reply (line.Answered reply) wanted = bytes_eq reply.items wanted
 has_reply before wanted = false
 
 -- Each line that expects a reply comes after the line that has it as its last reply, and only remarks are between the two. The first line
@@ -14,7 +14,7 @@ has_reply before wanted = false
 abbrev pub are_met : PlayedLine → List PlayedLine → Bool
 are_met before [] = true
 are_met before (line.Remark ∷ lines) = are_met before lines
-are_met before (line.Expected wanted ∷ lines) = has_reply before wanted.now && are_met (line.Expected wanted) lines
+are_met before (line.Expected wanted ∷ lines) = has_reply before wanted.items && are_met (line.Expected wanted) lines
 are_met before (next ∷ lines) = are_met next lines
 
 -- how many lines expect a reply

@@ -5,16 +5,16 @@ ghost use Rattle.ui_repl.specs.Tests.{has_reply, are_met, expected_count};
 ghost use Rattle.ui_repl.specs.declared.comparing.PlayedLine.TheVariants.{Unanswered};
 
 /// A line of a session that was played.
-#[derive(Clone, Copy)]
-pub enum PlayedLine<'a> {
+#[derive(Drop)]
+pub enum PlayedLine {
     /// A blank line, or a comment.
     Remark,
-    /// A line without a reply.
+    /// A line without a reply, or whose reply no line expects.
     Unanswered,
     /// A line with this reply as its last one.
-    Answered(&'a [u8]),
+    Answered(Vec<u8>),
     /// A line `> REPLY`, which gives this reply as the expected one.
-    Expected(&'a [u8]),
+    Expected(Vec<u8>),
 }
 
 /// The comparison of the expected replies of a session with the replies that it has.
@@ -27,33 +27,34 @@ pub struct Comparison {
 }
 
 // Whether the line before this expected reply has it.
-fn is_reply_to(before: &PlayedLine<'_>, wanted: &[u8]) -> bool
+fn is_reply_to(before: &PlayedLine, wanted: &[u8]) -> bool
     ensures { result ≡ has_reply before.now wanted.now }
 {
     match before {
-        PlayedLine::Answered(reply) => *reply == wanted,
+        PlayedLine::Answered(reply) => reply.as_slice() == wanted,
         PlayedLine::Remark | PlayedLine::Unanswered | PlayedLine::Expected(_) => false,
     }
 }
 
 /// Compares the lines of a session. Each line that expects a reply has to come after a line that has it as its last reply, and only remarks
 /// may be between the two.
-pub fn compare(lines: &[PlayedLine<'_>]) -> Comparison
+pub fn compare(lines: &[PlayedLine]) -> Comparison
     ensures met { is_none result.wrong ≡ are_met Unanswered lines.now }
     ensures compared { result.wrong ≡ None → result.compared ≡ expected_count lines.now }
 {
-    let mut before = PlayedLine::Unanswered;
+    let first = PlayedLine::Unanswered;
+    let mut before = &first;
     let mut compared = 0usize;
     for (place, line) in lines.iter().enumerate() {
         match line {
             PlayedLine::Remark => {}
-            PlayedLine::Unanswered | PlayedLine::Answered(_) => before = *line,
+            PlayedLine::Unanswered | PlayedLine::Answered(_) => before = line,
             PlayedLine::Expected(wanted) => {
-                if !is_reply_to(&before, wanted) {
+                if !is_reply_to(before, wanted.as_slice()) {
                     let wrong = Some(place);
                     return Comparison { wrong, compared };
                 }
-                before = *line;
+                before = line;
                 compared += 1;
             }
         }

@@ -2,27 +2,17 @@
 
 ghost use Rattle.shell_input.specs.Spans.{EndsWith};
 
-use crate::plain_lines::{GivenLine, completed, given_lines};
-use crate::playing::copy_program;
-use dbg_base::limits::INPUT_BYTES;
-use notation::{Fault, NotationError, expand_session, message};
-use shell_input::{Input, Next};
-use shell_io::{Sink, Source};
+use crate::opening::OpenSession;
+use crate::read_line::LineFault;
+use crate::written_program::{ReadText, WrittenProgram, read_text};
+use notation::{Fault, line_and_column, message};
+use shell_input::{Input, TextEnd, read_program_text, text_alone};
+use shell_io::{GivenLine, Sink, Source};
 use shell_print::{ServeFault, Served, hand_on, tell_too_long, write_whole};
 use std::alloc::{AllocError, Global};
-
-// Reads all of the input. Returns whether it is within the limit.
-fn read_all<R: Source>(input: &mut Input, reader: &mut R) -> Result<bool, ServeFault>
-    requires { EndsWith input.old.ended (R.remaining reader.old) }
-{
-    loop {
-        match input.next_line(reader)? {
-            Next::Line(_) => {}
-            Next::End => return Ok(true),
-            Next::TooLong => return Ok(false),
-        }
-    }
-}
+use ui_explain::{Echo, Explainer};
+use ui_session::Typed;
+use ui_text::{Notes, Part};
 
 /// Writes a text, and flushes it.
 pub(crate) fn write_text<W: Sink>(text: &[u8], writer: &mut W) -> Result<(), ServeFault> {
@@ -30,91 +20,165 @@ pub(crate) fn write_text<W: Sink>(text: &[u8], writer: &mut W) -> Result<(), Ser
     hand_on(written, writer)
 }
 
-fn write_lines<W: Sink>(lines: &[Vec<u8>], writer: &mut W) -> Result<(), ServeFault> {
-    for line in lines {
+/// Writes lines, and flushes them.
+pub(crate) fn write_notes<W: Sink>(notes: &Notes, writer: &mut W) -> Result<(), ServeFault> {
+    for line in notes.lines() {
         write_whole(writer, line.as_slice())?;
         write_whole(writer, b"\n")?;
     }
     hand_on(Ok(()), writer)
 }
 
-// The session with its command words completed.
-fn with_whole_words(alloc: Global, session: &[u8]) -> Result<Vec<u8>, AllocError> {
-    let (mut text, lines) = copy_program(alloc, session)?;
-    for (number, line) in lines.split(|byte| *byte == b'\n').enumerate() {
-        if number > 0 {
-            text.push(b'\n')?;
-        }
-        text.extend_from_slice(completed(alloc, line)?.as_slice())?;
+// What is wrong with a text that follows so many lines: the line and column, the text of the line with a mark under the place, and the
+// fault.
+fn fault_notes(
+    alloc: Global,
+    before: usize,
+    text: &[u8],
+    fault: &Fault,
+) -> Result<Notes, AllocError> {
+    let (line, column) = line_and_column(text, fault.at());
+    let (line, column) = (
+        Part::Count(line.saturating_add(before)),
+        Part::Count(column),
+    );
+    let mut notes = Notes::new(alloc);
+    notes.say(&[Part::Text("line "), line, Part::Text(", column "), column])?;
+    for line in message(alloc, text, fault)?.iter().skip(1) {
+        notes.say(&[Part::Bytes(line.as_slice())])?;
     }
-    Ok(text)
+    Ok(notes)
 }
 
-// Appends a plain line as often as it is given, with line ends between. Returns false if the text has become too long.
-fn put_given(text: &mut Vec<u8>, line: &GivenLine) -> Result<bool, AllocError> {
-    for number in 0..line.times {
-        if text.len() > INPUT_BYTES {
-            return Ok(false);
-        }
-        if number > 0 {
-            text.push(b'\n')?;
-        }
-        text.extend_from_slice(line.text.as_slice())?;
-    }
-    Ok(true)
-}
-
-// The plain session whose lines may be repeated or have comments, each as a run takes it. None if it is too long.
-fn unrolled(alloc: Global, session: &[u8]) -> Result<Option<Vec<u8>>, AllocError> {
-    let (mut text, lines) = copy_program(alloc, session)?;
-    for (number, line) in lines.split(|byte| *byte == b'\n').enumerate() {
-        if number > 0 {
-            text.push(b'\n')?;
-        }
-        for given in &given_lines(alloc, None, line)? {
-            if !put_given(&mut text, given)? {
-                return Ok(None);
-            }
-        }
-    }
-    Ok(Some(text))
-}
-
-/// Writes what is wrong with a session: the line and column, the text of the line with a mark under the place, and the fault.
+/// Writes what is wrong with a program text: the line and column, the text of the line with a mark under the place, and the fault.
 pub(crate) fn write_fault<W: Sink>(
     alloc: Global,
-    session: &[u8],
+    text: &[u8],
     fault: &Fault,
     writer: &mut W,
 ) -> Result<Served, ServeFault> {
-    let lines = message(alloc, session, fault)?;
-    write_lines(lines.as_slice(), writer)?;
+    write_notes(&fault_notes(alloc, 0, text, fault)?, writer)?;
     Ok(Served::Refused)
 }
 
-/// Reads a session, and writes its plain session: a program, the line `%%` and command lines, as a run takes them. A
-/// fault of the notation goes to the other writer, with its line and column, the text of the line, a mark under the place, and what is
-/// wrong. So does the report that the input or the plain session is too long.
-pub fn expand<R: Source, W: Sink, E: Sink>(
+// The lines that are played, and what is wrong with the first that cannot be expanded.
+#[derive(Drop)]
+struct Expander {
+    text: Vec<u8>,
+    is_model: bool,
+    // How many lines were read.
+    count: usize,
+    fault: Option<Notes>,
+    is_out_of_memory: bool,
+}
+
+impl Expander {
+    // Appends a line. Of a model, comments are left out.
+    fn put(
+        &mut self,
+        alloc: Global,
+        line: &GivenLine<'_, Option<LineFault>>,
+    ) -> Result<(), AllocError> {
+        let Some(played) = line.played else {
+            return Err(AllocError);
+        };
+        if let (Some(fault), None) = (line.note, &self.fault) {
+            self.fault = Some(fault_notes(alloc, self.count, played, &fault.fault)?);
+        }
+        let is_comment = played.trim_ascii_start().first() == Some(&b'#');
+        if !(self.is_model && is_comment) {
+            self.text.extend_from_slice(played)?;
+        }
+        Ok(self.text.push(b'\n')?)
+    }
+}
+
+impl Explainer<Option<LineFault>> for Expander {
+    fn hear(&mut self, alloc: Global, line: &GivenLine<'_, Option<LineFault>>) -> Echo {
+        let put = self.put(alloc, line);
+        self.is_out_of_memory = self.is_out_of_memory || put.is_err();
+        if line.is_first {
+            self.count = self.count.saturating_add(1);
+        }
+        Echo::Nothing
+    }
+}
+
+// The plain program of a session, with the line that ends it.
+fn plain_program(
+    alloc: Global,
+    written: &WrittenProgram,
+    session: &OpenSession,
+) -> Result<Vec<u8>, AllocError> {
+    let Some(expansion) = written.expansion() else {
+        return Vec::from_slice(alloc, session.text());
+    };
+    let mut text = Vec::from_slice(alloc, expansion.plain())?;
+    text.extend_from_slice(b"%%\n")?;
+    Ok(text)
+}
+
+// Writes the plain session of a program and the lines after it.
+fn expand_lines<R: Source + Typed, W: Sink, E: Sink>(
+    alloc: Global,
+    written: &WrittenProgram,
+    session: OpenSession,
+    reader: &mut R,
+    writer: &mut W,
+    errors: &mut E,
+) -> Result<Served, ServeFault>
+    requires { EndsWith session.input.ended (R.remaining reader.old) }
+{
+    let expander = Expander {
+        text: plain_program(alloc, written, &session)?,
+        is_model: written.expansion().is_some(),
+        count: session.lines(),
+        fault: None,
+        is_out_of_memory: false,
+    };
+    let mut played = session.play_unheard(alloc, written, None, expander, reader)?;
+    if played.explainer.is_out_of_memory {
+        return Err(ServeFault::Memory);
+    }
+    if let Some(notes) = &played.explainer.fault {
+        write_notes(notes, errors)?;
+        return Ok(Served::Refused);
+    }
+    if played.served == Served::TooLong {
+        return tell_too_long(errors);
+    }
+    // The text ends with a line end only if the input does.
+    if played.lines.input().bytes().last() != Some(&b'\n') {
+        let _end = played.explainer.text.pop();
+    }
+    write_text(played.explainer.text.as_slice(), writer)?;
+    Ok(Served::Done)
+}
+
+/// Plays a session without its replies, and writes the plain session: a program, the line `%%` and the lines that were played, as a run takes
+/// them. A fault of the notation goes to the other writer, with its line and column, the text of the line, a mark under the place, and what
+/// is wrong. So does the report that the input or the plain session is too long.
+pub fn expand<R: Source + Typed, W: Sink, E: Sink>(
     alloc: Global,
     reader: &mut R,
     writer: &mut W,
     errors: &mut E,
 ) -> Result<Served, ServeFault> {
     let mut input = Input::new(alloc)?;
-    if !read_all(&mut input, reader)? {
+    let end = read_program_text(&mut input, reader)?;
+    let Some(text) = text_alone(&input, end) else {
         return tell_too_long(errors);
-    }
-    let session = with_whole_words(alloc, input.bytes.as_slice())?;
-    match expand_session(alloc, session.as_slice()) {
-        Ok(plain) => match unrolled(alloc, plain.as_slice())? {
-            Some(text) => {
-                write_text(text.as_slice(), writer)?;
-                Ok(Served::Done)
-            }
-            None => tell_too_long(errors),
-        },
-        Err(NotationError::Bad(fault)) => write_fault(alloc, session.as_slice(), &fault, errors),
-        Err(NotationError::Memory) => Err(ServeFault::Memory),
+    };
+    match (read_text(alloc, text)?, end) {
+        (ReadText::Wrong(fault), _) => write_fault(alloc, text, &fault, errors),
+        (ReadText::Program(written, _), TextEnd::End) => {
+            let plain = written.expansion().map(|expansion| expansion.plain());
+            write_text(plain.unwrap_or(text), writer)?;
+            Ok(Served::Done)
+        }
+        (ReadText::Program(written, program), _) => {
+            let session = OpenSession { program, input };
+            expand_lines(alloc, &written, session, reader, writer, errors)
+        }
     }
 }

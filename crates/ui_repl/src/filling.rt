@@ -1,69 +1,153 @@
 //! A session is written with the replies that it has.
 
-use crate::expanding::write_text;
-use crate::model::Model;
-use crate::plain_lines::replies_to;
-use crate::playing::{PlayedSession, copy_program, wanted};
-use shell_io::Sink;
-use shell_print::{ServeFault, Served};
-use std::alloc::{AllocError, Global};
-use ui_text::Transcript;
+ghost use Rattle.shell_input.specs.Spans.{EndsWith};
 
-// Appends a line to the text.
-fn put_line(text: &mut Vec<u8>, begin: &[u8], line: &[u8]) -> Result<(), AllocError> {
-    text.extend_from_slice(begin)?;
-    text.extend_from_slice(line)?;
-    text.push(b'\n')?;
-    Ok(())
+use crate::expanding::write_text;
+use crate::opening::{OpenSession, Opening, PlayedSession, open};
+use crate::read_line::LineFault;
+use crate::words::wanted;
+use crate::written_program::WrittenProgram;
+use dbg_base::{Call, Refusal, Said};
+use dbg_command::SessionView;
+use shell_io::{GivenLine, Sink, Source};
+use shell_print::{ServeFault, Served, tell_too_long};
+use std::alloc::{AllocError, Global};
+use ui_explain::{CountedCommand, Echo, Explainer};
+use ui_session::Typed;
+use ui_text::Notes;
+
+// A session with its replies, as far as it was played.
+#[derive(Drop)]
+struct Filler {
+    text: Vec<u8>,
+    // The last reply to the present line, if it has one.
+    reply: Vec<u8>,
+    is_answered: bool,
+    is_out_of_memory: bool,
 }
 
-// The lines of a session, each command line with its reply after it. The replies are those of the output.
-fn put_lines(
-    alloc: Global,
-    text: &mut Vec<u8>,
-    model: Option<&Model>,
-    lines: &[u8],
-    output: &Transcript,
-) -> Result<(), AllocError> {
-    let mut next = 0usize;
-    for line in lines.split(|byte| *byte == b'\n') {
-        if wanted(line).is_some() {
-            continue;
+impl Filler {
+    // Appends the last reply to the line before.
+    fn end(&mut self) -> Result<(), AllocError> {
+        if self.is_answered {
+            self.text.extend_from_slice(b"> ")?;
+            self.text.extend_from_slice(self.reply.as_slice())?;
+            self.text.push(b'\n')?;
         }
-        put_line(text, b"", line)?;
-        let replies = replies_to(alloc, model, line, output, next)?;
-        next = replies.end;
-        if let Some(reply) = replies.last(output) {
-            put_line(text, b"> ", reply)?;
-        }
+        self.is_answered = false;
+        Ok(())
     }
-    Ok(())
+
+    // Appends a line, in whose place an expected reply may be.
+    fn begin(&mut self, line: &[u8]) -> Result<(), AllocError> {
+        self.end()?;
+        if wanted(line).is_none() {
+            self.text.extend_from_slice(line)?;
+            self.text.push(b'\n')?;
+        }
+        Ok(())
+    }
+
+    // Keeps a reply, in place of an earlier one to the same line.
+    fn answer(&mut self, reply: &[u8]) {
+        self.reply.clear();
+        let kept = self.reply.extend_from_slice(reply);
+        self.is_out_of_memory = self.is_out_of_memory || kept.is_err();
+        self.is_answered = true;
+    }
+}
+
+impl Explainer<Option<LineFault>> for Filler {
+    fn keeps_replies(&self) -> bool {
+        true
+    }
+
+    fn hear(&mut self, _alloc: Global, line: &GivenLine<'_, Option<LineFault>>) -> Echo {
+        if line.is_first {
+            let begun = self.begin(line.written);
+            self.is_out_of_memory = self.is_out_of_memory || begun.is_err();
+        }
+        Echo::Nothing
+    }
+
+    fn explain_call(
+        &mut self,
+        alloc: Global,
+        _view: SessionView<'_>,
+        _call: &Call,
+        _said: &Said,
+        reply: &[u8],
+        _taken_back: Option<CountedCommand<'_>>,
+    ) -> Notes {
+        self.answer(reply);
+        Notes::new(alloc)
+    }
+
+    fn explain_refusal(
+        &mut self,
+        alloc: Global,
+        _view: SessionView<'_>,
+        _line: &GivenLine<'_, Option<LineFault>>,
+        _refusal: &Refusal,
+        reply: &[u8],
+    ) -> Notes {
+        self.answer(reply);
+        Notes::new(alloc)
+    }
+}
+
+// Plays a session that was opened, and writes it with its replies.
+fn fill_open<R: Source + Typed, W: Sink, E: Sink>(
+    alloc: Global,
+    written: &WrittenProgram,
+    session: OpenSession,
+    reader: &mut R,
+    writer: &mut W,
+    errors: &mut E,
+) -> Result<Served, ServeFault>
+    requires { EndsWith session.input.ended (R.remaining reader.old) }
+{
+    let mut filler = Filler {
+        text: Vec::from_slice(alloc, session.text())?,
+        reply: Vec::new(alloc),
+        is_answered: false,
+        is_out_of_memory: false,
+    };
+    if filler.text.last() != Some(&b'\n') {
+        filler.text.extend_from_slice(b"\n")?;
+    }
+    let PlayedSession {
+        served,
+        explainer,
+        lines,
+    } = session.play_unheard(alloc, written, None, filler, reader)?;
+    if served == Served::TooLong {
+        return tell_too_long(errors);
+    }
+    let (mut filler, mut lines) = (explainer, lines);
+    while let Some(span) = lines.unplayed(reader)? {
+        filler.begin(lines.input().line(span))?;
+    }
+    filler.end()?;
+    if filler.is_out_of_memory {
+        return Err(ServeFault::Memory);
+    }
+    write_text(filler.text.as_slice(), writer)?;
+    Ok(Served::Done)
 }
 
 /// Plays a session, which may be in the model notation, and writes it with its replies: a line `> REPLY` after each command line, in place of
 /// those that it has. A program that is refused is explained on the other writer. Returns how the session ended.
-pub fn fill_session<W: Sink, E: Sink>(
+pub fn fill_session<R: Source + Typed, W: Sink, E: Sink>(
     alloc: Global,
-    session: &[u8],
+    reader: &mut R,
     writer: &mut W,
     errors: &mut E,
 ) -> Result<Served, ServeFault> {
-    let played = PlayedSession::play(alloc, session)?;
-    match played.served() {
-        Served::Done => {}
-        Served::Refused => {
-            write_text(played.output().text(), errors)?;
-            return Ok(Served::Refused);
+    match open(alloc, reader, errors)? {
+        Opening::Session(written, session) => {
+            fill_open(alloc, &written, session, reader, writer, errors)
         }
-        Served::TooLong => {
-            write_text(b"input too long\n", errors)?;
-            return Ok(Served::TooLong);
-        }
+        Opening::Refused(told) => told,
     }
-    let (mut text, lines) = copy_program(alloc, session)?;
-    // (a last line end ends no further line)
-    let lines = lines.strip_suffix(b"\n".as_slice()).unwrap_or(lines);
-    put_lines(alloc, &mut text, played.model(), lines, played.output())?;
-    write_text(text.as_slice(), writer)?;
-    Ok(Served::Done)
 }

@@ -1,25 +1,24 @@
 //! The commands of a program, with the names that its author gave them.
 
-use crate::expanding::{write_fault, write_text};
-use crate::model::{Model, ProgramKind, kind_of};
-use dbg_base::{Choice, Pid};
-use itoa::Buffer;
-use proc_lang::{Program, parse_program};
+use crate::expanding::{write_fault, write_notes};
+use crate::written_program::{ReadText, WrittenProgram, read_text};
+use dbg_base::{Choice, Name, Pid};
+use proc_lang::Program;
 use shell_input::{Input, read_program_text, text_alone};
 use shell_io::{Sink, Source};
 use shell_print::{ServeFault, Served, tell_too_long};
 use std::alloc::{AllocError, Global};
-use ui_text::ProgramText;
+use ui_text::{Notes, Part};
 
 // The name of a process in the text of its author.
 fn written_name(
     alloc: Global,
     program: &Program,
-    model: Option<&Model>,
+    written: &WrittenProgram,
     pid: Pid,
 ) -> Result<Vec<u8>, AllocError> {
-    let found = match model {
-        Some(model) => model.expansion().process_name(alloc, pid)?,
+    let found = match written.expansion() {
+        Some(expansion) => expansion.process_name(alloc, pid)?,
         None => None,
     };
     match (found, program.process_name(pid)) {
@@ -31,67 +30,54 @@ fn written_name(
 
 // Appends the line of a command.
 fn put_command(
-    text: &mut Vec<u8>,
-    source: &ProgramText,
-    plain: &[u8],
-    written: &[u8],
-    pid: Pid,
-    choice: Choice,
+    notes: &mut Notes,
+    plain: Name,
+    number: u32,
+    line: usize,
+    name: &[u8],
+    label: &[u8],
 ) -> Result<(), AllocError> {
-    let mut number = Buffer::new();
-    text.extend_from_slice(plain)?;
-    text.push(b'\t')?;
-    text.extend_from_slice(number.format(choice.0).as_bytes())?;
-    text.push(b'\t')?;
-    let line = match source.place(pid, choice) {
-        Some(line) => line.number,
-        None => 0,
-    };
-    text.extend_from_slice(number.format(line).as_bytes())?;
-    text.push(b'\t')?;
-    text.extend_from_slice(written)?;
-    text.push(b'\t')?;
-    text.extend_from_slice(source.label(pid, choice))?;
-    text.push(b'\n')?;
-    Ok(())
+    notes.say(&[Part::Name(plain), Part::Text("\t")])?;
+    notes.add(&[Part::Number(i64::from(number)), Part::Text("\t")])?;
+    notes.add(&[Part::Count(line), Part::Text("\t")])?;
+    notes.add(&[Part::Bytes(name), Part::Text("\t")])?;
+    notes.add(&[Part::Bytes(label)])
 }
 
 // Appends the lines of the commands of a process.
 fn put_process(
     alloc: Global,
-    text: &mut Vec<u8>,
-    source: &ProgramText,
+    notes: &mut Notes,
     program: &Program,
-    model: Option<&Model>,
+    written: &WrittenProgram,
     pid: Pid,
 ) -> Result<(), AllocError> {
     let Some(plain) = program.process_name(pid) else {
         return Ok(());
     };
-    let written = written_name(alloc, program, model, pid)?;
+    let name = written_name(alloc, program, written, pid)?;
+    let text = written.text();
     for number in 0..program.commands(pid) {
         let choice = Choice(number);
-        put_command(text, source, plain.bytes(), written.as_slice(), pid, choice)?;
+        let line = text.place(pid, choice).map_or(0, |place| place.number);
+        let label = text.label(pid, choice);
+        put_command(notes, plain, number, line, name.as_slice(), label)?;
     }
     Ok(())
 }
 
-// Writes the lines of the commands of a plain program, or of the one that a model means.
+// Writes the lines of the commands of a program.
 fn write_commands<W: Sink>(
     alloc: Global,
-    plain: &[u8],
-    source: &ProgramText,
-    model: Option<&Model>,
+    program: &Program,
+    written: &WrittenProgram,
     writer: &mut W,
 ) -> Result<Served, ServeFault> {
-    let Ok(program) = parse_program(alloc, plain) else {
-        return Err(ServeFault::Memory);
-    };
-    let mut text = Vec::new(alloc);
+    let mut notes = Notes::new(alloc);
     for p in 0..program.processes() {
-        put_process(alloc, &mut text, source, &program, model, Pid(p))?;
+        put_process(alloc, &mut notes, program, written, Pid(p))?;
     }
-    write_text(text.as_slice(), writer)?;
+    write_notes(&notes, writer)?;
     Ok(Served::Done)
 }
 
@@ -110,15 +96,8 @@ pub fn name_commands<R: Source, W: Sink, E: Sink>(
     let Some(text) = text_alone(&input, end) else {
         return tell_too_long(errors);
     };
-    match kind_of(alloc, text)? {
-        ProgramKind::Plain => {
-            let source = ProgramText::new(alloc, text)?;
-            write_commands(alloc, text, &source, None, writer)
-        }
-        ProgramKind::Model(model) => {
-            let plain = model.expansion().plain();
-            write_commands(alloc, plain, model.source(), Some(&model), writer)
-        }
-        ProgramKind::Wrong(fault) => write_fault(alloc, text, &fault, errors),
+    match read_text(alloc, text)? {
+        ReadText::Program(written, program) => write_commands(alloc, &program, &written, writer),
+        ReadText::Wrong(fault) => write_fault(alloc, text, &fault, errors),
     }
 }

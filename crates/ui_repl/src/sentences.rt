@@ -1,37 +1,32 @@
 //! The explanations of an interactive session.
 
-use crate::history::History;
-use crate::model::Model;
+use crate::read_line::LineFault;
+use crate::words::without_seat;
+use crate::written_program::WrittenProgram;
 use dbg_base::{Call, Name, Refusal, Said};
 use dbg_command::SessionView;
-use proc_lang::Program;
+use shell_io::GivenLine;
+use shell_parse::next_word;
 use std::alloc::{AllocError, Global};
 use ui_diagram::{ALL_EVENTS, draw_text};
-use ui_explain::{Before, Directive, Echo, Explainer, SourceView};
-use ui_text::{Notes, Part, ProgramText, tell_help, tell_too_long};
+use ui_explain::{Before, CountedCommand, Directive, Echo, Explainer, SourceView};
+use ui_text::{Notes, Part, tell_help, tell_too_long};
 use ui_timeline::Selection;
 
-// A call that is about to be made, and what was known before it.
-#[derive(Drop)]
-struct PendingCall {
-    call: Call,
-    before: Before,
-}
+/// The most bytes of explanations of a session, where a line that is answered without a call counts as many more as the program text has.
+pub const EXPLAINED_BYTES: usize = 268_435_456;
 
 /// Explains in words what happened, or what prevents it. If memory runs out, the explanations end.
 #[derive(Drop)]
 pub(crate) struct Sentences<'a> {
-    // The program as it was written, if it is not the one that is played.
-    model: Option<&'a Model>,
-    text: ProgramText,
-    // None after memory ran out; then nothing is explained.
-    pending: Option<PendingCall>,
-    // The line that is being answered. It is empty after memory ran out.
-    line: Vec<u8>,
+    program: &'a WrittenProgram,
+    // What was known before the call that is made. None after memory ran out; then nothing is explained.
+    before: Option<Before>,
     last_kind: LineKind,
-    history: History,
     // How many characters wide a picture is.
     width: usize,
+    // How many bytes of explanations are left.
+    left: usize,
 }
 
 // The kinds of lines, for the blank lines between them.
@@ -56,57 +51,21 @@ impl LineKind {
     }
 }
 
-// The line without its seat.
-fn without_seat(line: &[u8]) -> &[u8] {
-    let seat = line.iter().take_while(|byte| byte.is_ascii_digit()).count();
-    line.get(seat..).unwrap_or(line).trim_ascii_start()
-}
-
 impl<'a> Sentences<'a> {
-    pub(crate) fn new(
-        alloc: Global,
-        model: Option<&'a Model>,
-        width: usize,
-    ) -> Result<Sentences<'a>, AllocError> {
-        Ok(Sentences {
-            model,
-            text: ProgramText::new(alloc, &[])?,
-            pending: None,
-            line: Vec::new(alloc),
+    /// Explanations of a session of this program.
+    pub(crate) fn new(program: &'a WrittenProgram, width: usize) -> Sentences<'a> {
+        Sentences {
+            program,
+            before: None,
             last_kind: LineKind::None,
-            history: History::new(alloc),
             width,
-        })
+            left: EXPLAINED_BYTES,
+        }
     }
 
     fn source_view<'b>(&'b self, session: SessionView<'b>) -> SourceView<'b> {
-        let text = match self.model {
-            Some(model) => model.source(),
-            None => &self.text,
-        };
+        let text = self.program.text();
         SourceView { session, text }
-    }
-
-    // Says why a line of a model is refused, if it is because it cannot be expanded.
-    fn tell_model_line(
-        &self,
-        alloc: Global,
-        notes: &mut Notes,
-        program: &Program,
-        line: &[u8],
-    ) -> Result<bool, AllocError> {
-        match self.model {
-            Some(model) => model.tell_line_fault(alloc, notes, program, without_seat(line)),
-            None => Ok(false),
-        }
-    }
-
-    // Says that a line of a model names a family of processes without an index, if it does.
-    fn tell_family(&self, notes: &mut Notes, line: &[u8]) -> Result<bool, AllocError> {
-        match self.model {
-            Some(model) => model.tell_family(notes, line),
-            None => Ok(false),
-        }
     }
 
     // After a wrong line `step P ..` of a model, the labels of the process, or the processes if it is none.
@@ -116,13 +75,13 @@ impl<'a> Sentences<'a> {
         view: SessionView<'_>,
         line: &[u8],
     ) -> Result<(), AllocError> {
-        let mut words = without_seat(line).split(|byte| *byte == b' ');
-        let (Some(model), Some(b"step"), Some(word)) = (self.model, words.next(), words.next())
-        else {
+        let (command, arguments) = next_word(without_seat(line));
+        let word = next_word(arguments).0;
+        if self.program.expansion().is_none() || command != b"step".as_slice() || word.is_empty() {
             return Ok(());
-        };
+        }
         match Name::new(word).and_then(|name| view.program.find_process(name)) {
-            Some(pid) => model.tell_labels(notes, view.program, pid),
+            Some(pid) => self.program.tell_labels(notes, view.program, pid),
             None => self.source_view(view).tell_processes(notes, word),
         }
     }
@@ -132,13 +91,17 @@ impl<'a> Sentences<'a> {
         alloc: Global,
         notes: &mut Notes,
         view: SessionView<'_>,
-        line: &[u8],
+        given: &GivenLine<'_, Option<LineFault>>,
         refusal: &Refusal,
     ) -> Result<(), Refusal> {
-        if self.tell_model_line(alloc, notes, view.program, line)? {
-            return Ok(());
+        let line = given.played.unwrap_or(given.written);
+        if let Some(fault) = given.note {
+            return Ok(
+                self.program
+                    .tell_line_fault(alloc, notes, view.program, line, fault)?,
+            );
         }
-        if *refusal == Refusal::UnknownProcess && self.tell_family(notes, line)? {
+        if *refusal == Refusal::UnknownProcess && self.program.tell_family(notes, line)? {
             return Ok(());
         }
         self.source_view(view)
@@ -149,57 +112,52 @@ impl<'a> Sentences<'a> {
         Ok(())
     }
 
-    fn pending_call(
-        &self,
-        alloc: Global,
-        view: SessionView<'_>,
-        call: &Call,
-    ) -> Option<PendingCall> {
-        let before = self.source_view(view).before(alloc, call).ok()?;
-        let call = call.copy().ok()?;
-        Some(PendingCall { call, before })
-    }
-
-    // Keeps the accepted command for a later `back`. If it is `back` itself, says what was taken back.
-    fn note_accepted(&mut self, alloc: Global, notes: &mut Notes) -> Result<(), AllocError> {
-        match self.pending.as_ref().map(|pending| &pending.call) {
-            Some(Call::Back) => match self.history.pop() {
-                Some(line) => notes.say(&[
-                    Part::Text("taken back: `"),
-                    Part::Bytes(line.as_slice()),
-                    Part::Text("`"),
-                ]),
-                None => Ok(()),
-            },
-            Some(_) => {
-                self.history.push(alloc, self.line.as_slice());
-                Ok(())
-            }
-            None => {
-                self.history.lose();
-                Ok(())
-            }
-        }
-    }
-
     fn tell_said(
         &self,
         alloc: Global,
         notes: &mut Notes,
         view: SessionView<'_>,
+        call: &Call,
         said: &Said,
+        taken_back: Option<CountedCommand<'_>>,
     ) -> Result<(), Refusal> {
-        let Some(pending) = &self.pending else {
+        if let Some(command) = taken_back {
+            notes.say(&[
+                Part::Text("taken back: `"),
+                Part::Bytes(command.line.trim_ascii()),
+                Part::Text("`"),
+            ])?;
+        }
+        let Some(before) = &self.before else {
             return Ok(());
         };
         let view = self.source_view(view);
         match said {
-            Said::Accepted(reply) => {
-                view.tell_reply(alloc, notes, &pending.before, &pending.call, reply)
-            }
-            Said::Refused(refusal) => view.tell_refusal(alloc, notes, &pending.call, refusal),
-            Said::Answered(_) => view.tell_answer(alloc, notes, &pending.call),
+            Said::Accepted(reply) => view.tell_reply(alloc, notes, before, call, reply),
+            Said::Refused(refusal) => view.tell_refusal(alloc, notes, call, refusal),
+            Said::Answered(_) => view.tell_answer(alloc, notes, call),
         }
+    }
+
+    // Takes so many bytes and these explanations off what is left, or says that nothing is left.
+    fn spend(&mut self, notes: Notes, more: usize) -> Notes {
+        self.left = self.left.saturating_sub(more);
+        for line in notes.lines() {
+            let length = line.as_slice().len().saturating_add(3);
+            self.left = self.left.saturating_sub(length);
+        }
+        notes
+    }
+
+    // What is said in place of an explanation once none is left.
+    fn none_left(alloc: Global) -> Notes {
+        let mut notes = Notes::new(alloc);
+        let _ended = notes.say(&[
+            Part::Text("no explanation: a session has at most "),
+            Part::Count(EXPLAINED_BYTES),
+            Part::Text(" bytes of them"),
+        ]);
+        notes
     }
 
     // Draws the whole session.
@@ -229,24 +187,16 @@ impl<'a> Sentences<'a> {
     }
 }
 
-impl Explainer for Sentences<'_> {
-    fn begin(&mut self, alloc: Global, _program: &Program, text: &[u8]) -> Result<(), AllocError> {
-        if self.model.is_none() {
-            self.text = ProgramText::new(alloc, text)?;
-        }
-        Ok(())
-    }
-
+impl Explainer<Option<LineFault>> for Sentences<'_> {
     // The terminal already shows what was typed. Of other lines, those that belong together are together: comments, a command, and the
     // reply that is expected to it.
-    fn hear(&mut self, alloc: Global, line: &[u8], is_typed: bool) -> Echo {
+    fn hear(&mut self, _alloc: Global, line: &GivenLine<'_, Option<LineFault>>) -> Echo {
         let before = self.last_kind;
-        let kind = LineKind::of(line);
+        let kind = LineKind::of(line.played.unwrap_or(line.written));
         if before != LineKind::None || kind != LineKind::Blank {
             self.last_kind = kind;
         }
-        self.line = Vec::from_slice(alloc, line.trim_ascii()).unwrap_or(Vec::new(alloc));
-        if is_typed {
+        if line.is_typed {
             return Echo::Nothing;
         }
         match (before, kind) {
@@ -257,28 +207,42 @@ impl Explainer for Sentences<'_> {
     }
 
     fn prepare(&mut self, alloc: Global, view: SessionView<'_>, call: &Call) {
-        self.pending = self.pending_call(alloc, view, call);
+        self.before = match self.left {
+            0 => None,
+            _ => self.source_view(view).before(alloc, call).ok(),
+        };
     }
 
-    fn explain_call(&mut self, alloc: Global, view: SessionView<'_>, said: &Said) -> Notes {
+    fn explain_call(
+        &mut self,
+        alloc: Global,
+        view: SessionView<'_>,
+        call: &Call,
+        said: &Said,
+        _reply: &[u8],
+        taken_back: Option<CountedCommand<'_>>,
+    ) -> Notes {
         let mut notes = Notes::new(alloc);
-        if let Said::Accepted(_) = said {
-            let _ended = self.note_accepted(alloc, &mut notes);
+        if self.left > 0 {
+            let _ended = self.tell_said(alloc, &mut notes, view, call, said, taken_back);
         }
-        let _ended = self.tell_said(alloc, &mut notes, view, said);
-        notes
+        self.spend(notes, 0)
     }
 
     fn explain_refusal(
         &mut self,
         alloc: Global,
         view: SessionView<'_>,
-        line: &[u8],
+        line: &GivenLine<'_, Option<LineFault>>,
         refusal: &Refusal,
+        _reply: &[u8],
     ) -> Notes {
+        if self.left == 0 {
+            return Sentences::none_left(alloc);
+        }
         let mut notes = Notes::new(alloc);
         let _ended = self.tell_line(alloc, &mut notes, view, line, refusal);
-        notes
+        self.spend(notes, self.program.text().text().len())
     }
 
     fn answer_directive(
@@ -288,7 +252,13 @@ impl Explainer for Sentences<'_> {
         directive: Directive<'_>,
     ) -> Notes {
         let mut notes = Notes::new(alloc);
+        if let Directive::Remark | Directive::Quit = directive {
+            return notes;
+        }
+        if self.left == 0 {
+            return Sentences::none_left(alloc);
+        }
         let _ended = self.tell_directive(alloc, &mut notes, view, directive);
-        notes
+        self.spend(notes, self.program.text().text().len())
     }
 }

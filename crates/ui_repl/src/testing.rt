@@ -1,15 +1,24 @@
 //! Sessions with expectations.
 
+ghost use Rattle.shell_input.specs.Spans.{EndsWith};
+
 use crate::comparing::{PlayedLine, compare};
-use crate::expanding::write_text;
-use crate::plain_lines::replies_to;
-use crate::playing::{PlayedSession, wanted};
-use itoa::Buffer;
-use shell_io::Sink;
-use shell_parse::{next_word, without_return};
-use shell_print::{ServeFault, Served};
+use crate::expanding::{write_notes, write_text};
+use crate::opening::{OpenSession, Opening, PlayedSession, open};
+use crate::read_line::LineFault;
+use crate::sentences::Sentences;
+use crate::words::{is_remark, wanted};
+use crate::written_program::WrittenProgram;
+use dbg_base::{Call, Refusal, Said};
+use dbg_command::SessionView;
+use shell_io::{GivenLine, Noted, Sink, Source};
+use shell_parse::without_return;
+use shell_print::{ServeFault, Served, write_whole};
 use std::alloc::{AllocError, Global};
-use ui_text::Transcript;
+use ui_diagram::WIDTH;
+use ui_explain::{CountedCommand, Echo, Explainer};
+use ui_session::{Room, Typed};
+use ui_text::{Notes, Part};
 
 /// The result of a session in which a line `> REPLY` gives the expected reply to the command line before it.
 #[derive(Clone, Copy, Debug, PartialEq, Eq)]
@@ -20,212 +29,270 @@ pub enum Tested {
     Failed,
 }
 
-// A line of a session, and the position of its last reply in the output, if it has one.
-#[derive(Clone, Copy)]
-struct SessionLine<'a> {
-    text: &'a [u8],
-    reply: Option<usize>,
-}
-
-// The lines of a session that was played: what they are for a comparison, and their texts. The first one has this number in the session.
+// The last line that is no remark: its number in the input, its text, its last reply, and the explanation of that.
 #[derive(Drop)]
-struct SessionLines<'a> {
-    first: usize,
-    played: Vec<PlayedLine<'a>>,
-    lines: Vec<SessionLine<'a>>,
+struct AskedLine {
+    number: usize,
+    text: Vec<u8>,
+    reply: Option<Vec<u8>>,
+    notes: Notes,
 }
 
-// Whether the line is blank or a comment.
-fn is_remark(line: &[u8]) -> bool {
-    matches!(next_word(without_return(line)).0.first(), None | Some(b'#'))
-}
-
-impl<'a> SessionLines<'a> {
-    fn push(
-        &mut self,
-        played: PlayedLine<'a>,
-        text: &'a [u8],
-        reply: Option<usize>,
-    ) -> Result<(), AllocError> {
-        self.played.push(played)?;
-        Ok(self.lines.push(SessionLine { text, reply })?)
-    }
-
-    // The lines of a session. The reply to a line that is short for several lines is the last one.
-    fn of(alloc: Global, session: &'a PlayedSession<'_>) -> Result<SessionLines<'a>, AllocError> {
-        let (first, text) = session.command_lines();
-        let mut lines = SessionLines {
-            first,
-            played: Vec::new(alloc),
-            lines: Vec::new(alloc),
-        };
-        let output = session.output();
-        let mut next = 0usize;
-        for line in text.split(|byte| *byte == b'\n') {
-            if let Some(wanted) = wanted(line) {
-                lines.push(PlayedLine::Expected(wanted), line, None)?;
-            } else if is_remark(line) {
-                lines.push(PlayedLine::Remark, line, None)?;
-            } else {
-                let replies = replies_to(alloc, session.model(), line, output, next)?;
-                next = replies.end;
-                let played = match replies.last(output) {
-                    Some(reply) => PlayedLine::Answered(reply),
-                    None => PlayedLine::Unanswered,
-                };
-                lines.push(played, line, replies.last_position())?;
-            }
-        }
-        Ok(lines)
-    }
-
-    // The position of the last line before this one that is no remark, if it was answered.
-    fn answered_before(&self, place: usize) -> Option<usize> {
-        let before = self.played.as_slice().get(..place)?;
-        let at = before
-            .iter()
-            .rposition(|line| !matches!(line, PlayedLine::Remark))?;
-        match before.get(at) {
-            Some(PlayedLine::Answered(_)) => Some(at),
-            _ => None,
-        }
-    }
-
-    // Reports the line at a position, whose expected reply is not that of the line before it.
-    fn tell_wrong(
-        &self,
-        alloc: Global,
-        name: &str,
-        place: usize,
-        output: &Transcript,
-    ) -> Result<Vec<u8>, AllocError> {
-        let wanted = match self.played.as_slice().get(place) {
-            Some(PlayedLine::Expected(wanted)) => *wanted,
-            _ => &[],
-        };
-        let asked = self.answered_before(place);
-        let Some(line) = self.lines.as_slice().get(asked.unwrap_or(place)) else {
-            return Ok(Vec::new(alloc));
-        };
-        let number = self.first.saturating_add(asked.unwrap_or(place));
-        let mut text = begin_report(alloc, name, number, line.text)?;
-        match (asked, line.reply) {
-            (Some(_), Some(position)) => {
-                put_wanted(&mut text, wanted)?;
-                put_reply(&mut text, output, position)?;
-            }
-            _ => text.extend_from_slice(
-                b"\n  an expected reply follows the command line that it is for, once\n",
-            )?,
-        }
-        Ok(text)
-    }
-}
-
-// The name of a session, and a line of it with its number.
-fn begin_report(
+// Compares the replies of a session with the expected ones, line by line.
+#[derive(Drop)]
+struct Tester<'a> {
+    sentences: Sentences<'a>,
     alloc: Global,
+    name: &'a str,
+    // The number of the present line in the input.
+    number: usize,
+    asked: AskedLine,
+    lines: Vec<PlayedLine>,
+    // The report of the first expected reply that was not the reply.
+    report: Option<Notes>,
+    is_out_of_memory: bool,
+}
+
+// Begins a report with the name of the session, and a line with its number.
+fn begin_report(
+    notes: &mut Notes,
     name: &str,
     number: usize,
     line: &[u8],
-) -> Result<Vec<u8>, AllocError> {
-    let mut text = Vec::from_slice(alloc, name.as_bytes())?;
-    text.extend_from_slice(b":")?;
-    text.extend_from_slice(Buffer::new().format(number).as_bytes())?;
-    text.extend_from_slice(b": ")?;
-    text.extend_from_slice(without_return(line))?;
-    Ok(text)
+) -> Result<(), AllocError> {
+    notes.say(&[Part::Text(name)])?;
+    notes.add(&[Part::Text(":"), Part::Count(number), Part::Text(": ")])?;
+    notes.add(&[Part::Bytes(without_return(line))])
 }
 
-// Appends the expected reply.
-fn put_wanted(text: &mut Vec<u8>, wanted: &[u8]) -> Result<(), AllocError> {
-    text.extend_from_slice(b"\n  expected: ")?;
-    text.extend_from_slice(wanted)
-}
-
-// Appends the reply at this position, and its explanation.
-fn put_reply(text: &mut Vec<u8>, output: &Transcript, position: usize) -> Result<(), AllocError> {
-    text.extend_from_slice(b"\n  reply:    ")?;
-    text.extend_from_slice(output.reply(position).unwrap_or(&[]))?;
-    text.extend_from_slice(b"\n")?;
-    let explanation = output.explanation(position);
-    for line in explanation.split_inclusive(|byte| *byte == b'\n') {
-        text.extend_from_slice(b"  ")?;
-        text.extend_from_slice(line)?;
-    }
-    Ok(())
-}
-
-// Reports something about the session of this name.
-fn tell_named(alloc: Global, name: &str, what: &[u8]) -> Result<Vec<u8>, AllocError> {
-    let mut text = Vec::from_slice(alloc, name.as_bytes())?;
-    text.extend_from_slice(b": ")?;
-    text.extend_from_slice(what)?;
-    Ok(text)
-}
-
-// Reports how many replies were the expected ones.
-fn tell_passed(alloc: Global, name: &str, compared: usize) -> Result<Vec<u8>, AllocError> {
-    let mut text = tell_named(alloc, name, b"ok, ")?;
-    text.extend_from_slice(Buffer::new().format(compared).as_bytes())?;
-    text.extend_from_slice(if compared == 1 {
-        b" reply\n"
-    } else {
-        b" replies\n"
-    })?;
-    Ok(text)
-}
-
-// The report of a comparison, and the result.
-fn tell_comparison(
-    alloc: Global,
-    name: &str,
-    lines: &SessionLines<'_>,
-    output: &Transcript,
-) -> Result<(Vec<u8>, Tested), AllocError> {
-    let comparison = compare(lines.played.as_slice());
-    match comparison.wrong {
-        Some(place) => Ok((
-            lines.tell_wrong(alloc, name, place, output)?,
-            Tested::Failed,
-        )),
-        None if comparison.compared == 0 => {
-            let what = b"no line `> REPLY` gives an expected reply\n";
-            Ok((tell_named(alloc, name, what)?, Tested::Failed))
+impl<'a> Tester<'a> {
+    // Nothing was compared yet, and so many lines were read.
+    fn new(alloc: Global, name: &'a str, written: &'a WrittenProgram, number: usize) -> Tester<'a> {
+        Tester {
+            sentences: Sentences::new(written, WIDTH as usize),
+            alloc,
+            name,
+            number,
+            asked: AskedLine {
+                number,
+                text: Vec::new(alloc),
+                reply: None,
+                notes: Notes::new(alloc),
+            },
+            lines: Vec::new(alloc),
+            report: None,
+            is_out_of_memory: false,
         }
-        None => Ok((
-            tell_passed(alloc, name, comparison.compared)?,
-            Tested::Passed,
-        )),
     }
+
+    // Reports that the reply to the line before is not the expected one.
+    fn tell_difference(&self, wanted: &[u8], reply: &[u8]) -> Result<Notes, AllocError> {
+        let mut notes = Notes::new(self.alloc);
+        let (number, line) = (self.asked.number, self.asked.text.as_slice());
+        begin_report(&mut notes, self.name, number, line)?;
+        notes.say(&[Part::Text("  expected: ")])?;
+        notes.add(&[Part::Bytes(wanted)])?;
+        notes.say(&[Part::Text("  reply:    ")])?;
+        notes.add(&[Part::Bytes(reply)])?;
+        for line in self.asked.notes.lines() {
+            notes.say(&[Part::Text("    "), Part::Bytes(line.as_slice())])?;
+        }
+        Ok(notes)
+    }
+
+    // Reports that no reply is before this line, which expects one.
+    fn tell_misplaced(&self, line: &[u8]) -> Result<Notes, AllocError> {
+        let mut notes = Notes::new(self.alloc);
+        begin_report(&mut notes, self.name, self.number, line)?;
+        notes.say(&[Part::Text(
+            "  an expected reply follows the command line that it is for, once",
+        )])?;
+        Ok(notes)
+    }
+
+    // Keeps the first report.
+    fn report(&mut self, report: Notes) {
+        if self.report.is_none() {
+            self.report = Some(report);
+        }
+    }
+
+    // The line expects this reply.
+    fn expect(&mut self, line: &[u8], wanted: &[u8]) -> Result<(), AllocError> {
+        match self.asked.reply.take() {
+            Some(reply) => {
+                if reply.as_slice() != wanted {
+                    let report = self.tell_difference(wanted, reply.as_slice())?;
+                    self.report(report);
+                }
+                self.lines.push(PlayedLine::Answered(reply))?;
+            }
+            None => {
+                let report = self.tell_misplaced(line)?;
+                self.report(report);
+            }
+        }
+        let wanted = Vec::from_slice(self.alloc, wanted)?;
+        Ok(self.lines.push(PlayedLine::Expected(wanted))?)
+    }
+
+    // A line begins, or one that is not played.
+    fn begin(&mut self, line: &[u8]) -> Result<(), AllocError> {
+        self.number = self.number.saturating_add(1);
+        if let Some(wanted) = wanted(line) {
+            return self.expect(line, wanted);
+        }
+        if is_remark(line) {
+            return Ok(self.lines.push(PlayedLine::Remark)?);
+        }
+        self.asked.number = self.number;
+        self.asked.text = Vec::from_slice(self.alloc, line)?;
+        self.asked.reply = None;
+        Ok(self.lines.push(PlayedLine::Unanswered)?)
+    }
+
+    // The present line has this reply, with this explanation.
+    fn answer(&mut self, reply: &[u8], notes: Notes) {
+        let reply = Vec::from_slice(self.alloc, reply);
+        self.is_out_of_memory = self.is_out_of_memory || reply.is_err();
+        self.asked.reply = reply.ok();
+        self.asked.notes = notes;
+    }
+
+    // The report, and the result.
+    fn result(self) -> Result<(Notes, Tested), ServeFault> {
+        let Tester {
+            alloc,
+            name,
+            lines,
+            report,
+            is_out_of_memory,
+            ..
+        } = self;
+        let compared = compare(lines.as_slice()).compared;
+        if is_out_of_memory {
+            return Err(ServeFault::Memory);
+        }
+        if let Some(report) = report {
+            return Ok((report, Tested::Failed));
+        }
+        let mut notes = Notes::new(alloc);
+        notes.say(&[Part::Text(name)])?;
+        if compared == 0 {
+            notes.add(&[Part::Text(": no line `> REPLY` gives an expected reply")])?;
+            return Ok((notes, Tested::Failed));
+        }
+        let word = if compared == 1 { " reply" } else { " replies" };
+        notes.add(&[
+            Part::Text(": ok, "),
+            Part::Count(compared),
+            Part::Text(word),
+        ])?;
+        Ok((notes, Tested::Passed))
+    }
+}
+
+impl Explainer<Option<LineFault>> for Tester<'_> {
+    fn keeps_replies(&self) -> bool {
+        true
+    }
+
+    fn hear(&mut self, alloc: Global, line: &GivenLine<'_, Option<LineFault>>) -> Echo {
+        let _echo = self.sentences.hear(alloc, line);
+        if line.is_first {
+            let begun = self.begin(line.written);
+            self.is_out_of_memory = self.is_out_of_memory || begun.is_err();
+        }
+        Echo::Nothing
+    }
+
+    fn prepare(&mut self, alloc: Global, view: SessionView<'_>, call: &Call) {
+        self.sentences.prepare(alloc, view, call);
+    }
+
+    fn explain_call(
+        &mut self,
+        alloc: Global,
+        view: SessionView<'_>,
+        call: &Call,
+        said: &Said,
+        reply: &[u8],
+        taken_back: Option<CountedCommand<'_>>,
+    ) -> Notes {
+        let notes = self
+            .sentences
+            .explain_call(alloc, view, call, said, reply, taken_back);
+        self.answer(reply, notes);
+        Notes::new(alloc)
+    }
+
+    fn explain_refusal(
+        &mut self,
+        alloc: Global,
+        view: SessionView<'_>,
+        line: &GivenLine<'_, Option<LineFault>>,
+        refusal: &Refusal,
+        reply: &[u8],
+    ) -> Notes {
+        let notes = self
+            .sentences
+            .explain_refusal(alloc, view, line, refusal, reply);
+        self.answer(reply, notes);
+        Notes::new(alloc)
+    }
+}
+
+// Plays a session that was opened, and returns the report and the result.
+fn test_open<'a, R: Source + Typed>(
+    alloc: Global,
+    name: &'a str,
+    written: &'a WrittenProgram,
+    session: OpenSession,
+    reader: &mut R,
+) -> Result<(Notes, Tested), ServeFault>
+    requires { EndsWith session.input.ended (R.remaining reader.old) }
+{
+    let tester = Tester::new(alloc, name, written, session.lines());
+    let PlayedSession {
+        served,
+        explainer,
+        lines,
+    } = session.play_unheard(alloc, written, None, tester, reader)?;
+    let (mut tester, mut lines) = (explainer, lines);
+    while let Some(span) = lines.unplayed(reader)? {
+        tester.begin(lines.input().line(span))?;
+    }
+    if served == Served::TooLong {
+        let mut notes = Notes::new(alloc);
+        notes.say(&[Part::Text(name), Part::Text(": input too long")])?;
+        return Ok((notes, Tested::Failed));
+    }
+    tester.result()
 }
 
 /// Plays the session of this name, which may be in the model notation. Writes how many replies were compared, or the first that was not the
 /// expected one, with its explanation. A line `> REPLY` gives the expected reply to the command line before it; between the two there are
 /// only comments and blank lines. A program that is refused, and input that is too long, are reported as an
 /// interactive session reports them.
-pub fn test_session<W: Sink>(
+pub fn test_session<R: Source + Typed, W: Sink>(
     alloc: Global,
     name: &str,
-    session: &[u8],
+    reader: &mut R,
     writer: &mut W,
 ) -> Result<Tested, ServeFault> {
-    let played = PlayedSession::play(alloc, session)?;
-    match played.served() {
-        Served::Done => {}
-        Served::Refused => {
-            let text = tell_named(alloc, name, played.output().text())?;
-            write_text(text.as_slice(), writer)?;
-            return Ok(Tested::Failed);
+    let mut refusal = Noted::new(Room::Text(Vec::new(alloc)));
+    match open(alloc, reader, &mut refusal)? {
+        Opening::Session(written, session) => {
+            let (notes, tested) = test_open(alloc, name, &written, session, reader)?;
+            write_notes(&notes, writer)?;
+            Ok(tested)
         }
-        Served::TooLong => {
-            let text = tell_named(alloc, name, b"input too long\n")?;
-            write_text(text.as_slice(), writer)?;
-            return Ok(Tested::Failed);
+        Opening::Refused(told) => {
+            let _refused = told?;
+            write_whole(writer, name.as_bytes())?;
+            write_whole(writer, b": ")?;
+            write_text(refusal.device().text(), writer)?;
+            Ok(Tested::Failed)
         }
     }
-    let lines = SessionLines::of(alloc, &played)?;
-    let (text, tested) = tell_comparison(alloc, name, &lines, played.output())?;
-    write_text(text.as_slice(), writer)?;
-    Ok(tested)
 }

@@ -1,6 +1,6 @@
 -- The output of an interactive session besides the replies.
 use Rattle.std.proofs.Common.{◌≡◌, ℕ, true, List, [], ◌∷◌, ◌++◌, refl, sym, ap, ◌∙◌, inl, inr}
-use Rattle.std.specs.Prelude.{Result, Ok, Err, IsErrAnd}
+use Rattle.std.specs.Prelude.{Some, None, Result, Ok, Err, IsErrAnd}
 use Rattle.std.specs.List.{AllByRecursion}
 use Rattle.std.proofs.lemmas.List.{append-nil}
 use Rattle.std.proofs.lemmas.List.Concat.{flat_map-append}
@@ -11,16 +11,26 @@ use Rattle.shell_print.specs.declared.outcome.ServeFault.{ServeFault}
 use Rattle.shell_print.specs.Writing.{Writes}
 use Rattle.shell_print.proofs.WriteLemmas.{prefix_then, stopped, writes_then}
 use Rattle.shell_input.specs.Spans.{is_unended}
+use Rattle.shell_serve.specs.Sources.{Given}
 use Rattle.shell_serve.specs.Sessions.{MayBeQuiet, WritesForm}
-use Rattle.ui_session.specs.Dialogues.{explanation_line, explanation_text, IsExplanation, IsEcho, IsGap, interactive}
+use Rattle.ui_session.specs.Dialogues.{explanation_line, explanation_text, IsExplanation, IsEcho, IsEchoOf, IsGap, interactive}
 
 -- nothing is explained
 none_explained : IsExplanation []
 none_explained = ([], tt, refl)
 
+quiet_before : (line : Given) → IsEchoOf line []
+quiet_before None = ([], inl refl)
+quiet_before (Some line) = inl refl
+
 -- the replies may be the only output
 pub quiet : MayBeQuiet interactive
-quiet = record { before = λ line. inl refl; explains = none_explained }
+quiet = record { before = quiet_before; explains = none_explained }
+
+-- the echo of a line for which memory ran out
+pub lost_echo : {A : Type 0} {r : Result A ServeFault} {a b : Seen} (line : List ℕ) → WritesForm (IsEcho line) a r b
+    → WritesForm (IsEchoOf None) a r b
+lost_echo line wrote = record { text = wrote.text; form = (line, wrote.form); written = wrote.written }
 
 all_more : (lines : List (List ℕ)) (line : List ℕ) → AllByRecursion (λ l. is_unended l ≡ true) lines → is_unended line ≡ true
     → AllByRecursion (λ l. is_unended l ≡ true) (lines ++ line ∷ [])
@@ -76,6 +86,12 @@ pub gap_stops : {A B : Type 0} {e : ServeFault} {r : Result B ServeFault} (line 
     → Writes {A = A} a b (Err e) gap → IsErrAnd r (λ f. f ≡ e) → WritesForm (IsEcho line) a r b
 gap_stops line gap a b is h same =
     record { text = gap ++ as_line line; form = inr (gap, is, refl); written = stopped (as_line line) h same }
+
+-- the gap was written, and the style of the line was not set
+pub style_stops : {A B C : Type 0} {u : A} {e : ServeFault} {r : Result C ServeFault} (line gap : List ℕ) (a b c : Seen) → IsGap gap
+    → Writes {A = A} a b (Ok u) gap → Writes {A = B} b c (Err e) [] → IsErrAnd r (λ f. f ≡ e) → WritesForm (IsEcho line) a r c
+style_stops line gap a b c is h k same =
+    record { text = gap ++ as_line line; form = inr (gap, is, refl); written = writes_then h (stopped (as_line line) k same) }
 
 -- the gap was written, and the line was not
 pub echo_stops : {A B C : Type 0} {u : A} {e : ServeFault} {r : Result C ServeFault} (line gap : List ℕ) (a b c : Seen) → IsGap gap

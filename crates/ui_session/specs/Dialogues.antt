@@ -1,11 +1,12 @@
 -- The manner of an interactive session.
-use Rattle.std.specs.Prelude.{◌≡◌, ◌⊎◌, ◌==◌, ◌&&◌, ◌||◌, ℕ, Bool, true, false, not, List, [], ◌∷◌, ◌++◌, codes, if◌then◌else◌}
+use Rattle.std.specs.Prelude.{◌≡◌, ◌⊎◌, ◌==◌, ◌&&◌, ◌||◌, ℕ, Bool, true, false, not, List, [], ◌∷◌, ◌++◌, Some, None, codes, if◌then◌else◌}
 use Rattle.std.specs.List.{AllByRecursion, list_any, flat_map}
 use Rattle.std.specs.Str.{bytes_eq}
 use Rattle.dbg_base.specs.Tokens.{is_digit}
 use Rattle.dbg_base.specs.CommandLines.{next_word, after_word, without_return}
 use Rattle.dbg_base.specs.Shell.{as_line}
 use Rattle.shell_input.specs.Spans.{is_unended}
+use Rattle.shell_serve.specs.Sources.{Given}
 use Rattle.shell_serve.specs.Sessions.{Manner}
 
 -- the words that end a session
@@ -58,6 +59,11 @@ IsGap gap = (gap ≡ []) ⊎ (gap ≡ as_line [])
 abbrev pub IsEcho : List ℕ → List ℕ → Type 0
 IsEcho line echo = (echo ≡ []) ⊎ ((gap : List ℕ) × IsGap gap × (echo ≡ gap ++ as_line line))
 
+-- nothing, or the line that was given; or, if memory ran out for it, a line
+abbrev pub IsEchoOf : Given → List ℕ → Type 0
+IsEchoOf (Some line) echo = IsEcho line echo
+IsEchoOf None echo = (line : List ℕ) × IsEcho line echo
+
 -- the line ends the session: nothing but a remark is after its first word
 abbrev pub is_quit : List ℕ → Bool
 is_quit line = list_any (bytes_eq (first_word line)) quit_words && is_remark (next_word (after_word (without_return line)))
@@ -66,7 +72,7 @@ is_quit line = list_any (bytes_eq (first_word line)) quit_words && is_remark (ne
 -- the first seat.
 abbrev pub interactive : Manner
 interactive = record {
-  before = IsEcho;
+  before = IsEchoOf;
   is_directive = is_directive;
   seated = with_seat;
   explains = IsExplanation;

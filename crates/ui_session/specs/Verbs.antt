@@ -1,5 +1,5 @@
 -- The words of directives.
-use Rattle.std.specs.Prelude.{Bool, true, false, Option, Some, None}
+use Rattle.std.specs.Prelude.{Bool, true, false, Option, Some}
 use Rattle.ui_session.specs.declared.directives.Verb.{Verb}
 use Rattle.ui_session.specs.declared.directives.Verb.TheVariants.{Quit}
 

@@ -3,51 +3,34 @@
 ghost use Rattle.ui_session.specs.Dialogues.{interactive};
 
 use crate::directives::{directive, is_directive, is_quit, needs_seat};
-use crate::refusing::explain_no_end_line;
-use crate::typed::Typed;
+use crate::room::Room;
 use crate::written::{explain, gap_before, write_echo};
 use dbg_base::{Call, Refusal, Said};
 use dbg_command::SessionView;
-use proc_lang::{ProgFault, Program};
-use shell_io::Sink;
-use shell_print::ServeFault;
+use shell_io::{GivenLine, Noted, Sink};
+use shell_print::{ServeFault, print_refusal, print_reply};
 use shell_serve::Observer;
-use std::alloc::{AllocError, Global};
-use std::cell::Cell;
-use ui_explain::{Echo, Explainer};
-use ui_text::Notes;
+use std::alloc::Global;
+use ui_explain::{CountedCommand, CountedCommands, Echo, Explainer};
 
 /// The observer of an interactive session. It writes each line that was not typed, and an explanation after the reply. A directive has only
 /// an explanation. A command line without a seat is one of seat 1.
 #[derive(Drop)]
-pub struct Dialogue<'a, T> {
+pub struct Dialogue<T> {
     explainer: T,
-    // Whether the last command line was refused, or a breakpoint halted the session after it.
-    is_stopped: &'a Cell<bool>,
+    commands: CountedCommands,
+    // The last reply, if the explainer keeps replies.
+    reply: Noted<Room>,
 }
 
-// Whether the answer refuses a call, or shows that a breakpoint halts the session.
-fn stops(said: &Said) -> bool {
-    match said {
-        Said::Refused(_) => true,
-        Said::Accepted(reply) => reply.halted.is_some(),
-        Said::Answered(_) => false,
-    }
-}
-
-impl<'a, T> Dialogue<'a, T> {
-    /// A session with this explainer. After each command line it notes in the cell whether the line was refused, or a breakpoint halted the
-    /// session.
-    pub fn new(explainer: T, is_stopped: &'a Cell<bool>) -> Dialogue<'a, T> {
+impl<T> Dialogue<T> {
+    /// A session with this explainer.
+    pub fn new(alloc: Global, explainer: T) -> Dialogue<T> {
         Dialogue {
             explainer,
-            is_stopped,
+            commands: CountedCommands::new(alloc),
+            reply: Noted::new(Room::Nothing),
         }
-    }
-
-    /// The explainer.
-    pub fn explainer(&self) -> &T {
-        &self.explainer
     }
 
     /// The explainer, after the session.
@@ -56,12 +39,35 @@ impl<'a, T> Dialogue<'a, T> {
     }
 }
 
-impl<T: Explainer, R: Typed> Observer<R> for Dialogue<'_, T> {
-    ghost manner = { interactive };
+// The reply without its line end.
+fn reply_of(reply: &Noted<Room>) -> &[u8] {
+    let line = reply.device().text();
+    line.strip_suffix(b"\n".as_slice()).unwrap_or(line)
+}
 
-    fn begin(&mut self, alloc: Global, program: &Program, text: &[u8]) -> Result<(), AllocError> {
-        self.explainer.begin(alloc, program, text)
+// The command that the call took back, if it is an accepted `back` and the command is known.
+fn taken_back<'x>(
+    commands: &'x CountedCommands,
+    call: &Call,
+    said: &Said,
+) -> Option<CountedCommand<'x>> {
+    match (call, said) {
+        (Call::Back, Said::Accepted(_)) => commands.last(),
+        _ => None,
     }
+}
+
+// Notes the command of this line, if it was accepted, or that one was taken back.
+fn count(commands: &mut CountedCommands, line: &[u8], call: &Call, said: &Said) {
+    match (call, said) {
+        (Call::Back, Said::Accepted(_)) => commands.pop(),
+        (_, Said::Accepted(_)) => commands.push(line, call),
+        _ => {}
+    }
+}
+
+impl<T: Explainer<N>, N> Observer<N> for Dialogue<T> {
+    ghost manner = { interactive };
 
     fn is_directive(&self, line: &[u8]) -> bool {
         is_directive(line)
@@ -75,15 +81,22 @@ impl<T: Explainer, R: Typed> Observer<R> for Dialogue<'_, T> {
         needs_seat(line)
     }
 
+    fn marks_replies(&self) -> bool {
+        true
+    }
+
     fn before<W: Sink>(
         &mut self,
         alloc: Global,
-        line: &[u8],
-        reader: &R,
+        line: &GivenLine<'_, N>,
         writer: &mut W,
     ) -> Result<(), ServeFault> {
-        let echo = self.explainer.hear(alloc, line, reader.is_typed());
-        write_echo(echo != Echo::Nothing, gap_before(echo), line, writer)
+        let echo = self.explainer.hear(alloc, line);
+        let (echoes, gap) = (echo != Echo::Nothing, gap_before(echo));
+        match line.played {
+            Some(played) => write_echo(echoes, gap, played, writer),
+            None => write_echo(echoes, gap, line.written, writer),
+        }
     }
 
     fn direct<W: Sink>(
@@ -107,45 +120,46 @@ impl<T: Explainer, R: Typed> Observer<R> for Dialogue<'_, T> {
         &mut self,
         alloc: Global,
         view: SessionView<'_>,
+        line: &GivenLine<'_, N>,
+        call: &Call,
         said: &Said,
         writer: &mut W,
     ) -> Result<(), ServeFault> {
-        self.is_stopped.set(stops(said));
-        explain(&self.explainer.explain_call(alloc, view, said), writer)
+        if self.explainer.keeps_replies() {
+            self.reply = Noted::new(Room::Text(Vec::new(alloc)));
+            let _kept = print_reply(view.program, call, said, &mut self.reply);
+        }
+        let taken_back = taken_back(&self.commands, call, said);
+        let reply = reply_of(&self.reply);
+        let notes = self
+            .explainer
+            .explain_call(alloc, view, call, said, reply, taken_back);
+        count(
+            &mut self.commands,
+            line.played.unwrap_or(line.written),
+            call,
+            said,
+        );
+        explain(&notes, writer)
     }
 
     fn explain_refusal<W: Sink>(
         &mut self,
         alloc: Global,
         view: SessionView<'_>,
-        line: &[u8],
+        line: &GivenLine<'_, N>,
         refusal: &Refusal,
         writer: &mut W,
     ) -> Result<(), ServeFault> {
-        self.is_stopped.set(true);
-        explain(
-            &self.explainer.explain_refusal(alloc, view, line, refusal),
-            writer,
-        )
-    }
-
-    // Whoever reads the program text explains its faults before the session begins.
-    fn explain_fault<W: Sink>(
-        &mut self,
-        alloc: Global,
-        _text: &[u8],
-        _fault: &ProgFault,
-        writer: &mut W,
-    ) -> Result<(), ServeFault> {
-        explain(&Notes::new(alloc), writer)
-    }
-
-    fn explain_no_end_line<W: Sink>(
-        &mut self,
-        alloc: Global,
-        writer: &mut W,
-    ) -> Result<(), ServeFault> {
-        explain_no_end_line(alloc, writer)
+        if self.explainer.keeps_replies() {
+            self.reply = Noted::new(Room::Text(Vec::new(alloc)));
+            let _kept = print_refusal(view.program, refusal, &mut self.reply);
+        }
+        let reply = reply_of(&self.reply);
+        let notes = self
+            .explainer
+            .explain_refusal(alloc, view, line, refusal, reply);
+        explain(&notes, writer)
     }
 
     fn end(&mut self, alloc: Global, view: SessionView<'_>) {

@@ -3,10 +3,12 @@
 
 mod dialogue;
 mod directives;
-mod refusing;
+mod room;
 mod typed;
 mod written;
 
 pub use dialogue::Dialogue;
 pub use directives::is_directive;
+pub use room::Room;
 pub use typed::Typed;
+pub use written::explain;

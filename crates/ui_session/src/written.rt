@@ -1,13 +1,13 @@
 //! Output besides the replies.
 
-ghost use Rattle.std.specs.Prelude.{◌≡◌, []};
+ghost use Rattle.std.specs.Prelude.{◌≡◌};
 ghost use Rattle.shell_print.specs.Writing.{Writes};
 ghost use Rattle.shell_input.specs.Spans.{is_unended};
 ghost use Rattle.shell_serve.specs.Sessions.{WritesForm};
 ghost use Rattle.ui_session.specs.Dialogues.{IsExplanation, IsEcho, IsGap, explanation_line};
 
 use shell_io::{Sink, Style};
-use shell_print::{ServeFault, hand_on, write_whole};
+use shell_print::{ServeFault, hand_on, set_style, write_whole};
 use ui_explain::Echo;
 use ui_text::{NoteLine, Notes, StyleChange};
 
@@ -17,26 +17,14 @@ fn is_unended(line: &[u8]) -> bool
     line.iter().all(|byte| *byte != b'\n')
 }
 
-// Sets the style of the next bytes.
-fn set_style<W: Sink>(style: Style, writer: &mut W) -> Result<(), ServeFault>
-    ensures { Writes (W.seen writer.old) (W.seen writer.new) result [] }
-{
-    match writer.set_style(style) {
-        Ok(()) => Ok(()),
-        Err(_) => Err(ServeFault::Write),
-    }
-}
-
-// Writes bytes in this style, and in others from where it changes.
+// Writes bytes in the present style, and in others from where it changes. Then the style is plain.
 fn write_styled<W: Sink>(
-    first: Style,
     bytes: &[u8],
     changes: &[StyleChange],
     writer: &mut W,
 ) -> Result<(), ServeFault>
     ensures { Writes (W.seen writer.old) (W.seen writer.new) result bytes.now }
 {
-    set_style(first, writer)?;
     let mut at = 0;
     let mut rest = bytes;
     for change in changes {
@@ -54,8 +42,9 @@ fn write_styled<W: Sink>(
 fn write_line<W: Sink>(bytes: &[u8], line: &NoteLine, writer: &mut W) -> Result<(), ServeFault>
     ensures { Writes (W.seen writer.old) (W.seen writer.new) result (explanation_line bytes.now) }
 {
-    write_styled(line.first_style(), b"  ", &[], writer)?;
-    write_styled(line.first_style(), bytes, line.changes(), writer)?;
+    set_style(line.first_style(), writer)?;
+    write_whole(writer, b"  ")?;
+    write_styled(bytes, line.changes(), writer)?;
     write_whole(writer, b"\n")
 }
 
@@ -74,7 +63,7 @@ fn write_lines<W: Sink>(lines: &[NoteLine], writer: &mut W) -> Result<(), ServeF
 }
 
 /// Writes an explanation, and flushes it.
-pub(crate) fn explain<W: Sink>(notes: &Notes, writer: &mut W) -> Result<(), ServeFault>
+pub fn explain<W: Sink>(notes: &Notes, writer: &mut W) -> Result<(), ServeFault>
     ensures written { WritesForm IsExplanation (W.seen writer.old) result (W.seen writer.new) }
 {
     let written = write_lines(notes.lines(), writer);
@@ -105,6 +94,7 @@ pub(crate) fn write_echo<W: Sink>(
         return Ok(());
     }
     write_whole(writer, gap)?;
-    write_styled(Style::Echo, line, &[], writer)?;
+    set_style(Style::Echo, writer)?;
+    write_styled(line, &[], writer)?;
     write_whole(writer, b"\n")
 }

@@ -1,5 +1,5 @@
 //! Texts for a person that need no session: their lines, the places of commands in a program text, the forms of commands, the meaning of
-//! refusals, the likely correction of a program text, and the output of a session with the places of its replies.
+//! refusals, and the likely correction of a program text.
 #![tactic(auto)]
 
 mod escapes;
@@ -9,9 +9,8 @@ mod names;
 mod notes;
 mod numbers;
 mod source;
-mod transcript;
 
-pub use escapes::{Start, escaped, put_visible, start_of, visible};
+pub use escapes::{put_visible, visible};
 pub use faults::{foreign_correction, say_mark, tell_correction, tell_mark, tell_no_end_line};
 pub use forms::{
     is_directive_word, tell_help, tell_near_word, tell_too_long, tell_word, whole_word,
@@ -20,4 +19,3 @@ pub use names::{Declaration, DeclaredAs, find_declaration};
 pub use notes::{NoteLine, Notes, Part, StyleChange};
 pub use numbers::meaning;
 pub use source::{ProgramText, TextLine, is_word_byte};
-pub use transcript::Transcript;

@@ -3,7 +3,7 @@
 ghost use Rattle.std.specs.Prelude.{◌≡◌, ◌+◌, IfOk};
 
 use super::{Level, ModelParser, is_reserved};
-use crate::fault::{ExpansionStop, Expected, Problem};
+use crate::fault::{Expanding, ExpansionStop, Expected, Problem};
 use crate::scope::Binding;
 use crate::syntax::{Binder, Each, Expression, FormNode, Link, Reference, enclosed};
 use crate::token::{Mark, SourceTokenKind};
@@ -11,34 +11,26 @@ use dbg_base::Direction;
 
 // The form that a word begins.
 fn form_of(word: &[u8]) -> Option<FormNode> {
-    if word == b"all".as_slice() {
-        return Some(FormNode::All);
+    match word {
+        b"all" => Some(FormNode::All),
+        b"some" => Some(FormNode::Some),
+        b"sum" => Some(FormNode::Sum),
+        b"at_least" => Some(FormNode::AtLeast),
+        _ => None,
     }
-    if word == b"some".as_slice() {
-        return Some(FormNode::Some);
-    }
-    if word == b"sum".as_slice() {
-        return Some(FormNode::Sum);
-    }
-    if word == b"at_least".as_slice() {
-        return Some(FormNode::AtLeast);
-    }
-    None
 }
 
 // What a word says that is counted.
 fn direction_of(word: &[u8]) -> Option<Direction> {
-    if word == b"sent".as_slice() {
-        return Some(Direction::Sent);
+    match word {
+        b"sent" => Some(Direction::Sent),
+        b"got" => Some(Direction::Got),
+        _ => None,
     }
-    if word == b"got".as_slice() {
-        return Some(Direction::Got);
-    }
-    None
 }
 
 // As many arguments are found as are wanted.
-fn check_arguments(wanted: usize, found: usize, at: usize) -> Result<(), ExpansionStop> {
+fn check_arguments(wanted: usize, found: usize, at: usize) -> Expanding<()> {
     if wanted == found {
         return Ok(());
     }
@@ -52,7 +44,7 @@ pub(super) fn is_form(word: &[u8]) -> bool {
 
 impl<'a> ModelParser<'a> {
     // One bracket more is open, of so many that may be.
-    fn deeper(&self, depth: u32) -> Result<u32, ExpansionStop>
+    fn deeper(&self, depth: u32) -> Expanding<u32>
         ensures { IfOk result (λ inner. inner + 1 ≡ depth) }
     {
         if depth == 0 {
@@ -63,7 +55,7 @@ impl<'a> ModelParser<'a> {
 
     /// Operands with operators of this precedence between them.
     #[cycle(expressions)]
-    pub(crate) fn chain(&mut self, level: Level, depth: u32) -> Result<Expression, ExpansionStop> {
+    pub(crate) fn chain(&mut self, level: Level, depth: u32) -> Expanding<Expression> {
         let at = self.at();
         let first = self.operand(level, depth)?;
         if self.operator(level).is_none() {
@@ -88,7 +80,7 @@ impl<'a> ModelParser<'a> {
 
     // An operand of an operator of this precedence.
     #[cycle(expressions)]
-    fn operand(&mut self, level: Level, depth: u32) -> Result<Expression, ExpansionStop> {
+    fn operand(&mut self, level: Level, depth: u32) -> Expanding<Expression> {
         match level {
             Level::Or => self.chain(Level::And, depth),
             Level::And => self.truth(depth),
@@ -99,7 +91,7 @@ impl<'a> ModelParser<'a> {
 
     // A `not` and its operand, or at most one comparison.
     #[cycle(expressions)]
-    fn truth(&mut self, depth: u32) -> Result<Expression, ExpansionStop> {
+    fn truth(&mut self, depth: u32) -> Expanding<Expression> {
         let at = self.at();
         if self.is_word(b"not") {
             let inner = self.deeper(depth)?;
@@ -128,7 +120,7 @@ impl<'a> ModelParser<'a> {
 
     // A minus and its operand, or an operand without a minus.
     #[cycle(expressions)]
-    fn signed(&mut self, depth: u32) -> Result<Expression, ExpansionStop> {
+    fn signed(&mut self, depth: u32) -> Expanding<Expression> {
         let at = self.at();
         if !self.is_mark(Mark::Minus) {
             return self.primary(depth);
@@ -141,7 +133,7 @@ impl<'a> ModelParser<'a> {
 
     /// A number, a word and what belongs to it, or an expression in parentheses.
     #[cycle(expressions)]
-    pub(crate) fn primary(&mut self, depth: u32) -> Result<Expression, ExpansionStop> {
+    pub(crate) fn primary(&mut self, depth: u32) -> Expanding<Expression> {
         let at = self.at();
         match self.token().kind {
             SourceTokenKind::Number(number) => {
@@ -162,7 +154,7 @@ impl<'a> ModelParser<'a> {
 
     // What begins with a word: a truth value, a count of messages, a form, a definition with its arguments, or a name.
     #[cycle(expressions)]
-    fn spoken(&mut self, depth: u32) -> Result<Expression, ExpansionStop> {
+    fn spoken(&mut self, depth: u32) -> Expanding<Expression> {
         let at = self.at();
         let Some(word) = self.word() else {
             return Err(self.unexpected(Expected::Expression));
@@ -192,11 +184,7 @@ impl<'a> ModelParser<'a> {
     }
 
     // What a name without arguments stands for.
-    fn looked_up(
-        &mut self,
-        reference: Reference,
-        word: &[u8],
-    ) -> Result<Expression, ExpansionStop> {
+    fn looked_up(&mut self, reference: Reference, word: &[u8]) -> Expanding<Expression> {
         if !reference.indices.is_empty() {
             return Ok(Expression::Name(reference));
         }
@@ -215,7 +203,7 @@ impl<'a> ModelParser<'a> {
 
     /// A name with its indices.
     #[cycle(expressions)]
-    pub(crate) fn reference(&mut self, depth: u32) -> Result<Reference, ExpansionStop> {
+    pub(crate) fn reference(&mut self, depth: u32) -> Expanding<Reference> {
         let written = self.name()?;
         let mut indices = Vec::new(self.alloc);
         for _ in self.next..self.tokens.len() {
@@ -237,7 +225,7 @@ impl<'a> ModelParser<'a> {
 
     // A definition and its arguments.
     #[cycle(expressions)]
-    fn call(&mut self, depth: u32) -> Result<Expression, ExpansionStop> {
+    fn call(&mut self, depth: u32) -> Expanding<Expression> {
         let name = self.name()?;
         let Some(Binding::Definition(number, wanted)) = self.scope.meaning(name.name.bytes()) else {
             return Err(ExpansionStop::Bad(Problem::NotADefinition, name.at));
@@ -248,10 +236,9 @@ impl<'a> ModelParser<'a> {
         for _ in self.next..self.tokens.len() {
             let argument = self.chain(Level::Or, inner)?;
             arguments.push(argument)?;
-            if !self.is_mark(Mark::Comma) {
+            if !self.passes_mark(Mark::Comma) {
                 break;
             }
-            self.pass();
         }
         self.mark(Mark::CloseParenthesis)?;
         check_arguments(wanted, arguments.len(), name.at)?;
@@ -260,7 +247,7 @@ impl<'a> ModelParser<'a> {
 
     // `all`, `some`, `sum` or `at_least`.
     #[cycle(expressions)]
-    fn each(&mut self, form: FormNode, depth: u32) -> Result<Expression, ExpansionStop> {
+    fn each(&mut self, form: FormNode, depth: u32) -> Expanding<Expression> {
         let at = self.at();
         let inner = self.deeper(depth)?;
         self.pass();
@@ -290,10 +277,9 @@ impl<'a> ModelParser<'a> {
 
     /// A member, its range, and the condition after `where`.
     #[cycle(expressions)]
-    pub(crate) fn binder(&mut self, depth: u32) -> Result<Binder, ExpansionStop> {
+    pub(crate) fn binder(&mut self, depth: u32) -> Expanding<Binder> {
         let mut binder = self.ranged(depth)?;
-        if self.is_word(b"where") {
-            self.pass();
+        if self.passes_word(b"where") {
             binder.condition = Some(self.chain(Level::Or, depth)?);
         }
         Ok(binder)
@@ -301,7 +287,7 @@ impl<'a> ModelParser<'a> {
 
     /// A member and its range.
     #[cycle(expressions)]
-    pub(crate) fn ranged(&mut self, depth: u32) -> Result<Binder, ExpansionStop> {
+    pub(crate) fn ranged(&mut self, depth: u32) -> Expanding<Binder> {
         let name = self.name()?;
         self.mark(Mark::Colon)?;
         let low = self.chain(Level::Sum, depth)?;

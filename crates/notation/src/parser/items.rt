@@ -2,10 +2,10 @@
 
 use super::ModelParser;
 use super::expressions::is_form;
-use crate::fault::{ExpansionStop, Expected, Problem};
+use crate::fault::{Expanding, ExpansionStop, Expected, Problem};
 use crate::limits::{NESTING, PARAMETERS, REPEATS};
 use crate::model::ParsedModel;
-use crate::scope::Binding;
+use crate::scope::{Binding, ModelScope};
 use crate::syntax::{
     ActionNode, AssignmentNode, Binder, CommandNode, Constant, DeclarationNode, Definition,
     ItemNode, Label, ProcessNode, Reference, VariableNode,
@@ -14,13 +14,8 @@ use crate::token::{Mark, SourceToken};
 use std::alloc::Global;
 
 impl<'a> ModelParser<'a> {
-    // A name with its indices, outside an expression.
-    fn place_name(&mut self) -> Result<Reference, ExpansionStop> {
-        self.reference(NESTING)
-    }
-
     // `const`, a name and its value.
-    fn constant(&mut self) -> Result<Constant, ExpansionStop> {
+    fn constant(&mut self) -> Expanding<Constant> {
         self.pass();
         let name = self.name()?;
         self.mark(Mark::Equals)?;
@@ -32,37 +27,26 @@ impl<'a> ModelParser<'a> {
         Ok(Constant { number, value })
     }
 
-    // One parameter.
-    fn parameter(&mut self) -> Result<(), ExpansionStop> {
-        let name = self.name()?;
-        let number = self.tables.parameters;
-        self.tables.parameters = number.saturating_add(1);
-        let bytes = self.bytes(name.token);
-        if let Some(old) = self.scope.declare(bytes, Binding::Parameter(number))? {
-            return Err(ExpansionStop::Bad(Problem::NameTaken(old), name.at));
-        }
-        Ok(())
-    }
-
     // The parameters of a definition, in parentheses, if it has any. The answer is how many there are.
-    fn parameters(&mut self) -> Result<usize, ExpansionStop> {
-        if !self.is_mark(Mark::OpenParenthesis) {
+    fn parameters(&mut self) -> Expanding<usize> {
+        if !self.passes_mark(Mark::OpenParenthesis) {
             return Ok(0);
         }
-        self.pass();
         for count in 1..=PARAMETERS {
-            self.parameter()?;
-            if !self.is_mark(Mark::Comma) {
+            let name = self.name()?;
+            let number = self.tables.parameters;
+            self.tables.parameters = number.saturating_add(1);
+            self.declare(&name, Binding::Parameter(number))?;
+            if !self.passes_mark(Mark::Comma) {
                 self.mark(Mark::CloseParenthesis)?;
                 return Ok(count);
             }
-            self.pass();
         }
         Err(ExpansionStop::Bad(Problem::ManyParameters, self.at()))
     }
 
     // `let`, a name, its parameters and its expression.
-    fn definition(&mut self) -> Result<(), ExpansionStop> {
+    fn definition(&mut self) -> Expanding<()> {
         self.pass();
         let name = self.name()?;
         if is_form(name.name.bytes()) {
@@ -83,13 +67,12 @@ impl<'a> ModelParser<'a> {
     }
 
     // The ranges of a family, each in brackets.
-    fn ranges(&mut self) -> Result<Vec<Binder>, ExpansionStop> {
+    fn ranges(&mut self) -> Expanding<Vec<Binder>> {
         let mut ranges = Vec::new(self.alloc);
         for _ in self.next..self.tokens.len() {
-            if !self.is_mark(Mark::OpenBracket) {
+            if !self.passes_mark(Mark::OpenBracket) {
                 break;
             }
-            self.pass();
             let binder = self.ranged(NESTING)?;
             self.mark(Mark::CloseBracket)?;
             ranges.push(binder)?;
@@ -98,7 +81,7 @@ impl<'a> ModelParser<'a> {
     }
 
     // A variable, or a family of variables.
-    fn variable(&mut self) -> Result<VariableNode, ExpansionStop> {
+    fn variable(&mut self) -> Expanding<VariableNode> {
         let at = self.at();
         self.pass();
         let name = self.name()?;
@@ -121,52 +104,49 @@ impl<'a> ModelParser<'a> {
     }
 
     // An assignment.
-    fn assignment(&mut self) -> Result<AssignmentNode, ExpansionStop> {
+    fn assignment(&mut self) -> Expanding<AssignmentNode> {
         if !self.is_name() {
             return Err(self.unexpected(Expected::Action));
         }
-        let target = self.place_name()?;
+        let target = self.reference(NESTING)?;
         let at = self.mark(Mark::Becomes)?;
         let value = self.expression()?;
         Ok(AssignmentNode { target, at, value })
     }
 
     // A send or a receive, if there is one.
-    fn action(&mut self) -> Result<ActionNode, ExpansionStop> {
+    fn action(&mut self) -> Expanding<ActionNode> {
         let at = self.at();
-        if self.is_word(b"send") {
-            self.pass();
-            let target = self.place_name()?;
+        if self.passes_word(b"send") {
+            let target = self.reference(NESTING)?;
             let value = self.expression()?;
             return Ok(ActionNode::Send(at, target, value));
         }
-        if self.is_word(b"recv") {
-            self.pass();
-            let source = self.place_name()?;
-            let variable = self.place_name()?;
+        if self.passes_word(b"recv") {
+            let source = self.reference(NESTING)?;
+            let variable = self.reference(NESTING)?;
             return Ok(ActionNode::Receive(at, source, variable));
         }
         Ok(ActionNode::Local)
     }
 
     // The assignments of a command: after commas, and the first one too where there is an action before it.
-    fn assignments(&mut self, action: &ActionNode) -> Result<Vec<AssignmentNode>, ExpansionStop> {
+    fn assignments(&mut self, action: &ActionNode) -> Expanding<Vec<AssignmentNode>> {
         let mut assignments = Vec::new(self.alloc);
         if matches!(action, ActionNode::Local) {
             assignments.push(self.assignment()?)?;
         }
         for _ in self.next..self.tokens.len() {
-            if !self.is_mark(Mark::Comma) {
+            if !self.passes_mark(Mark::Comma) {
                 break;
             }
-            self.pass();
             assignments.push(self.assignment()?)?;
         }
         Ok(assignments)
     }
 
     // A command, which may have a label.
-    fn command(&mut self, label: Option<Label>) -> Result<CommandNode, ExpansionStop> {
+    fn command(&mut self, label: Option<Label>) -> Expanding<CommandNode> {
         let at = self.at();
         self.pass();
         let guard = self.expression()?;
@@ -186,7 +166,7 @@ impl<'a> ModelParser<'a> {
     }
 
     // A label, and its command.
-    fn labelled(&mut self) -> Result<CommandNode, ExpansionStop> {
+    fn labelled(&mut self) -> Expanding<CommandNode> {
         if !self.is_name() || !self.has_mark_after(1, Mark::Colon) {
             return Err(self.unexpected(Expected::Item));
         }
@@ -203,7 +183,7 @@ impl<'a> ModelParser<'a> {
 
     // `for`, its member and its items, where so many `for` may still be open.
     #[cycle(items)]
-    fn repeat(&mut self, depth: u32) -> Result<ItemNode, ExpansionStop> {
+    fn repeat(&mut self, depth: u32) -> Expanding<ItemNode> {
         if depth == 0 {
             return Err(ExpansionStop::Bad(Problem::DeepNesting, self.at()));
         }
@@ -221,7 +201,7 @@ impl<'a> ModelParser<'a> {
 
     // An item that is no definition.
     #[cycle(items)]
-    fn item(&mut self, depth: u32) -> Result<ItemNode, ExpansionStop> {
+    fn item(&mut self, depth: u32) -> Expanding<ItemNode> {
         if self.is_word(b"const") {
             return Ok(ItemNode::Constant(self.constant()?));
         }
@@ -239,7 +219,7 @@ impl<'a> ModelParser<'a> {
 
     // All items up to a `}`.
     #[cycle(items)]
-    fn items(&mut self, depth: u32) -> Result<Vec<ItemNode>, ExpansionStop> {
+    fn items(&mut self, depth: u32) -> Expanding<Vec<ItemNode>> {
         let mut items = Vec::new(self.alloc);
         for _ in self.next..self.tokens.len() {
             if self.is_mark(Mark::CloseBrace) {
@@ -255,12 +235,13 @@ impl<'a> ModelParser<'a> {
     }
 
     // A process, or a family of processes.
-    fn process(&mut self, number: usize) -> Result<ProcessNode, ExpansionStop> {
+    fn process(&mut self, number: usize) -> Expanding<ProcessNode> {
         let at = self.at();
         self.pass();
         let name = self.name()?;
         let mark = self.scope.mark();
         self.declaration = Some(number);
+        let first_constant = self.tables.constants;
         let ranges = self.ranges()?;
         let open = self.mark(Mark::OpenBrace)?;
         let items = self.items(REPEATS)?;
@@ -272,6 +253,8 @@ impl<'a> ModelParser<'a> {
             name_at: name.at,
             name: name.name,
             ranges,
+            first_constant,
+            constants: self.tables.constants.saturating_sub(first_constant),
             open,
             items,
             close,
@@ -279,7 +262,7 @@ impl<'a> ModelParser<'a> {
     }
 
     // A declaration that is no definition; so many are before it.
-    fn declaration(&mut self, number: usize) -> Result<DeclarationNode, ExpansionStop> {
+    fn declaration(&mut self, number: usize) -> Expanding<DeclarationNode> {
         if self.is_word(b"const") {
             return Ok(DeclarationNode::Constant(self.constant()?));
         }
@@ -290,7 +273,7 @@ impl<'a> ModelParser<'a> {
     }
 
     // All declarations.
-    fn declarations(&mut self) -> Result<Vec<DeclarationNode>, ExpansionStop> {
+    fn declarations(&mut self) -> Expanding<Vec<DeclarationNode>> {
         let mut declarations = Vec::new(self.alloc);
         for _ in self.next..self.tokens.len() {
             if self.is_at_end() {
@@ -308,12 +291,13 @@ impl<'a> ModelParser<'a> {
 }
 
 /// The model that these tokens of the text write.
-pub(crate) fn model(
+pub(crate) fn model<'a>(
     alloc: Global,
-    text: &[u8],
-    tokens: &[SourceToken],
-) -> Result<ParsedModel, ExpansionStop> {
-    let mut parser = ModelParser::new(alloc, text, tokens, 0, 0);
+    text: &'a [u8],
+    tokens: &'a [SourceToken],
+) -> Expanding<ParsedModel> {
+    let scope = ModelScope::new(alloc, None);
+    let mut parser = ModelParser::new(alloc, text, tokens, scope, 0, 0);
     let declarations = parser.declarations()?;
     let ModelParser { tables, .. } = parser;
     Ok(ParsedModel {

@@ -2,7 +2,7 @@
 
 use super::reported;
 use crate::expecting::expect_same;
-use notation::{Expansion, expand};
+use notation::{LineExpander, PlainLines, expand};
 use std::alloc::{AllocError, Global};
 use std::process::Abort;
 use test_programs::MEMORY;
@@ -174,46 +174,206 @@ const FAULTS: &[LineCase] = &[
         "for quorum: 1..2 : next server[1]",
         "NameTaken(Constant) in 1:5",
     ),
-    ("for k: 1..100000 : next bob", "LongText in 1:1"),
+    ("for k: 1..100000 : next bob", "ManyCopies in 1:1"),
+];
+
+// Faults in the middle of a line: in a form in the argument of a definition, in the condition of a range, in a process of a family. After
+// each come lines that use the same names. The constant `limit` is 10 times the member `i`.
+const AFTER_FAULTS: &[LineCase] = &[
+    (
+        "break bad bob (high(sum(k: 1..2: v[k - 2])))",
+        "BelowZero in 1:36",
+    ),
+    ("for k: 3..3 : next server[k]", "next server_3"),
+    (
+        "break bad bob (high(sum(k: 1..2: k / (k - k))))",
+        "break bad bob (((1 / (1 - 1)) + (2 / (2 - 2))) > 2)",
+    ),
+    (
+        "for k: 1..3 where 1 / (k - 2) = -1 : next server[k]",
+        "DivisionByZero in 1:21",
+    ),
+    (
+        "for k: 1..2 for m: k..2 : break two[m] server[k] (state = v[1 - m])",
+        "BelowZero in 1:61",
+    ),
+    (
+        "for m: 1..2 : break two[m] server[m] (state = m)",
+        "break two_1 server_1 (state = 1)|break two_2 server_2 (state = 2)",
+    ),
+    (
+        "for m: 2..3 : break two[m] server[m] (state = m)",
+        "break two_2 server_2 (state = 2)|break two_3 server_3 (state = 3)",
+    ),
+    (
+        "break bad server[3] (state = limit and v[2 - i] = 0)",
+        "BelowZero in 1:42",
+    ),
+    (
+        "break bad server[1] (state = limit)",
+        "break bad server_1 (state = 10)",
+    ),
+    (
+        "break bad server[3] (state = limit + i) server[1] (state = limit + i) server_3 (state = limit)",
+        "break bad server_3 (state = (30 + 3)) server_1 (state = (10 + 1)) server_3 (state = 30)",
+    ),
+    (
+        "break bad server[2] (state = limit) bob (reads = limit)",
+        "break bad server_2 (state = 20) bob (reads = limit)",
+    ),
+    ("break bad bob (reads = i)", "break bad bob (reads = i)"),
+    (
+        "break bad server[2] (some(i: 1..2: state = i))",
+        "NameTaken(Member) in 1:27",
+    ),
+    (
+        "break bad bob (some(i: 1..2: reads = i))",
+        "break bad bob ((reads = 1) or (reads = 2))",
+    ),
+    (
+        "for i: 7..7 : break bad server[2] (state = i)",
+        "break bad server_2 (state = 7)",
+    ),
+    (
+        "break bad server[2] (state = i)",
+        "break bad server_2 (state = 2)",
+    ),
+    ("for k: 1..0 : next server[k]", ""),
+    (
+        "break two[1] for k: 1..70000: bob (reads = k)",
+        "ManyCopies in 1:14",
+    ),
+    (
+        "for k: 1..9223372036854775807 : breaks",
+        "ManyCopies in 1:1",
+    ),
 ];
 
 // The lines that a line stands for, with `|` between them, or its fault.
-fn lines_of(alloc: Global, expansion: &Expansion, line: &str) -> Result<String, AllocError> {
-    match expansion.expand_line(alloc, line.as_bytes()) {
-        Err(error) => reported(alloc, error, line.as_bytes()),
-        Ok(plain) => {
-            let mut all = Vec::new(alloc);
-            for (number, line) in plain.lines().iter().enumerate() {
-                if number > 0 {
-                    all.push(b'|')?;
-                }
-                all.extend_from_slice(line.as_slice())?;
-            }
-            String::from_utf8_lossy(alloc, all.as_slice())
-        }
+fn lines_of(
+    alloc: Global,
+    expander: &mut LineExpander<'_>,
+    line: &str,
+) -> Result<String, AllocError> {
+    let mut plain = PlainLines::new(alloc);
+    if let Err(error) = expander.expand(line.as_bytes(), &mut plain) {
+        return reported(alloc, error, line.as_bytes());
     }
+    let mut all = Vec::new(alloc);
+    for number in 0..plain.count() {
+        if number > 0 {
+            all.push(b'|')?;
+        }
+        all.extend_from_slice(plain.line(number))?;
+    }
+    String::from_utf8_lossy(alloc, all.as_slice())
 }
 
-fn expect_lines(rt: &impl Abort, alloc: Global, expansion: &Expansion, cases: &[LineCase]) {
+fn expect_lines(
+    rt: &impl Abort,
+    alloc: Global,
+    expander: &mut LineExpander<'_>,
+    cases: &[LineCase],
+) {
     for (line, want) in cases {
-        let found = lines_of(alloc, expansion, line).expect(rt, MEMORY);
+        let found = lines_of(alloc, expander, line).expect(rt, MEMORY);
         expect_same(rt, (*line, found.as_str()), (*line, *want));
     }
 }
 
-fn expect_all(rt: &impl Abort, alloc: Global, expansion: &Expansion) {
-    expect_lines(rt, alloc, expansion, PLAIN);
-    expect_lines(rt, alloc, expansion, NAMES);
-    expect_lines(rt, alloc, expansion, LABELS);
-    expect_lines(rt, alloc, expansion, BREAKPOINTS);
-    expect_lines(rt, alloc, expansion, REPEATED);
-    expect_lines(rt, alloc, expansion, COMMENTS);
-    expect_lines(rt, alloc, expansion, FAULTS);
+// The tables come in turn, so that each line comes after lines with faults too.
+fn expect_all(rt: &impl Abort, alloc: Global, expander: &mut LineExpander<'_>) {
+    let tables = [
+        FAULTS,
+        PLAIN,
+        NAMES,
+        LABELS,
+        FAULTS,
+        BREAKPOINTS,
+        REPEATED,
+        COMMENTS,
+        FAULTS,
+        AFTER_FAULTS,
+        BREAKPOINTS,
+    ];
+    for table in tables {
+        expect_lines(rt, alloc, expander, table);
+    }
 }
 
 #[test]
 fn lines_expand(rt: HostRuntime) {
     let expansion = expand(rt.alloc(), MODEL.as_bytes());
     let expansion = expansion.ok().expect(&rt, "the model expands");
-    expect_all(&rt, rt.alloc(), &expansion);
+    let expander = LineExpander::new(rt.alloc(), &expansion);
+    expect_all(&rt, rt.alloc(), &mut expander.expect(&rt, MEMORY));
+}
+
+// Lines that take almost all steps of a session, lines that take more than are left, and lines that take none.
+const LONG: &[LineCase] = &[
+    (
+        "for k: 1..1 where at_least(0, j: 1..2100000: true) : next bob",
+        "MuchWork in 1:31",
+    ),
+    (
+        "for k: 1..1 where at_least(0, j: 1..1900000: true) : next bob",
+        "next bob",
+    ),
+    (
+        "for k: 2..2 where at_least(0, j: 1..1900000: true) : next server[k]",
+        "next server_2",
+    ),
+    (
+        "for k: 1..1 where at_least(0, j: 1..1900000: true) : next bob",
+        "next bob",
+    ),
+    (
+        "for k: 1..1 where at_least(0, j: 1..1900000: true) : next bob",
+        "next bob",
+    ),
+    (
+        "for k: 1..1 where at_least(0, j: 1..1900000: true) : next bob",
+        "SessionWork in 1:31",
+    ),
+    ("next bob # without a step", "next bob"),
+    ("next server[1]", "SessionWork in 1:13"),
+    ("break bad bob (reads = 1)", "SessionWork in 1:15"),
+    ("step server_2 win", "step server_2 2"),
+];
+
+#[test]
+fn sessions_have_a_limit_of_work(rt: HostRuntime) {
+    let expansion = expand(rt.alloc(), MODEL.as_bytes());
+    let expansion = expansion.ok().expect(&rt, "the model expands");
+    let expander = LineExpander::new(rt.alloc(), &expansion);
+    expect_lines(&rt, rt.alloc(), &mut expander.expect(&rt, MEMORY), LONG);
+}
+
+// Lines, and how many plain lines there are after each, where a fault adds none.
+const COUNTS: &[(&str, usize)] = &[
+    ("next bob", 1),
+    ("for k: 1..3 : next server[2 - k]", 1),
+    ("for k: 1..2 : next server[k]", 3),
+    ("for k: 1..0 : next server[k]", 3),
+    ("next server[1", 3),
+    ("", 4),
+];
+
+#[test]
+fn lines_are_appended(rt: HostRuntime) {
+    let expansion = expand(rt.alloc(), MODEL.as_bytes());
+    let expansion = expansion.ok().expect(&rt, "the model expands");
+    let expander = LineExpander::new(rt.alloc(), &expansion);
+    let mut expander = expander.expect(&rt, MEMORY);
+    let mut plain = PlainLines::new(rt.alloc());
+    for (line, want) in COUNTS {
+        let _ = expander.expand(line.as_bytes(), &mut plain);
+        expect_same(&rt, (*line, plain.count()), (*line, *want));
+    }
+    expect_same(&rt, plain.line(2), b"next server_2".as_slice());
+    expect_same(&rt, plain.line(4), b"".as_slice());
+    plain.clear();
+    plain.push(b"next bob").expect(&rt, MEMORY);
+    expect_same(&rt, plain.line(0), b"next bob".as_slice());
+    expect_same(&rt, plain.count(), 1);
 }

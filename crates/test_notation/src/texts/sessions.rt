@@ -1,8 +1,9 @@
-//! Whole sessions.
+//! Whole sessions: a program, a line `%%`, and command lines.
 
-use super::reported;
+use super::{reported, reported_from};
 use crate::expecting::expect_same;
-use notation::expand_session;
+use notation::{ExpandedProgram, LineExpander, PlainLines, expand_program};
+use proc_lang::parse_program;
 use std::alloc::{AllocError, Global};
 use test_programs::MEMORY;
 
@@ -30,15 +31,82 @@ const SESSIONS: &[(&str, &str)] = &[
         "BelowZero in 4:10",
     ),
     (
+        "process a[i: 1..2] { }\n%%\nfor i: 2..1 : vars a[i]\n\nvars a[1] # one",
+        "process a_1 {\n}\nprocess a_2 {\n}\n%%\n\n\nvars a_1",
+    ),
+    (
         "process a { when true : x := 1; }\n%%\n1 next a\n",
         "Plain(NameUnknown) in 1:25",
     ),
 ];
 
+// Whether a line is `%%`: a carriage return at its end does not count.
+fn is_end_line(line: &[u8]) -> bool {
+    line == b"%%".as_slice() || line == b"%%\r".as_slice()
+}
+
+// How many bytes there are before the line `%%`; all of them where there is none.
+fn program_length(session: &[u8]) -> usize {
+    let mut at = 0usize;
+    for line in session.split(|byte| *byte == b'\n') {
+        if is_end_line(line) {
+            return at;
+        }
+        at = at.saturating_add(line.len()).saturating_add(1);
+    }
+    session.len()
+}
+
+// Appends lines, with line ends between them.
+fn put_lines(text: &mut Vec<u8>, lines: &PlainLines) -> Result<(), AllocError> {
+    for number in 0..lines.count() {
+        if number > 0 {
+            text.push(b'\n')?;
+        }
+        text.extend_from_slice(lines.line(number))?;
+    }
+    Ok(())
+}
+
+// The plain session of the line `%%` and the lines after it, which begin at this offset of the session, or the fault.
+fn commands_of(
+    alloc: Global,
+    expanded: &ExpandedProgram,
+    session: &[u8],
+    from: usize,
+) -> Result<String, AllocError> {
+    let mut expander = LineExpander::new(alloc, &expanded.expansion)?;
+    let mut plain = PlainLines::new(alloc);
+    let mut text = Vec::from_slice(alloc, expanded.expansion.plain())?;
+    let mut at = from;
+    let commands = session.get(from..).unwrap_or(&[]);
+    for (number, line) in commands.split(|byte| *byte == b'\n').enumerate() {
+        if number == 0 {
+            text.extend_from_slice(line)?;
+        } else {
+            text.push(b'\n')?;
+            plain.clear();
+            if let Err(error) = expander.expand(line, &mut plain) {
+                return reported_from(alloc, error, session, at);
+            }
+            put_lines(&mut text, &plain)?;
+        }
+        at = at.saturating_add(line.len()).saturating_add(1);
+    }
+    String::from_utf8_lossy(alloc, text.as_slice())
+}
+
+// The plain session, or the fault. A session whose program is plain stays as it is.
 fn session_of(alloc: Global, text: &str) -> Result<String, AllocError> {
-    match expand_session(alloc, text.as_bytes()) {
-        Err(error) => reported(alloc, error, text.as_bytes()),
-        Ok(plain) => { String::from_utf8_lossy(alloc, plain.as_slice()) }
+    let session = text.as_bytes();
+    let from = program_length(session);
+    let program = session.get(..from).unwrap_or(session);
+    if parse_program(alloc, program).is_ok() {
+        return String::from_utf8_lossy(alloc, session);
+    }
+    match expand_program(alloc, program) {
+        Err(error) => reported(alloc, error, session),
+        Ok(expanded) => commands_of(alloc, &expanded, session, from),
     }
 }
 

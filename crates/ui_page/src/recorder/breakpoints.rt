@@ -8,7 +8,7 @@ use dbg_base::{Cause, Elimination, Expr, Name, Pid, Refusal};
 use dbg_command::SessionView;
 use proc_lang::Program;
 use std::alloc::{AllocError, Global};
-use ui_explain::ProcessView;
+use ui_explain::{BreakpointChange, ProcessView};
 use ui_text::Notes;
 
 // What the page was last given about a breakpoint: its mark, the eliminations of its search that are still valid, and how many of them the
@@ -19,18 +19,6 @@ struct ShownBreakpoint {
     is_armed: bool,
     trail: Trail,
     known: usize,
-}
-
-/// How a command, or its being taken back, may have changed breakpoints and their searches.
-#[derive(Clone, Copy, PartialEq, Eq)]
-pub(super) enum BreakpointChange {
-    /// Events were made, or some were undone: a search dropped from its end the eliminations that depend on undone events, and continued.
-    /// Or a breakpoint was armed, disarmed, set or cleared.
-    Followed,
-    /// Several of these, or an earlier table came back: a search may be a different one.
-    Batch,
-    /// A breakpoint may also be a different one of the same name.
-    Replaced,
 }
 
 /// What the page was last given about the breakpoints of a session, in their order, and about the places of its processes.

@@ -6,19 +6,19 @@ use serde_json::Value;
 use shell_parse::without_return;
 use std::alloc::{AllocError, Global};
 use std::mem;
-use ui_text::Transcript;
 
-// The end of a line's text in the texts of all lines, and whether the line has a reply.
+// Where the text of a line ends in the texts of all lines, and its reply in all replies. A line without a reply has an empty one.
 #[derive(Clone, Copy)]
 struct End {
     text: usize,
-    is_answered: bool,
+    reply: usize,
 }
 
 /// The lines, one after the other, and their operations.
 #[derive(Drop)]
 pub(super) struct RecordedLines {
     text: Vec<u8>,
+    replies: Vec<u8>,
     ends: Vec<End>,
     // How many lines the page shows so far.
     shown: usize,
@@ -32,6 +32,7 @@ impl RecordedLines {
     pub(super) fn new(alloc: Global) -> RecordedLines {
         RecordedLines {
             text: Vec::new(alloc),
+            replies: Vec::new(alloc),
             ends: Vec::new(alloc),
             shown: 0,
             operations: List::new(alloc),
@@ -55,7 +56,7 @@ impl RecordedLines {
         self.text.extend_from_slice(line)?;
         let end = End {
             text: self.text.len(),
-            is_answered: false,
+            reply: self.replies.len(),
         };
         Ok(self.ends.push(end)?)
     }
@@ -65,10 +66,11 @@ impl RecordedLines {
         &mut self.operations
     }
 
-    /// The present line is answered, and its operations end here.
-    pub(super) fn end(&mut self, alloc: Global) -> Result<(), Incomplete> {
+    /// The present line has this reply, and its operations end here.
+    pub(super) fn end(&mut self, alloc: Global, reply: &[u8]) -> Result<(), Incomplete> {
+        self.replies.extend_from_slice(reply)?;
         if let Some(end) = self.ends.last_mut() {
-            end.is_answered = true;
+            end.reply = self.replies.len();
         }
         let operations = mem::replace(&mut self.operations, List::new(alloc));
         if operations.len() > 1 {
@@ -77,34 +79,25 @@ impl RecordedLines {
         Ok(())
     }
 
-    /// The data, and after them the lines with their replies. The replies are those of this output, in order.
-    pub(super) fn with_replies(
-        self,
-        alloc: Global,
-        output: &Transcript,
-    ) -> Result<PageData, Incomplete> {
+    /// The data, and after them the lines with their replies.
+    pub(super) fn with_replies(self, alloc: Global) -> Result<PageData, Incomplete> {
         let RecordedLines {
             text,
+            replies,
             ends,
             mut data,
             ..
         } = self;
-        let mut from = 0usize;
-        let mut answered = 0usize;
+        let mut from = End { text: 0, reply: 0 };
         for end in &ends {
-            let mut reply: &[u8] = &[];
-            if end.is_answered {
-                reply = output.reply(answered).unwrap_or(&[]);
-                answered = answered.saturating_add(1);
-            }
-            let line = text.get(from..end.text).unwrap_or(&[]);
+            let line = text.get(from.text..end.text).unwrap_or(&[]);
             if is_shown(line) {
                 let mut both = List::new(alloc);
                 both.text(line)?;
-                both.text(reply)?;
+                both.text(replies.get(from.reply..end.reply).unwrap_or(&[]))?;
                 data.add(alloc, &both.into_value())?;
             }
-            from = end.text;
+            from = *end;
         }
         Ok(data)
     }

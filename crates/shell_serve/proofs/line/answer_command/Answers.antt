@@ -10,17 +10,17 @@ use Rattle.shell_serve.proofs.line.answer_command.Goals.{then-needs_seat, else-n
 
 pub returns-in-Some-clause-answers : goal.returns-in-Some-clause-answers
 returns-in-Some-clause-answers g c =
-    let line = c.args.line.now in
+    let line = c.args.played.now in
     let asks : Asks g.L.Run.program line (Ok (Some (process_request c.in-Some.short))) =
     subst (λ (Q : Program). Asks Q line (Ok (Some (process_request c.in-Some.short)))) c.program-else-needs_seat.ensures c.in-Some.ensures.asks in
     rw c.if-needs_seat.ensures (c.answer_call.ensures.answers line
-    (inl (subst (λ (r : Request). Asks g.L.Run.program line (Ok (Some r))) (sym c.line.ensures.asks) asks)))
+    (inl (subst (λ (r : Request). Asks g.L.Run.program line (Ok (Some r))) (sym c.line-asked.ensures.asks) asks)))
 
 pub answer_parsed-requires-clause-refuses : goal.answer_parsed-requires-clause-refuses
 answer_parsed-requires-clause-refuses g c κs within =
     elim c.if-needs_seat.branch [
-      | then-needs_seat x ↦ (codes "1 " ++ c.args.line.now, rw x.parsed-is x.parse_seatless_line-parsed.ensures.refuses)
-      | else-needs_seat+in_default x ↦ (c.args.line.now, rw x.parsed-is x.parse_line.ensures.refuses)
+      | then-needs_seat x ↦ (codes "1 " ++ c.args.played.now, rw x.parsed-is x.parse_seatless_line-parsed.ensures.refuses)
+      | else-needs_seat+in_default x ↦ (c.args.played.now, rw x.parsed-is x.parse_line.ensures.refuses)
     ]
 
 same_parsed : (P Q : Program) (line : List ℕ) (parsed own : Result (Option Line) Refusal) → Q ≡ P → parsed ≡ own → IsParsed Q line own
@@ -33,9 +33,9 @@ returns-clause-answers g c =
     let parsed = c.if-needs_seat.parsed in
     elim c.if-needs_seat.branch [
       | then-needs_seat x ↦
-          rw x.if-needs_seat.ensures (c.answer_parsed.ensures.answers (codes "1 " ++ c.args.line.now)
+          rw x.if-needs_seat.ensures (c.answer_parsed.ensures.answers (codes "1 " ++ c.args.played.now)
           (same_parsed _ _ _ parsed _ x.program.ensures x.parsed-is x.parse_seatless_line-parsed.ensures.asks))
       | else-needs_seat+in_default x ↦
-          rw x.if-needs_seat.ensures (c.answer_parsed.ensures.answers c.args.line.now
+          rw x.if-needs_seat.ensures (c.answer_parsed.ensures.answers c.args.played.now
           (same_parsed _ _ _ parsed _ x.program-in_default.ensures x.parsed-is x.parse_line.ensures.asks))
     ]

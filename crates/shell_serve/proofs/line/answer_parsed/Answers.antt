@@ -2,7 +2,7 @@ use Rattle.std.proofs.Common.{Option, Result, Ok, subst}
 use Rattle.dbg_base.specs.declared.refusal.Refusal.{Refusal}
 use Rattle.shell_parse.specs.declared.line.Line.{Line}
 use Rattle.shell_parse.specs.Lines.{IsParsed}
-use Rattle.shell_serve.proofs.CommandReplyLemmas.{none_replied, refusal_replied, refusal_stopped}
+use Rattle.shell_serve.proofs.CommandReplyLemmas.{none_replied, refusal_replied}
 use Rattle.shell_serve.proofs.line.answer_parsed.Goals as goal
 
 pub returns-in-Ok-Some-clause-answers : goal.returns-in-Ok-Some-clause-answers
@@ -19,16 +19,9 @@ returns-in-Ok-None-clause-answers g c =
     (subst (λ (o : Option Line). IsParsed g.L.Run.program bytes (Ok o)) c.in-Ok-None.field-0-is
     (subst (λ (r : Result (Option Line) Refusal). IsParsed g.L.Run.program bytes r) c.in-Ok-None.is parsed))
 
-pub returns-in_ok-write_refusal-in-Err-clause-answers : goal.returns-in_ok-write_refusal-in-Err-clause-answers
-returns-in_ok-write_refusal-in-Err-clause-answers g c =
+pub returns-in-Err-clause-answers : goal.returns-in-Err-clause-answers
+returns-in-Err-clause-answers g c =
     λ bytes parsed.
-    refusal_replied g.T.Observer.manner g.L.Run.program bytes c.args.locked.now.journal c.in-Err.refusal _ _ _
+    refusal_replied g.T.Observer.manner g.L.Run.program bytes c.args.locked.now.journal c.in-Err.refusal _ _
     (subst (λ (r : Result (Option Line) Refusal). IsParsed g.L.Run.program bytes r) c.in-Err.is parsed)
-    c.in_ok-write_refusal-in-Err.ensures c.explain_refusal.ensures
-
-pub returns-in_err-write_refusal-in-Err-clause-answers : goal.returns-in_err-write_refusal-in-Err-clause-answers
-returns-in_err-write_refusal-in-Err-clause-answers g c =
-    λ bytes parsed.
-    refusal_stopped g.T.Observer.manner g.L.Run.program bytes c.args.locked.now.journal c.in-Err.refusal _ _ c.requires.quiet
-    (subst (λ (r : Result (Option Line) Refusal). IsParsed g.L.Run.program bytes r) c.in-Err.is parsed)
-    c.in_err-write_refusal-in-Err.ensures c.from_residual.ensures.1
+    c.refuse_line.ensures.told

@@ -1,136 +1,71 @@
-use Rattle.std.proofs.Common.{◌≡◌, ◌∙◌, sym, arith, rules}
-use Rattle.std.specs.Prelude.{IfErr}
-use Rattle.shell_print.specs.declared.outcome.ServeFault.TheVariants.{Read, Write}
-use Rattle.shell_input.proofs.UnfinishedInputLemmas.{where_other, not_read}
-use Rattle.shell_input.proofs.ReadStepLemmas.{reads_nothing, reads_then}
-use Rattle.shell_input.proofs.TextSplitLemmas.{further_on}
-use Rattle.shell_serve.proofs.SeatLemmas.{all_back}
-use Rattle.shell_serve.proofs.SessionLemmas.{any_answered, any_goes_on, any_is_last, any_stops, any_ends, any_is_too_long, any_is_cut, any_breaks}
-use Rattle.shell_serve.proofs.SessionLemmas.{legal_now, on_after, last_after, sink_cut, source_fine, never_write, never_ok}
+use Rattle.std.proofs.Common.{sym, ◌∙◌}
+use Rattle.shell_input.specs.declared.framing.Next.TheVariants.{Line, End, TooLong}
+use Rattle.shell_serve.proofs.SessionLemmas.{returned, none_answered, line_answered, line_ends, line_stops, source_ends, source_fails, source_is_too_long}
 use Rattle.shell_serve.proofs.running.answer_lines.Goals as goal
 
-pub loop-seats-init : goal.loop-seats-init
-loop-seats-init g c = record {
-  reads = reads_nothing c.requires.ends;
-  begun = omega arith;
+pub loop-span-init : goal.loop-span-init
+loop-span-init g c = record {
+  ready = c.requires.ready;
   seats = c.requires.opened.1;
-  answered = any_answered g.T.Observer.manner g.L.Run.program _ _ _ _ _ c.requires.opened.0;
+  answered = none_answered g.S.LineSource.Gives g.T.Observer.manner g.L.Run.program _ _ _ _ c.requires.opened.0;
   reader = λ fine. fine;
   writer = λ fine. fine;
 }
 
-pub loop-seats-preserved : goal.loop-seats-preserved
-loop-seats-preserved g c =
-    let legal = legal_now g.T.Observer.manner _ _ _ _ _ _ _ _ c.loop-seats.invariant.answered in
-    let wrote = c.in_ok-goes_on-in-Line.ensures.answers legal in
+pub loop-span-preserved : goal.loop-span-preserved
+loop-span-preserved g c =
+    let answered = c.loop-span.invariant.answered in
+    let gave =
+    returned g.S.LineSource.Gives g.S.LineSource.Stops g.S.LineSource.Holds g.S.LineSource.left _ _ _ _ _ c.in_ok-span.ensures.advances
+    (Line c.in-Line.span) c.in-Line.is in
+    let wrote = c.in_ok-last-in-Line.ensures.answers answered.legal in
     record {
-      reads = reads_then c.loop-seats.invariant.reads c.next_line.ensures.reads;
-      begun = further_on _ _ _ _ _ c.in_ok-span.ensures.advances c.in-Line.is c.loop-seats.invariant.begun;
-      seats = all_back _ _ _ (omega (arith, c.loop-seats.seats.ok.0)) c.loop-seats.invariant.seats c.answer_line.ensures.seats;
-      answered = any_goes_on g.T.Observer.manner c.requires.quiet _ _ _ _ _ _ _ _ _ _ _ _
-          c.loop-seats.invariant.answered c.next_line.ensures.reads.narrows
-          c.in_ok-span.ensures.tells c.line-line.result.now c.in-Line.span _ _ c.in-Line.is c.line-line.ensures _ wrote
-          (on_after _ _ c.in_ok-goes_on-in-Line.ensures.goes_on c.if-not-goes_on.false);
-      reader = λ fine. c.in_ok-span.ensures.reader (c.loop-seats.invariant.reader fine);
-      writer = λ fine. wrote.written.whole.fine (c.loop-seats.invariant.writer fine);
+      ready = c.advance.ensures.ready;
+      seats = c.answer_line.ensures.seats;
+      answered =
+          line_answered g.S.LineSource.Gives g.S.LineSource.Stops g.T.Observer.manner g.L.Run.program _ _ _ _ _ _ _ answered _ _ _ gave.0
+          gave.1 (c.line-line.ensures gave.0 gave.2) _ _ wrote (sym c.in_ok-last-in-Line.ensures.goes_on ∙ sym c.if-is_end.ensures);
+      reader = λ fine. c.in_ok-span.ensures.reader (c.loop-span.invariant.reader fine);
+      writer = λ fine. wrote.written.whole.fine (c.loop-span.invariant.writer fine);
     }
 
-pub returns-then-not-goes_on-clause-answers : goal.returns-then-not-goes_on-clause-answers
-returns-then-not-goes_on-clause-answers g c = record {
-  served =
-      let legal = legal_now g.T.Observer.manner _ _ _ _ _ _ _ _ c.loop-seats.invariant.answered in
-      any_is_last g.T.Observer.manner c.requires.quiet _ _ _ _ _ _ _ c.next_line.new.self.at _ _ _ _
-      c.loop-seats.invariant.answered c.next_line.ensures.reads.narrows c.in_ok-span.ensures.tells c.line-line.result.now c.in-Line.span _ _
-      c.in-Line.is c.line-line.ensures _ (c.in_ok-goes_on-in-Line.ensures.answers legal)
-      (last_after _ _ c.in_ok-goes_on-in-Line.ensures.goes_on c.if-not-goes_on.true);
-  stopped = search rules;
-  broken = search rules;
-  accepted = search rules;
-}
+pub returns-in_err-span-clause-plays : goal.returns-in_err-span-clause-plays
+returns-in_err-span-clause-plays g c =
+    source_fails g.S.LineSource.Gives g.S.LineSource.Stops g.T.Observer.manner g.L.Run.program _ _ _ _ _ _ _
+    c.loop-span.invariant.answered _ _ _ c.from_residual.result c.in_err-span.ensures.advances c.in_err-span.ensures.fault
+    c.from_residual.ensures.1
 
-pub returns-then-not-goes_on-clause-faults : goal.returns-then-not-goes_on-clause-faults
-returns-then-not-goes_on-clause-faults g c = record {
-  reader = search rules;
-  writer =
-      let legal = legal_now g.T.Observer.manner _ _ _ _ _ _ _ _ c.loop-seats.invariant.answered in
-      λ fine. (c.in_ok-goes_on-in-Line.ensures.answers legal).written.whole.fine (c.loop-seats.invariant.writer fine);
-}
+pub returns-in_err-last-in-Line-clause-plays : goal.returns-in_err-last-in-Line-clause-plays
+returns-in_err-last-in-Line-clause-plays g c =
+    let answered = c.loop-span.invariant.answered in
+    let gave =
+    returned g.S.LineSource.Gives g.S.LineSource.Stops g.S.LineSource.Holds g.S.LineSource.left _ _ _ _ _ c.in_ok-span.ensures.advances
+    (Line c.in-Line.span) c.in-Line.is in
+    line_stops g.S.LineSource.Gives g.S.LineSource.Stops g.T.Observer.manner g.L.Run.program _ _ _ _ _ _ _ answered _ _ _ gave.0 gave.1
+    (c.line-line.ensures gave.0 gave.2) _ _ c.from_residual-in_err-last-in-Line.result
+    (c.in_err-last-in-Line.ensures.answers answered.legal) c.in_err-last-in-Line.ensures.fault
+    c.from_residual-in_err-last-in-Line.ensures.1
 
-pub returns-then-not-goes_on-clause-reads : goal.returns-then-not-goes_on-clause-reads
-returns-then-not-goes_on-clause-reads g c = reads_then c.loop-seats.invariant.reads c.next_line.ensures.reads
+pub returns-then-is_end-clause-plays : goal.returns-then-is_end-clause-plays
+returns-then-is_end-clause-plays g c =
+    let answered = c.loop-span.invariant.answered in
+    let gave =
+    returned g.S.LineSource.Gives g.S.LineSource.Stops g.S.LineSource.Holds g.S.LineSource.left _ _ _ _ _ c.in_ok-span.ensures.advances
+    (Line c.in-Line.span) c.in-Line.is in
+    line_ends g.S.LineSource.Gives g.S.LineSource.Stops g.T.Observer.manner g.L.Run.program _ _ _ _ _ _ _ answered _ _ _ gave.0 gave.1
+    (c.line-line.ensures gave.0 gave.2) _ _ (c.in_ok-last-in-Line.ensures.answers answered.legal)
+    (sym c.in_ok-last-in-Line.ensures.goes_on ∙ sym c.if-is_end.ensures)
 
-pub returns-in_err-span-clause-answers : goal.returns-in_err-span-clause-answers
-returns-in_err-span-clause-answers g c = record {
-  served = search rules;
-  stopped = never_write _ _ c.from_residual.ensures.1 c.in_err-span.ensures.fault;
-  broken =
-      any_breaks g.T.Observer.manner c.requires.quiet _ _ _ _ _ _ _ _ _ _ _ c.loop-seats.invariant.answered
-      c.next_line.ensures.reads.narrows c.loop-seats.invariant.begun c.in_err-span.ensures.under_way;
-  accepted = search rules;
-}
+pub returns-in-End-clause-plays : goal.returns-in-End-clause-plays
+returns-in-End-clause-plays g c =
+    source_ends g.S.LineSource.Gives g.S.LineSource.Stops g.T.Observer.manner g.L.Run.program _ _ _ _ _ _ _
+    c.loop-span.invariant.answered _ _
+    (returned g.S.LineSource.Gives g.S.LineSource.Stops g.S.LineSource.Holds g.S.LineSource.left _ _ _ _ _ c.in_ok-span.ensures.advances
+    End c.in-End.is)
 
-pub returns-in_err-span-clause-reads : goal.returns-in_err-span-clause-reads
-returns-in_err-span-clause-reads g c = reads_then c.loop-seats.invariant.reads c.next_line.ensures.reads
-
-pub returns-in_err-goes_on-in-Line-clause-answers : goal.returns-in_err-goes_on-in-Line-clause-answers
-returns-in_err-goes_on-in-Line-clause-answers g c = record {
-  served = never_ok _ _ c.from_residual-in_err-goes_on-in-Line.result c.from_residual-in_err-goes_on-in-Line.ensures.1;
-  stopped =
-      let legal = legal_now g.T.Observer.manner _ _ _ _ _ _ _ _ c.loop-seats.invariant.answered in
-      any_stops g.T.Observer.manner c.requires.quiet _ _ _ _ _ _ _ c.next_line.new.self.at _ _ _ _
-      c.loop-seats.invariant.answered c.next_line.ensures.reads.narrows
-      c.in_ok-span.ensures.tells c.line-line.result.now c.in-Line.span _ _ c.in-Line.is c.line-line.ensures _ _
-      (c.in_err-goes_on-in-Line.ensures.answers legal);
-  broken =
-      let reported = c.from_residual-in_err-goes_on-in-Line.ensures in
-      let was = c.in_err-goes_on-in-Line.ensures.fault in
-      let fault : IfErr c.from_residual-in_err-goes_on-in-Line.result (λ fault. fault ≡ Write) = search rules in
-      where_other _ c.from_residual-in_err-goes_on-in-Line.result Read not_read fault;
-  accepted = never_ok _ _ c.from_residual-in_err-goes_on-in-Line.result c.from_residual-in_err-goes_on-in-Line.ensures.1;
-}
-
-pub returns-in_err-goes_on-in-Line-clause-faults : goal.returns-in_err-goes_on-in-Line-clause-faults
-returns-in_err-goes_on-in-Line-clause-faults g c = record {
-  reader = λ fine.
-      c.in_ok-span.ensures.reader (c.loop-seats.invariant.reader fine)
-      ∙ source_fine _ c.from_residual-in_err-goes_on-in-Line.ensures.1 c.in_err-goes_on-in-Line.ensures.fault;
-  writer =
-      let legal = legal_now g.T.Observer.manner _ _ _ _ _ _ _ _ c.loop-seats.invariant.answered in
-      let wrote = c.in_err-goes_on-in-Line.ensures.answers legal in
-      λ fine.
-      wrote.written.part.3.failed (c.loop-seats.invariant.writer fine)
-      ∙ sym (sink_cut _ c.from_residual-in_err-goes_on-in-Line.ensures.1 c.in_err-goes_on-in-Line.ensures.fault);
-}
-
-pub returns-in_err-goes_on-in-Line-clause-reads : goal.returns-in_err-goes_on-in-Line-clause-reads
-returns-in_err-goes_on-in-Line-clause-reads g c = reads_then c.loop-seats.invariant.reads c.next_line.ensures.reads
-
-pub returns-in-End-clause-answers : goal.returns-in-End-clause-answers
-returns-in-End-clause-answers g c = record {
-  served =
-      any_ends g.T.Observer.manner c.requires.quiet _ _ _ _ _ _ _ c.next_line.new.self.at _ _ _ _
-      c.loop-seats.invariant.answered c.next_line.ensures.reads.narrows c.in_ok-span.ensures.tells c.in-End.is;
-  stopped = search rules;
-  broken = search rules;
-  accepted = search rules;
-}
-
-pub returns-in-End-clause-reads : goal.returns-in-End-clause-reads
-returns-in-End-clause-reads g c = reads_then c.loop-seats.invariant.reads c.next_line.ensures.reads
-
-pub returns-in-TooLong-clause-answers : goal.returns-in-TooLong-clause-answers
-returns-in-TooLong-clause-answers g c = record {
-  served =
-      any_is_too_long g.T.Observer.manner c.requires.quiet _ _ _ _ _ _ _ c.next_line.new.self.at _ _ _ _
-      c.loop-seats.invariant.answered c.next_line.ensures.reads.narrows
-      c.in_ok-span.ensures.tells _ _ c.in-TooLong.is c.tell_too_long.ensures.written c.tell_too_long.ensures.served;
-  stopped =
-      any_is_cut g.T.Observer.manner c.requires.quiet _ _ _ _ _ _ _ c.next_line.new.self.at _ _ _ _
-      c.loop-seats.invariant.answered c.next_line.ensures.reads.narrows
-      c.in_ok-span.ensures.tells _ _ c.in-TooLong.is c.tell_too_long.ensures.written;
-  broken = search rules;
-  accepted = search rules;
-}
-
-pub returns-in-TooLong-clause-reads : goal.returns-in-TooLong-clause-reads
-returns-in-TooLong-clause-reads g c = reads_then c.loop-seats.invariant.reads c.next_line.ensures.reads
+pub returns-in-TooLong-clause-plays : goal.returns-in-TooLong-clause-plays
+returns-in-TooLong-clause-plays g c =
+    source_is_too_long g.S.LineSource.Gives g.S.LineSource.Stops g.T.Observer.manner g.L.Run.program _ _ _ _ _ _ _
+    c.loop-span.invariant.answered _ _ c.tell_too_long.result _
+    (returned g.S.LineSource.Gives g.S.LineSource.Stops g.S.LineSource.Holds g.S.LineSource.left _ _ _ _ _ c.in_ok-span.ensures.advances
+    TooLong c.in-TooLong.is) c.tell_too_long.ensures.written c.tell_too_long.ensures.served

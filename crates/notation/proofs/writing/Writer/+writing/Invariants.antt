@@ -4,9 +4,6 @@ use Rattle.notation.proofs.writing.Writer.+writing.Given as goal
 abbrev pub decreases-expression : goal.decreases-expression
 decreases-expression l = l.depth * 8
 
-abbrev pub decreases-call : goal.decreases-call
-decreases-call l = l.depth * 8 + 1
-
 abbrev pub decreases-unary : goal.decreases-unary
 decreases-unary l = l.depth * 8 + 1
 

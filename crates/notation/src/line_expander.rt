@@ -1,0 +1,139 @@
+//! From command lines to plain lines.
+
+ghost use Rattle.std.specs.Prelude.{length, IfErr};
+ghost use Rattle.notation.specs.Places.{IsInside};
+
+use crate::expansion::{Expansion, failed, failed_in};
+use crate::fault::{Expanding, ExpansionStop, NotationError};
+use crate::lexer::tokens;
+use crate::limits::SESSION_STEPS;
+use crate::lines::PlainLines;
+use crate::pieces::{Divider, LinePieces};
+use crate::rendering::Renderer;
+use crate::scope::ModelNames;
+use dbg_base::Name;
+use dbg_base::limits::LINE_BYTES;
+use std::alloc::{AllocError, Global};
+
+/// Expands the command lines of a session, one after the other. The work for a line depends on the line and its plain lines alone, and on
+/// steps, of which each line may take `STEPS` and all lines together `SESSION_STEPS`. A line leaves nothing behind but the steps it took.
+#[derive(Drop)]
+pub struct LineExpander<'a> {
+    alloc: Global,
+    expansion: &'a Expansion,
+    names: ModelNames,
+    // How many steps are left.
+    steps: u32,
+    // The plain name of the process that a line named last before its fault.
+    process: Option<Name>,
+}
+
+// The line without its comment, and without the blanks before it.
+fn without_comment(line: &[u8]) -> &[u8] {
+    match line.iter().position(|byte| *byte == b'#') {
+        Some(at) => line.get(..at).unwrap_or(line).trim_ascii_end(),
+        None => line,
+    }
+}
+
+// A fault at its place in the line. What is in the model is shown at the piece that uses it.
+fn placed(stop: ExpansionStop, base: usize, from: usize) -> ExpansionStop {
+    match stop {
+        ExpansionStop::Memory => ExpansionStop::Memory,
+        ExpansionStop::Bad(problem, at) if at >= base => ExpansionStop::Bad(
+            problem,
+            at.saturating_sub(base),
+        ),
+        ExpansionStop::Bad(problem, _) => ExpansionStop::Bad(problem, from),
+    }
+}
+
+// Whether the line is an expected reply.
+fn is_expectation(line: &[u8]) -> bool {
+    line.trim_ascii_start().first() == Some(&b'>')
+}
+
+impl<'a> LineExpander<'a> {
+    /// Expands the lines of a session over this model.
+    pub fn new(alloc: Global, expansion: &'a Expansion) -> Result<LineExpander<'a>, AllocError> {
+        Ok(LineExpander {
+            alloc,
+            expansion,
+            names: ModelNames::new(alloc, expansion.model.tables.visible.as_slice())?,
+            steps: SESSION_STEPS,
+            process: None,
+        })
+    }
+
+    /// The plain name of the process that the last line with a fault named before it, if it named one.
+    pub fn process(&self) -> Option<Name> {
+        self.process
+    }
+
+    // The pieces of a line.
+    fn divided(&self, line: &[u8]) -> Expanding<LinePieces> {
+        let tokens = tokens(self.alloc, line)?;
+        let names = &self.names;
+        let mut divider = Divider::new(self.alloc, self.expansion, names, line, tokens.as_slice());
+        divider.line()
+    }
+
+    // Appends the lines that these pieces stand for. Faults are at most at this offset.
+    fn render(
+        &mut self,
+        line: &[u8],
+        pieces: &LinePieces,
+        length: usize,
+        plain: &mut PlainLines,
+    ) -> Result<(), NotationError>
+        ensures { IfErr result (IsInside length) }
+    {
+        let mut renderer = Renderer::new(self.alloc, self.expansion, line, pieces, plain);
+        renderer.writer.environment.session_steps = self.steps;
+        let rendered = renderer.lines();
+        self.steps = renderer.writer.environment.session_steps;
+        match rendered {
+            Ok(()) => Ok(()),
+            Err(stop) => {
+                self.process = Name::new(renderer.process.as_slice());
+                let stop = placed(stop, self.expansion.source, renderer.from);
+                Err(failed_in(&renderer.writer.environment, stop, length))
+            }
+        }
+    }
+
+    // Appends the lines that a line without a comment stands for. Faults are at most at this offset.
+    fn expand_bare(
+        &mut self,
+        line: &[u8],
+        length: usize,
+        plain: &mut PlainLines,
+    ) -> Result<(), NotationError>
+        ensures { IfErr result (IsInside length) }
+    {
+        match self.divided(line) {
+            Ok(pieces) => self.render(line, &pieces, length, plain),
+            Err(stop) => {
+                let stop = placed(stop, self.expansion.source, 0);
+                Err(failed(stop, Vec::new(self.alloc), length))
+            }
+        }
+    }
+
+    /// Appends the plain line or lines that a command line stands for. A line that has nothing of the notation stays as it is. After an error
+    /// the plain lines are as they were.
+    pub fn expand(&mut self, line: &[u8], plain: &mut PlainLines) -> Result<(), NotationError>
+        ensures { IfErr result (IsInside (length line.now)) }
+    {
+        if line.len() > LINE_BYTES || is_expectation(line) {
+            plain.push(line)?;
+            return Ok(());
+        }
+        let count = plain.count();
+        let expanded = self.expand_bare(without_comment(line), line.len(), plain);
+        if expanded.is_err() {
+            plain.truncate(count);
+        }
+        expanded
+    }
+}

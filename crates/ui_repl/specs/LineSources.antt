@@ -1,0 +1,22 @@
+-- The lines of a session as its author writes them, as a source.
+use Rattle.std.specs.Prelude.{◌≡◌, ◌<◌, ◌-◌, ℕ, Some, None, if◌then◌else◌}
+use Rattle.dbg_base.specs.declared.limits.TheConstants.{INPUT_BYTES}
+use Rattle.shell_input.specs.declared.framing.Span.{Span}
+use Rattle.shell_input.specs.declared.framing.Next.{Next}
+use Rattle.shell_input.specs.declared.framing.Next.TheVariants.{Line, End, TooLong}
+use Rattle.shell_serve.specs.Sources.{Given}
+use Rattle.ui_repl.specs.declared.session_lines.SessionLines.{SessionLines}
+
+-- the line that is played
+abbrev pub HoldsLine : SessionLines → Span → Given → Type 0
+HoldsLine lines span line = line ≡ (if lines.line.is_lost then None else Some lines.line.played.items)
+
+-- how many bytes the plain session may still have
+abbrev pub lines_left : SessionLines → ℕ
+lines_left lines = INPUT_BYTES - lines.used
+
+-- a line was given, and fewer are left
+abbrev pub FewerIfLine : SessionLines → SessionLines → Next → Type 0
+FewerIfLine old new (Line span) = lines_left new < lines_left old
+FewerIfLine old new End = Unit {0}
+FewerIfLine old new TooLong = Unit {0}

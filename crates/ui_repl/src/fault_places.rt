@@ -1,0 +1,220 @@
+//! What is wrong with texts in the model notation.
+
+ghost use Rattle.std.specs.Prelude.{◌≡◌, IfOk};
+ghost use Rattle.shell_io.specs.declared.health.Health.TheVariants.{Fine};
+ghost use Rattle.shell_print.specs.Outcomes.{source_after};
+ghost use Rattle.shell_print.specs.declared.outcome.Served.TheVariants.{Refused};
+ghost use Rattle.shell_serve.specs.Sessions.{WritesForm};
+ghost use Rattle.ui_repl.specs.Talks.{IsFaultText, Talks};
+
+use dbg_base::{FaultKind, ProgFault};
+use notation::{Fault, Problem, likely, message};
+use shell_io::{Sink, Style};
+use shell_print::{ServeFault, Served, set_style, tell_fault, tell_no_end_line};
+use std::alloc::{AllocError, Global};
+use ui_session::explain;
+use ui_text::{
+    DeclaredAs, Notes, Part, find_declaration, foreign_correction, tell_correction,
+    tell_no_end_line as explain_no_end_line,
+};
+
+// The kind of a fault, as the process language counts them.
+fn fault_kind(problem: Problem) -> FaultKind {
+    match problem {
+        Problem::Byte => FaultKind::Byte,
+        Problem::LongWord | Problem::LargeNumber => FaultKind::Token,
+        Problem::Expected(_)
+        | Problem::ComparisonChain
+        | Problem::FormName
+        | Problem::Arguments { .. } => FaultKind::Grammar,
+        Problem::NameTaken(_) | Problem::LabelTaken => FaultKind::NameTaken,
+        Problem::NotADefinition | Problem::NoLabel => FaultKind::NameUnknown,
+        Problem::VariableComputed
+        | Problem::CountComputed
+        | Problem::NumberExpected
+        | Problem::TruthExpected => FaultKind::TypeWrong,
+        Problem::Overflow
+        | Problem::DivisionByZero
+        | Problem::BelowZero
+        | Problem::ManyParameters
+        | Problem::DeepNesting
+        | Problem::DeepUnfolding
+        | Problem::LongText
+        | Problem::MuchWork
+        | Problem::SessionWork
+        | Problem::ManyCopies => FaultKind::Limit,
+        Problem::Plain(kind) => kind,
+    }
+}
+
+// What is wrong with a name of which the value would have to be known before the session, and what can be done, by what the name is declared as
+// in the text.
+fn computed_name(text: &[u8], name: &[u8], at: usize) -> Option<(&'static str, &'static str)> {
+    match find_declaration(text, name) {
+        None => Some((
+            "nothing has this name",
+            "a constant, a definition or a member of a range can be named here",
+        )),
+        Some(found) => match found.kind {
+            DeclaredAs::Constant | DeclaredAs::Definition if found.at > at => Some((
+                "nothing has this name yet",
+                "it is declared further down: put the declaration before its first use",
+            )),
+            DeclaredAs::Definition => Some((
+                "this is a definition",
+                "a definition is used with its arguments in parentheses",
+            )),
+            DeclaredAs::Process => Some((
+                "this is a process, and has no value",
+                "a constant, a definition or a member of a range can be named here",
+            )),
+            DeclaredAs::Constant | DeclaredAs::Variable => None,
+        },
+    }
+}
+
+// The word at an offset.
+fn word_at(text: &[u8], at: usize) -> &[u8] {
+    let rest = text.get(at..).unwrap_or(&[]);
+    let length = rest
+        .iter()
+        .take_while(|byte| byte.is_ascii_alphanumeric() || **byte == b'_')
+        .count();
+    rest.get(..length).unwrap_or(rest)
+}
+
+/// A fault, and the texts that explain it.
+#[derive(Clone, Copy)]
+pub(crate) struct FaultPlace<'a> {
+    fault: &'a Fault,
+    // The text that has the fault.
+    text: &'a [u8],
+    // The program, and how much of it counts as before the fault.
+    program: &'a [u8],
+    before: usize,
+}
+
+impl<'a> FaultPlace<'a> {
+    /// A fault of a program.
+    pub(crate) fn in_program(text: &'a [u8], fault: &'a Fault) -> FaultPlace<'a> {
+        FaultPlace {
+            fault,
+            text,
+            program: text,
+            before: fault.at(),
+        }
+    }
+
+    /// A fault of a line of a session, and the text of its program.
+    pub(crate) fn in_line(line: &'a [u8], program: &'a [u8], fault: &'a Fault) -> FaultPlace<'a> {
+        FaultPlace {
+            fault,
+            text: line,
+            program,
+            before: program.len(),
+        }
+    }
+
+    // What is wrong and what can be done, where that depends on the text. It has the lines that stand for the last ones of the general
+    // explanation, so many.
+    fn correction(&self, alloc: Global) -> Result<(Notes, usize), AllocError> {
+        let (problem, at) = (self.fault.problem(), self.fault.at());
+        let mut notes = Notes::new(alloc);
+        let likely = usize::from(likely(problem).is_some());
+        match problem {
+            Problem::VariableComputed => {
+                let name = word_at(self.text, at);
+                if let Some((wrong, correction)) = computed_name(self.program, name, self.before) {
+                    notes.say(&[Part::Text(wrong), Part::Text(": `"), Part::Bytes(name)])?;
+                    notes.add(&[Part::Text("`")])?;
+                    notes.say(&[Part::Text(correction)])?;
+                    return Ok((notes, 2));
+                }
+            }
+            Problem::Byte | Problem::Expected(_) | Problem::Plain(FaultKind::Grammar) => {
+                if let Some(correction) = foreign_correction(self.text, at) {
+                    notes.say(&[Part::Text(correction)])?;
+                    return Ok((notes, likely));
+                }
+            }
+            _ => {}
+        }
+        if problem == Problem::Byte || likely == 0 {
+            let kind = fault_kind(problem);
+            tell_correction(&mut notes, self.text, &ProgFault { kind, at })?;
+        }
+        let is_corrected = !notes.lines().is_empty();
+        Ok((notes, if is_corrected { likely } else { 0 }))
+    }
+
+    /// The line and the column, the text of the line with a mark under the place, what is wrong, and what was probably meant.
+    pub(crate) fn explanation(&self, alloc: Global) -> Result<Notes, AllocError> {
+        let lines = message(alloc, self.text, self.fault)?;
+        let (correction, left_out) = self.correction(alloc)?;
+        let mut notes = Notes::new(alloc);
+        for line in lines.iter().take(lines.len().saturating_sub(left_out)) {
+            notes.say(&[Part::Bytes(line.as_slice())])?;
+        }
+        notes.append(&correction)?;
+        Ok(notes)
+    }
+}
+
+// Reports this fault of a program text, or that no line ends the text.
+fn tell_refusal<W: Sink>(fault: Option<&ProgFault>, writer: &mut W) -> Result<Served, ServeFault>
+    ensures written { WritesForm IsFaultText (W.seen writer.old) result (W.seen writer.new) }
+    ensures served { IfOk result (λ served. served ≡ Refused) }
+{
+    match fault {
+        Some(fault) => tell_fault(fault, writer),
+        None => tell_no_end_line(writer),
+    }
+}
+
+// The same, with an explanation.
+fn write_refusal<W: Sink>(
+    fault: Option<&ProgFault>,
+    notes: &Notes,
+    writer: &mut W,
+) -> Result<Served, ServeFault>
+    ensures talks { Talks (W.seen writer.old) result (W.seen writer.new) }
+    ensures reader { source_after result ≡ Fine }
+{
+    set_style(Style::Refusal, writer)?;
+    let served = tell_refusal(fault, writer)?;
+    explain(notes, writer)?;
+    Ok(served)
+}
+
+/// Reports that no line ends the program text, and what can be done.
+#[tactic(auto, using(crate::proofs::TalkLemmas::memory_talks))]
+pub(crate) fn refuse_unended<W: Sink>(alloc: Global, writer: &mut W) -> Result<Served, ServeFault>
+    ensures talks { Talks (W.seen writer.old) result (W.seen writer.new) }
+    ensures reader { source_after result ≡ Fine }
+{
+    let mut notes = Notes::new(alloc);
+    if explain_no_end_line(&mut notes).is_err() {
+        return Err(ServeFault::Memory);
+    }
+    write_refusal(None, &notes, writer)
+}
+
+/// Reports that a program text is refused, and explains why: the line and the column, the text of the line with a mark under the place,
+/// what is wrong, and what was probably meant.
+#[tactic(auto, using(crate::proofs::TalkLemmas::memory_talks))]
+pub(crate) fn refuse<W: Sink>(
+    alloc: Global,
+    text: &[u8],
+    fault: &Fault,
+    writer: &mut W,
+) -> Result<Served, ServeFault>
+    ensures talks { Talks (W.seen writer.old) result (W.seen writer.new) }
+    ensures reader { source_after result ≡ Fine }
+{
+    let Ok(notes) = FaultPlace::in_program(text, fault).explanation(alloc) else {
+        return Err(ServeFault::Memory);
+    };
+    let kind = fault_kind(fault.problem());
+    let at = fault.at();
+    write_refusal(Some(&ProgFault { kind, at }), &notes, writer)
+}

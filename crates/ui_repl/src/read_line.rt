@@ -1,0 +1,137 @@
+//! A line of a session as its author wrote it, and the lines that are played for it.
+
+use crate::words::{completed, is_remark, repeated, without_comment};
+use crate::written_program::WrittenProgram;
+use dbg_base::Name;
+use dbg_base::limits::LINE_BYTES;
+use notation::{Fault, LineExpander, NotationError, PlainLines};
+use shell_input::Span;
+use shell_serve::Answer;
+use std::alloc::{AllocError, Global};
+
+/// Why a line cannot be expanded, and the plain name of the process that it named before its fault.
+#[derive(Drop)]
+pub(crate) struct LineFault {
+    pub(crate) fault: Fault,
+    pub(crate) process: Option<Name>,
+}
+
+/// The line that was read last. It may be short, and that of a model may be in the notation.
+#[derive(Drop)]
+pub(crate) struct ReadLine<'a> {
+    alloc: Global,
+    expander: Option<LineExpander<'a>>,
+    // Where it is in the input, and why it stays as it is, if it cannot be expanded.
+    pub(crate) span: Span,
+    pub(crate) fault: Option<LineFault>,
+    pub(crate) is_typed: bool,
+    // Its plain lines, and how many of them were played.
+    plain: PlainLines,
+    next: usize,
+    // The line that is played, unless memory ran out before it was made, and how often it is to be played again.
+    pub(crate) played: Vec<u8>,
+    pub(crate) is_lost: bool,
+    pub(crate) is_first: bool,
+    again: u32,
+}
+
+// Whether a line that is repeated ends after this answer.
+fn stops(answer: Answer) -> bool {
+    matches!(answer, Answer::Refused | Answer::Halted | Answer::Ended)
+}
+
+impl<'a> ReadLine<'a> {
+    /// No line was read. Those that come are lines of this program. Error: memory ran out.
+    pub(crate) fn new(
+        alloc: Global,
+        program: &'a WrittenProgram,
+    ) -> Result<ReadLine<'a>, AllocError> {
+        let expander = match program.expansion() {
+            Some(expansion) => Some(LineExpander::new(alloc, expansion)?),
+            None => None,
+        };
+        Ok(ReadLine {
+            alloc,
+            expander,
+            span: Span { from: 0, to: 0 },
+            fault: None,
+            is_typed: false,
+            plain: PlainLines::new(alloc),
+            next: 0,
+            played: Vec::new(alloc),
+            is_lost: false,
+            is_first: false,
+            again: 0,
+        })
+    }
+
+    // Makes the plain lines of this line. If it is too long or cannot be expanded, it stays as it is.
+    fn make(&mut self, line: &[u8]) -> Result<(), AllocError> {
+        if line.len() > LINE_BYTES || is_remark(line) {
+            return self.plain.push(line);
+        }
+        let bare = without_comment(line);
+        let whole = completed(self.alloc, bare)?;
+        let line = match &whole {
+            Some(whole) => whole.as_slice(),
+            None => bare,
+        };
+        let Some(expander) = &mut self.expander else {
+            return self.plain.push(line);
+        };
+        match expander.expand(line, &mut self.plain) {
+            Ok(()) if self.plain.count() == 0 => self.plain.push(b""),
+            Ok(()) => Ok(()),
+            Err(NotationError::Bad(fault)) => {
+                let process = expander.process();
+                self.fault = Some(LineFault { fault, process });
+                self.plain.push(line)
+            }
+            Err(NotationError::Memory) => Err(AllocError),
+        }
+    }
+
+    // Begins to play the next plain line.
+    fn take(&mut self) -> Result<(), AllocError> {
+        let line = self.plain.line(self.next);
+        self.next = self.next.saturating_add(1);
+        self.played.clear();
+        let (once, times) = match repeated(line) {
+            Some(repeated) if self.fault.is_none() && line.len() <= LINE_BYTES => repeated,
+            _ => (line, 1),
+        };
+        self.again = times.saturating_sub(1);
+        self.played.extend_from_slice(once)
+    }
+
+    /// Begins to play a line that was read.
+    pub(crate) fn begin(&mut self, span: Span, line: &[u8], is_typed: bool) {
+        self.span = span;
+        self.is_typed = is_typed;
+        self.fault = None;
+        self.plain.clear();
+        self.next = 0;
+        self.is_first = true;
+        self.is_lost = self.make(line).is_err() || self.take().is_err();
+    }
+
+    /// Begins to play the next of its lines, after this answer to the one before. Returns whether there is one.
+    pub(crate) fn is_under_way(&mut self, last: Answer) -> bool {
+        self.is_first = false;
+        if self.again > 0 && !stops(last) {
+            self.again = self.again.saturating_sub(1);
+            return true;
+        }
+        self.again = 0;
+        if self.is_lost || self.next >= self.plain.count() {
+            return false;
+        }
+        self.is_lost = self.take().is_err();
+        true
+    }
+
+    /// Whether nothing more is played for it, whatever the answer is.
+    pub(crate) fn is_last(&self) -> bool {
+        self.again == 0 && (self.is_lost || self.next >= self.plain.count())
+    }
+}

@@ -1,0 +1,178 @@
+//! The words of a line as its author writes it.
+
+use dbg_base::limits::CALLS;
+use shell_parse::{next_word, without_return};
+use std::alloc::{AllocError, Global};
+use ui_text::{is_word_byte, whole_word};
+
+// The most digits of a number of times.
+const DIGITS: usize = 6;
+
+// Whether a word can be a seat.
+fn is_number(word: &[u8]) -> bool {
+    !word.is_empty() && word.iter().all(|byte| byte.is_ascii_digit())
+}
+
+// The word of the command, after the seat if the line has one, and what follows it.
+fn command_word(line: &[u8]) -> (&[u8], &[u8]) {
+    let (first, rest) = next_word(line);
+    if is_number(first) {
+        next_word(rest)
+    } else {
+        (first, rest)
+    }
+}
+
+/// The line without its seat.
+pub(crate) fn without_seat(line: &[u8]) -> &[u8] {
+    let (first, rest) = next_word(line);
+    if is_number(first) { rest } else { line }
+}
+
+// What follows the head of a repetition that begins here: `for`, a name and a colon.
+fn past_name(bytes: &[u8]) -> Option<&[u8]> {
+    let rest = bytes.strip_prefix(b"for".as_slice())?;
+    let name = rest.trim_ascii_start();
+    let length = name.iter().take_while(|byte| is_word_byte(**byte)).count();
+    if name.len() == rest.len() || length == 0 {
+        return None;
+    }
+    name.get(length..)?
+        .trim_ascii_start()
+        .strip_prefix(b":".as_slice())
+}
+
+// What follows the ranges of a repetition, of which the first begins here: they end at the first colon outside brackets and parentheses that
+// belongs to no `for`.
+fn past_ranges(ranges: &[u8]) -> Option<&[u8]> {
+    let mut depth = 0usize;
+    let mut before = b' ';
+    // Where the colon of the last `for` ends.
+    let mut head = 0usize;
+    for (at, byte) in ranges.iter().enumerate() {
+        if at < head {
+            continue;
+        }
+        let rest = ranges.get(at..)?;
+        match byte {
+            b'(' | b'[' => depth = depth.saturating_add(1),
+            b')' | b']' => depth = depth.saturating_sub(1),
+            b':' if depth == 0 => return rest.get(1..),
+            b'f' if depth == 0 && !is_word_byte(before) => {
+                if let Some(next) = past_name(rest) {
+                    head = ranges.len().saturating_sub(next.len());
+                }
+            }
+            _ => {}
+        }
+        before = *byte;
+    }
+    None
+}
+
+// The command of a line, without the heads `for ..:` before it.
+fn after_heads(line: &[u8]) -> &[u8] {
+    match past_name(without_seat(line).trim_ascii_start()).and_then(past_ranges) {
+        Some(command) => command,
+        None => line,
+    }
+}
+
+// How many words there are. Blanks in brackets or parentheses separate no words.
+fn count_words(bytes: &[u8]) -> usize {
+    let mut count = 0usize;
+    let mut depth = 0usize;
+    let mut is_in_word = false;
+    for byte in bytes {
+        if byte.is_ascii_whitespace() && depth == 0 {
+            is_in_word = false;
+            continue;
+        }
+        if !is_in_word {
+            count = count.saturating_add(1);
+        }
+        is_in_word = true;
+        match byte {
+            b'(' | b'[' => depth = depth.saturating_add(1),
+            b')' | b']' => depth = depth.saturating_sub(1),
+            _ => {}
+        }
+    }
+    count
+}
+
+/// The line without the comment at its end.
+pub(crate) fn without_comment(line: &[u8]) -> &[u8] {
+    let length = line.iter().take_while(|byte| **byte != b'#').count();
+    match line.get(length..) {
+        Some([]) | None => line,
+        Some(_) => line.get(..length).unwrap_or(line).trim_ascii_end(),
+    }
+}
+
+/// Whether a line is blank, a comment or an expected reply.
+pub(crate) fn is_remark(line: &[u8]) -> bool {
+    matches!(
+        next_word(without_return(line)).0.first(),
+        None | Some(b'#' | b'>')
+    )
+}
+
+/// The expected reply that this line gives, if it gives one.
+pub(crate) fn wanted(line: &[u8]) -> Option<&[u8]> {
+    if next_word(without_return(line)).0.first() != Some(&b'>') {
+        return None;
+    }
+    let from = line.iter().position(|byte| *byte == b'>')?;
+    Some(line.get(from.saturating_add(1)..)?.trim_ascii())
+}
+
+/// The line, which has no comment, with its command word completed, if the word is the start of exactly one that fits. None if the line
+/// stays as it is.
+pub(crate) fn completed(alloc: Global, line: &[u8]) -> Result<Option<Vec<u8>>, AllocError> {
+    let code = without_return(line);
+    let (word, arguments) = command_word(after_heads(code));
+    let Some(whole) = whole_word(word, count_words(arguments)) else {
+        return Ok(None);
+    };
+    let end = code.len().saturating_sub(arguments.len());
+    let begin = end.saturating_sub(word.len());
+    let mut text = Vec::from_slice(alloc, line.get(..begin).unwrap_or(&[]))?;
+    text.extend_from_slice(whole.as_bytes())?;
+    text.extend_from_slice(line.get(end..).unwrap_or(&[]))?;
+    Ok(Some(text))
+}
+
+// The number of times that a word gives: from 1 to the most calls that a session has.
+fn times_of(word: &[u8]) -> Option<u32> {
+    if !is_number(word) || word.len() > DIGITS {
+        return None;
+    }
+    let mut times = 0u32;
+    for byte in word {
+        let digit = u32::from(byte.saturating_sub(b'0'));
+        times = times.saturating_mul(10).saturating_add(digit);
+    }
+    if 1 <= times && times as usize <= CALLS {
+        Some(times)
+    } else {
+        None
+    }
+}
+
+/// Of a plain line `next P N`, the line without N, and N.
+pub(crate) fn repeated(line: &[u8]) -> Option<(&[u8], u32)> {
+    let line = without_return(line);
+    let (word, arguments) = command_word(line);
+    if word != b"next".as_slice() {
+        return None;
+    }
+    let (process, others) = next_word(arguments);
+    let (count, rest) = next_word(others);
+    if process.is_empty() || !next_word(rest).0.is_empty() {
+        return None;
+    }
+    let times = times_of(count)?;
+    let length = line.len().saturating_sub(others.len());
+    Some((line.get(..length)?, times))
+}

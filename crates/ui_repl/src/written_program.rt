@@ -1,0 +1,170 @@
+//! Programs as their authors write them.
+
+ghost use Rattle.std.specs.Prelude.{◌≡◌, IfErr};
+ghost use Rattle.shell_print.specs.declared.outcome.ServeFault.TheVariants.{Memory};
+
+use crate::fault_places::FaultPlace;
+use crate::read_line::LineFault;
+use dbg_base::{Choice, Pid};
+use notation::{ExpandedProgram, Expansion, Fault, NotationError, Problem, expand_program};
+use proc_lang::{ProgError, Program, parse_program};
+use shell_print::ServeFault;
+use std::alloc::{AllocError, Global};
+use ui_text::{DeclaredAs, Notes, Part, ProgramText, find_declaration};
+
+/// The text of a program as its author wrote it, and its expansion if it is in the notation.
+pub struct WrittenProgram {
+    text: ProgramText,
+    expansion: Option<Expansion>,
+}
+
+impl Drop for WrittenProgram {
+    fn drop(self) {
+        let WrittenProgram {
+            text: _,
+            expansion: _,
+        } = self;
+    }
+}
+
+/// What a text is.
+#[derive(Drop)]
+pub(crate) enum ReadText {
+    /// A program, in the process language or in the notation.
+    Program(WrittenProgram, Program),
+    /// Neither.
+    Wrong(Fault),
+}
+
+// The text of a model, with the place and the label of each command.
+fn text_of(
+    alloc: Global,
+    text: &[u8],
+    expansion: &Expansion,
+    program: &Program,
+) -> Result<ProgramText, AllocError> {
+    let mut source = ProgramText::without_commands(alloc, text)?;
+    for p in 0..program.processes() {
+        source.add_process(alloc)?;
+        for number in 0..program.commands(Pid(p)) {
+            let (pid, choice) = (Pid(p), Choice(number));
+            let at = expansion.command_place(pid, choice).unwrap_or(0);
+            source.add_command(alloc, at, expansion.label(pid, choice))?;
+        }
+    }
+    Ok(source)
+}
+
+/// Reads a program text. A program of the process language is never expanded.
+pub(crate) fn read_text(alloc: Global, text: &[u8]) -> Result<ReadText, ServeFault>
+    ensures { IfErr result (λ fault. fault ≡ Memory) }
+{
+    match parse_program(alloc, text) {
+        Ok(program) => {
+            let written = WrittenProgram {
+                text: ProgramText::new(alloc, text)?,
+                expansion: None,
+            };
+            return Ok(ReadText::Program(written, program));
+        }
+        Err(ProgError::Memory) => return Err(ServeFault::Memory),
+        Err(ProgError::Bad(_)) => {}
+    }
+    match expand_program(alloc, text) {
+        Ok(ExpandedProgram { expansion, program }) => {
+            let written = WrittenProgram {
+                text: text_of(alloc, text, &expansion, &program)?,
+                expansion: Some(expansion),
+            };
+            Ok(ReadText::Program(written, program))
+        }
+        Err(NotationError::Bad(fault)) => Ok(ReadText::Wrong(fault)),
+        Err(NotationError::Memory) => Err(ServeFault::Memory),
+    }
+}
+
+impl WrittenProgram {
+    /// The expansion, if the program is in the notation.
+    pub(crate) fn expansion(&self) -> Option<&Expansion> {
+        self.expansion.as_ref()
+    }
+
+    /// The text, with the places of the commands.
+    pub(crate) fn text(&self) -> &ProgramText {
+        &self.text
+    }
+
+    /// Says that a word of a line is the name of a family of processes, if one is. Returns whether one is.
+    pub(crate) fn tell_family(&self, notes: &mut Notes, line: &[u8]) -> Result<bool, AllocError> {
+        for word in line.split(|byte| byte.is_ascii_whitespace()) {
+            let found = find_declaration(self.text.text(), word);
+            let is_family = found.is_some_and(|found| {
+                found.is_family && found.kind == DeclaredAs::Process
+            });
+            if is_family {
+                notes.say(&[
+                    Part::Text("`"),
+                    Part::Bytes(word),
+                    Part::Text(
+                        "` is a family of processes: an index in brackets chooses one, as in `",
+                    ),
+                    Part::Bytes(word),
+                    Part::Text("[1]`"),
+                ])?;
+                return Ok(true);
+            }
+        }
+        Ok(false)
+    }
+
+    /// Says why a line of a session cannot be expanded: the line with a mark under the place, what is wrong, and what was probably meant.
+    pub(crate) fn tell_line_fault(
+        &self,
+        alloc: Global,
+        notes: &mut Notes,
+        program: &Program,
+        line: &[u8],
+        fault: &LineFault,
+    ) -> Result<(), AllocError> {
+        let place = FaultPlace::in_line(line, self.text.text(), &fault.fault);
+        // The number of the line in its text says nothing here.
+        for line in place.explanation(alloc)?.lines().iter().skip(1) {
+            notes.say(&[Part::Bytes(line.as_slice())])?;
+        }
+        if fault.fault.problem() != Problem::NoLabel {
+            return Ok(());
+        }
+        match fault.process.and_then(|name| program.find_process(name)) {
+            Some(pid) => self.tell_labels(notes, program, pid),
+            None => Ok(()),
+        }
+    }
+
+    /// Says which labels the commands of a process have, if any has one.
+    pub(crate) fn tell_labels(
+        &self,
+        notes: &mut Notes,
+        program: &Program,
+        pid: Pid,
+    ) -> Result<(), AllocError> {
+        let Some(name) = program.process_name(pid) else {
+            return Ok(());
+        };
+        let mut is_begun = false;
+        for number in 0..program.commands(pid) {
+            let label = self.text.label(pid, Choice(number));
+            if label.is_empty() {
+                continue;
+            }
+            if is_begun {
+                notes.add(&[Part::Text(", ")])?;
+            } else {
+                let name = Part::Name(name);
+                notes.say(&[Part::Text("the labels of "), name, Part::Text(" are ")])?;
+            }
+            notes.add(&[Part::Bytes(label)])?;
+            is_begun = true;
+        }
+        Ok(())
+    }
+}
