@@ -136,15 +136,9 @@ fn picture_width(rt: &HostRuntime) -> usize {
 
 // Whether standard output is a terminal that shows colours.
 fn shows_colours(rt: &HostRuntime) -> bool {
-    let is_dumb = match env::var(rt, "TERM") {
-        Ok(term) => term.as_str() == "dumb",
-        Err(_) => true,
-    };
-    let is_unwanted = match env::var(rt, "NO_COLOR") {
-        Ok(value) => !value.is_empty(),
-        Err(_) => false,
-    };
-    rt.stdout().is_terminal() && !is_dumb && !is_unwanted
+    let is_able = env::var(rt, "TERM").is_ok_and(|term| term.as_str() != "dumb");
+    let is_unwanted = env::var(rt, "NO_COLOR").is_ok_and(|value| !value.is_empty());
+    rt.stdout().is_terminal() && is_able && !is_unwanted
 }
 
 // How the output of a request is written. What a program reads goes out as it is, and what a person reads as text.

@@ -86,27 +86,26 @@ fn sequence_of(style: Style) -> &'static str {
     }
 }
 
-// Appends bytes as text that looks so.
-fn put(text: &mut Vec<u8>, sequence: &str, bytes: &[u8]) -> Result<(), AllocError> {
-    if sequence.is_empty() || bytes.is_empty() {
-        return put_visible(text, bytes);
+// Appends bytes of one style.
+fn put_run(text: &mut Vec<u8>, style: Style, bytes: &[u8]) -> Result<(), AllocError> {
+    let plain = match style {
+        Style::Halted(length) => bytes.len().saturating_sub(length),
+        _ => 0,
+    };
+    put_visible(text, bytes.get(..plain).unwrap_or(&[]))?;
+    let (styled, sequence) = (bytes.get(plain..).unwrap_or(&[]), sequence_of(style));
+    if sequence.is_empty() || styled.is_empty() {
+        return put_visible(text, styled);
     }
     text.extend_from_slice(sequence.as_bytes())?;
-    put_visible(text, bytes)?;
+    put_visible(text, styled)?;
     text.extend_from_slice(PLAIN.as_bytes())
 }
 
-// Appends bytes of one style.
-fn put_run(text: &mut Vec<u8>, style: Style, bytes: &[u8]) -> Result<(), AllocError> {
-    let rest = match style {
-        Style::Halted(length) => {
-            let at = bytes.len().saturating_sub(length);
-            put_visible(text, bytes.get(..at).unwrap_or(&[]))?;
-            bytes.get(at..).unwrap_or(&[])
-        }
-        _ => bytes,
-    };
-    put(text, sequence_of(style), rest)
+// Whether these are lines of plain characters.
+fn are_plain_lines(bytes: &[u8]) -> bool {
+    let is_plain = |byte: &u8| matches!(*byte, b' '..=b'~' | b'\n');
+    bytes.last() == Some(&b'\n') && bytes.iter().all(is_plain)
 }
 
 // Writes all of the bytes. A write that failed is not tried again.
@@ -161,11 +160,21 @@ impl Painted {
         Ok(())
     }
 
+    // Whether lines of plain characters are written as they are: nothing is before them, and they have no style.
+    fn is_plain(&self) -> bool {
+        let is_empty = self.painted.is_empty() && self.run.is_empty();
+        is_empty && self.style == Style::Plain && self.run_style == Style::Plain
+    }
+
     // Writes bytes for a person, up to their last line end. It has a function of its own because most bytes are written as they are.
     #[inline(never)]
     fn write_text(&mut self, bytes: &[u8]) -> io::Result<usize>
         ensures { WritesAtMost result bytes.now }
     {
+        if self.is_plain() && are_plain_lines(bytes) {
+            write_fully(&mut self.inner, bytes)?;
+            return Ok(bytes.len());
+        }
         if self.style != self.run_style {
             self.paint_run()?;
             self.run_style = self.style;
@@ -193,7 +202,7 @@ impl Write for Painted {
     }
 
     fn flush(&mut self) -> io::Result<()> {
-        if self.look != Look::Raw {
+        if self.look != Look::Raw && !self.is_plain() {
             self.paint_run()?;
             self.write_painted()?;
         }

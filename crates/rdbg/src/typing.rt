@@ -46,10 +46,8 @@ impl ProgramEnd {
 
     // The end of the bytes ends a line, too.
     fn is_passed_at_end(&self) -> bool {
-        match self.line.get(..self.length) {
-            Some(line) => self.is_passed || is_end_line(line),
-            None => self.is_passed,
-        }
+        let line = self.line.get(..self.length);
+        self.is_passed || line.is_some_and(|line| is_end_line(line))
     }
 }
 

@@ -11,7 +11,7 @@ ghost use Rattle.shell_parse.specs.Lines.{IsParsed, IsGivable, IsLineGivable, Is
 ghost use Rattle.shell_print.specs.Writing.{Writes};
 ghost use Rattle.shell_print.specs.declared.outcome.ServeFault.TheVariants.{Write};
 ghost use Rattle.shell_serve.specs.Answering.{IsMaker, AreAllSeats, IsLast, HasLast, answer_of, is_end};
-ghost use Rattle.shell_serve.specs.Sessions.{MayBeQuiet, IsExplained, WritesForm, WritesLine, WritesReply, WritesAnswer, ends_session};
+ghost use Rattle.shell_serve.specs.Sessions.{MayBeQuiet, IsExplained, WritesForm, WritesLine, WritesReply, ends_session};
 
 use crate::observer::Observer;
 use crate::session::answer;
@@ -76,19 +76,6 @@ fn tell_entered<L: Run, C: Command, T: Observer<N>, N, W: Sink>(
     Ok(answer_of(&entry.said))
 }
 
-// Writes a refusal, and flushes it.
-fn write_refusal<L: Run, C: Command, W: Sink>(
-    locked: &Locked<L, C>,
-    refusal: &Refusal,
-    writer: &mut W,
-) -> Result<(), ServeFault>
-    requires { FitsRefusal L.program refusal.now }
-    ensures { Writes (W.seen writer.old) (W.seen writer.new) result (as_line (refusal_text L.program refusal.now)) }
-{
-    let written = print_refusal(locked.program(), refusal, writer);
-    hand_on(written, writer)
-}
-
 // Refuses a line of which no call was entered, and explains that.
 fn refuse_line<L: Run, C: Command, T: Observer<N>, N, W: Sink>(
     alloc: Global,
@@ -105,7 +92,8 @@ fn refuse_line<L: Run, C: Command, T: Observer<N>, N, W: Sink>(
     ensures goes_on { IfOk result (λ answer. is_end answer ≡ false) }
 {
     mark(observer, None, writer)?;
-    write_refusal(locked, refusal, writer)?;
+    let written = print_refusal(locked.program(), refusal, writer);
+    hand_on(written, writer)?;
     observer.explain_refusal(alloc, locked.view(), line, refusal, writer)?;
     Ok(Answer::Refused)
 }
@@ -231,41 +219,6 @@ fn ended_if(ends: bool, answer: Answer) -> Answer
     if ends { Answer::Ended } else { answer }
 }
 
-// Answers a line that was made.
-fn answer_made<
-    L: Run,
-    C: Command,
-    M: Fn(Givable) -> Result<C, Refusal>,
-    T: Observer<N>,
-    N,
-    W: Sink,
->(
-    alloc: Global,
-    make: &M,
-    observer: &mut T,
-    locked: &mut Locked<L, C>,
-    seats: &mut [Seat<L>],
-    line: &GivenLine<'_, N>,
-    played: &[u8],
-    writer: &mut W,
-) -> Result<Answer, ServeFault>
-    requires makes { (M.IsAlwaysCallable make.now) × IsMaker (M.post make.now) C.IsFresh C.order }
-    requires seats { AreAllSeats seats.old }
-    requires quiet { MayBeQuiet T.manner }
-    ensures seats { AreAllSeats seats.new }
-    ensures answers { WritesAnswer T.manner L.program played.now locked.old.journal (W.seen writer.old) result (W.seen writer.new)
-        locked.new.journal }
-    ensures goes_on { IfOk result (λ answer. is_end answer ≡ T.manner.ends played.now) }
-{
-    let ends = observer.ends(played);
-    if observer.is_directive(played) {
-        observer.direct(alloc, locked.view(), played, writer)?;
-        return Ok(ended_if(ends, Answer::Nothing));
-    }
-    let answer = answer_command(alloc, make, observer, locked, seats, line, played, writer)?;
-    Ok(ended_if(ends, answer))
-}
-
 /// Answers a line. The output is flushed before the next line is read.
 pub(crate) fn answer_line<
     L: Run,
@@ -293,8 +246,14 @@ pub(crate) fn answer_line<
     ensures fault { IfErr result (λ fault. fault ≡ Write) }
 {
     observer.before(alloc, line, writer)?;
-    match line.played {
-        Some(played) => { answer_made(alloc, make, observer, locked, seats, line, played, writer) }
-        None => refuse_line(alloc, observer, locked, line, &Refusal::Memory, writer),
+    let Some(played) = line.played else {
+        return refuse_line(alloc, observer, locked, line, &Refusal::Memory, writer);
+    };
+    let ends = observer.ends(played);
+    if observer.is_directive(played) {
+        observer.direct(alloc, locked.view(), played, writer)?;
+        return Ok(ended_if(ends, Answer::Nothing));
     }
+    let answer = answer_command(alloc, make, observer, locked, seats, line, played, writer)?;
+    Ok(ended_if(ends, answer))
 }

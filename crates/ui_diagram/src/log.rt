@@ -153,10 +153,7 @@ fn words_of(alloc: Global, view: SessionView<'_>, shown: ShownEvent) -> Result<V
 {
     let mut notes = Notes::new(alloc);
     tell_event(&mut notes, view, shown)?;
-    match notes.lines().first() {
-        Some(line) => Vec::from_slice(alloc, prefix_line(line.as_slice())),
-        None => Ok(Vec::new(alloc)),
-    }
+    Vec::from_slice(alloc, prefix_line(notes.line(0).bytes))
 }
 
 /// The events of a session as a log, in an order in which they can have happened. For each event: the process and its clock, and in a line

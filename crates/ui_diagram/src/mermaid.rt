@@ -141,13 +141,13 @@ impl MermaidSheet<'_> {
 
     // A note of these parts, if there are some.
     fn say_parts(&self, notes: &mut Notes, pid: Pid, parts: &Notes) -> Result<(), AllocError> {
-        if parts.lines().is_empty() {
+        if parts.count() == 0 {
             return Ok(());
         }
         self.say_note(notes, pid, pid)?;
         let mut word = "";
-        for part in parts.lines() {
-            notes.add(&[Part::Text(word), Part::Bytes(part.as_slice())])?;
+        for number in 0..parts.count() {
+            notes.add(&[Part::Text(word), Part::Bytes(parts.line(number).bytes)])?;
             word = ", ";
         }
         Ok(())

@@ -17,8 +17,8 @@ const RADIUS: i64 = 5;
 // Appends these parts to the last line, with commas between them.
 fn put_parts(notes: &mut Notes, parts: &Notes) -> Result<(), AllocError> {
     let mut word = "";
-    for part in parts.lines() {
-        notes.add(&[Part::Text(word), Part::Bytes(part.as_slice())])?;
+    for number in 0..parts.count() {
+        notes.add(&[Part::Text(word), Part::Bytes(parts.line(number).bytes)])?;
         word = ", ";
     }
     Ok(())

@@ -65,9 +65,10 @@ static DARK: &str = "      .rdbg-drawing text { fill: #ececec; }
 // The longest of these lines.
 fn longest(lines: &Notes) -> &[u8] {
     let mut longest: &[u8] = &[];
-    for line in lines.lines() {
-        if line.as_slice().len() > longest.len() {
-            longest = line.as_slice();
+    for number in 0..lines.count() {
+        let line = lines.line(number).bytes;
+        if line.len() > longest.len() {
+            longest = line;
         }
     }
     longest
@@ -93,7 +94,7 @@ impl SvgSheet<'_> {
 
     /// The height of the drawing.
     pub(crate) fn height(&self) -> i64 {
-        let lines = self.scene.cuts.len().saturating_add(self.key.lines().len());
+        let lines = self.scene.cuts.len().saturating_add(self.key.count());
         let lines = i64::try_from(lines).unwrap_or(i64::MAX);
         self.end()
             .saturating_add(lines.saturating_mul(SENTENCE_ROW))
@@ -218,9 +219,9 @@ impl SvgSheet<'_> {
             None => "heading",
         };
         let mut y = 20i64;
-        for line in self.heading.lines() {
+        for number in 0..self.heading.count() {
             say_text(notes, class, Point { x: MARGIN, y })?;
-            let words = escaped(self.scene.alloc, line.as_slice())?;
+            let words = escaped(self.scene.alloc, self.heading.line(number).bytes)?;
             notes.add(&[Part::Bytes(words.as_slice())])?;
             end_text(notes)?;
             y = y.saturating_add(SENTENCE_ROW);
@@ -241,9 +242,9 @@ impl SvgSheet<'_> {
     // What the marks mean, from this height.
     fn say_key(&self, notes: &mut Notes, top: i64) -> Result<(), AllocError> {
         let mut y = top;
-        for line in self.key.lines() {
+        for number in 0..self.key.count() {
             say_text(notes, "key", Point { x: MARGIN, y })?;
-            notes.add(&[Part::Bytes(line.as_slice())])?;
+            notes.add(&[Part::Bytes(self.key.line(number).bytes)])?;
             end_text(notes)?;
             y = y.saturating_add(SENTENCE_ROW);
         }

@@ -269,8 +269,9 @@ impl Scene<'_> {
         if bytes_of(&line).len() <= SENTENCE {
             return Ok(line);
         }
-        for line in cut.heading_lines(self.alloc)?.lines() {
-            let line = shortened(self.alloc, line.as_slice(), SENTENCE)?;
+        let lines = cut.heading_lines(self.alloc)?;
+        for number in 0..lines.count() {
+            let line = shortened(self.alloc, lines.line(number).bytes, SENTENCE)?;
             heading.say(&[Part::Bytes(line.as_slice())])?;
         }
         Ok(heading)

@@ -172,7 +172,7 @@ fn draw_scene(notes: &mut Notes, scene: Scene<'_>, theme: Theme) -> Result<(), A
     let heading = scene.heading()?;
     let key = scene.key()?;
     let words = scene.words()?;
-    let arrangement = Arrangement::of(scene, heading.lines().len(), words.as_slice())?;
+    let arrangement = Arrangement::of(scene, heading.count(), words.as_slice())?;
     let sheet = SvgSheet {
         scene,
         layout: &arrangement.layout,

@@ -8,16 +8,35 @@ use std::alloc::{AllocError, Global};
 use ui_text::{Notes, Part};
 
 /// How many events each process had, how long its line was, and, before an undo, what its last event did.
-#[derive(Debug, Drop)]
+#[derive(Debug)]
 pub struct Before {
     places: Vec<(u32, u32)>,
     undone: Notes,
+}
+
+impl Drop for Before {
+    fn drop(self) {
+        let Before {
+            places: _,
+            undone: _,
+        } = self;
+    }
 }
 
 /// Appends a count of events to the last line.
 pub(crate) fn put_events(notes: &mut Notes, count: u32) -> Result<(), AllocError> {
     let word = if count == 1 { " event" } else { " events" };
     notes.add(&[Part::Number(i64::from(count)), Part::Text(word)])
+}
+
+impl Before {
+    /// Nothing is known. It does not allocate.
+    pub fn new(alloc: Global) -> Before {
+        Before {
+            places: Vec::new(alloc),
+            undone: Notes::new(alloc),
+        }
+    }
 }
 
 impl SourceView<'_> {
@@ -34,21 +53,21 @@ impl SourceView<'_> {
     }
 
     /// Notes what has to be known of a session before a call, to explain afterwards what the call did.
-    pub fn before(&self, alloc: Global, call: &Call) -> Result<Before, AllocError> {
-        let mut places = Vec::new(alloc);
-        let mut undone = Notes::new(alloc);
+    pub fn note_before(&self, before: &mut Before, call: &Call) -> Result<(), AllocError> {
+        before.places.clear();
+        before.undone.clear();
         match call {
             Call::Give(Plan::Undo(pid)) => {
-                self.tell_last(&mut undone, EventNews::Undone, *pid)?;
+                self.tell_last(&mut before.undone, EventNews::Undone, *pid)?;
             }
             Call::Give(Plan::Rollback(_, _) | Plan::Goto(_) | Plan::Batch(_)) | Call::Back => {
                 for p in 0..self.session.program.processes() {
-                    places.push(self.place_of(Pid(p)))?;
+                    before.places.push(self.place_of(Pid(p)))?;
                 }
             }
             _ => {}
         }
-        Ok(Before { places, undone })
+        Ok(())
     }
 
     // Says how many events a process has now, and how many it can make again.

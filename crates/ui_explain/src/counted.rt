@@ -49,12 +49,21 @@ struct Ended {
 }
 
 /// The commands that count, in order.
-#[derive(Drop)]
 pub struct CountedCommands {
     text: Vec<u8>,
     commands: Vec<Ended>,
     // Whether all of them are there. Memory may run out.
     is_whole: bool,
+}
+
+impl Drop for CountedCommands {
+    fn drop(self) {
+        let CountedCommands {
+            text: _,
+            commands: _,
+            is_whole: _,
+        } = self;
+    }
 }
 
 impl CountedCommands {

@@ -19,6 +19,15 @@ pub enum Echo {
     Separated,
 }
 
+/// What was said to a line.
+#[derive(Clone, Copy)]
+pub enum Told<'a> {
+    /// The answer to a call that was entered. If it is an accepted `back`, it took back this command, if that is known.
+    Said(&'a Call, &'a Said, Option<CountedCommand<'a>>),
+    /// The line is refused without a call.
+    Refused(&'a Refusal),
+}
+
 /// Explains each line of a session, of which its source notes an `N`. It borrows the session, so it does not change it. The default methods
 /// explain nothing.
 pub trait Explainer<N> {
@@ -35,41 +44,25 @@ pub trait Explainer<N> {
     /// A call is about to be made.
     fn prepare(&mut self, _alloc: Global, _view: SessionView<'_>, _call: &Call) {}
 
-    /// The explanation of the answer to that call. The line of the reply is empty, unless the explainer keeps replies. If the call is an
-    /// accepted `back`, it took back this command, if that is known.
-    fn explain_call(
+    /// Writes the explanation of what was said to a line. The line of the reply is empty, unless the explainer keeps replies.
+    fn explain(
         &mut self,
-        alloc: Global,
-        _view: SessionView<'_>,
-        _call: &Call,
-        _said: &Said,
-        _reply: &[u8],
-        _taken_back: Option<CountedCommand<'_>>,
-    ) -> Notes {
-        Notes::new(alloc)
-    }
-
-    /// The explanation of a line that is refused without a call, with the line of the reply as above.
-    fn explain_refusal(
-        &mut self,
-        alloc: Global,
+        _alloc: Global,
         _view: SessionView<'_>,
         _line: &GivenLine<'_, N>,
-        _refusal: &Refusal,
+        _told: Told<'_>,
         _reply: &[u8],
-    ) -> Notes {
-        Notes::new(alloc)
-    }
+        _notes: &mut Notes,
+    ) {}
 
-    /// The answer to a directive.
+    /// Writes the answer to a directive.
     fn answer_directive(
         &mut self,
-        alloc: Global,
+        _alloc: Global,
         _view: SessionView<'_>,
         _directive: Directive<'_>,
-    ) -> Notes {
-        Notes::new(alloc)
-    }
+        _notes: &mut Notes,
+    ) {}
 
     /// The session is over.
     fn end(&mut self, _alloc: Global, _view: SessionView<'_>) {}

@@ -61,10 +61,7 @@ impl ProcessView<'_> {
         let mut text = Notes::new(notes.alloc());
         text.say(&[])?;
         self.put_expression(&mut text, expr)?;
-        let Some(line) = text.lines().first() else {
-            return Ok(());
-        };
-        let whole = line.as_slice();
+        let whole = text.line(0).bytes;
         let shown = whole.get(..SHOWN).unwrap_or(whole);
         notes.add(&[Part::Bytes(shown)])?;
         if shown.len() < whole.len() {

@@ -1,19 +1,19 @@
 //! A picture of one state of a session.
 
-use dbg_base::{Call, Refusal, Said};
+use dbg_base::{Refusal, Said};
 use dbg_command::SessionView;
 use std::alloc::{AllocError, Global};
 use ui_diagram::{Moment, Picture, PictureForm, draw_mermaid, draw_text, write_log};
 use ui_drawing::draw_drawing;
-use ui_explain::{CountedCommand, Explainer};
-use ui_text::{NoteLine, Notes};
+use ui_explain::Told;
+use ui_text::Notes;
 use ui_timeline::Selection;
 
 // Lines, each with a line end.
-fn with_line_ends(alloc: Global, lines: &[NoteLine]) -> Result<Vec<u8>, AllocError> {
+fn with_line_ends(alloc: Global, lines: &Notes) -> Result<Vec<u8>, AllocError> {
     let mut text = Vec::new(alloc);
-    for line in lines {
-        text.extend_from_slice(line.as_slice())?;
+    for number in 0..lines.count() {
+        text.extend_from_slice(lines.line(number).bytes)?;
         text.push(b'\n')?;
     }
     Ok(text)
@@ -34,28 +34,37 @@ fn picture_of(
         PictureForm::Mermaid => draw_mermaid(alloc, &mut notes, view, &selection)?,
         PictureForm::Shiviz | PictureForm::Html => return write_log(alloc, view),
     }
-    Ok(with_line_ends(alloc, notes.lines())?)
+    Ok(with_line_ends(alloc, &notes)?)
 }
 
-// Whether this is the answer to a command after which a breakpoint halts the session.
-fn is_halt(said: &Said) -> bool {
-    match said {
-        Said::Accepted(reply) => reply.halted.is_some(),
-        Said::Answered(_) | Said::Refused(_) => false,
+// Whether this is said to a command after which a breakpoint halts the session.
+fn is_halt(told: Told<'_>) -> bool {
+    match told {
+        Told::Said(_, Said::Accepted(reply), _) => reply.halted.is_some(),
+        Told::Said(_, _, _) | Told::Refused(_) => false,
     }
 }
 
-/// An explainer that draws one state of a session: the one at the first halt, if the picture shows that, or else the one at the end.
-#[derive(Drop)]
+/// Draws one state of a session: the one at the first halt, if the picture shows that, or else the one at the end.
 pub struct Artist<'a> {
     wanted: Picture<'a>,
     picture: Option<Vec<u8>>,
     is_out_of_memory: bool,
 }
 
+impl Drop for Artist<'_> {
+    fn drop(self) {
+        let Artist {
+            wanted: _,
+            picture: _,
+            is_out_of_memory: _,
+        } = self;
+    }
+}
+
 impl<'a> Artist<'a> {
     /// An artist for this picture.
-    pub fn new(wanted: Picture<'a>) -> Artist<'a> {
+    pub(crate) fn new(wanted: Picture<'a>) -> Artist<'a> {
         Artist {
             wanted,
             picture: None,
@@ -82,26 +91,17 @@ impl<'a> Artist<'a> {
             Err(_) => self.is_out_of_memory = true,
         }
     }
-}
 
-impl<N> Explainer<N> for Artist<'_> {
-    fn explain_call(
-        &mut self,
-        alloc: Global,
-        view: SessionView<'_>,
-        _call: &Call,
-        said: &Said,
-        _reply: &[u8],
-        _taken_back: Option<CountedCommand<'_>>,
-    ) -> Notes {
+    /// This was said to a line.
+    pub(crate) fn look(&mut self, alloc: Global, view: SessionView<'_>, told: Told<'_>) {
         let is_first = self.picture.is_none() && !self.is_out_of_memory;
-        if self.wanted.moment == Moment::Halt && is_first && is_halt(said) {
+        if self.wanted.moment == Moment::Halt && is_first && is_halt(told) {
             self.draw(alloc, view);
         }
-        Notes::new(alloc)
     }
 
-    fn end(&mut self, alloc: Global, view: SessionView<'_>) {
+    /// The session is over.
+    pub(crate) fn end(&mut self, alloc: Global, view: SessionView<'_>) {
         if self.wanted.moment != Moment::Halt {
             self.draw(alloc, view);
         }

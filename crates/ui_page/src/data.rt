@@ -7,13 +7,18 @@ ghost use Rattle.ui_page.specs.PageLines.{ArePageLines, IsLineOf, is_plain};
 use serde_json::Value;
 use std::alloc::{AllocError, Global};
 
-/// Why a line was not added: memory ran out, or its text has a `<` or a line end. Lists write no text that has one.
+/// Why something was not recorded.
 #[derive(Clone, Copy, Debug, PartialEq, Eq)]
-pub struct Incomplete;
+pub enum Incomplete {
+    /// Memory ran out, or a text has a `<` or a line end. Lists write no text that has one.
+    Memory,
+    /// The replies have more bytes than those of a page.
+    TooLarge,
+}
 
 impl From<AllocError> for Incomplete {
     fn from(_error: AllocError) -> Incomplete {
-        Incomplete
+        Incomplete::Memory
     }
 }
 
@@ -37,11 +42,11 @@ fn line_of(alloc: Global, value: &Value) -> Result<Vec<u8>, Incomplete>
 {
     let mut line = value.to_vec(alloc)?;
     if !is_plain(line.as_slice()) {
-        return Err(Incomplete);
+        return Err(Incomplete::Memory);
     }
     match line.push(b'\n') {
         Ok(()) => Ok(line),
-        Err(_) => Err(Incomplete),
+        Err(_) => Err(Incomplete::Memory),
     }
 }
 

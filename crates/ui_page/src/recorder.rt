@@ -5,7 +5,7 @@ ghost use Rattle.ui_page.specs.PageLines.{ArePageLines};
 
 mod breakpoints;
 mod events;
-mod lines;
+pub(crate) mod lines;
 mod trail;
 
 use crate::data::{Incomplete, PageData};
@@ -17,10 +17,9 @@ use dbg_command::SessionView;
 use lines::RecordedLines;
 use proc_lang::Program;
 use serde_json::{Map, Value};
-use shell_io::GivenLine;
 use std::alloc::{AllocError, Global};
-use ui_explain::{BreakpointChange, CountedCommand, Echo, Explainer};
-use ui_text::{Notes, ProgramText};
+use ui_explain::{BreakpointChange, CountedCommand, Told};
+use ui_text::ProgramText;
 
 // The kind of a call, as far as a page needs it.
 #[derive(Clone, Copy)]
@@ -56,14 +55,26 @@ fn change_by(call: &Call, taken_back: Option<CountedCommand<'_>>) -> BreakpointC
 }
 
 /// Records what each line did.
-#[derive(Drop)]
 pub struct Recorder {
     alloc: Global,
     lines: RecordedLines,
     breakpoints: Breakpoints,
     // The world before a batch.
     before: Option<World>,
-    is_incomplete: bool,
+    // The first reason why something was not recorded.
+    incomplete: Option<Incomplete>,
+}
+
+impl Drop for Recorder {
+    fn drop(self) {
+        let Recorder {
+            alloc: _,
+            lines: _,
+            breakpoints: _,
+            before: _,
+            incomplete: _,
+        } = self;
+    }
 }
 
 impl List {
@@ -149,29 +160,28 @@ fn program_value(
 
 impl Recorder {
     /// A recorder of a session of this program in which no line was answered. The page shows the commands as this text has them.
-    pub fn new(alloc: Global, program: &Program, text: &ProgramText) -> Recorder {
+    pub(crate) fn new(alloc: Global, program: &Program, text: &ProgramText) -> Recorder {
         let mut recorder = Recorder {
             alloc,
             lines: RecordedLines::new(alloc),
             breakpoints: Breakpoints::new(alloc),
             before: None,
-            is_incomplete: false,
+            incomplete: None,
         };
         let put = recorder.put_program(program, text);
         recorder.note(put);
         recorder
     }
 
-    /// Whether something was not recorded, since memory ran out.
-    pub fn is_incomplete(&self) -> bool {
-        self.is_incomplete
-    }
-
-    // Notes that something was not recorded, if it was not.
+    // Notes that something was not recorded since memory ran out, if it was not.
     fn note<E: Drop>(&mut self, done: Result<(), E>) {
         if done.is_err() {
-            self.is_incomplete = true;
+            self.note_why(Incomplete::Memory);
         }
+    }
+
+    fn note_why(&mut self, why: Incomplete) {
+        self.incomplete = self.incomplete.or(Some(why));
     }
 
     // Records the program.
@@ -237,70 +247,42 @@ impl Recorder {
         self.breakpoints.put_changes(operations, view, change)
     }
 
-    // The present line has this reply.
-    fn end_line(&mut self, reply: &[u8]) {
-        let ended = self.lines.end(self.alloc, reply);
-        self.note(ended);
-    }
-
-    /// What was recorded: the program, what each line did, and the lines with their replies.
-    pub fn session(self) -> Result<PageData, Incomplete>
-        ensures lines { IfOk result (λ page. ∥ ArePageLines page.bytes.items ∥₁) }
-    {
-        self.lines.with_replies(self.alloc)
-    }
-}
-
-impl<N> Explainer<N> for Recorder {
-    fn keeps_replies(&self) -> bool {
-        true
-    }
-
-    fn hear(&mut self, _alloc: Global, line: &GivenLine<'_, N>) -> Echo {
-        let begun = self
-            .lines
-            .begin(self.alloc, line.played.unwrap_or(line.written));
+    /// A line begins.
+    pub(crate) fn begin_line(&mut self, line: &[u8]) {
+        let begun = self.lines.begin(self.alloc, line);
         self.note(begun);
-        Echo::Nothing
     }
 
-    fn prepare(&mut self, _alloc: Global, view: SessionView<'_>, call: &Call) {
+    /// A call is about to be made.
+    pub(crate) fn prepare(&mut self, view: SessionView<'_>, call: &Call) {
         if let CallKind::Batch = kind_of(call) {
             match view.world.copy() {
                 Ok(before) => self.before = Some(before),
-                Err(_) => self.is_incomplete = true,
+                Err(_) => self.note_why(Incomplete::Memory),
             }
         }
     }
 
-    fn explain_call(
-        &mut self,
-        alloc: Global,
-        view: SessionView<'_>,
-        call: &Call,
-        said: &Said,
-        reply: &[u8],
-        taken_back: Option<CountedCommand<'_>>,
-    ) -> Notes {
-        if let Said::Accepted(accepted) = said {
+    /// This was said to the present line, and it has this reply.
+    pub(crate) fn end_line(&mut self, view: SessionView<'_>, told: Told<'_>, reply: &[u8]) {
+        if let Told::Said(call, Said::Accepted(accepted), taken_back) = told {
             let reported = self.put_all(view, call, accepted, change_by(call, taken_back));
             self.note(reported);
         }
         self.before = None;
-        self.end_line(reply);
-        Notes::new(alloc)
+        if let Err(why) = self.lines.end(self.alloc, reply) {
+            self.note_why(why);
+        }
     }
 
-    fn explain_refusal(
-        &mut self,
-        alloc: Global,
-        _view: SessionView<'_>,
-        _line: &GivenLine<'_, N>,
-        _refusal: &Refusal,
-        reply: &[u8],
-    ) -> Notes {
-        self.before = None;
-        self.end_line(reply);
-        Notes::new(alloc)
+    /// What was recorded: the program, what each line did, and the lines with their replies. They are recorded no longer.
+    pub fn session(&mut self) -> Result<PageData, Incomplete>
+        ensures lines { IfOk result (λ page. ∥ ArePageLines page.bytes.items ∥₁) }
+    {
+        if let Some(why) = self.incomplete {
+            return Err(why);
+        }
+        self.lines.put_replies(self.alloc)?;
+        Ok(self.lines.take_data(self.alloc))
     }
 }

@@ -8,8 +8,8 @@ use crate::written_program::WrittenProgram;
 use shell_io::{Sink, Source};
 use shell_print::{ServeFault, Served, status, tell_too_long};
 use std::alloc::Global;
-use ui_diagram::{Moment, Picture, PictureForm};
-use ui_page::{Artist, Recorder, write_page};
+use ui_diagram::{Moment, Picture};
+use ui_page::{Drawer, Incomplete, REPLY_BYTES, write_page};
 use ui_session::Typed;
 use ui_text::{Notes, Part};
 use ui_timeline::unknown_name;
@@ -25,14 +25,16 @@ pub enum Drawn {
     NoHalt,
     /// The program has no process of a name that was given, and that was reported.
     NoProcess,
+    /// The replies have more than `REPLY_BYTES`, the most of a page, and that was reported.
+    TooLarge,
 }
 
-/// The exit status: that of the session, or 2 if it has no such line or process, and 1 if nothing halts it.
+/// The exit status: that of the session, or 2 if it has no such line or process, and 1 if nothing halts it or it is too large for a page.
 pub fn draw_status(outcome: &Result<Drawn, ServeFault>) -> u8 {
     match outcome {
         Ok(Drawn::Played(served)) => status(&Ok(*served)),
         Ok(Drawn::NoLine | Drawn::NoProcess) => 2,
-        Ok(Drawn::NoHalt) => 1,
+        Ok(Drawn::NoHalt | Drawn::TooLarge) => 1,
         Err(fault) => fault.status(),
     }
 }
@@ -73,77 +75,59 @@ fn report_line<R: Source, T, E: Sink>(
     Ok(Some(Drawn::NoLine))
 }
 
-// Writes a page of a session.
-fn draw_page<R: Source + Typed, W: Sink, E: Sink>(
+// Writes what was drawn, or reports why nothing was.
+fn write_drawing<W: Sink, E: Sink>(
     alloc: Global,
-    written: &WrittenProgram,
-    session: OpenSession,
-    wanted: Option<usize>,
-    reader: &mut R,
+    drawer: &mut Drawer<'_>,
+    served: Served,
     writer: &mut W,
     errors: &mut E,
-) -> Result<Drawn, ServeFault>
-    requires { EndsWith session.input.ended (R.remaining reader.old) }
-{
-    let recorder = Recorder::new(alloc, &session.program, written.text());
-    let mut played = session.play_unheard(alloc, written, wanted, recorder, reader)?;
-    if let Some(drawn) = report_line(alloc, &mut played, wanted, reader, errors)? {
-        return Ok(drawn);
+) -> Result<Drawn, ServeFault> {
+    match drawer {
+        Drawer::Page(recorder) => match recorder.session() {
+            Ok(page) => write_page(&page, writer)?,
+            Err(Incomplete::Memory) => return Err(ServeFault::Memory),
+            Err(Incomplete::TooLarge) => {
+                let before = Part::Text("the page has room for replies of ");
+                let why = [before, Part::Count(REPLY_BYTES), Part::Text(" bytes")];
+                report(alloc, &why, errors)?;
+                return Ok(Drawn::TooLarge);
+            }
+        },
+        Drawer::State(artist) => match artist.picture() {
+            Some(picture) => write_text(picture, writer)?,
+            None if artist.is_out_of_memory() => return Err(ServeFault::Memory),
+            None => {
+                let why = [Part::Text("no breakpoint halts the session")];
+                report(alloc, &why, errors)?;
+                return Ok(Drawn::NoHalt);
+            }
+        },
     }
-    let PlayedSession {
-        served,
-        explainer,
-        ..
-    } = played;
-    if explainer.is_incomplete() {
-        return Err(ServeFault::Memory);
-    }
-    let Ok(data) = explainer.session() else {
-        return Err(ServeFault::Memory);
-    };
-    write_page(&data, writer)?;
     Ok(Drawn::Played(served))
 }
 
-// Draws one state of a session.
-fn draw_state<R: Source + Typed, W: Sink, E: Sink>(
+// Reports that the program has not all of these processes, or that the line of this number is in its text. False if neither is so.
+fn report_unknown<E: Sink>(
     alloc: Global,
-    picture: Picture<'_>,
-    written: &WrittenProgram,
-    session: OpenSession,
+    only: Option<&str>,
     wanted: Option<usize>,
-    reader: &mut R,
-    writer: &mut W,
+    session: &OpenSession,
     errors: &mut E,
-) -> Result<Drawn, ServeFault>
-    requires { EndsWith session.input.ended (R.remaining reader.old) }
-{
-    let unknown = picture
-        .only
-        .and_then(|list| unknown_name(&session.program, list));
+) -> Result<Option<Drawn>, ServeFault> {
+    if let Some(number) = wanted.filter(|number| *number <= session.lines()) {
+        let before = Part::Text("line ");
+        let after = Part::Text(" is before the first command line, which follows the line `%%`");
+        report(alloc, &[before, Part::Count(number), after], errors)?;
+        return Ok(Some(Drawn::NoLine));
+    }
+    let unknown = only.and_then(|list| unknown_name(&session.program, list));
     if let Some(name) = unknown {
         let before = Part::Text("the program has no process `");
         report(alloc, &[before, Part::Bytes(name), Part::Text("`")], errors)?;
-        return Ok(Drawn::NoProcess);
+        return Ok(Some(Drawn::NoProcess));
     }
-    let artist = Artist::new(picture);
-    let mut played = session.play_unheard(alloc, written, wanted, artist, reader)?;
-    if let Some(drawn) = report_line(alloc, &mut played, wanted, reader, errors)? {
-        return Ok(drawn);
-    }
-    if played.explainer.is_out_of_memory() {
-        return Err(ServeFault::Memory);
-    }
-    if let Some(picture) = played.explainer.picture() {
-        write_text(picture, writer)?;
-        return Ok(Drawn::Played(played.served));
-    }
-    report(
-        alloc,
-        &[Part::Text("no breakpoint halts the session")],
-        errors,
-    )?;
-    Ok(Drawn::NoHalt)
+    Ok(None)
 }
 
 // Plays a session that was opened, and draws it.
@@ -162,22 +146,16 @@ fn draw_open<R: Source + Typed, W: Sink, E: Sink>(
         Moment::Line(number) => Some(number as usize),
         _ => None,
     };
-    if let Some(number) = wanted.filter(|number| *number <= session.lines()) {
-        let after = Part::Text(" is before the first command line, which follows the line `%%`");
-        report(
-            alloc,
-            &[Part::Text("line "), Part::Count(number), after],
-            errors,
-        )?;
-        return Ok(Drawn::NoLine);
+    if let Some(drawn) = report_unknown(alloc, picture.only, wanted, &session, errors)? {
+        return Ok(drawn);
     }
-    if picture.form == PictureForm::Html {
-        draw_page(alloc, written, session, wanted, reader, writer, errors)
-    } else {
-        draw_state(
-            alloc, picture, written, session, wanted, reader, writer, errors,
-        )
+    let drawer = Drawer::new(alloc, picture, &session.program, written.text());
+    let mut played = session.play_unheard(alloc, written, wanted, drawer, reader)?;
+    if let Some(drawn) = report_line(alloc, &mut played, wanted, reader, errors)? {
+        return Ok(drawn);
     }
+    let served = played.served;
+    write_drawing(alloc, &mut played.explainer, served, writer, errors)
 }
 
 /// Plays a session as `talk` does, and writes a picture of it: of its end, of the state after a line or at the first halt, or a page to go

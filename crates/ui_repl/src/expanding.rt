@@ -3,11 +3,11 @@
 ghost use Rattle.shell_input.specs.Spans.{EndsWith};
 
 use crate::opening::OpenSession;
-use crate::read_line::LineFault;
+use crate::read_line::{ExpandedLine, LineFault};
 use crate::written_program::{ReadText, WrittenProgram, read_text};
 use notation::{Fault, line_and_column, message};
 use shell_input::{Input, TextEnd, read_program_text, text_alone};
-use shell_io::{GivenLine, Sink, Source};
+use shell_io::{Sink, Source};
 use shell_print::{ServeFault, Served, hand_on, tell_too_long, write_whole};
 use std::alloc::{AllocError, Global};
 use ui_explain::{Echo, Explainer};
@@ -22,8 +22,8 @@ pub(crate) fn write_text<W: Sink>(text: &[u8], writer: &mut W) -> Result<(), Ser
 
 /// Writes lines, and flushes them.
 pub(crate) fn write_notes<W: Sink>(notes: &Notes, writer: &mut W) -> Result<(), ServeFault> {
-    for line in notes.lines() {
-        write_whole(writer, line.as_slice())?;
+    for number in 0..notes.count() {
+        write_whole(writer, notes.line(number).bytes)?;
         write_whole(writer, b"\n")?;
     }
     hand_on(Ok(()), writer)
@@ -74,11 +74,7 @@ struct Expander {
 
 impl Expander {
     // Appends a line. Of a model, comments are left out.
-    fn put(
-        &mut self,
-        alloc: Global,
-        line: &GivenLine<'_, Option<LineFault>>,
-    ) -> Result<(), AllocError> {
+    fn put(&mut self, alloc: Global, line: &ExpandedLine<'_>) -> Result<(), AllocError> {
         let Some(played) = line.played else {
             return Err(AllocError);
         };
@@ -94,7 +90,7 @@ impl Expander {
 }
 
 impl Explainer<Option<LineFault>> for Expander {
-    fn hear(&mut self, alloc: Global, line: &GivenLine<'_, Option<LineFault>>) -> Echo {
+    fn hear(&mut self, alloc: Global, line: &ExpandedLine<'_>) -> Echo {
         let put = self.put(alloc, line);
         self.is_out_of_memory = self.is_out_of_memory || put.is_err();
         if line.is_first {

@@ -143,8 +143,8 @@ impl<'a> FaultPlace<'a> {
             let kind = fault_kind(problem);
             tell_correction(&mut notes, self.text, &ProgFault { kind, at })?;
         }
-        let is_corrected = !notes.lines().is_empty();
-        Ok((notes, if is_corrected { likely } else { 0 }))
+        let left_out = if notes.count() == 0 { 0 } else { likely };
+        Ok((notes, left_out))
     }
 
     /// The line and the column, the text of the line with a mark under the place, what is wrong, and what was probably meant.

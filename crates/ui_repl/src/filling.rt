@@ -4,15 +4,14 @@ ghost use Rattle.shell_input.specs.Spans.{EndsWith};
 
 use crate::expanding::write_text;
 use crate::opening::{OpenSession, Opening, PlayedSession, open};
-use crate::read_line::LineFault;
+use crate::read_line::{ExpandedLine, LineFault};
 use crate::words::wanted;
 use crate::written_program::WrittenProgram;
-use dbg_base::{Call, Refusal, Said};
 use dbg_command::SessionView;
-use shell_io::{GivenLine, Sink, Source};
+use shell_io::{Sink, Source};
 use shell_print::{ServeFault, Served, tell_too_long};
 use std::alloc::{AllocError, Global};
-use ui_explain::{CountedCommand, Echo, Explainer};
+use ui_explain::{Echo, Explainer, Told};
 use ui_session::Typed;
 use ui_text::Notes;
 
@@ -62,7 +61,7 @@ impl Explainer<Option<LineFault>> for Filler {
         true
     }
 
-    fn hear(&mut self, _alloc: Global, line: &GivenLine<'_, Option<LineFault>>) -> Echo {
+    fn hear(&mut self, _alloc: Global, line: &ExpandedLine<'_>) -> Echo {
         if line.is_first {
             let begun = self.begin(line.written);
             self.is_out_of_memory = self.is_out_of_memory || begun.is_err();
@@ -70,29 +69,16 @@ impl Explainer<Option<LineFault>> for Filler {
         Echo::Nothing
     }
 
-    fn explain_call(
+    fn explain(
         &mut self,
-        alloc: Global,
+        _alloc: Global,
         _view: SessionView<'_>,
-        _call: &Call,
-        _said: &Said,
+        _line: &ExpandedLine<'_>,
+        _told: Told<'_>,
         reply: &[u8],
-        _taken_back: Option<CountedCommand<'_>>,
-    ) -> Notes {
+        _notes: &mut Notes,
+    ) {
         self.answer(reply);
-        Notes::new(alloc)
-    }
-
-    fn explain_refusal(
-        &mut self,
-        alloc: Global,
-        _view: SessionView<'_>,
-        _line: &GivenLine<'_, Option<LineFault>>,
-        _refusal: &Refusal,
-        reply: &[u8],
-    ) -> Notes {
-        self.answer(reply);
-        Notes::new(alloc)
     }
 }
 

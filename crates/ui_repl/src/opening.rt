@@ -67,8 +67,9 @@ impl OpenSession {
         requires { EndsWith self.input.ended (R.remaining reader.old) }
         ensures ready { IfOk result (λ played. EndsWith played.lines.input.ended (R.remaining reader.new)) }
     {
+        let count = self.lines();
         let OpenSession { program, input } = self;
-        let mut lines = SessionLines::new(alloc, input, written, wanted)?;
+        let mut lines = SessionLines::new(alloc, input, written, count, wanted)?;
         let mut dialogue = Dialogue::new(alloc, explainer);
         let mut unheard = Noted::new(Room::Nothing);
         let served = play(

@@ -6,6 +6,7 @@ use dbg_base::Name;
 use dbg_base::limits::LINE_BYTES;
 use notation::{Fault, LineExpander, NotationError, PlainLines};
 use shell_input::Span;
+use shell_io::GivenLine;
 use shell_serve::Answer;
 use std::alloc::{AllocError, Global};
 
@@ -15,6 +16,9 @@ pub(crate) struct LineFault {
     pub(crate) fault: Fault,
     pub(crate) process: Option<Name>,
 }
+
+/// A line that is played, with why it cannot be expanded, if it cannot.
+pub(crate) type ExpandedLine<'a> = GivenLine<'a, Option<LineFault>>;
 
 /// The line that was read last. It may be short, and that of a model may be in the notation.
 #[derive(Drop)]

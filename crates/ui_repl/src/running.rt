@@ -52,11 +52,12 @@ fn talk_open<R: Source + Typed, W: Sink>(
     ensures reader { R.health reader.old ≡ Fine → R.health reader.new ≡ source_after result }
     ensures writer { (W.seen writer.old).health ≡ Fine → (W.seen writer.new).health ≡ sink_after result }
 {
+    let count = session.lines();
     let OpenSession { program, input } = session;
-    let Ok(mut lines) = SessionLines::new(alloc, input, written, None) else {
+    let Ok(mut lines) = SessionLines::new(alloc, input, written, count, None) else {
         return Err(ServeFault::Memory);
     };
-    let mut dialogue = Dialogue::new(alloc, Sentences::new(written, width));
+    let mut dialogue = Dialogue::new(alloc, Sentences::new(alloc, written, width));
     play(alloc, &mut dialogue, program, &mut lines, reader, writer)
 }
 

@@ -1,27 +1,30 @@
 //! The explanations of an interactive session.
 
-use crate::read_line::LineFault;
+use crate::read_line::{ExpandedLine, LineFault};
 use crate::words::without_seat;
 use crate::written_program::WrittenProgram;
-use dbg_base::{Call, Name, Refusal, Said};
+use dbg_base::{Call, Name, Pid, Refusal, Said};
 use dbg_command::SessionView;
-use shell_io::GivenLine;
 use shell_parse::next_word;
 use std::alloc::{AllocError, Global};
 use ui_diagram::{ALL_EVENTS, draw_text};
-use ui_explain::{Before, CountedCommand, Directive, Echo, Explainer, SourceView};
+use ui_explain::{Before, CountedCommand, Directive, Echo, Explainer, SourceView, Told};
 use ui_text::{Notes, Part, tell_help, tell_too_long};
 use ui_timeline::Selection;
 
-/// The most bytes of explanations of a session, where a line that is answered without a call counts as many more as the program text has.
+/// The most bytes of explanations of a session. A line that is answered without a call counts more, by the work that its answer takes.
 pub const EXPLAINED_BYTES: usize = 268_435_456;
+
+// How many bytes of explanations take as long as a picture takes for each event of its session.
+const EVENT_WEIGHT: usize = 16;
 
 /// Explains in words what happened, or what prevents it. If memory runs out, the explanations end.
 #[derive(Drop)]
 pub(crate) struct Sentences<'a> {
     program: &'a WrittenProgram,
-    // What was known before the call that is made. None after memory ran out; then nothing is explained.
-    before: Option<Before>,
+    // What was known before the call that is made, and whether that is all. If memory ran out it is not, and nothing is explained.
+    before: Before,
+    is_prepared: bool,
     last_kind: LineKind,
     // How many characters wide a picture is.
     width: usize,
@@ -51,21 +54,29 @@ impl LineKind {
     }
 }
 
+// How many events a session has.
+fn events_of(view: SessionView<'_>) -> usize {
+    let add = |sum: usize, p: u32| sum.saturating_add(view.world.place(Pid(p)) as usize);
+    (0..view.program.processes()).fold(0, add)
+}
+
+// A session of this program, with its text.
+fn view_of<'b>(program: &'b WrittenProgram, session: SessionView<'b>) -> SourceView<'b> {
+    let text = program.text();
+    SourceView { session, text }
+}
+
 impl<'a> Sentences<'a> {
     /// Explanations of a session of this program.
-    pub(crate) fn new(program: &'a WrittenProgram, width: usize) -> Sentences<'a> {
+    pub(crate) fn new(alloc: Global, program: &'a WrittenProgram, width: usize) -> Sentences<'a> {
         Sentences {
             program,
-            before: None,
+            before: Before::new(alloc),
+            is_prepared: false,
             last_kind: LineKind::None,
             width,
             left: EXPLAINED_BYTES,
         }
-    }
-
-    fn source_view<'b>(&'b self, session: SessionView<'b>) -> SourceView<'b> {
-        let text = self.program.text();
-        SourceView { session, text }
     }
 
     // After a wrong line `step P ..` of a model, the labels of the process, or the processes if it is none.
@@ -82,7 +93,7 @@ impl<'a> Sentences<'a> {
         }
         match Name::new(word).and_then(|name| view.program.find_process(name)) {
             Some(pid) => self.program.tell_labels(notes, view.program, pid),
-            None => self.source_view(view).tell_processes(notes, word),
+            None => view_of(self.program, view).tell_processes(notes, word),
         }
     }
 
@@ -91,7 +102,7 @@ impl<'a> Sentences<'a> {
         alloc: Global,
         notes: &mut Notes,
         view: SessionView<'_>,
-        given: &GivenLine<'_, Option<LineFault>>,
+        given: &ExpandedLine<'_>,
         refusal: &Refusal,
     ) -> Result<(), Refusal> {
         let line = given.played.unwrap_or(given.written);
@@ -104,8 +115,7 @@ impl<'a> Sentences<'a> {
         if *refusal == Refusal::UnknownProcess && self.program.tell_family(notes, line)? {
             return Ok(());
         }
-        self.source_view(view)
-            .tell_bad_line(alloc, notes, line, refusal)?;
+        view_of(self.program, view).tell_bad_line(alloc, notes, line, refusal)?;
         if *refusal == Refusal::BadLine {
             self.tell_labels(notes, view, line)?;
         }
@@ -128,36 +138,30 @@ impl<'a> Sentences<'a> {
                 Part::Text("`"),
             ])?;
         }
-        let Some(before) = &self.before else {
+        if !self.is_prepared {
             return Ok(());
-        };
-        let view = self.source_view(view);
+        }
+        let view = view_of(self.program, view);
         match said {
-            Said::Accepted(reply) => view.tell_reply(alloc, notes, before, call, reply),
+            Said::Accepted(reply) => view.tell_reply(alloc, notes, &self.before, call, reply),
             Said::Refused(refusal) => view.tell_refusal(alloc, notes, call, refusal),
             Said::Answered(_) => view.tell_answer(alloc, notes, call),
         }
     }
 
-    // Takes so many bytes and these explanations off what is left, or says that nothing is left.
-    fn spend(&mut self, notes: Notes, more: usize) -> Notes {
-        self.left = self.left.saturating_sub(more);
-        for line in notes.lines() {
-            let length = line.as_slice().len().saturating_add(3);
-            self.left = self.left.saturating_sub(length);
-        }
-        notes
+    // Takes so many bytes and these explanations off what is left.
+    fn spend(&mut self, notes: &Notes, more: usize) {
+        // Each line has two blanks before it, and an end.
+        let ends = notes.count().saturating_mul(3);
+        let length = notes.length().saturating_add(ends);
+        self.left = self.left.saturating_sub(length.saturating_add(more));
     }
 
-    // What is said in place of an explanation once none is left.
-    fn none_left(alloc: Global) -> Notes {
-        let mut notes = Notes::new(alloc);
-        let _ended = notes.say(&[
-            Part::Text("no explanation: a session has at most "),
-            Part::Count(EXPLAINED_BYTES),
-            Part::Text(" bytes of them"),
-        ]);
-        notes
+    // Says that nothing is left, in place of an explanation.
+    fn tell_end(notes: &mut Notes) {
+        let (most, after) = (Part::Count(EXPLAINED_BYTES), Part::Text(" bytes of them"));
+        let before = Part::Text("no explanation: a session has at most ");
+        let _ended = notes.say(&[before, most, after]);
     }
 
     // Draws the whole session.
@@ -173,7 +177,7 @@ impl<'a> Sentences<'a> {
         view: SessionView<'_>,
         directive: Directive<'_>,
     ) -> Result<(), Refusal> {
-        let view = self.source_view(view);
+        let view = view_of(self.program, view);
         match directive {
             Directive::Remark | Directive::Quit => Ok(()),
             Directive::Help(word) => Ok(tell_help(notes, word)?),
@@ -190,7 +194,7 @@ impl<'a> Sentences<'a> {
 impl Explainer<Option<LineFault>> for Sentences<'_> {
     // The terminal already shows what was typed. Of other lines, those that belong together are together: comments, a command, and the
     // reply that is expected to it.
-    fn hear(&mut self, _alloc: Global, line: &GivenLine<'_, Option<LineFault>>) -> Echo {
+    fn hear(&mut self, _alloc: Global, line: &ExpandedLine<'_>) -> Echo {
         let before = self.last_kind;
         let kind = LineKind::of(line.played.unwrap_or(line.written));
         if before != LineKind::None || kind != LineKind::Blank {
@@ -206,43 +210,32 @@ impl Explainer<Option<LineFault>> for Sentences<'_> {
         }
     }
 
-    fn prepare(&mut self, alloc: Global, view: SessionView<'_>, call: &Call) {
-        self.before = match self.left {
-            0 => None,
-            _ => self.source_view(view).before(alloc, call).ok(),
-        };
+    fn prepare(&mut self, _alloc: Global, session: SessionView<'_>, call: &Call) {
+        let view = view_of(self.program, session);
+        self.is_prepared = self.left > 0 && view.note_before(&mut self.before, call).is_ok();
     }
 
-    fn explain_call(
+    fn explain(
         &mut self,
         alloc: Global,
         view: SessionView<'_>,
-        call: &Call,
-        said: &Said,
+        line: &ExpandedLine<'_>,
+        told: Told<'_>,
         _reply: &[u8],
-        taken_back: Option<CountedCommand<'_>>,
-    ) -> Notes {
-        let mut notes = Notes::new(alloc);
-        if self.left > 0 {
-            let _ended = self.tell_said(alloc, &mut notes, view, call, said, taken_back);
+        notes: &mut Notes,
+    ) {
+        match told {
+            Told::Said(_, _, _) if self.left == 0 => {}
+            Told::Said(call, said, taken_back) => {
+                let _ended = self.tell_said(alloc, notes, view, call, said, taken_back);
+                self.spend(notes, 0);
+            }
+            Told::Refused(_) if self.left == 0 => Sentences::tell_end(notes),
+            Told::Refused(refusal) => {
+                let _ended = self.tell_line(alloc, notes, view, line, refusal);
+                self.spend(notes, self.program.text().text().len());
+            }
         }
-        self.spend(notes, 0)
-    }
-
-    fn explain_refusal(
-        &mut self,
-        alloc: Global,
-        view: SessionView<'_>,
-        line: &GivenLine<'_, Option<LineFault>>,
-        refusal: &Refusal,
-        _reply: &[u8],
-    ) -> Notes {
-        if self.left == 0 {
-            return Sentences::none_left(alloc);
-        }
-        let mut notes = Notes::new(alloc);
-        let _ended = self.tell_line(alloc, &mut notes, view, line, refusal);
-        self.spend(notes, self.program.text().text().len())
     }
 
     fn answer_directive(
@@ -250,15 +243,19 @@ impl Explainer<Option<LineFault>> for Sentences<'_> {
         alloc: Global,
         view: SessionView<'_>,
         directive: Directive<'_>,
-    ) -> Notes {
-        let mut notes = Notes::new(alloc);
+        notes: &mut Notes,
+    ) {
         if let Directive::Remark | Directive::Quit = directive {
-            return notes;
+            return;
         }
         if self.left == 0 {
-            return Sentences::none_left(alloc);
+            return Sentences::tell_end(notes);
         }
-        let _ended = self.tell_directive(alloc, &mut notes, view, directive);
-        self.spend(notes, self.program.text().text().len())
+        let _ended = self.tell_directive(alloc, notes, view, directive);
+        let more = match directive {
+            Directive::Draw => events_of(view).saturating_mul(EVENT_WEIGHT),
+            _ => self.program.text().text().len(),
+        };
+        self.spend(notes, more);
     }
 }

@@ -4,7 +4,7 @@ ghost use Rattle.std.specs.Prelude.{◌≡◌, ◌<◌, IfOk, IfSome};
 ghost use Rattle.shell_input.specs.Spans.{EndsWith};
 ghost use Rattle.ui_repl.specs.LineSources.{HoldsLine, lines_left, FewerIfLine};
 
-use crate::read_line::{LineFault, ReadLine};
+use crate::read_line::{ExpandedLine, LineFault, ReadLine};
 use crate::written_program::WrittenProgram;
 use dbg_base::limits::INPUT_BYTES;
 use shell_input::{Input, Next, Span};
@@ -27,20 +27,19 @@ pub(crate) struct SessionLines<'a> {
 }
 
 impl<'a> SessionLines<'a> {
-    /// The lines after the program text, up to the one of this number in the input. Error: memory ran out.
+    /// The lines after the program text, which has so many, up to the one of this number in the input. Error: memory ran out.
     pub(crate) fn new(
         alloc: Global,
         input: Input,
         program: &'a WrittenProgram,
+        count: usize,
         wanted: Option<usize>,
     ) -> Result<SessionLines<'a>, AllocError>
         ensures input { IfOk result (λ lines. lines.input ≡ input) }
     {
-        let before = input.bytes().get(..input.at).unwrap_or(&[]);
-        let count = before.iter().filter(|byte| **byte == b'\n').count();
         let used = match program.expansion() {
             Some(expansion) => expansion.plain().len().saturating_add(3),
-            None => before.len(),
+            None => input.at,
         };
         Ok(SessionLines {
             input,
@@ -139,7 +138,7 @@ impl<'a, R: Source + Typed> LineSource<R, Option<LineFault>> for SessionLines<'a
         }
     }
 
-    fn line(&self, _span: Span) -> GivenLine<'_, Option<LineFault>> {
+    fn line(&self, _span: Span) -> ExpandedLine<'_> {
         let line = &self.line;
         let played = if line.is_lost {
             None

@@ -5,18 +5,18 @@ ghost use Rattle.shell_input.specs.Spans.{EndsWith};
 use crate::comparing::{PlayedLine, compare};
 use crate::expanding::{write_notes, write_text};
 use crate::opening::{OpenSession, Opening, PlayedSession, open};
-use crate::read_line::LineFault;
+use crate::read_line::{ExpandedLine, LineFault};
 use crate::sentences::Sentences;
 use crate::words::{is_remark, wanted};
 use crate::written_program::WrittenProgram;
-use dbg_base::{Call, Refusal, Said};
+use dbg_base::Call;
 use dbg_command::SessionView;
-use shell_io::{GivenLine, Noted, Sink, Source};
+use shell_io::{Noted, Sink, Source};
 use shell_parse::without_return;
 use shell_print::{ServeFault, Served, write_whole};
 use std::alloc::{AllocError, Global};
 use ui_diagram::WIDTH;
-use ui_explain::{CountedCommand, Echo, Explainer};
+use ui_explain::{Echo, Explainer, Told};
 use ui_session::{Room, Typed};
 use ui_text::{Notes, Part};
 
@@ -69,7 +69,7 @@ impl<'a> Tester<'a> {
     // Nothing was compared yet, and so many lines were read.
     fn new(alloc: Global, name: &'a str, written: &'a WrittenProgram, number: usize) -> Tester<'a> {
         Tester {
-            sentences: Sentences::new(written, WIDTH as usize),
+            sentences: Sentences::new(alloc, written, WIDTH as usize),
             alloc,
             name,
             number,
@@ -94,8 +94,9 @@ impl<'a> Tester<'a> {
         notes.add(&[Part::Bytes(wanted)])?;
         notes.say(&[Part::Text("  reply:    ")])?;
         notes.add(&[Part::Bytes(reply)])?;
-        for line in self.asked.notes.lines() {
-            notes.say(&[Part::Text("    "), Part::Bytes(line.as_slice())])?;
+        for number in 0..self.asked.notes.count() {
+            let line = Part::Bytes(self.asked.notes.line(number).bytes);
+            notes.say(&[Part::Text("    "), line])?;
         }
         Ok(notes)
     }
@@ -151,12 +152,12 @@ impl<'a> Tester<'a> {
         Ok(self.lines.push(PlayedLine::Unanswered)?)
     }
 
-    // The present line has this reply, with this explanation.
-    fn answer(&mut self, reply: &[u8], notes: Notes) {
+    // The present line has this reply, which is explained next.
+    fn answer(&mut self, reply: &[u8]) {
         let reply = Vec::from_slice(self.alloc, reply);
         self.is_out_of_memory = self.is_out_of_memory || reply.is_err();
         self.asked.reply = reply.ok();
-        self.asked.notes = notes;
+        self.asked.notes.clear();
     }
 
     // The report, and the result.
@@ -197,7 +198,7 @@ impl Explainer<Option<LineFault>> for Tester<'_> {
         true
     }
 
-    fn hear(&mut self, alloc: Global, line: &GivenLine<'_, Option<LineFault>>) -> Echo {
+    fn hear(&mut self, alloc: Global, line: &ExpandedLine<'_>) -> Echo {
         let _echo = self.sentences.hear(alloc, line);
         if line.is_first {
             let begun = self.begin(line.written);
@@ -210,35 +211,19 @@ impl Explainer<Option<LineFault>> for Tester<'_> {
         self.sentences.prepare(alloc, view, call);
     }
 
-    fn explain_call(
+    fn explain(
         &mut self,
         alloc: Global,
         view: SessionView<'_>,
-        call: &Call,
-        said: &Said,
+        line: &ExpandedLine<'_>,
+        told: Told<'_>,
         reply: &[u8],
-        taken_back: Option<CountedCommand<'_>>,
-    ) -> Notes {
-        let notes = self
-            .sentences
-            .explain_call(alloc, view, call, said, reply, taken_back);
-        self.answer(reply, notes);
-        Notes::new(alloc)
-    }
-
-    fn explain_refusal(
-        &mut self,
-        alloc: Global,
-        view: SessionView<'_>,
-        line: &GivenLine<'_, Option<LineFault>>,
-        refusal: &Refusal,
-        reply: &[u8],
-    ) -> Notes {
-        let notes = self
-            .sentences
-            .explain_refusal(alloc, view, line, refusal, reply);
-        self.answer(reply, notes);
-        Notes::new(alloc)
+        _notes: &mut Notes,
+    ) {
+        self.answer(reply);
+        let notes = &mut self.asked.notes;
+        self.sentences
+            .explain(alloc, view, line, told, reply, notes);
     }
 }
 

@@ -72,10 +72,8 @@ fn past_ranges(ranges: &[u8]) -> Option<&[u8]> {
 
 // The command of a line, without the heads `for ..:` before it.
 fn after_heads(line: &[u8]) -> &[u8] {
-    match past_name(without_seat(line).trim_ascii_start()).and_then(past_ranges) {
-        Some(command) => command,
-        None => line,
-    }
+    let heads = past_name(without_seat(line).trim_ascii_start());
+    heads.and_then(past_ranges).unwrap_or(line)
 }
 
 // How many words there are. Blanks in brackets or parentheses separate no words.
@@ -148,16 +146,8 @@ fn times_of(word: &[u8]) -> Option<u32> {
     if !is_number(word) || word.len() > DIGITS {
         return None;
     }
-    let mut times = 0u32;
-    for byte in word {
-        let digit = u32::from(byte.saturating_sub(b'0'));
-        times = times.saturating_mul(10).saturating_add(digit);
-    }
-    if 1 <= times && times as usize <= CALLS {
-        Some(times)
-    } else {
-        None
-    }
+    let times = str::from_utf8(word).ok()?.parse::<u32>().ok()?;
+    Some(times).filter(|times| 1 <= *times && *times as usize <= CALLS)
 }
 
 /// Of a plain line `next P N`, the line without N, and N.

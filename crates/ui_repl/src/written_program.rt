@@ -128,8 +128,9 @@ impl WrittenProgram {
     ) -> Result<(), AllocError> {
         let place = FaultPlace::in_line(line, self.text.text(), &fault.fault);
         // The number of the line in its text says nothing here.
-        for line in place.explanation(alloc)?.lines().iter().skip(1) {
-            notes.say(&[Part::Bytes(line.as_slice())])?;
+        let explanation = place.explanation(alloc)?;
+        for number in 1..explanation.count() {
+            notes.say(&[Part::Bytes(explanation.line(number).bytes)])?;
         }
         if fault.fault.problem() != Problem::NoLabel {
             return Ok(());

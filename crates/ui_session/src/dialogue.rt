@@ -11,7 +11,8 @@ use shell_io::{GivenLine, Noted, Sink};
 use shell_print::{ServeFault, print_refusal, print_reply};
 use shell_serve::Observer;
 use std::alloc::Global;
-use ui_explain::{CountedCommand, CountedCommands, Echo, Explainer};
+use ui_explain::{CountedCommands, Echo, Explainer, Told};
+use ui_text::Notes;
 
 /// The observer of an interactive session. It writes each line that was not typed, and an explanation after the reply. A directive has only
 /// an explanation. A command line without a seat is one of seat 1.
@@ -21,6 +22,8 @@ pub struct Dialogue<T> {
     commands: CountedCommands,
     // The last reply, if the explainer keeps replies.
     reply: Noted<Room>,
+    // The last explanation.
+    notes: Notes,
 }
 
 impl<T> Dialogue<T> {
@@ -30,6 +33,7 @@ impl<T> Dialogue<T> {
             explainer,
             commands: CountedCommands::new(alloc),
             reply: Noted::new(Room::Nothing),
+            notes: Notes::new(alloc),
         }
     }
 
@@ -45,16 +49,13 @@ fn reply_of(reply: &Noted<Room>) -> &[u8] {
     line.strip_suffix(b"\n".as_slice()).unwrap_or(line)
 }
 
-// The command that the call took back, if it is an accepted `back` and the command is known.
-fn taken_back<'x>(
-    commands: &'x CountedCommands,
-    call: &Call,
-    said: &Said,
-) -> Option<CountedCommand<'x>> {
-    match (call, said) {
+// What was said to the call. An accepted `back` took back the last command.
+fn said_to<'x>(commands: &'x CountedCommands, call: &'x Call, said: &'x Said) -> Told<'x> {
+    let taken_back = match (call, said) {
         (Call::Back, Said::Accepted(_)) => commands.last(),
         _ => None,
-    }
+    };
+    Told::Said(call, said, taken_back)
 }
 
 // Notes the command of this line, if it was accepted, or that one was taken back.
@@ -106,10 +107,10 @@ impl<T: Explainer<N>, N> Observer<N> for Dialogue<T> {
         line: &[u8],
         writer: &mut W,
     ) -> Result<(), ServeFault> {
-        let notes = self
-            .explainer
-            .answer_directive(alloc, view, directive(line));
-        explain(&notes, writer)
+        self.notes.clear();
+        self.explainer
+            .answer_directive(alloc, view, directive(line), &mut self.notes);
+        explain(&self.notes, writer)
     }
 
     fn prepare(&mut self, alloc: Global, view: SessionView<'_>, call: &Call) {
@@ -129,18 +130,22 @@ impl<T: Explainer<N>, N> Observer<N> for Dialogue<T> {
             self.reply = Noted::new(Room::Text(Vec::new(alloc)));
             let _kept = print_reply(view.program, call, said, &mut self.reply);
         }
-        let taken_back = taken_back(&self.commands, call, said);
-        let reply = reply_of(&self.reply);
-        let notes = self
-            .explainer
-            .explain_call(alloc, view, call, said, reply, taken_back);
+        self.notes.clear();
+        self.explainer.explain(
+            alloc,
+            view,
+            line,
+            said_to(&self.commands, call, said),
+            reply_of(&self.reply),
+            &mut self.notes,
+        );
         count(
             &mut self.commands,
             line.played.unwrap_or(line.written),
             call,
             said,
         );
-        explain(&notes, writer)
+        explain(&self.notes, writer)
     }
 
     fn explain_refusal<W: Sink>(
@@ -155,11 +160,16 @@ impl<T: Explainer<N>, N> Observer<N> for Dialogue<T> {
             self.reply = Noted::new(Room::Text(Vec::new(alloc)));
             let _kept = print_refusal(view.program, refusal, &mut self.reply);
         }
-        let reply = reply_of(&self.reply);
-        let notes = self
-            .explainer
-            .explain_refusal(alloc, view, line, refusal, reply);
-        explain(&notes, writer)
+        self.notes.clear();
+        self.explainer.explain(
+            alloc,
+            view,
+            line,
+            Told::Refused(refusal),
+            reply_of(&self.reply),
+            &mut self.notes,
+        );
+        explain(&self.notes, writer)
     }
 
     fn end(&mut self, alloc: Global, view: SessionView<'_>) {

@@ -43,7 +43,10 @@ fn verb_of(word: &[u8]) -> Option<Verb>
     ensures is { is_some result ≡ list_any (bytes_eq word.now) directive_words }
     ensures quits { is_quit_verb result ≡ list_any (bytes_eq word.now) quit_words }
 {
-    if word == b"help".as_slice() || word == b"?".as_slice() {
+    // Most lines begin with a seat, and no directive does.
+    if is_seat(word) {
+        None
+    } else if word == b"help".as_slice() || word == b"?".as_slice() {
         Some(Verb::Help)
     } else if word == b"on".as_slice() {
         Some(Verb::On)

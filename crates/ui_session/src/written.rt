@@ -38,25 +38,34 @@ fn write_styled<W: Sink>(
     set_style(Style::Plain, writer)
 }
 
-// Writes these bytes as a line of an explanation, in the styles of this line.
-fn write_line<W: Sink>(bytes: &[u8], line: &NoteLine, writer: &mut W) -> Result<(), ServeFault>
+// Writes these bytes as a line of an explanation, which begins in a style.
+fn write_line<W: Sink>(
+    first_style: Style,
+    bytes: &[u8],
+    changes: &[StyleChange],
+    writer: &mut W,
+) -> Result<(), ServeFault>
     ensures { Writes (W.seen writer.old) (W.seen writer.new) result (explanation_line bytes.now) }
 {
-    set_style(line.first_style(), writer)?;
+    set_style(first_style, writer)?;
     write_whole(writer, b"  ")?;
-    write_styled(bytes, line.changes(), writer)?;
+    write_styled(bytes, changes, writer)?;
     write_whole(writer, b"\n")
 }
 
 // Writes the lines of an explanation.
-fn write_lines<W: Sink>(lines: &[NoteLine], writer: &mut W) -> Result<(), ServeFault>
+fn write_lines<W: Sink>(notes: &Notes, writer: &mut W) -> Result<(), ServeFault>
     ensures written { WritesForm IsExplanation (W.seen writer.old) result (W.seen writer.new) }
 {
-    for line in lines {
-        let bytes = line.as_slice();
+    for number in 0..notes.count() {
+        let NoteLine {
+            bytes,
+            first_style,
+            changes,
+        } = notes.line(number);
         // No line of an explanation has a line end.
         if is_unended(bytes) {
-            write_line(bytes, line, writer)?;
+            write_line(first_style, bytes, changes, writer)?;
         }
     }
     Ok(())
@@ -66,7 +75,7 @@ fn write_lines<W: Sink>(lines: &[NoteLine], writer: &mut W) -> Result<(), ServeF
 pub fn explain<W: Sink>(notes: &Notes, writer: &mut W) -> Result<(), ServeFault>
     ensures written { WritesForm IsExplanation (W.seen writer.old) result (W.seen writer.new) }
 {
-    let written = write_lines(notes.lines(), writer);
+    let written = write_lines(notes, writer);
     hand_on(written, writer)
 }
 

@@ -40,10 +40,7 @@ impl Drop for NamedCut {
 
 /// The first line, if there is one.
 pub fn bytes_of(words: &Notes) -> &[u8] {
-    match words.lines().first() {
-        Some(line) => line.as_slice(),
-        None => &[],
-    }
+    words.line(0).bytes
 }
 
 // Reads the parts of a predicate.
@@ -147,8 +144,8 @@ impl NamedCut {
     /// Appends what the breakpoint asks for to the last line: `left (state = 2) and right (state = 3)`.
     pub fn put_predicate(&self, notes: &mut Notes) -> Result<(), AllocError> {
         let mut word = "";
-        for part in self.parts.lines() {
-            notes.add(&[Part::Text(word), Part::Bytes(part.as_slice())])?;
+        for number in 0..self.parts.count() {
+            notes.add(&[Part::Text(word), Part::Bytes(self.parts.line(number).bytes)])?;
             word = " and ";
         }
         Ok(())
@@ -167,8 +164,9 @@ impl NamedCut {
         let mut heading = Notes::new(alloc);
         let mut word = Part::Name(self.name);
         let mut between = ": ";
-        for part in self.parts.lines() {
-            heading.say(&[word, Part::Text(between), Part::Bytes(part.as_slice())])?;
+        for number in 0..self.parts.count() {
+            let part = Part::Bytes(self.parts.line(number).bytes);
+            heading.say(&[word, Part::Text(between), part])?;
             word = Part::Text("and");
             between = " ";
         }

@@ -59,10 +59,7 @@ impl List {
         scope.put_expression(&mut words, expr)?;
         let mut conjunct = self.another();
         conjunct.number(i64::from(scope.pid.0))?;
-        match words.lines().first() {
-            Some(line) => conjunct.text(line.as_slice())?,
-            None => conjunct.text(&[])?,
-        }
+        conjunct.text(words.line(0).bytes)?;
         self.list(conjunct)
     }
 

@@ -7,6 +7,9 @@ use shell_parse::without_return;
 use std::alloc::{AllocError, Global};
 use std::mem;
 
+/// The most bytes that the replies of a page have.
+pub const REPLY_BYTES: usize = 16_777_216;
+
 // Where the text of a line ends in the texts of all lines, and its reply in all replies. A line without a reply has an empty one.
 #[derive(Clone, Copy)]
 struct End {
@@ -68,6 +71,9 @@ impl RecordedLines {
 
     /// The present line has this reply, and its operations end here.
     pub(super) fn end(&mut self, alloc: Global, reply: &[u8]) -> Result<(), Incomplete> {
+        if reply.len() > REPLY_BYTES.saturating_sub(self.replies.len()) {
+            return Err(Incomplete::TooLarge);
+        }
         self.replies.extend_from_slice(reply)?;
         if let Some(end) = self.ends.last_mut() {
             end.reply = self.replies.len();
@@ -79,27 +85,26 @@ impl RecordedLines {
         Ok(())
     }
 
-    /// The data, and after them the lines with their replies.
-    pub(super) fn with_replies(self, alloc: Global) -> Result<PageData, Incomplete> {
-        let RecordedLines {
-            text,
-            replies,
-            ends,
-            mut data,
-            ..
-        } = self;
+    /// Adds the lines with their replies to the data.
+    pub(super) fn put_replies(&mut self, alloc: Global) -> Result<(), Incomplete> {
         let mut from = End { text: 0, reply: 0 };
-        for end in &ends {
-            let line = text.get(from.text..end.text).unwrap_or(&[]);
+        for end in &self.ends {
+            let line = self.text.get(from.text..end.text).unwrap_or(&[]);
             if is_shown(line) {
+                let reply = self.replies.get(from.reply..end.reply).unwrap_or(&[]);
                 let mut both = List::new(alloc);
                 both.text(line)?;
-                both.text(replies.get(from.reply..end.reply).unwrap_or(&[]))?;
-                data.add(alloc, &both.into_value())?;
+                both.text(reply)?;
+                self.data.add(alloc, &both.into_value())?;
             }
             from = *end;
         }
-        Ok(data)
+        Ok(())
+    }
+
+    /// The data. Then there are none.
+    pub(super) fn take_data(&mut self, alloc: Global) -> PageData {
+        mem::replace(&mut self.data, PageData::new(alloc))
     }
 }
 

@@ -3,25 +3,25 @@ use Rattle.ui_session.proofs.DialogueLemmas.{Explains, explains_none, explains_m
 use Rattle.ui_session.proofs.written.write_lines.Goals as goal
 use Rattle.ui_session.proofs.written.write_lines.Goals.{then-is_unended+in_ok-write_line, else-is_unended}
 
-pub loop-line-init : goal.loop-line-init
-loop-line-init g c = explains_none _
+pub loop-number-init : goal.loop-number-init
+loop-number-init g c = explains_none _
 
-pub loop-line-preserved : goal.loop-line-preserved
-loop-line-preserved g c =
+pub loop-number-preserved : goal.loop-number-preserved
+loop-number-preserved g c =
     let old = g.W.Sink.seen c.args.writer.now in
     elim c.if-is_unended.branch [
       | then-is_unended+in_ok-write_line w ↦
           subst (λ x. Explains old (g.W.Sink.seen x)) (sym w.writer-is)
-          (explains_more _ _ _ c.as_slice-bytes.result.now c.loop-line.invariant (sym c.is_unended.ensures ∙ w.if-is_unended.true)
+          (explains_more _ _ _ _ c.loop-number.invariant (sym c.is_unended.ensures ∙ w.if-is_unended.true)
           w.in_ok-write_line.ensures)
-      | else-is_unended w ↦ subst (λ x. Explains old (g.W.Sink.seen x)) (sym w.writer-is) c.loop-line.invariant
+      | else-is_unended w ↦ subst (λ x. Explains old (g.W.Sink.seen x)) (sym w.writer-is) c.loop-number.invariant
     ]
 
 pub returns-in_err-write_line : goal.returns-in_err-write_line
 returns-in_err-write_line g c = record {
-  written = explains_stops _ _ _ c.as_slice-bytes.result.now c.loop-line.invariant (sym c.is_unended.ensures ∙ c.if-is_unended.true)
+  written = explains_stops _ _ _ _ c.loop-number.invariant (sym c.is_unended.ensures ∙ c.if-is_unended.true)
       c.in_err-write_line.ensures c.from_residual.ensures.1;
 }
 
 pub returns : goal.returns
-returns g c = record { written = explains_ends _ _ c.loop-line.invariant }
+returns g c = record { written = explains_ends _ _ c.loop-number.invariant }

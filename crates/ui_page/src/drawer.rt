@@ -1,0 +1,74 @@
+//! Draws a session: one state of it, or a page to go through it.
+
+use crate::artist::Artist;
+use crate::recorder::Recorder;
+use dbg_base::Call;
+use dbg_command::SessionView;
+use proc_lang::Program;
+use shell_io::GivenLine;
+use std::alloc::Global;
+use ui_diagram::{Picture, PictureForm};
+use ui_explain::{Echo, Explainer, Told};
+use ui_text::{Notes, ProgramText};
+
+/// An explainer that draws a session.
+#[derive(Drop)]
+pub enum Drawer<'a> {
+    State(Artist<'a>),
+    Page(Recorder),
+}
+
+impl<'a> Drawer<'a> {
+    /// A drawer of this picture of a session in which no line was answered. A page shows the commands of the program as this text has them.
+    pub fn new(
+        alloc: Global,
+        wanted: Picture<'a>,
+        program: &Program,
+        text: &ProgramText,
+    ) -> Drawer<'a> {
+        match wanted.form {
+            PictureForm::Html => Drawer::Page(Recorder::new(alloc, program, text)),
+            _ => Drawer::State(Artist::new(wanted)),
+        }
+    }
+}
+
+impl<N> Explainer<N> for Drawer<'_> {
+    fn keeps_replies(&self) -> bool {
+        matches!(self, Drawer::Page(_))
+    }
+
+    fn hear(&mut self, _alloc: Global, line: &GivenLine<'_, N>) -> Echo {
+        if let Drawer::Page(recorder) = self {
+            recorder.begin_line(line.played.unwrap_or(line.written));
+        }
+        Echo::Nothing
+    }
+
+    fn prepare(&mut self, _alloc: Global, view: SessionView<'_>, call: &Call) {
+        if let Drawer::Page(recorder) = self {
+            recorder.prepare(view, call);
+        }
+    }
+
+    fn explain(
+        &mut self,
+        alloc: Global,
+        view: SessionView<'_>,
+        _line: &GivenLine<'_, N>,
+        told: Told<'_>,
+        reply: &[u8],
+        _notes: &mut Notes,
+    ) {
+        match self {
+            Drawer::State(artist) => artist.look(alloc, view, told),
+            Drawer::Page(recorder) => recorder.end_line(view, told, reply),
+        }
+    }
+
+    fn end(&mut self, alloc: Global, view: SessionView<'_>) {
+        if let Drawer::State(artist) = self {
+            artist.end(alloc, view);
+        }
+    }
+}
