@@ -84,9 +84,9 @@ def find(suite, *more, path=None, given=None):
 
 
 def begun(suite, *more):
-    """A run of `find` that has begun."""
+    """A run of `find` that has begun. Ctrl-C ends it also if these tests run in the background of a shell, where SIGINT is ignored."""
     return subprocess.Popen(words(*more), stdin=subprocess.DEVNULL, stdout=subprocess.PIPE, stderr=subprocess.PIPE, text=True,
-                            env={**os.environ, "RDBG": suite.program})
+                            env={**os.environ, "RDBG": suite.program}, preexec_fn=lambda: signal.signal(signal.SIGINT, signal.SIG_DFL))
 
 
 def session_problem(suite, text):
