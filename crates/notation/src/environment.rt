@@ -194,7 +194,7 @@ impl<'a> Environment<'a> {
         self.kept = self.kept.max(self.copy);
     }
 
-    /// The argument that a parameter stands for.
+    /// The argument that is put in for a parameter.
     pub(crate) fn argument(&self, number: usize, at: usize) -> Expanding<&'a Expression> {
         for bound in self.arguments.iter().rev() {
             if let Some(argument) = bound.values.get(number.wrapping_sub(bound.first)) {
@@ -204,7 +204,7 @@ impl<'a> Environment<'a> {
         Err(ExpansionStop::Bad(Problem::VariableComputed, at))
     }
 
-    /// Lets the parameters of a definition stand for these arguments. The answer is its expression.
+    /// Puts these arguments in for the parameters of a definition. The answer is its expression.
     pub(crate) fn begin_call(
         &mut self,
         number: usize,
@@ -219,7 +219,7 @@ impl<'a> Environment<'a> {
         Ok(&definition.body)
     }
 
-    /// Lets the parameters of the definition that was put in last stand for what they stood for.
+    /// The parameters of the definition that was put in last have their arguments of before.
     pub(crate) fn end_call(&mut self) {
         let _ = self.arguments.pop();
     }

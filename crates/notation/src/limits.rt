@@ -17,5 +17,5 @@ pub const UNFOLDING: u32 = 512;
 pub const STEPS: u32 = 2_000_000;
 /// The most steps of all command lines of a session.
 pub const SESSION_STEPS: u32 = 10_000_000;
-/// The most lines that one command line with `for` stands for, and the most parts of a breakpoint.
+/// The most plain lines to which one command line with `for` expands, and the most parts of a breakpoint.
 pub const COPIES: usize = 65_536;

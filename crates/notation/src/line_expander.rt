@@ -16,7 +16,7 @@ use dbg_base::limits::LINE_BYTES;
 use std::alloc::{AllocError, Global};
 
 /// Expands the command lines of a session, one after the other. The work for a line depends on the line and its plain lines alone, and on
-/// steps, of which each line may take `STEPS` and all lines together `SESSION_STEPS`. A line leaves nothing behind but the steps it took.
+/// steps, of which each line may take `STEPS` and all lines together `SESSION_STEPS`. The steps of a line are all that remains of it.
 #[derive(Drop)]
 pub struct LineExpander<'a> {
     alloc: Global,
@@ -78,7 +78,7 @@ impl<'a> LineExpander<'a> {
         divider.line()
     }
 
-    // Appends the lines that these pieces stand for. Faults are at most at this offset.
+    // Appends the plain lines of these pieces. No fault is past this offset.
     fn render(
         &mut self,
         line: &[u8],
@@ -102,7 +102,7 @@ impl<'a> LineExpander<'a> {
         }
     }
 
-    // Appends the lines that a line without a comment stands for. Faults are at most at this offset.
+    // Appends the plain lines of a line without a comment. No fault is past this offset.
     fn expand_bare(
         &mut self,
         line: &[u8],
@@ -120,8 +120,8 @@ impl<'a> LineExpander<'a> {
         }
     }
 
-    /// Appends the plain line or lines that a command line stands for. A line that has nothing of the notation stays as it is. After an error
-    /// the plain lines are as they were.
+    /// Appends the plain lines to which a command line expands. A line that has nothing of the notation stays as it is. After an error the
+    /// plain lines are as they were.
     pub fn expand(&mut self, line: &[u8], plain: &mut PlainLines) -> Result<(), NotationError>
         ensures { IfErr result (IsInside (length line.now)) }
     {

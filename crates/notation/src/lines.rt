@@ -1,4 +1,4 @@
-//! The plain lines that command lines stand for.
+//! The plain lines to which command lines expand.
 
 use std::alloc::{AllocError, Global};
 

@@ -1,4 +1,4 @@
-//! What a command line is made of: which of its bytes stand for something else.
+//! What a command line is made of: which of its bytes are replaced, and by what.
 
 use crate::expansion::Expansion;
 use crate::fault::{Expanding, ExpansionStop};
@@ -12,7 +12,7 @@ use crate::token::{Mark, SourceToken, SourceTokenKind};
 use dbg_base::Name;
 use std::alloc::Global;
 
-/// What some bytes of a line stand for.
+/// What replaces some bytes of a line.
 #[derive(Drop)]
 pub(crate) enum Meant {
     /// A name with indices. It is the name of the process to which the next pieces belong.
@@ -34,7 +34,7 @@ pub(crate) struct Reading {
     pub(crate) expression: Expression,
 }
 
-/// The bytes of a line from one offset to another, and what they stand for.
+/// The bytes of a line from one offset to another, and what replaces them.
 #[derive(Drop)]
 pub(crate) struct LinePiece {
     pub(crate) from: usize,

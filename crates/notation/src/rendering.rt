@@ -1,4 +1,4 @@
-//! Writes the plain lines that the pieces of a command line stand for.
+//! Writes the plain lines of the pieces of a command line.
 
 use crate::building::{ProcessCopy, put_indices};
 use crate::environment::Environment;
@@ -17,7 +17,7 @@ use dbg_base::limits::INPUT_BYTES;
 use itoa::Buffer;
 use std::alloc::{AllocError, Global};
 
-/// Writes the lines that the pieces of a line stand for.
+/// Writes the plain lines of the pieces of a line.
 #[derive(Drop)]
 pub(crate) struct Renderer<'a> {
     pub(crate) writer: Writer<'a>,

@@ -3,6 +3,7 @@
 use crate::fault::Meaning;
 use crate::model::Visible;
 use std::alloc::{AllocError, Global};
+use std::cmp::Ordering;
 use std::collections::BTreeMap;
 
 /// What a name means, with the number of the constant, definition, member or parameter. A definition has so many parameters, too.
@@ -49,42 +50,41 @@ struct Declared<'a> {
 /// The names of a model that command lines may use: those of the whole model, and those of each process by its declaration.
 #[derive(Drop)]
 pub(crate) struct ModelNames {
-    whole: BTreeMap<Vec<u8>, Binding>,
-    own: BTreeMap<usize, BTreeMap<Vec<u8>, Binding>>,
+    // Sorted by their declarations, and then by their names.
+    names: Vec<Visible>,
+}
+
+// Compares a name of a model with this name in this declaration.
+fn order(one: &Visible, declaration: Option<usize>, name: &[u8]) -> Ordering {
+    match one.declaration.cmp(&declaration) {
+        Ordering::Equal => one.name.bytes().cmp(name),
+        unequal => unequal,
+    }
 }
 
 impl ModelNames {
     /// The names of a model.
     pub(crate) fn new(alloc: Global, visible: &[Visible]) -> Result<ModelNames, AllocError> {
-        let mut names = ModelNames {
-            whole: BTreeMap::new(alloc),
-            own: BTreeMap::new(alloc),
-        };
-        for visible in visible {
-            names.add(alloc, visible)?;
-        }
-        Ok(names)
+        let mut names = Vec::from_slice(alloc, visible)?;
+        names.sort_unstable_by(|one, other| order(one, other.declaration, other.name.bytes()));
+        Ok(ModelNames { names })
     }
 
-    fn add(&mut self, alloc: Global, visible: &Visible) -> Result<(), AllocError> {
-        let name = Vec::from_slice(alloc, visible.name.bytes())?;
-        match visible.declaration {
-            None => self.whole.insert(name, visible.binding)?,
-            Some(number) => self
-                .own
-                .entry(number)?
-                .or_insert(BTreeMap::new(alloc))
-                .insert(name, visible.binding)?,
-        };
-        Ok(())
+    // What the name means in this declaration, or in the whole model.
+    fn find(&self, name: &[u8], declaration: Option<usize>) -> Option<Binding> {
+        let place = self
+            .names
+            .binary_search_by(|one| order(one, declaration, name))
+            .ok()?;
+        Some(self.names.get(place)?.binding)
     }
 
     // What the name means in the whole model, or else in the process of this declaration.
     fn meaning(&self, name: &[u8], declaration: Option<usize>) -> Option<Binding> {
-        if let Some(binding) = self.whole.get(name) {
-            return Some(*binding);
+        match self.find(name, None) {
+            Some(binding) => Some(binding),
+            None => self.find(name, Some(declaration?)),
         }
-        self.own.get(&declaration?)?.get(name).copied()
     }
 }
 

@@ -79,7 +79,7 @@ fn problem_text(problem: Problem) -> &'static str {
         Problem::MuchWork => "the expansion takes more than 2000000 steps",
         Problem::SessionWork => "the lines of a session take more than 10000000 steps",
         Problem::ManyCopies =>
-            "one line stands for at most 65536 plain lines, and a breakpoint has at most as many parts",
+            "one line expands to at most 65536 plain lines, and a breakpoint has at most as many parts",
         Problem::Plain(kind) => plain_text(kind),
     }
 }

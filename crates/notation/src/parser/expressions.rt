@@ -183,7 +183,7 @@ impl<'a> ModelParser<'a> {
         }
     }
 
-    // What a name without arguments stands for.
+    // What a name without arguments means.
     fn looked_up(&mut self, reference: Reference, word: &[u8]) -> Expanding<Expression> {
         if !reference.indices.is_empty() {
             return Ok(Expression::Name(reference));

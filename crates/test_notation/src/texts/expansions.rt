@@ -1,4 +1,4 @@
-//! Texts, and the plain programs that they stand for: each production of the grammar, and each sentence of its meaning.
+//! Texts, and the plain programs to which they expand: each production of the grammar, and each sentence of its meaning.
 
 use super::{ExpansionCase, expect_expanded};
 

@@ -1,4 +1,4 @@
-//! Command lines, and the plain lines that they stand for.
+//! Command lines, and the plain lines to which they expand.
 
 use super::reported;
 use crate::expecting::expect_same;
@@ -25,7 +25,7 @@ process bob {
   for j: 1..3 { hear: when reads = j : reads := 0; }
 }";
 
-// A line, and the plain lines that it stands for, with `|` between them.
+// A line, and the plain lines to which it expands, with `|` between them.
 type LineCase = (&'static str, &'static str);
 
 const PLAIN: &[LineCase] = &[
@@ -249,7 +249,7 @@ const AFTER_FAULTS: &[LineCase] = &[
     ),
 ];
 
-// The lines that a line stands for, with `|` between them, or its fault.
+// The plain lines of a line, with `|` between them, or its fault.
 fn lines_of(
     alloc: Global,
     expander: &mut LineExpander<'_>,
