@@ -1,6 +1,3 @@
-//! The script: the address and the title of what is shown, and copies of it.
-
-pub(super) static ADDRESS: &str = r#"
 // The address ends in the number of the line. After a colon, the chosen breakpoint follows, or the chosen process and the number of its event.
 function addressEnd() {
   const {point, p, n} = chosen || {};
@@ -99,4 +96,3 @@ function save() {
   setTimeout(() => URL.revokeObjectURL(link.href), 10000);
   confirmIn(find('save'), 'saved');
 }
-"#;

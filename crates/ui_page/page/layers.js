@@ -1,6 +1,3 @@
-//! The script: the elements of the drawing.
-
-pub(super) static LAYERS: &str = r#"
 const SVG = 'http://www.w3.org/2000/svg', svg = area.querySelector('svg');
 function shape(tag, parent, attributes = {}) {
   const made = document.createElementNS(SVG, tag);
@@ -101,4 +98,3 @@ function rove(key) {
   roving = rovesTo = neighbour(document.activeElement.chooses, key);
   show({isRoved: true});
 }
-"#;

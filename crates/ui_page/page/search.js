@@ -1,6 +1,3 @@
-//! The script: the search for lines, events and values.
-
-pub(super) static SEARCH: &str = r#"
 // The search finds lines by their text and reply, events by what they did, and values that processes have now.
 const FOUND = 50, searchField = find('search'), results = find('results');
 let atResult = -1;
@@ -89,4 +86,3 @@ searchField.addEventListener('keydown', event => {
 searchField.addEventListener('blur', () => setTimeout(() => {
   if (document.activeElement !== searchField) results.classList.remove('open');
 }, 200));
-"#;

@@ -1,6 +1,3 @@
-//! The script: the drawing.
-
-pub(super) static PAINTING: &str = r#"
 // The name of an event, and what it did.
 function summary(p, n) {
   const what = n === 0 ? 'start' : n <= shown.events[p].length ? 'event ' + n : 'to redo: event ' + n;
@@ -152,4 +149,3 @@ function paint(fades) {
   for (const layer of LAYERS) layer.end();
   placeStop();
 }
-"#;

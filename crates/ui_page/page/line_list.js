@@ -1,6 +1,3 @@
-//! The script: the lines at the left.
-
-pub(super) static LINE_LIST: &str = r#"
 // The lines that are listed. Row 0 is the start. A row stays as long as its line is visible, so that a selection of its text stays.
 const HIGH = 42, list = listArea.querySelector('.window'), rows = new Map();
 function makeRow(n) {
@@ -38,4 +35,3 @@ function relist() {
   listScroll.resize(listed.length * HIGH);
 }
 relist();
-"#;

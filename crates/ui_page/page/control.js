@@ -1,6 +1,3 @@
-//! The script: what happens on keys and clicks.
-
-pub(super) static CONTROL: &str = r#"
 // Changes: of the current line, of the chosen event or breakpoint, of the visible part. They are drawn once for each frame.
 let waits = null;
 function show(what) {
@@ -144,5 +141,3 @@ for (const name in buttons) find(name).onclick = buttons[name];
 listArea.onscroll = area.onscroll = () => show({});
 new ResizeObserver(() => show({})).observe(area);
 openAt(location.hash);
-})();
-"#;

@@ -1,6 +1,3 @@
-//! The script: the events, and the state after each line.
-
-pub(super) static STATES: &str = r#"
 // Events and states. They never change, and they share common parts, so that the state of each line can be kept.
 
 // The item before the first event of process p, or before a choice that was not made yet.
@@ -246,4 +243,3 @@ function clockAt(event) {
   }
   return event.clock;
 }
-"#;

@@ -1,6 +1,3 @@
-//! The script: a breakpoint, and the state in its cut.
-
-pub(super) static CUT_PANEL: &str = r#"
 // Why the candidate of a process advanced.
 function reason({p, to, by, event}) {
   const {name} = processes[p];
@@ -68,4 +65,3 @@ function pointDetails(name) {
   if (point.cut) return [...cutDetails(point), mark];
   return [node('h2', 'breakpoint ' + name), node('p', node('code', predicateOf(point)), {class: colourOf(name)}), mark, searchDetails(point)];
 }
-"#;

@@ -1,6 +1,3 @@
-//! The script: the text of the program.
-
-pub(super) static PROGRAM: &str = r#"
 // The program as it was written, up to the lines of the session, with the command of the chosen event, or of the event that the line made, marked.
 const programLines = readable(session.program || '').split(/^%%\s*$/m)[0].replace(/\s+$/, '').split('\n');
 // A line of the program, with as many signs, in which comments and their words are blank.
@@ -73,4 +70,3 @@ function showProgram(isOn) {
 }
 function toggleProgram() { showProgram(!isProgramShown); }
 showProgram(Boolean(session.program) && innerWidth >= 1100);
-"#;

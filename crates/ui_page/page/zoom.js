@@ -1,6 +1,3 @@
-//! The script: the size of the drawing, and the part of it that is visible.
-
-pub(super) static ZOOM: &str = r#"
 // The drawing: the size of the window, the width of the names, the width of an event, the height of a process, the radius of a mark.
 const TOP = 30, NARROWEST = 6, WIDEST = 240, longestName = Math.max(...processes.map(({name}) => name.length));
 let wide = 0, high = 0, stripWidth = 0, margin = 0, width = 72, height = 0, radius = 8.5, isFitted = false;
@@ -127,4 +124,3 @@ overview.addEventListener('pointerdown', event => {
   toOverview(event);
 });
 overview.addEventListener('pointermove', event => { if (event.buttons & 1) toOverview(event); });
-"#;

@@ -1,6 +1,3 @@
-//! The script: what is hidden.
-
-pub(super) static HIDING: &str = r#"
 // A choice of what is shown, as a check box.
 function checkBox(text, isOn, change) {
   const box = node('input', '', {type: 'checkbox'});
@@ -45,4 +42,3 @@ shownPart.addEventListener('keydown', event => {
   shownPart.querySelector('summary').focus();
   event.stopPropagation();
 });
-"#;

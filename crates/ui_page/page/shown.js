@@ -1,6 +1,3 @@
-//! The script: which rows are shown, and the areas that scroll.
-
-pub(super) static SHOWN: &str = r#"
 // The first position in a list from which on the test holds.
 function firstWhere(list, test) {
   let low = 0, high = list.length;
@@ -105,4 +102,3 @@ function latest(n) {
     return line.done.n >= old[p].done.n ? line.done.n : line.later ? line.done.n + 1 : 0;
   });
 }
-"#;

@@ -1,6 +1,3 @@
-//! The script: the explanations below the drawing.
-
-pub(super) static BELOW: &str = r#"
 // The details below the drawing.
 function node(tag, parts, attributes = {}) {
   const made = document.createElement(tag);
@@ -104,4 +101,3 @@ function showPoints() {
     set(button, {class: colourOf(name) + (isHalting ? ' halting' : ''), 'aria-pressed': Boolean(chosen && chosen.point === name)});
   });
 }
-"#;

@@ -1,8 +1,3 @@
-//! The script: reads the session, and its texts.
-
-pub(super) static READING: &str = r#"
-'use strict';
-(() => {
 const find = id => document.getElementById(id);
 // The data are a line of JSON for the program, one for what a line of the session did, if it did something, and one for each line with its
 // reply. In a text, `<` and each byte that is not ASCII are characters from 256 on.
@@ -42,4 +37,3 @@ for (const line of lines) {
   line[1] = readable(line[1]);
 }
 for (const {commands} of processes) for (const command of commands) command[1] = readable(command[1]);
-"#;

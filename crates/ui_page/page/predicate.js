@@ -1,6 +1,3 @@
-//! The script: predicates of breakpoints, and the state in a cut.
-
-pub(super) static PREDICATE: &str = r#"
 // The parts of a predicate, evaluated as the process language says. A fault is an exception, and a part with a fault does not hold.
 const LEAST = -(2n ** 63n), MOST = 2n ** 63n - 1n;
 function inRange(number) {
@@ -91,4 +88,3 @@ function crossing({cut}) {
     return first < end ? [{from, to, values: end - first > 50 ? [...values, '..'] : values}] : [];
   });
 }
-"#;
