@@ -18,9 +18,14 @@ def byte_of(sign):
     return chr(ord(sign[0]) - 256)
 
 
+def data_text(page):
+    """The data of a page, as lines of JSON."""
+    return page.partition("type=application/json>")[2].partition("</script>")[0].strip()
+
+
 def read_page(page):
     """The data of a page: its processes, the text of the program, and the lines, each with its reply and its operations."""
-    texts = page.partition("type=application/json>")[2].partition("</script>")[0].strip().splitlines()
+    texts = data_text(page).splitlines()
     data, *values = [json.loads(re.sub("[\u0100-\u01ff]", byte_of, text)) for text in texts]
     operations = {number: made for number, *made in values if isinstance(number, int)}
     shown = [value for value in values if isinstance(value[0], str)]

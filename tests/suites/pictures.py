@@ -13,7 +13,7 @@ import sys
 from harness import TOP, Fault, sessions, temporary_folder
 from harness.drawing import Drawing
 from harness.log import log_problems
-from harness.page_data import FinalState, read_page
+from harness.page_data import FinalState, data_text, read_page
 from harness.random_sessions import random_session
 from harness.session import Session, draw, short_name
 
@@ -173,11 +173,19 @@ def check_golden(suite, golden, form, file):
         suite.case(short_name(golden), fault)
 
 
+def check_page_of_documents(suite):
+    """The page among the documents has the data of a page that is drawn now. --update writes it anew, with the script and the style of now."""
+    page = draw(suite, "html", TOP / "examples" / "two_phase_commit.rdbg").decode()
+    if suite.options.update:
+        GOLDEN_PAGE.write_text(page, encoding="utf-8")
+    suite.same(short_name(GOLDEN_PAGE), data_text(page), data_text(GOLDEN_PAGE.read_text(encoding="utf-8")))
+
+
 def run(suite):
     for file in sessions("tests/pictures"):
         for form in FORMS:
             check_golden(suite, file.with_suffix(f".{form}"), form, file)
-    check_golden(suite, GOLDEN_PAGE, "html", TOP / "examples" / "two_phase_commit.rdbg")
+    check_page_of_documents(suite)
     with temporary_folder() as room:
         suite.attempt("a drawing of many events", joined_problems, long_drawing_problem, suite, room)
         suite.attempt("a page of many breakpoints", joined_problems, shared_searches_problem, suite, room)
