@@ -112,13 +112,17 @@ impl<W: StyledWrite> Sink for Output<W> {
         }
     }
 
+    fn shows_styles(&self) -> bool {
+        self.inner.device().shows_styles()
+    }
+
     // The bytes in the buffer have the style before. They are written first, if the writer shows styles.
     fn set_style(&mut self, style: Style) -> Result<()>
         ensures bytes { Keeps (output_contents W.contents self.old) (output_contents W.contents self.new) }
         ensures health { self.new.inner.health ≡ health_after self.old.inner.health result }
     {
         self.inner.go_on()?;
-        if self.inner.device().shows_styles() {
+        if self.shows_styles() {
             if let Err(kind) = self.hand_on() {
                 return Err(Error::from(kind));
             }

@@ -43,6 +43,7 @@ pub(crate) enum Stream {
 }
 
 impl Write for Stream {
+    #[inline(always)]
     fn write(&mut self, bytes: &[u8]) -> io::Result<usize> {
         match self {
             Stream::Output(stream) => stream.write(bytes),
@@ -50,6 +51,7 @@ impl Write for Stream {
         }
     }
 
+    #[inline(always)]
     fn flush(&mut self) -> io::Result<()> {
         match self {
             Stream::Output(stream) => stream.flush(),
@@ -102,10 +104,13 @@ fn put_run(text: &mut Vec<u8>, style: Style, bytes: &[u8]) -> Result<(), AllocEr
     text.extend_from_slice(PLAIN.as_bytes())
 }
 
-// Whether these are lines of plain characters.
+// Whether these are lines of plain characters. It checks all bytes, which is faster than to stop at the first that is not.
 fn are_plain_lines(bytes: &[u8]) -> bool {
-    let is_plain = |byte: &u8| matches!(*byte, b' '..=b'~' | b'\n');
-    bytes.last() == Some(&b'\n') && bytes.iter().all(is_plain)
+    let is_plain = |byte: u8| (b' ' <= byte && byte <= b'~') || byte == b'\n';
+    let are_plain = bytes
+        .iter()
+        .fold(true, |before, byte| before & is_plain(*byte));
+    are_plain && bytes.last() == Some(&b'\n')
 }
 
 // Writes all of the bytes. A write that failed is not tried again.
@@ -166,14 +171,13 @@ impl Painted {
         is_empty && self.style == Style::Plain && self.run_style == Style::Plain
     }
 
-    // Writes bytes for a person, up to their last line end. It has a function of its own because most bytes are written as they are.
+    // Writes bytes for a person, up to their last line end. It has a function of its own because those of a run are written as they are.
     #[inline(never)]
     fn write_text(&mut self, bytes: &[u8]) -> io::Result<usize>
         ensures { WritesAtMost result bytes.now }
     {
         if self.is_plain() && are_plain_lines(bytes) {
-            write_fully(&mut self.inner, bytes)?;
-            return Ok(bytes.len());
+            return self.inner.write(bytes);
         }
         if self.style != self.run_style {
             self.paint_run()?;

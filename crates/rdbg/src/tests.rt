@@ -1,70 +1,11 @@
 //! Tests of what no contract says.
 
 use crate::output::Output;
-use crate::words::{WordsFault, words};
 use shell_io::{Sink, Style, StyledWrite};
 use std::alloc::Global;
-use std::env::{Env, FillError};
 use std::io;
 use std::io::{ErrorKind, Write};
 use std::test::Fail;
-
-// An argument of any bytes.
-#[derive(Drop)]
-struct ArgumentLine<'a> {
-    words: &'a [&'a [u8]],
-}
-
-impl Env for ArgumentLine<'_> {
-    fn arg(&self, i: usize, buf: &mut [u8]) -> Result<usize, FillError> {
-        let Some(word) = self.words.get(i) else {
-            return Err(FillError::NotPresent);
-        };
-        if word.len() > buf.len() {
-            return Err(FillError::TooLong);
-        }
-        buf[..word.len()].copy_from_slice(word);
-        Ok(word.len())
-    }
-
-    fn var(&self, _name: &str, _buf: &mut [u8]) -> Result<usize, FillError> {
-        Err(FillError::NotPresent)
-    }
-
-    fn var_at(&self, _i: usize, _buf: &mut [u8]) -> Result<usize, FillError> {
-        Err(FillError::NotPresent)
-    }
-}
-
-#[test]
-fn words_that_are_no_text_are_a_usage_fault(rt: HostRuntime) {
-    let bad: [&[u8]; 4] = [b"\xff", b"ru\xc3", b"\xed\xa0\x80", b"\xc0\xafrun"];
-    for word in bad {
-        let line = [b"rdbg".as_slice(), word];
-        let given = words(&(ArgumentLine { words: &line }, rt.alloc()));
-        match given {
-            Ok(_) => panic!(rt; "{word:?} is no text"),
-            Err(fault) => {
-                assert_eq!(rt; fault, WordsFault::NotText, "{word:?}");
-                assert_eq!(rt; fault.status(), 2);
-            }
-        }
-    }
-}
-
-#[test]
-fn words_that_are_text_are_given(rt: HostRuntime) {
-    let line = [b"rdbg".as_slice(), b"r\xc3\xbcn", b""];
-    match words(&(ArgumentLine { words: &line }, rt.alloc())) {
-        Ok(words) => {
-            assert_eq!(rt; words.len(), 3);
-            for (word, given) in words.iter().zip(["rdbg", "r\u{fc}n", ""]) {
-                assert_eq!(rt; word.as_str(), given);
-            }
-        }
-        Err(fault) => panic!(rt; "{fault:?}"),
-    }
-}
 
 // Takes at most four bytes at each write. The `left`-th write fails as `fault` says, or takes nothing. The writes after it succeed.
 #[derive(Drop)]

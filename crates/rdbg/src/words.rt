@@ -4,7 +4,6 @@ ghost use Rattle.std.specs.Prelude.{◌≡◌};
 ghost use Rattle.rdbg.specs.declared.words.WordsFault.TheVariants.{NotText, Memory};
 
 use std::env;
-use std::env::Env;
 use std::io::ErrorKind;
 
 /// Why there are no arguments.
@@ -29,7 +28,7 @@ impl WordsFault {
 }
 
 /// The arguments, of which the first is the program's own name.
-pub(crate) fn words<R: Env + AllocGlobal>(rt: &R) -> Result<Vec<String>, WordsFault> {
+pub(crate) fn words(rt: &HostRuntime) -> Result<Vec<String>, WordsFault> {
     match env::args(rt) {
         Ok(words) => match words.collect::<Vec<String>>(rt.alloc()) {
             Ok(words) => Ok(words),

@@ -41,6 +41,11 @@ pub trait Sink {
         ensures bytes { Keeps (seen self.old).contents (seen self.new).contents }
         ensures health { (seen self.new).health ≡ health_after (seen self.old).health result };
 
+    /// Whether it shows styles.
+    fn shows_styles(&self) -> bool {
+        false
+    }
+
     /// Sets the style of the next bytes, if the sink shows styles. An error is a failure of the sink.
     fn set_style(&mut self, style: Style) -> Result<()>
         ensures bytes { Keeps (seen self.old).contents (seen self.new).contents }

@@ -31,6 +31,9 @@ fn flush<W: Sink>(writer: &mut W) -> Result<(), ServeFault>
 pub fn set_style<W: Sink>(style: Style, writer: &mut W) -> Result<(), ServeFault>
     ensures { Writes (W.seen writer.old) (W.seen writer.new) result [] }
 {
+    if !writer.shows_styles() {
+        return Ok(());
+    }
     match writer.set_style(style) {
         Ok(()) => Ok(()),
         Err(_) => Err(ServeFault::Write),

@@ -284,6 +284,11 @@ result_err {r = Err f} M P line J after old new wrote same = record {
 pub explained_alone : (M : Manner) → MayBeQuiet M → (text : List ℕ) → IsExplained M text text
 explained_alone M quiet text = ([], quiet.explains, sym (append-nil text))
 
+-- the text was flushed
+pub flushed : {A B : Type 0} {r : Result A ServeFault} {q : Result B ServeFault} {Form : List ℕ → Type 0} {a b c : Seen}
+    → WritesForm Form a r b → ((old : Seen) (text : List ℕ) → Writes old b r text → Writes old c q text) → WritesForm Form a q c
+flushed told flushes = record { text = told.text; form = told.form; written = flushes _ told.text told.written }
+
 -- a refusal of the program was written, and then an explanation or none
 pub refused_then : {A B : Type 0} {u : A} {r : Result B ServeFault} (M : Manner) (due : List ℕ) (a b c : Seen)
     → Writes {A = A} a b (Ok u) due → WritesForm M.explains b r c → WritesForm (IsExplained M due) a r c

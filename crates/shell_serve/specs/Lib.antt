@@ -4,3 +4,4 @@ pub mod Sessions
 pub mod Plain
 pub mod Serving
 pub mod Answering
+pub mod Replying

@@ -1,5 +1,5 @@
 -- The output of a session whose lines are answered in some manner.
-use Rattle.std.specs.Prelude.{◌≡◌, ◌⊎◌, ℕ, Bool, true, false, List, [], ◌∷◌, ◌++◌, Option, Some, None, Result, Ok, Err}
+use Rattle.std.specs.Prelude.{◌≡◌, ◌⊎◌, ℕ, Bool, true, false, List, [], ◌∷◌, ◌++◌, Option, Some, None, Result, Ok, Err, codes}
 use Rattle.std.specs.List.{list_any}
 use Rattle.std.specs.Bool.{MatchBool}
 use Rattle.shell_io.specs.Seen.{Seen, Appended}
@@ -30,6 +30,10 @@ pub record Manner : Type 1 where
   pub explains : List ℕ → Type 0
   -- the lines that end the session
   pub ends : List ℕ → Bool
+
+-- the line is taken as one of the first seat, or as it is
+abbrev pub IsSeated : Bool → List ℕ → List ℕ → Type 0
+IsSeated needs_seat line seated = MatchBool needs_seat (seated ≡ codes "1 " ++ line) (seated ≡ line)
 
 -- the replies may be the only output
 pub record MayBeQuiet (M : Manner) : Type 0 where

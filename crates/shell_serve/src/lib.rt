@@ -12,7 +12,7 @@ mod session;
 mod silent;
 mod source;
 
-pub use observer::Observer;
+pub use observer::{LineReply, LineSort, Observer};
 pub use running::play;
 pub use serving::serve;
 pub use session::answer;

@@ -11,9 +11,9 @@ ghost use Rattle.shell_parse.specs.Lines.{IsParsed, IsGivable, IsLineGivable, Is
 ghost use Rattle.shell_print.specs.Writing.{Writes};
 ghost use Rattle.shell_print.specs.declared.outcome.ServeFault.TheVariants.{Write};
 ghost use Rattle.shell_serve.specs.Answering.{IsMaker, AreAllSeats, IsLast, HasLast, answer_of, is_end};
-ghost use Rattle.shell_serve.specs.Sessions.{MayBeQuiet, IsExplained, WritesForm, WritesLine, WritesReply, ends_session};
+ghost use Rattle.shell_serve.specs.Sessions.{MayBeQuiet, IsExplained, IsSeated, WritesForm, WritesLine, WritesReply, ends_session};
 
-use crate::observer::Observer;
+use crate::observer::{LineReply, Observer};
 use crate::session::answer;
 use crate::source::Answer;
 use dbg_base::{Refusal, Said};
@@ -54,7 +54,7 @@ fn mark<T: Observer<N>, N, W: Sink>(
     set_style(said.map_or(Style::Refusal, reply_style), writer)
 }
 
-// Writes the reply to the call that was entered last, and the explanation. The reply is flushed before it is explained.
+// Writes the reply to the call that was entered last, and the explanation, and flushes them.
 fn tell_entered<L: Run, C: Command, T: Observer<N>, N, W: Sink>(
     alloc: Global,
     observer: &mut T,
@@ -70,13 +70,14 @@ fn tell_entered<L: Run, C: Command, T: Observer<N>, N, W: Sink>(
 {
     let entry = locked.last_entry();
     mark(observer, Some(&entry.said), writer)?;
-    let written = print_reply(locked.program(), &entry.call, &entry.said, writer);
-    hand_on(written, writer)?;
-    observer.explain_call(alloc, locked.view(), line, &entry.call, &entry.said, writer)?;
+    print_reply(locked.program(), &entry.call, &entry.said, writer)?;
+    let reply = LineReply::Said(&entry.call, &entry.said);
+    let explained = observer.explain(alloc, locked.view(), line, reply, writer);
+    hand_on(explained, writer)?;
     Ok(answer_of(&entry.said))
 }
 
-// Refuses a line of which no call was entered, and explains that.
+// Refuses a line of which no call was entered, explains that, and flushes both.
 fn refuse_line<L: Run, C: Command, T: Observer<N>, N, W: Sink>(
     alloc: Global,
     observer: &mut T,
@@ -92,13 +93,14 @@ fn refuse_line<L: Run, C: Command, T: Observer<N>, N, W: Sink>(
     ensures goes_on { IfOk result (λ answer. is_end answer ≡ false) }
 {
     mark(observer, None, writer)?;
-    let written = print_refusal(locked.program(), refusal, writer);
-    hand_on(written, writer)?;
-    observer.explain_refusal(alloc, locked.view(), line, refusal, writer)?;
+    print_refusal(locked.program(), refusal, writer)?;
+    let reply = LineReply::Refused(refusal);
+    let explained = observer.explain(alloc, locked.view(), line, reply, writer);
+    hand_on(explained, writer)?;
     Ok(Answer::Refused)
 }
 
-// Makes the call that a command line asks for. The reply is flushed before it is explained.
+// Makes the call that a command line asks for.
 #[inline(always)]
 fn answer_call<
     L: Run,
@@ -137,7 +139,7 @@ fn answer_call<
     }
 }
 
-// Answers a command line of which this was parsed. The reply is flushed before it is explained.
+// Answers a command line of which this was parsed.
 #[inline(always)]
 fn answer_parsed<
     L: Run,
@@ -190,17 +192,19 @@ fn answer_command<
     seats: &mut [Seat<L>],
     line: &GivenLine<'_, N>,
     played: &[u8],
+    needs_seat: bool,
     writer: &mut W,
 ) -> Result<Answer, ServeFault>
     requires makes { (M.IsAlwaysCallable make.now) × IsMaker (M.post make.now) C.IsFresh C.order }
     requires seats { AreAllSeats seats.old }
     requires quiet { MayBeQuiet T.manner }
+    requires seated { IsSeated needs_seat played.now (T.manner.seated played.now) }
     ensures seats { AreAllSeats seats.new }
     ensures goes_on { IfOk result (λ answer. is_end answer ≡ false) }
     ensures answers { WritesReply T.manner L.program (T.manner.seated played.now) locked.old.journal (W.seen writer.old) result
         (W.seen writer.new) locked.new.journal }
 {
-    let parsed = if observer.needs_seat(played) {
+    let parsed = if needs_seat {
         parse_seatless_line(alloc, locked.program(), played)
     } else if let Some(short) = parse_process_line(locked.program(), played) {
         // Most lines are of this kind.
@@ -249,11 +253,22 @@ pub(crate) fn answer_line<
     let Some(played) = line.played else {
         return refuse_line(alloc, observer, locked, line, &Refusal::Memory, writer);
     };
-    let ends = observer.ends(played);
-    if observer.is_directive(played) {
-        observer.direct(alloc, locked.view(), played, writer)?;
-        return Ok(ended_if(ends, Answer::Nothing));
+    let kind = observer.sort(played);
+    if kind.is_directive {
+        let answered = observer.direct(alloc, locked.view(), played, writer);
+        hand_on(answered, writer)?;
+        return Ok(ended_if(kind.ends, Answer::Nothing));
     }
-    let answer = answer_command(alloc, make, observer, locked, seats, line, played, writer)?;
-    Ok(ended_if(ends, answer))
+    let answer = answer_command(
+        alloc,
+        make,
+        observer,
+        locked,
+        seats,
+        line,
+        played,
+        kind.needs_seat,
+        writer,
+    )?;
+    Ok(ended_if(kind.ends, answer))
 }

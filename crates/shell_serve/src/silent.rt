@@ -2,8 +2,7 @@
 
 ghost use Rattle.shell_serve.specs.Plain.{plain};
 
-use crate::observer::Observer;
-use dbg_base::{Call, Refusal, Said};
+use crate::observer::{LineReply, LineSort, Observer};
 use dbg_command::SessionView;
 use shell_io::{GivenLine, Sink};
 use shell_print::ServeFault;
@@ -16,16 +15,12 @@ pub(crate) struct Silent;
 impl<N> Observer<N> for Silent {
     ghost manner = { plain };
 
-    fn is_directive(&self, _line: &[u8]) -> bool {
-        false
-    }
-
-    fn ends(&self, _line: &[u8]) -> bool {
-        false
-    }
-
-    fn needs_seat(&self, _line: &[u8]) -> bool {
-        false
+    fn sort(&self, _line: &[u8]) -> LineSort {
+        LineSort {
+            is_directive: false,
+            ends: false,
+            needs_seat: false,
+        }
     }
 
     fn before<W: Sink>(
@@ -47,24 +42,12 @@ impl<N> Observer<N> for Silent {
         Ok(())
     }
 
-    fn explain_call<W: Sink>(
+    fn explain<W: Sink>(
         &mut self,
         _alloc: Global,
         _view: SessionView<'_>,
         _line: &GivenLine<'_, N>,
-        _call: &Call,
-        _said: &Said,
-        _writer: &mut W,
-    ) -> Result<(), ServeFault> {
-        Ok(())
-    }
-
-    fn explain_refusal<W: Sink>(
-        &mut self,
-        _alloc: Global,
-        _view: SessionView<'_>,
-        _line: &GivenLine<'_, N>,
-        _refusal: &Refusal,
+        _reply: LineReply<'_>,
         _writer: &mut W,
     ) -> Result<(), ServeFault> {
         Ok(())

@@ -41,7 +41,7 @@ impl Answer {
     }
 }
 
-/// A source of lines, which reads them from a reader. It is told how the last line was answered, and gives the next one.
+/// A source of lines, which reads them from a reader. It gets how the last line was answered, and gives the next one.
 pub trait LineSource<R: Source, N> {
     // What the source and the reader need before a call.
     ghost Ready: { Self → R → Type 0 };

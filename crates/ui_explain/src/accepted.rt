@@ -7,18 +7,19 @@ use dbg_base::{Call, Done, Pid, Plan, Refusal, Reply};
 use std::alloc::{AllocError, Global};
 use ui_text::{Notes, Part};
 
-/// How many events each process had, how long its line was, and, before an undo, what its last event did.
+/// What has to be known of a session before a call: how many events each process had, and how long its line was.
 #[derive(Debug)]
 pub struct Before {
     places: Vec<(u32, u32)>,
-    undone: Notes,
+    // If it says what an undo is about to undo, how many lines the explanation had before that.
+    lines: Option<usize>,
 }
 
 impl Drop for Before {
     fn drop(self) {
         let Before {
             places: _,
-            undone: _,
+            lines: _,
         } = self;
     }
 }
@@ -34,7 +35,15 @@ impl Before {
     pub fn new(alloc: Global) -> Before {
         Before {
             places: Vec::new(alloc),
-            undone: Notes::new(alloc),
+            lines: None,
+        }
+    }
+
+    /// After the call, keeps what was said of an undo before it, or takes it off the explanation.
+    pub fn settle(&mut self, notes: &mut Notes, is_kept: bool) {
+        match self.lines.take() {
+            Some(lines) if !is_kept => notes.truncate(lines),
+            _ => {}
         }
     }
 }
@@ -52,13 +61,19 @@ impl SourceView<'_> {
         self.tell_event(notes, news, pid, self.session.world.rows().len(pid))
     }
 
-    /// Notes what has to be known of a session before a call, to explain afterwards what the call did.
-    pub fn note_before(&self, before: &mut Before, call: &Call) -> Result<(), AllocError> {
+    /// Notes what has to be known of a session before a call, to explain afterwards what the call did. Before an undo, says what the last
+    /// event did.
+    pub fn note_before(
+        &self,
+        notes: &mut Notes,
+        before: &mut Before,
+        call: &Call,
+    ) -> Result<(), AllocError> {
         before.places.clear();
-        before.undone.clear();
         match call {
             Call::Give(Plan::Undo(pid)) => {
-                self.tell_last(&mut before.undone, EventNews::Undone, *pid)?;
+                before.lines = Some(notes.count());
+                self.tell_last(notes, EventNews::Undone, *pid)?;
             }
             Call::Give(Plan::Rollback(_, _) | Plan::Goto(_) | Plan::Batch(_)) | Call::Back => {
                 for p in 0..self.session.program.processes() {
@@ -143,7 +158,7 @@ impl SourceView<'_> {
     ) -> Result<(), AllocError> {
         match done {
             Done::Played(pid, _) => self.tell_last(notes, EventNews::Made, *pid),
-            Done::Undone(_, _) => notes.append(&before.undone),
+            Done::Undone(_, _) => Ok(()),
             Done::Places(_) | Done::Plain => self.tell_moves(notes, before, call),
         }
     }

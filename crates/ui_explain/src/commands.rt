@@ -27,24 +27,6 @@ impl ProcessView<'_> {
         }
     }
 
-    /// Appends the place of a command to the last line: a colon, the line of the text at which it begins, and its label or number.
-    pub(crate) fn put_place(
-        &self,
-        notes: &mut Notes,
-        source: &ProgramText,
-        choice: Choice,
-    ) -> Result<(), AllocError> {
-        if let Some(place) = source.place(self.pid, choice) {
-            notes.add(&[Part::Text(":"), Part::Count(place.number), Part::Text(" ")])?;
-        }
-        let label = source.label(self.pid, choice);
-        if label.is_empty() {
-            let number = Part::Number(i64::from(choice.0));
-            return notes.add(&[Part::Text("command "), number]);
-        }
-        notes.add(&[Part::Bytes(label)])
-    }
-
     /// Appends the text of a command to the last line.
     pub(crate) fn put_text(
         &self,

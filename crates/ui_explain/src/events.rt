@@ -100,13 +100,16 @@ impl ProcessView<'_> {
         word: &'static str,
         setting: &Setting,
     ) -> Result<(), AllocError> {
-        let old = Part::Number(setting.old);
-        notes.add(&[Part::Text(word), self.variable(setting.variable)])?;
+        notes.put(&Part::Text(word))?;
+        notes.put(&self.variable(setting.variable))?;
         if setting.old == setting.new {
-            return notes.add(&[Part::Text(" stays "), old]);
+            notes.put(&Part::Text(" stays "))?;
+            return notes.put(&Part::Number(setting.old));
         }
-        let new = Part::Value(setting.new);
-        notes.add(&[Part::Text(" "), old, Part::Text(" -> "), new])
+        notes.put(&Part::Text(" "))?;
+        notes.put(&Part::Number(setting.old))?;
+        notes.put(&Part::Text(" -> "))?;
+        notes.put(&Part::Value(setting.new))
     }
 
     // Appends the message and where it came from, or went, to the last line, in words.
@@ -191,24 +194,22 @@ impl ProcessView<'_> {
     ) -> Result<(), AllocError> {
         match *exchange {
             Exchange::Nothing => Ok(()),
-            Exchange::Sent { target, value, .. } => notes.add(&[
-                Part::Number(value),
-                Part::Text(" > "),
-                self.process(target),
-            ]),
+            Exchange::Sent { target, value, .. } => {
+                notes.put(&Part::Number(value))?;
+                notes.put(&Part::Text(" > "))?;
+                notes.put(&self.process(target))
+            }
             Exchange::Took {
                 source,
                 message,
                 count,
             } => {
                 let sender = sending(world, source, self.pid, count);
-                notes.add(&[
-                    Part::Number(message),
-                    Part::Text(" < "),
-                    self.process(source),
-                    Part::Text(" "),
-                ])?;
-                notes.add(&[Part::Number(i64::from(sender))])
+                notes.put(&Part::Number(message))?;
+                notes.put(&Part::Text(" < "))?;
+                notes.put(&self.process(source))?;
+                notes.put(&Part::Text(" "))?;
+                notes.put(&Part::Number(i64::from(sender)))
             }
         }
     }
@@ -241,27 +242,23 @@ impl SourceView<'_> {
         };
         let scope = self.scope(pid);
         let columns = EventColumns::of(self.session.program);
-        let begin = if news == EventNews::MadeByBatch {
-            "  "
-        } else {
-            ""
-        };
-        notes.say(&[
-            Part::Text(begin),
-            scope.head(),
-            Part::Text(" "),
-            Part::Count(number),
-        ])?;
+        notes.say(&[])?;
+        if news == EventNews::MadeByBatch {
+            notes.put(&Part::Text("  "))?;
+        }
+        notes.put(&scope.head())?;
+        notes.put(&Part::Text(" "))?;
+        notes.put(&Part::Count(number))?;
         if columns.has_messages {
             notes.tab(columns.message)?;
             scope.put_arrow(notes, world, &event.exchange())?;
         }
         notes.tab(columns.settings)?;
         if news == EventNews::Undone {
-            notes.add(&[Part::Text("undone: ")])?;
+            notes.put(&Part::Text("undone: "))?;
         }
         scope.put_settings(notes, event)?;
         notes.tab_in(Style::Place, columns.command)?;
-        scope.put_place(notes, self.text, event.choice())
+        notes.put(&Part::Bytes(self.text.shown_place(pid, event.choice())))
     }
 }

@@ -41,10 +41,17 @@ pub trait Explainer<N> {
         Echo::Nothing
     }
 
-    /// A call is about to be made.
-    fn prepare(&mut self, _alloc: Global, _view: SessionView<'_>, _call: &Call) {}
+    /// A call is about to be made. Writes what has to be known before it into the explanation.
+    fn prepare(
+        &mut self,
+        _alloc: Global,
+        _view: SessionView<'_>,
+        _call: &Call,
+        _notes: &mut Notes,
+    ) {}
 
-    /// Writes the explanation of what was said to a line. The line of the reply is empty, unless the explainer keeps replies.
+    /// Writes the explanation of what was said to a line, after what was written before the call. The line of the reply is empty, unless the
+    /// explainer keeps replies.
     fn explain(
         &mut self,
         _alloc: Global,

@@ -45,7 +45,7 @@ impl<N> Explainer<N> for Drawer<'_> {
         Echo::Nothing
     }
 
-    fn prepare(&mut self, _alloc: Global, view: SessionView<'_>, call: &Call) {
+    fn prepare(&mut self, _alloc: Global, view: SessionView<'_>, call: &Call, _notes: &mut Notes) {
         if let Drawer::Page(recorder) = self {
             recorder.prepare(view, call);
         }

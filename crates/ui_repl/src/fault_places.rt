@@ -10,7 +10,7 @@ ghost use Rattle.ui_repl.specs.Talks.{IsFaultText, Talks};
 use dbg_base::{FaultKind, ProgFault};
 use notation::{Fault, Problem, likely, message};
 use shell_io::{Sink, Style};
-use shell_print::{ServeFault, Served, set_style, tell_fault, tell_no_end_line};
+use shell_print::{ServeFault, Served, hand_on, set_style, tell_fault, tell_no_end_line};
 use std::alloc::{AllocError, Global};
 use ui_session::explain;
 use ui_text::{
@@ -115,47 +115,49 @@ impl<'a> FaultPlace<'a> {
         }
     }
 
-    // What is wrong and what can be done, where that depends on the text. It has the lines that stand for the last ones of the general
-    // explanation, so many.
-    fn correction(&self, alloc: Global) -> Result<(Notes, usize), AllocError> {
-        let (problem, at) = (self.fault.problem(), self.fault.at());
-        let mut notes = Notes::new(alloc);
-        let likely = usize::from(likely(problem).is_some());
+    // Puts what is wrong and what can be done in place of the last lines, where that depends on the text.
+    fn correct(&self, notes: &mut Notes) -> Result<(), AllocError> {
+        let (problem, at, count) = (self.fault.problem(), self.fault.at(), notes.count());
+        let general = likely(problem);
+        let kept = count.saturating_sub(usize::from(general.is_some()));
         match problem {
             Problem::VariableComputed => {
                 let name = word_at(self.text, at);
                 if let Some((wrong, correction)) = computed_name(self.program, name, self.before) {
+                    notes.truncate(count.saturating_sub(2));
                     notes.say(&[Part::Text(wrong), Part::Text(": `"), Part::Bytes(name)])?;
                     notes.add(&[Part::Text("`")])?;
-                    notes.say(&[Part::Text(correction)])?;
-                    return Ok((notes, 2));
+                    return notes.say(&[Part::Text(correction)]);
                 }
             }
             Problem::Byte | Problem::Expected(_) | Problem::Plain(FaultKind::Grammar) => {
                 if let Some(correction) = foreign_correction(self.text, at) {
-                    notes.say(&[Part::Text(correction)])?;
-                    return Ok((notes, likely));
+                    notes.truncate(kept);
+                    return notes.say(&[Part::Text(correction)]);
                 }
             }
             _ => {}
         }
-        if problem == Problem::Byte || likely == 0 {
-            let kind = fault_kind(problem);
-            tell_correction(&mut notes, self.text, &ProgFault { kind, at })?;
+        if problem != Problem::Byte && general.is_some() {
+            return Ok(());
         }
-        let left_out = if notes.count() == 0 { 0 } else { likely };
-        Ok((notes, left_out))
+        notes.truncate(kept);
+        let kind = fault_kind(problem);
+        tell_correction(notes, self.text, &ProgFault { kind, at })?;
+        match general {
+            Some(general) if notes.count() == kept => notes.say(&[Part::Text(general)]),
+            _ => Ok(()),
+        }
     }
 
     /// The line and the column, the text of the line with a mark under the place, what is wrong, and what was probably meant.
     pub(crate) fn explanation(&self, alloc: Global) -> Result<Notes, AllocError> {
-        let lines = message(alloc, self.text, self.fault)?;
-        let (correction, left_out) = self.correction(alloc)?;
         let mut notes = Notes::new(alloc);
-        for line in lines.iter().take(lines.len().saturating_sub(left_out)) {
+        let lines = message(alloc, self.text, self.fault)?;
+        for line in &lines {
             notes.say(&[Part::Bytes(line.as_slice())])?;
         }
-        notes.append(&correction)?;
+        self.correct(&mut notes)?;
         Ok(notes)
     }
 }
@@ -182,7 +184,8 @@ fn write_refusal<W: Sink>(
 {
     set_style(Style::Refusal, writer)?;
     let served = tell_refusal(fault, writer)?;
-    explain(notes, writer)?;
+    let explained = explain(notes, writer);
+    hand_on(explained, writer)?;
     Ok(served)
 }
 

@@ -1,6 +1,6 @@
 //! A line of a session as its author wrote it, and the lines that are played for it.
 
-use crate::words::{completed, is_remark, repeated, without_comment};
+use crate::words::{LineWords, completed, repeated, without_comment};
 use crate::written_program::WrittenProgram;
 use dbg_base::Name;
 use dbg_base::limits::LINE_BYTES;
@@ -29,7 +29,7 @@ pub(crate) struct ReadLine<'a> {
     pub(crate) span: Span,
     pub(crate) fault: Option<LineFault>,
     pub(crate) is_typed: bool,
-    // Its plain lines, and how many of them were played.
+    // Its plain lines, and how many of them were begun. There is none if the line is plain.
     plain: PlainLines,
     next: usize,
     // The line that is played, unless memory ran out before it was made, and how often it is to be played again.
@@ -69,16 +69,12 @@ impl<'a> ReadLine<'a> {
         })
     }
 
-    // Makes the plain lines of this line. If it is too long or cannot be expanded, it stays as it is.
-    fn make(&mut self, line: &[u8]) -> Result<(), AllocError> {
-        if line.len() > LINE_BYTES || is_remark(line) {
-            return self.plain.push(line);
-        }
-        let bare = without_comment(line);
-        let whole = completed(self.alloc, bare)?;
+    // Makes the plain lines of a command line without its comment. If it cannot be expanded, it stays as it is.
+    fn expand(&mut self, line: &[u8]) -> Result<(), AllocError> {
+        let whole = completed(self.alloc, line)?;
         let line = match &whole {
             Some(whole) => whole.as_slice(),
-            None => bare,
+            None => line,
         };
         let Some(expander) = &mut self.expander else {
             return self.plain.push(line);
@@ -100,12 +96,32 @@ impl<'a> ReadLine<'a> {
         let line = self.plain.line(self.next);
         self.next = self.next.saturating_add(1);
         self.played.clear();
-        let (once, times) = match repeated(line) {
+        let (once, times) = match repeated(line, &LineWords::of(line)) {
             Some(repeated) if self.fault.is_none() && line.len() <= LINE_BYTES => repeated,
             _ => (line, 1),
         };
         self.again = times.saturating_sub(1);
         self.played.extend_from_slice(once)
+    }
+
+    // Makes the first line that is played for this one.
+    fn make(&mut self, line: &[u8]) -> Result<(), AllocError> {
+        let bare = without_comment(line);
+        let words = LineWords::of(bare);
+        self.played.clear();
+        if line.len() > LINE_BYTES || words.are_remark() {
+            let is_whole = line.len() > LINE_BYTES || LineWords::of(line).are_remark();
+            return self
+                .played
+                .extend_from_slice(if is_whole { line } else { bare });
+        }
+        if self.expander.is_none() && words.are_whole() {
+            let (once, times) = repeated(bare, &words).unwrap_or((bare, 1));
+            self.again = times.saturating_sub(1);
+            return self.played.extend_from_slice(once);
+        }
+        self.expand(bare)?;
+        self.take()
     }
 
     /// Begins to play a line that was read.
@@ -116,7 +132,7 @@ impl<'a> ReadLine<'a> {
         self.plain.clear();
         self.next = 0;
         self.is_first = true;
-        self.is_lost = self.make(line).is_err() || self.take().is_err();
+        self.is_lost = self.make(line).is_err();
     }
 
     /// Begins to play the next of its lines, after this answer to the one before. Returns whether there is one.

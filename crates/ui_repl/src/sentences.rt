@@ -210,9 +210,15 @@ impl Explainer<Option<LineFault>> for Sentences<'_> {
         }
     }
 
-    fn prepare(&mut self, _alloc: Global, session: SessionView<'_>, call: &Call) {
+    fn prepare(
+        &mut self,
+        _alloc: Global,
+        session: SessionView<'_>,
+        call: &Call,
+        notes: &mut Notes,
+    ) {
         let view = view_of(self.program, session);
-        self.is_prepared = self.left > 0 && view.note_before(&mut self.before, call).is_ok();
+        self.is_prepared = self.left > 0 && view.note_before(notes, &mut self.before, call).is_ok();
     }
 
     fn explain(
@@ -224,6 +230,8 @@ impl Explainer<Option<LineFault>> for Sentences<'_> {
         _reply: &[u8],
         notes: &mut Notes,
     ) {
+        let is_accepted = matches!(told, Told::Said(_, Said::Accepted(_), _));
+        self.before.settle(notes, self.is_prepared && is_accepted);
         match told {
             Told::Said(_, _, _) if self.left == 0 => {}
             Told::Said(call, said, taken_back) => {

@@ -7,7 +7,7 @@ use crate::expanding::{write_notes, write_text};
 use crate::opening::{OpenSession, Opening, PlayedSession, open};
 use crate::read_line::{ExpandedLine, LineFault};
 use crate::sentences::Sentences;
-use crate::words::{is_remark, wanted};
+use crate::words::{LineWords, wanted};
 use crate::written_program::WrittenProgram;
 use dbg_base::Call;
 use dbg_command::SessionView;
@@ -39,7 +39,6 @@ struct AskedLine {
 }
 
 // Compares the replies of a session with the expected ones, line by line.
-#[derive(Drop)]
 struct Tester<'a> {
     sentences: Sentences<'a>,
     alloc: Global,
@@ -51,6 +50,21 @@ struct Tester<'a> {
     // The report of the first expected reply that was not the reply.
     report: Option<Notes>,
     is_out_of_memory: bool,
+}
+
+impl Drop for Tester<'_> {
+    fn drop(self) {
+        let Tester {
+            sentences: _,
+            alloc: _,
+            name: _,
+            number: _,
+            asked: _,
+            lines: _,
+            report: _,
+            is_out_of_memory: _,
+        } = self;
+    }
 }
 
 // Begins a report with the name of the session, and a line with its number.
@@ -143,12 +157,13 @@ impl<'a> Tester<'a> {
         if let Some(wanted) = wanted(line) {
             return self.expect(line, wanted);
         }
-        if is_remark(line) {
+        if LineWords::of(line).are_remark() {
             return Ok(self.lines.push(PlayedLine::Remark)?);
         }
         self.asked.number = self.number;
         self.asked.text = Vec::from_slice(self.alloc, line)?;
         self.asked.reply = None;
+        self.asked.notes.clear();
         Ok(self.lines.push(PlayedLine::Unanswered)?)
     }
 
@@ -157,28 +172,19 @@ impl<'a> Tester<'a> {
         let reply = Vec::from_slice(self.alloc, reply);
         self.is_out_of_memory = self.is_out_of_memory || reply.is_err();
         self.asked.reply = reply.ok();
-        self.asked.notes.clear();
     }
 
     // The report, and the result.
-    fn result(self) -> Result<(Notes, Tested), ServeFault> {
-        let Tester {
-            alloc,
-            name,
-            lines,
-            report,
-            is_out_of_memory,
-            ..
-        } = self;
-        let compared = compare(lines.as_slice()).compared;
-        if is_out_of_memory {
+    fn result(&mut self) -> Result<(Notes, Tested), ServeFault> {
+        let compared = compare(self.lines.as_slice()).compared;
+        if self.is_out_of_memory {
             return Err(ServeFault::Memory);
         }
-        if let Some(report) = report {
+        if let Some(report) = self.report.take() {
             return Ok((report, Tested::Failed));
         }
-        let mut notes = Notes::new(alloc);
-        notes.say(&[Part::Text(name)])?;
+        let mut notes = Notes::new(self.alloc);
+        notes.say(&[Part::Text(self.name)])?;
         if compared == 0 {
             notes.add(&[Part::Text(": no line `> REPLY` gives an expected reply")])?;
             return Ok((notes, Tested::Failed));
@@ -203,12 +209,15 @@ impl Explainer<Option<LineFault>> for Tester<'_> {
         if line.is_first {
             let begun = self.begin(line.written);
             self.is_out_of_memory = self.is_out_of_memory || begun.is_err();
+        } else {
+            self.asked.notes.clear();
         }
         Echo::Nothing
     }
 
-    fn prepare(&mut self, alloc: Global, view: SessionView<'_>, call: &Call) {
-        self.sentences.prepare(alloc, view, call);
+    fn prepare(&mut self, alloc: Global, view: SessionView<'_>, call: &Call, _notes: &mut Notes) {
+        let notes = &mut self.asked.notes;
+        self.sentences.prepare(alloc, view, call, notes);
     }
 
     fn explain(

@@ -3,7 +3,7 @@
 use dbg_base::limits::CALLS;
 use shell_parse::{next_word, without_return};
 use std::alloc::{AllocError, Global};
-use ui_text::{is_word_byte, whole_word};
+use ui_text::{is_whole_word, is_word_byte, whole_word};
 
 // The most digits of a number of times.
 const DIGITS: usize = 6;
@@ -13,13 +13,39 @@ fn is_number(word: &[u8]) -> bool {
     !word.is_empty() && word.iter().all(|byte| byte.is_ascii_digit())
 }
 
-// The word of the command, after the seat if the line has one, and what follows it.
-fn command_word(line: &[u8]) -> (&[u8], &[u8]) {
-    let (first, rest) = next_word(line);
-    if is_number(first) {
-        next_word(rest)
-    } else {
-        (first, rest)
+/// The words of a line.
+#[derive(Clone, Copy)]
+pub(crate) struct LineWords<'a> {
+    first: &'a [u8],
+    // That of the command, after the seat if the line has one, and what follows it.
+    command: &'a [u8],
+    arguments: &'a [u8],
+}
+
+impl<'a> LineWords<'a> {
+    /// Those of this line.
+    pub(crate) fn of(line: &'a [u8]) -> LineWords<'a> {
+        let (first, rest) = next_word(without_return(line));
+        let (command, arguments) = if is_number(first) {
+            next_word(rest)
+        } else {
+            (first, rest)
+        };
+        LineWords {
+            first,
+            command,
+            arguments,
+        }
+    }
+
+    /// Whether the line is blank, a comment or an expected reply.
+    pub(crate) fn are_remark(&self) -> bool {
+        matches!(self.first.first(), None | Some(b'#' | b'>'))
+    }
+
+    /// Whether the word of the command is not short.
+    pub(crate) fn are_whole(&self) -> bool {
+        is_whole_word(self.command)
     }
 }
 
@@ -108,14 +134,6 @@ pub(crate) fn without_comment(line: &[u8]) -> &[u8] {
     }
 }
 
-/// Whether a line is blank, a comment or an expected reply.
-pub(crate) fn is_remark(line: &[u8]) -> bool {
-    matches!(
-        next_word(without_return(line)).0.first(),
-        None | Some(b'#' | b'>')
-    )
-}
-
 /// The expected reply that this line gives, if it gives one.
 pub(crate) fn wanted(line: &[u8]) -> Option<&[u8]> {
     if next_word(without_return(line)).0.first() != Some(&b'>') {
@@ -125,16 +143,19 @@ pub(crate) fn wanted(line: &[u8]) -> Option<&[u8]> {
     Some(line.get(from.saturating_add(1)..)?.trim_ascii())
 }
 
-/// The line, which has no comment, with its command word completed, if the word is the start of exactly one that fits. None if the line
-/// stays as it is.
+/// The line, which has no comment, with its command word completed, if that is the start of exactly one that fits. None if the line stays as
+/// it is.
 pub(crate) fn completed(alloc: Global, line: &[u8]) -> Result<Option<Vec<u8>>, AllocError> {
     let code = without_return(line);
-    let (word, arguments) = command_word(after_heads(code));
-    let Some(whole) = whole_word(word, count_words(arguments)) else {
+    let words = LineWords::of(after_heads(code));
+    if words.are_whole() {
+        return Ok(None);
+    }
+    let Some(whole) = whole_word(words.command, count_words(words.arguments)) else {
         return Ok(None);
     };
-    let end = code.len().saturating_sub(arguments.len());
-    let begin = end.saturating_sub(word.len());
+    let end = code.len().saturating_sub(words.arguments.len());
+    let begin = end.saturating_sub(words.command.len());
     let mut text = Vec::from_slice(alloc, line.get(..begin).unwrap_or(&[]))?;
     text.extend_from_slice(whole.as_bytes())?;
     text.extend_from_slice(line.get(end..).unwrap_or(&[]))?;
@@ -151,18 +172,16 @@ fn times_of(word: &[u8]) -> Option<u32> {
 }
 
 /// Of a plain line `next P N`, the line without N, and N.
-pub(crate) fn repeated(line: &[u8]) -> Option<(&[u8], u32)> {
-    let line = without_return(line);
-    let (word, arguments) = command_word(line);
-    if word != b"next".as_slice() {
+pub(crate) fn repeated<'a>(line: &'a [u8], words: &LineWords<'_>) -> Option<(&'a [u8], u32)> {
+    if words.command != b"next".as_slice() {
         return None;
     }
-    let (process, others) = next_word(arguments);
+    let (process, others) = next_word(words.arguments);
     let (count, rest) = next_word(others);
     if process.is_empty() || !next_word(rest).0.is_empty() {
         return None;
     }
     let times = times_of(count)?;
-    let length = line.len().saturating_sub(others.len());
+    let length = without_return(line).len().saturating_sub(others.len());
     Some((line.get(..length)?, times))
 }

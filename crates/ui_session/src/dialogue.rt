@@ -1,15 +1,18 @@
 //! An interactive session, as an observer.
 
+ghost use Rattle.proc_lang.specs.Programs.{program_of};
+ghost use Rattle.shell_serve.specs.Replying.{FitsReply};
 ghost use Rattle.ui_session.specs.Dialogues.{interactive};
 
-use crate::directives::{directive, is_directive, is_quit, needs_seat};
+use crate::directives::{directive, sort};
 use crate::room::Room;
 use crate::written::{explain, gap_before, write_echo};
-use dbg_base::{Call, Refusal, Said};
+use dbg_base::{Call, Said};
 use dbg_command::SessionView;
+use proc_lang::Program;
 use shell_io::{GivenLine, Noted, Sink};
 use shell_print::{ServeFault, print_refusal, print_reply};
-use shell_serve::Observer;
+use shell_serve::{LineReply, LineSort, Observer};
 use std::alloc::Global;
 use ui_explain::{CountedCommands, Echo, Explainer, Told};
 use ui_text::Notes;
@@ -43,43 +46,48 @@ impl<T> Dialogue<T> {
     }
 }
 
+// Keeps the reply to a line in place of the last one.
+fn keep_reply(alloc: Global, program: &Program, reply: LineReply<'_>, kept: &mut Noted<Room>)
+    requires { FitsReply (program_of program.now) reply }
+{
+    *kept = Noted::new(Room::Text(Vec::new(alloc)));
+    let _written = match reply {
+        LineReply::Said(call, said) => print_reply(program, call, said, kept),
+        LineReply::Refused(refusal) => print_refusal(program, refusal, kept),
+    };
+}
+
 // The reply without its line end.
 fn reply_of(reply: &Noted<Room>) -> &[u8] {
     let line = reply.device().text();
     line.strip_suffix(b"\n".as_slice()).unwrap_or(line)
 }
 
-// What was said to the call. An accepted `back` took back the last command.
-fn said_to<'x>(commands: &'x CountedCommands, call: &'x Call, said: &'x Said) -> Told<'x> {
-    let taken_back = match (call, said) {
-        (Call::Back, Said::Accepted(_)) => commands.last(),
-        _ => None,
-    };
-    Told::Said(call, said, taken_back)
+// What was said to a line. An accepted `back` took back the last command.
+fn told<'x>(commands: &'x CountedCommands, reply: LineReply<'x>) -> Told<'x> {
+    match reply {
+        LineReply::Refused(refusal) => Told::Refused(refusal),
+        LineReply::Said(call, said) => match (call, said) {
+            (Call::Back, Said::Accepted(_)) => Told::Said(call, said, commands.last()),
+            _ => Told::Said(call, said, None),
+        },
+    }
 }
 
 // Notes the command of this line, if it was accepted, or that one was taken back.
-fn count(commands: &mut CountedCommands, line: &[u8], call: &Call, said: &Said) {
-    match (call, said) {
-        (Call::Back, Said::Accepted(_)) => commands.pop(),
-        (_, Said::Accepted(_)) => commands.push(line, call),
-        _ => {}
+fn count(commands: &mut CountedCommands, line: &[u8], reply: LineReply<'_>) {
+    match reply {
+        LineReply::Said(Call::Back, Said::Accepted(_)) => commands.pop(),
+        LineReply::Said(call, Said::Accepted(_)) => commands.push(line, call),
+        LineReply::Said(_, _) | LineReply::Refused(_) => {}
     }
 }
 
 impl<T: Explainer<N>, N> Observer<N> for Dialogue<T> {
     ghost manner = { interactive };
 
-    fn is_directive(&self, line: &[u8]) -> bool {
-        is_directive(line)
-    }
-
-    fn ends(&self, line: &[u8]) -> bool {
-        is_quit(line)
-    }
-
-    fn needs_seat(&self, line: &[u8]) -> bool {
-        needs_seat(line)
+    fn sort(&self, line: &[u8]) -> LineSort {
+        sort(line)
     }
 
     fn marks_replies(&self) -> bool {
@@ -92,6 +100,7 @@ impl<T: Explainer<N>, N> Observer<N> for Dialogue<T> {
         line: &GivenLine<'_, N>,
         writer: &mut W,
     ) -> Result<(), ServeFault> {
+        self.notes.begin(writer.shows_styles());
         let echo = self.explainer.hear(alloc, line);
         let (echoes, gap) = (echo != Echo::Nothing, gap_before(echo));
         match line.played {
@@ -107,67 +116,38 @@ impl<T: Explainer<N>, N> Observer<N> for Dialogue<T> {
         line: &[u8],
         writer: &mut W,
     ) -> Result<(), ServeFault> {
-        self.notes.clear();
         self.explainer
             .answer_directive(alloc, view, directive(line), &mut self.notes);
         explain(&self.notes, writer)
     }
 
     fn prepare(&mut self, alloc: Global, view: SessionView<'_>, call: &Call) {
-        self.explainer.prepare(alloc, view, call);
+        self.explainer.prepare(alloc, view, call, &mut self.notes);
     }
 
-    fn explain_call<W: Sink>(
+    fn explain<W: Sink>(
         &mut self,
         alloc: Global,
         view: SessionView<'_>,
         line: &GivenLine<'_, N>,
-        call: &Call,
-        said: &Said,
+        reply: LineReply<'_>,
         writer: &mut W,
     ) -> Result<(), ServeFault> {
         if self.explainer.keeps_replies() {
-            self.reply = Noted::new(Room::Text(Vec::new(alloc)));
-            let _kept = print_reply(view.program, call, said, &mut self.reply);
+            keep_reply(alloc, view.program, reply, &mut self.reply);
         }
-        self.notes.clear();
         self.explainer.explain(
             alloc,
             view,
             line,
-            said_to(&self.commands, call, said),
+            told(&self.commands, reply),
             reply_of(&self.reply),
             &mut self.notes,
         );
         count(
             &mut self.commands,
             line.played.unwrap_or(line.written),
-            call,
-            said,
-        );
-        explain(&self.notes, writer)
-    }
-
-    fn explain_refusal<W: Sink>(
-        &mut self,
-        alloc: Global,
-        view: SessionView<'_>,
-        line: &GivenLine<'_, N>,
-        refusal: &Refusal,
-        writer: &mut W,
-    ) -> Result<(), ServeFault> {
-        if self.explainer.keeps_replies() {
-            self.reply = Noted::new(Room::Text(Vec::new(alloc)));
-            let _kept = print_refusal(view.program, refusal, &mut self.reply);
-        }
-        self.notes.clear();
-        self.explainer.explain(
-            alloc,
-            view,
-            line,
-            Told::Refused(refusal),
-            reply_of(&self.reply),
-            &mut self.notes,
+            reply,
         );
         explain(&self.notes, writer)
     }

@@ -3,10 +3,11 @@
 ghost use Rattle.std.specs.Prelude.{◌≡◌, is_some};
 ghost use Rattle.std.specs.List.{list_any};
 ghost use Rattle.std.specs.Str.{bytes_eq};
-ghost use Rattle.ui_session.specs.Dialogues.{is_remark, first_word, is_directive, is_quit, is_seat, needs_seat, directive_words, quit_words};
+ghost use Rattle.ui_session.specs.Dialogues.{is_remark, is_directive, is_quit, is_seat, needs_seat, directive_words, quit_words};
 ghost use Rattle.ui_session.specs.Verbs.{is_quit_verb};
 
 use shell_parse::{next_word, without_return};
+use shell_serve::LineSort;
 use ui_explain::Directive;
 
 // The first word of each directive that is answered.
@@ -19,13 +20,6 @@ pub(crate) enum Verb {
     Line,
     Draw,
     Quit,
-}
-
-/// The first word of a line.
-pub(crate) fn first_word(line: &[u8]) -> &[u8]
-    ensures { result.now ≡ first_word line.now }
-{
-    next_word(without_return(line)).0
 }
 
 // Whether there is no word, or it begins a comment or an expectation.
@@ -65,20 +59,19 @@ fn verb_of(word: &[u8]) -> Option<Verb>
     }
 }
 
-/// Whether an interactive session answers the line itself.
-pub fn is_directive(line: &[u8]) -> bool
-    ensures { result ≡ is_directive line.now }
-{
-    let word = first_word(line);
-    is_remark(word) || verb_of(word).is_some()
-}
-
-/// Whether the line ends the session.
-pub(crate) fn is_quit(line: &[u8]) -> bool
-    ensures { result ≡ is_quit line.now }
+/// What a line is to an interactive session.
+pub(crate) fn sort(line: &[u8]) -> LineSort
+    ensures directive { result.is_directive ≡ is_directive line.now }
+    ensures ends { result.ends ≡ is_quit line.now }
+    ensures seat { result.needs_seat ≡ needs_seat line.now }
 {
     let (word, rest) = next_word(without_return(line));
-    matches!(verb_of(word), Some(Verb::Quit)) && is_remark(next_word(rest).0)
+    let verb = verb_of(word);
+    LineSort {
+        is_directive: is_remark(word) || verb.is_some(),
+        ends: matches!(verb, Some(Verb::Quit)) && is_remark(next_word(rest).0),
+        needs_seat: !is_seat(word),
+    }
 }
 
 impl Verb {
@@ -125,11 +118,4 @@ fn is_seat(word: &[u8]) -> bool
         Some(byte) => byte.is_ascii_digit(),
         None => false,
     }
-}
-
-/// Whether the line may be a command line, and has no seat.
-pub(crate) fn needs_seat(line: &[u8]) -> bool
-    ensures { result ≡ needs_seat line.now }
-{
-    !is_seat(first_word(line))
 }

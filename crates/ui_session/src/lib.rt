@@ -8,7 +8,6 @@ mod typed;
 mod written;
 
 pub use dialogue::Dialogue;
-pub use directives::is_directive;
 pub use room::Room;
 pub use typed::Typed;
 pub use written::explain;

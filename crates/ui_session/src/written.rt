@@ -7,14 +7,14 @@ ghost use Rattle.shell_serve.specs.Sessions.{WritesForm};
 ghost use Rattle.ui_session.specs.Dialogues.{IsExplanation, IsEcho, IsGap, explanation_line};
 
 use shell_io::{Sink, Style};
-use shell_print::{ServeFault, hand_on, set_style, write_whole};
+use shell_print::{ServeFault, set_style, write_whole};
 use ui_explain::Echo;
 use ui_text::{NoteLine, Notes, StyleChange};
 
 fn is_unended(line: &[u8]) -> bool
     ensures { result ≡ is_unended line.now }
 {
-    line.iter().all(|byte| *byte != b'\n')
+    !line.contains(&b'\n')
 }
 
 // Writes bytes in the present style, and in others from where it changes. Then the style is plain.
@@ -53,8 +53,8 @@ fn write_line<W: Sink>(
     write_whole(writer, b"\n")
 }
 
-// Writes the lines of an explanation.
-fn write_lines<W: Sink>(notes: &Notes, writer: &mut W) -> Result<(), ServeFault>
+/// Writes an explanation.
+pub fn explain<W: Sink>(notes: &Notes, writer: &mut W) -> Result<(), ServeFault>
     ensures written { WritesForm IsExplanation (W.seen writer.old) result (W.seen writer.new) }
 {
     for number in 0..notes.count() {
@@ -69,14 +69,6 @@ fn write_lines<W: Sink>(notes: &Notes, writer: &mut W) -> Result<(), ServeFault>
         }
     }
     Ok(())
-}
-
-/// Writes an explanation, and flushes it.
-pub fn explain<W: Sink>(notes: &Notes, writer: &mut W) -> Result<(), ServeFault>
-    ensures written { WritesForm IsExplanation (W.seen writer.old) result (W.seen writer.new) }
-{
-    let written = write_lines(notes, writer);
-    hand_on(written, writer)
 }
 
 /// What is written before a line that is echoed.

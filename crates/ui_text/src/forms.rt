@@ -7,7 +7,7 @@ use strsim::osa_distance;
 
 // The commands, which make calls: the form of the line, after the seat, and what the line does. Words in brackets, and those after a `;`, may
 // be missing. `..` means more words.
-const COMMANDS: [&str; 20] = [
+static COMMANDS: [&str; 20] = [
     "`next P [N]`: process P makes its first command that fires, up to N times: a refusal or a halt ends that",
     "`step P K`: process P makes its command number K, from 0",
     "`undo P`: undoes P's last event",
@@ -31,7 +31,7 @@ const COMMANDS: [&str; 20] = [
 ];
 
 // The lines that an interactive session answers itself.
-const DIRECTIVES: [&str; 7] = [
+static DIRECTIVES: [&str; 7] = [
     "`on [P]`: shows which commands can fire now, of all processes or of P",
     "`list [P]`: shows all commands, and what prevents each from firing",
     "`state [P]`: shows all variables and counts, and the messages on their way",
@@ -42,7 +42,7 @@ const DIRECTIVES: [&str; 7] = [
 ];
 
 // Other words for directives.
-const ALIASES: [(&str, &str); 3] = [("?", "help"), ("exit", "quit"), ("q", "quit")];
+static ALIASES: [(&str, &str); 3] = [("?", "help"), ("exit", "quit"), ("q", "quit")];
 
 // The word that this one is another word for, or the word itself.
 fn full_word(word: &[u8]) -> &[u8] {
@@ -70,17 +70,22 @@ fn is_begun_by(line: &str, bytes: &[u8]) -> bool {
     form.starts_with(bytes)
 }
 
-// Whether this line of the help is about the command or directive of this name.
+// Whether this line of the help is about the command or directive of this name. Most lines begin with another byte.
 fn is_about(line: &str, word: &[u8]) -> bool {
     let end = line.as_bytes().get(word.len().saturating_add(1));
-    is_begun_by(line, word) && matches!(end, Some(b' ' | b'`'))
+    let begins_alike = line.as_bytes().get(1) == word.first();
+    begins_alike && matches!(end, Some(b' ' | b'`')) && is_begun_by(line, word)
 }
 
 // The line of the help about the command or directive of this name.
-fn help_line(word: &[u8]) -> Option<&'static str> {
-    let full = full_word(word);
+fn line_about(word: &[u8]) -> Option<&'static str> {
     let mut lines = COMMANDS.iter().chain(&DIRECTIVES).copied();
-    lines.find(|line| is_about(line, full))
+    lines.find(|line| is_about(line, word))
+}
+
+// The same for a word that may be another word for it.
+fn help_line(word: &[u8]) -> Option<&'static str> {
+    line_about(word).or_else(|| line_about(full_word(word)))
 }
 
 // Whether so many words may follow the first word of this form.
@@ -94,10 +99,14 @@ fn takes(form: &str, arguments: usize) -> bool {
     least <= arguments && (arguments <= most || form.contains(".."))
 }
 
-/// The command or directive of which this word is the start, if there is exactly one that can have so many more words. None for a whole
-/// word.
+/// Whether this is a command or directive.
+pub fn is_whole_word(word: &[u8]) -> bool {
+    help_line(word).is_some()
+}
+
+/// The command or directive of which this word is the start, if there is exactly one that can have so many more words.
 pub fn whole_word(word: &[u8], arguments: usize) -> Option<&'static str> {
-    if word.is_empty() || help_line(word).is_some() {
+    if word.is_empty() {
         return None;
     }
     let mut found = None;

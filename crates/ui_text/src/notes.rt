@@ -8,6 +8,11 @@ use std::alloc::{AllocError, Global};
 // The fewest blanks between two columns.
 const GAP: usize = 2;
 
+// For so many bytes more than are needed is room made.
+const ROOM: usize = 256;
+
+static BLANKS: [u8; 32] = [b' '; 32];
+
 /// A part of a line: words, bytes, a name or a number. The name of a process with its number, and a new value, have a style of their own.
 #[derive(Clone, Copy)]
 pub enum Part<'a> {
@@ -46,24 +51,17 @@ struct LineStart {
 }
 
 /// The lines of an explanation. They share one text, so that those which are cleared and filled again need no new memory.
-#[derive(Debug)]
+#[derive(Debug, Drop)]
 pub struct Notes {
+    // The text, and room for more after it.
     text: Vec<u8>,
+    length: usize,
     changes: Vec<StyleChange>,
     starts: Vec<LineStart>,
-    // The style of the next bytes of the last line.
+    // Where the last line begins in the text, and the style of its next bytes.
+    last: usize,
     style: Style,
-}
-
-impl Drop for Notes {
-    fn drop(self) {
-        let Notes {
-            text: _,
-            changes: _,
-            starts: _,
-            style: _,
-        } = self;
-    }
+    has_styles: bool,
 }
 
 impl Notes {
@@ -71,9 +69,12 @@ impl Notes {
     pub fn new(alloc: Global) -> Notes {
         Notes {
             text: Vec::new(alloc),
+            length: 0,
             changes: Vec::new(alloc),
             starts: Vec::new(alloc),
+            last: 0,
             style: Style::Plain,
+            has_styles: true,
         }
     }
 
@@ -84,9 +85,22 @@ impl Notes {
 
     /// Forgets all lines.
     pub fn clear(&mut self) {
-        self.text.clear();
-        self.changes.clear();
-        self.starts.clear();
+        self.truncate(0);
+    }
+
+    /// Forgets all lines after so many.
+    pub fn truncate(&mut self, count: usize) {
+        let end = self.start(count);
+        self.length = end.text;
+        self.changes.truncate(end.changes);
+        self.starts.truncate(count);
+        self.last = self.start(count.saturating_sub(1)).text;
+    }
+
+    /// Forgets all lines. The next ones have styles, or all are plain.
+    pub fn begin(&mut self, has_styles: bool) {
+        self.clear();
+        self.has_styles = has_styles;
     }
 
     /// How many lines there are.
@@ -96,7 +110,7 @@ impl Notes {
 
     /// How many bytes all lines have.
     pub fn length(&self) -> usize {
-        self.text.len()
+        self.length
     }
 
     /// The line of this number, from 0, or an empty one if there is none.
@@ -115,7 +129,7 @@ impl Notes {
         match self.starts.get(number) {
             Some(start) => *start,
             None => LineStart {
-                text: self.text.len(),
+                text: self.length,
                 changes: self.changes.len(),
                 first_style: Style::Plain,
             },
@@ -124,8 +138,28 @@ impl Notes {
 
     // How many bytes the last line has.
     fn width(&self) -> usize {
-        let last = self.start(self.starts.len().saturating_sub(1));
-        self.text.len().saturating_sub(last.text)
+        self.length.saturating_sub(self.last)
+    }
+
+    // Makes room for a text of so many bytes.
+    #[cold]
+    #[inline(never)]
+    fn make_room(&mut self, length: usize) -> Result<(), AllocError> {
+        self.text.resize(length.saturating_add(ROOM), b' ')
+    }
+
+    // Appends bytes.
+    fn put_bytes(&mut self, bytes: &[u8]) -> Result<(), AllocError> {
+        let from = self.length;
+        let to = from.checked_add(bytes.len()).ok_or(AllocError)?;
+        if self.text.len() < to {
+            self.make_room(to)?;
+        }
+        if let Some(place) = self.text.as_mut_slice().get_mut(from..to) {
+            place.copy_from_slice(bytes);
+            self.length = to;
+        }
+        Ok(())
     }
 
     // From this byte on, the last line has this style.
@@ -136,25 +170,27 @@ impl Notes {
 
     // Appends bytes in a style. The bytes after them have the style before.
     fn put_styled(&mut self, style: Style, bytes: &[u8]) -> Result<(), AllocError> {
+        if !self.has_styles {
+            return self.put_bytes(bytes);
+        }
         let before = self.style;
         self.change_style(self.width(), style)?;
-        self.text.extend_from_slice(bytes)?;
+        self.put_bytes(bytes)?;
         self.change_style(self.width(), before)
     }
 
-    // Appends a part.
-    fn put(&mut self, part: &Part<'_>) -> Result<(), AllocError> {
-        let mut buffer = Buffer::new();
-        let text = &mut self.text;
+    /// Appends a part to the last line.
+    #[inline(always)]
+    pub fn put(&mut self, part: &Part<'_>) -> Result<(), AllocError> {
         match part {
-            Part::Text(words) => text.extend_from_slice(words.as_bytes()),
-            Part::Bytes(bytes) => text.extend_from_slice(bytes),
-            Part::Name(name) => text.extend_from_slice(name.bytes()),
-            Part::Number(number) => text.extend_from_slice(buffer.format(*number).as_bytes()),
-            Part::Count(count) => text.extend_from_slice(buffer.format(*count).as_bytes()),
+            Part::Text(words) => self.put_bytes(words.as_bytes()),
+            Part::Bytes(bytes) => self.put_bytes(bytes),
+            Part::Name(name) => self.put_bytes(name.bytes()),
+            Part::Number(number) => self.put_bytes(Buffer::new().format(*number).as_bytes()),
+            Part::Count(count) => self.put_bytes(Buffer::new().format(*count).as_bytes()),
             Part::Process(name, number) => self.put_styled(Style::Process(*number), name.bytes()),
             Part::Value(value) => {
-                self.put_styled(Style::Value, buffer.format(*value).as_bytes())
+                self.put_styled(Style::Value, Buffer::new().format(*value).as_bytes())
             }
         }
     }
@@ -167,8 +203,9 @@ impl Notes {
     /// Begins a line in this style with these parts.
     pub fn say_in(&mut self, style: Style, parts: &[Part<'_>]) -> Result<(), AllocError> {
         self.style = style;
+        self.last = self.length;
         self.starts.push(LineStart {
-            text: self.text.len(),
+            text: self.length,
             changes: self.changes.len(),
             first_style: style,
         })?;
@@ -177,9 +214,6 @@ impl Notes {
 
     /// Appends these parts to the last line.
     pub fn add(&mut self, parts: &[Part<'_>]) -> Result<(), AllocError> {
-        if self.starts.is_empty() {
-            return Ok(());
-        }
         for part in parts {
             self.put(part)?;
         }
@@ -188,31 +222,19 @@ impl Notes {
 
     /// Appends blanks to the last line, up to this width and at least two.
     pub fn tab(&mut self, width: usize) -> Result<(), AllocError> {
-        if self.starts.is_empty() {
-            return Ok(());
-        }
         let blanks = width.saturating_sub(self.width()).max(GAP);
-        let length = self.text.len().saturating_add(blanks);
-        self.text.resize(length, b' ')
+        for _ in 0..blanks / BLANKS.len() {
+            self.put_bytes(&BLANKS)?;
+        }
+        self.put_bytes(BLANKS.get(..blanks % BLANKS.len()).unwrap_or(&[]))
     }
 
     /// The same. From the last two blanks on, the line has this style.
     pub fn tab_in(&mut self, style: Style, width: usize) -> Result<(), AllocError> {
         self.tab(width)?;
-        self.change_style(self.width().saturating_sub(GAP), style)
-    }
-
-    /// Appends these lines.
-    pub fn append(&mut self, others: &Notes) -> Result<(), AllocError> {
-        for number in 0..others.count() {
-            let line = others.line(number);
-            self.say_in(line.first_style, &[Part::Bytes(line.bytes)])?;
-            self.changes.extend_from_slice(line.changes)?;
-            self.style = line
-                .changes
-                .last()
-                .map_or(line.first_style, |change| change.style);
+        if !self.has_styles {
+            return Ok(());
         }
-        Ok(())
+        self.change_style(self.width().saturating_sub(GAP), style)
     }
 }

@@ -1,6 +1,7 @@
 //! The places of the commands of a program in its text.
 
 use dbg_base::{Choice, Pid};
+use itoa::Buffer;
 use std::alloc::{AllocError, Global};
 
 /// A line of a text: its number, from 1.
@@ -14,6 +15,8 @@ pub struct TextLine {
 struct CommandPlace {
     at: usize,
     label: Vec<u8>,
+    // A colon, the number of its line, and its label or number.
+    shown: Vec<u8>,
 }
 
 // The longest text of a command that is shown, in bytes.
@@ -50,6 +53,26 @@ pub(crate) fn suffix_word(bytes: &[u8]) -> &[u8] {
     bytes
         .get(bytes.len().saturating_sub(length)..)
         .unwrap_or(bytes)
+}
+
+// The place of the command of this number, from 0, in a few words.
+fn shown_place(
+    alloc: Global,
+    line: TextLine,
+    label: &[u8],
+    number: usize,
+) -> Result<Vec<u8>, AllocError> {
+    let mut buffer = Buffer::new();
+    let mut shown = Vec::from_slice(alloc, b":")?;
+    shown.extend_from_slice(buffer.format(line.number).as_bytes())?;
+    shown.push(b' ')?;
+    if label.is_empty() {
+        shown.extend_from_slice(b"command ")?;
+        shown.extend_from_slice(buffer.format(number).as_bytes())?;
+    } else {
+        shown.extend_from_slice(label)?;
+    }
+    Ok(shown)
 }
 
 // The text up to a `;`, in one line.
@@ -129,10 +152,18 @@ impl ProgramText {
         label: Option<&[u8]>,
     ) -> Result<(), AllocError> {
         let label = Vec::from_slice(alloc, label.unwrap_or(&[]))?;
+        let line = self.line_at(at);
         if let Some(process) = self.commands.last_mut() {
-            process.push(CommandPlace { at, label })?;
+            let shown = shown_place(alloc, line, label.as_slice(), process.len())?;
+            process.push(CommandPlace { at, label, shown })?;
         }
         Ok(())
+    }
+
+    // The line in which this offset is.
+    fn line_at(&self, at: usize) -> TextLine {
+        let number = self.starts.partition_point(|start| *start <= at);
+        TextLine { number }
     }
 
     fn command(&self, pid: Pid, choice: Choice) -> Option<&CommandPlace> {
@@ -142,9 +173,15 @@ impl ProgramText {
 
     /// The line at which a command begins.
     pub fn place(&self, pid: Pid, choice: Choice) -> Option<TextLine> {
-        let at = self.command(pid, choice)?.at;
-        let number = self.starts.partition_point(|start| *start <= at);
-        Some(TextLine { number })
+        Some(self.line_at(self.command(pid, choice)?.at))
+    }
+
+    /// The place of a command in a few words: a colon, the number of its line, and its label or number.
+    pub fn shown_place(&self, pid: Pid, choice: Choice) -> &[u8] {
+        match self.command(pid, choice) {
+            Some(command) => command.shown.as_slice(),
+            None => &[],
+        }
     }
 
     /// The label of a command, with its indices. It is empty if the command has none.
