@@ -1,15 +1,15 @@
-"""The sources of the page, and the Rattle file that has them: crates/ui_page/page/page.html, where a line `{{FILE}}` includes a file of its
+"""The sources of the page, and the Rattle files that have them: crates/ui_page/page/page.html, where a line `{{FILE}}` includes a file of its
 folder, and `{{session}}` is where the session comes."""
 import re
 
 from harness import TOP
 
 SOURCES = TOP / "crates/ui_page/page"
-GENERATED = TOP / "crates/ui_page/src/page/sources.rt"
+GENERATED = TOP / "crates/ui_page/src/page"
 INCLUDE = re.compile(r"^\{\{([a-z_]+\.(?:css|js))\}\}\n", re.MULTILINE)
 SESSION = "{{session}}\n"
-HEAD = """//! The page before and after its session. `tests/run page_sources --update` writes this file from `page/page.html` and what that includes.
-"""
+LINES = 360  # of a generated file, unless one included file alone has more
+NOTICE = "//! `tests/run page_sources --update` writes this file from `page/page.html` and what that includes.\n"
 
 
 def with_includes(template):
@@ -33,12 +33,25 @@ def script():
     return re.search(r"<script>\n(.*?)</script>", "".join(page_parts()[1]), re.DOTALL)[1]
 
 
-def as_static(name, pieces):
-    strings = "".join(f'    r#"{piece}"#,\n' for piece in pieces)
-    return f"\npub(super) static {name}: [&str; {len(pieces)}] = [\n{strings}];\n"
+def packed(pieces):
+    """The pieces in order, as few texts of at most so many lines."""
+    texts = [""]
+    for piece in pieces:
+        if texts[-1] and (texts[-1] + piece).count("\n") > LINES:
+            texts.append("")
+        texts[-1] += piece
+    return texts
 
 
 def generated():
-    """What the Rattle file has to be."""
-    before, after = page_parts()
-    return HEAD + as_static("BEFORE", before) + as_static("AFTER", after)
+    """What each Rattle file has to be, by its name without the ending: the texts, and two functions that return them in order."""
+    files, modules, functions = {}, [], []
+    for side, pieces in zip(("before", "after"), page_parts()):
+        texts = {f"{side}_{number}": text for number, text in enumerate(packed(pieces), 1)}
+        files |= {name: f'{NOTICE}\npub(super) static TEXT: &str = r#"{text}"#;\n' for name, text in texts.items()}
+        modules += [f"mod {name};\n" for name in texts]
+        items = "".join(f"        {name}::TEXT,\n" for name in texts)
+        array = f"    [\n{items}    ]\n" if len(texts) > 1 else f"    [{next(iter(texts))}::TEXT]\n"
+        functions.append(f"\n/// The page {side} its session.\npub(super) fn {side}() -> [&'static str; {len(texts)}] {{\n{array}}}\n")
+    sources = "".join([NOTICE, "\n", *sorted(modules), *functions])
+    return {"sources": sources, **{f"sources/{name}": text for name, text in files.items()}}

@@ -1,6 +1,6 @@
 """The sources of the page: what is generated from them, their syntax, and the functions of the script that need no browser.
 
-The Rattle file with the page is generated from crates/ui_page/page/ (--update writes it anew). With Node.js, the script must have no fault of
+The Rattle files with the page are generated from crates/ui_page/page/ (--update writes them anew). With Node.js, the script must have no fault of
 syntax. Its functions must compute, from the data of a page, what the program answers after each line of an example: the values, the clock and
 the number of events of each process, the messages on their way, and the cut of each breakpoint, in which each part must hold.
 """
@@ -65,7 +65,9 @@ def session_problem(suite, file, folder):
 
 
 def run(suite):
-    suite.golden(GENERATED, generated())
+    for name, text in generated().items():
+        suite.golden(GENERATED / f"{name}.rt", text)
+    suite.compared(*GENERATED.rglob("*.rt"))
     if not suite.needs("node", "the script of the page"):
         return
     with temporary_folder() as folder:

@@ -15,8 +15,8 @@ fn write_parts<W: Sink>(parts: &[&str], writer: &mut W) -> Result<(), ServeFault
 
 /// Writes the page of a session, as it was recorded.
 pub fn write_page<W: Sink>(session: &PageData, writer: &mut W) -> Result<(), ServeFault> {
-    write_parts(&sources::BEFORE, writer)?;
+    write_parts(&sources::before(), writer)?;
     write_whole(writer, session.bytes())?;
-    let written = write_parts(&sources::AFTER, writer);
+    let written = write_parts(&sources::after(), writer);
     hand_on(written, writer)
 }
