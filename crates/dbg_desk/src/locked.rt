@@ -3,7 +3,7 @@
 ghost use Rattle.std.specs.Prelude.{◌≡◌, ◌≤◌, ◌<◌, ◌-◌, [], length, replicate, slice_get, Some};
 ghost use Rattle.std.specs.Prelude.{IfOk, IfErr, IfSome, OnOk, MatchOption};
 ghost use Rattle.dbg_base.specs.declared.refusal.Refusal.TheVariants.{Memory};
-ghost use Rattle.dbg_base.specs.declared.limits.TheConstants.{SEATS};
+ghost use Rattle.dbg_base.specs.declared.limits.TheConstants.{CALLS, SEATS};
 ghost use Rattle.dbg_base.specs.Calls as model;
 ghost use Rattle.dbg_base.specs.Calls.{query_of};
 ghost use Rattle.dbg_base.specs.ModelStates.{ModelState};
@@ -15,6 +15,7 @@ ghost use Rattle.dbg_command.specs.Boxes.{IsScanFor};
 ghost use Rattle.dbg_board.specs.Boards.{listing};
 ghost use Rattle.std.specs.List.{AllByRecursion};
 ghost use Rattle.dbg_desk.specs.Desks.{entry_of, ArePairs, Notes, new_seats, last_said, said_noted};
+ghost use Rattle.dbg_desk.specs.Reserved.{IsUnready};
 ghost use Rattle.dbg_desk.specs.Settling.{IsKeptIn, IsRunJournal, HasOther};
 
 mod returning;
@@ -171,6 +172,17 @@ impl<L: Run, C: Command> Locked<L, C> {
         &self.log.journal[self.log.journal.len() - 1]
     }
 
+    // Whether one more call may be entered. Error: `JournalFull`.
+    fn look_for_place(&self) -> Result<(), Refusal>
+        ensures place { OnOk result (length self.now.journal < CALLS) }
+        ensures refuses { IfErr result (IsUnready (length self.now.journal)) }
+    {
+        if self.calls() >= CALLS {
+            return Err(Refusal::JournalFull);
+        }
+        Ok(())
+    }
+
     /// Gives a command for a seat, and enters the call with its answer, in the last entry then. The command may be given the scan of its
     /// conjuncts in the present state. Error: `JournalFull`, if the journal is full, and `Memory`, if an allocation fails. Then the call is
     /// not entered, and nothing changes.
@@ -191,6 +203,7 @@ impl<L: Run, C: Command> Locked<L, C> {
         ensures fits { FitsCall L.program (model.Give (C.order command)) (said_noted result self.new.journal) }
         ensures enters { OnOk result (Enters L.program self.old.journal seat.old.number (model.Give (C.order command))
             (last_said self.new.journal) self.new.journal) }
+        ensures left_out { IfErr result (IsUnready (length self.old.journal)) }
     {
         let Locked {
             session,
@@ -222,6 +235,7 @@ impl<L: Run, C: Command> Locked<L, C> {
         ensures fits { FitsCall L.program model.Back (said_noted result self.new.journal) }
         ensures enters { OnOk result (Enters L.program self.old.journal seat.old.number model.Back
             (last_said self.new.journal) self.new.journal) }
+        ensures left_out { IfErr result (IsUnready (length self.old.journal)) }
     {
         let Locked {
             session,
@@ -245,7 +259,7 @@ impl<L: Run, C: Command> Locked<L, C> {
         Ok(())
     }
 
-    // Enters the call of a seat that has this answer to a query.
+    // Enters the call of a seat that has this answer to a query. The journal must not be full.
     fn log_answer(
         &mut self,
         alloc: Global,
@@ -253,6 +267,7 @@ impl<L: Run, C: Command> Locked<L, C> {
         query: Query,
         answered: Result<Answer, Refusal>,
     ) -> Result<(), Refusal>
+        requires place { length self.old.journal < CALLS }
         requires answers { (M : ModelState) → LeadsTo L.program (effective self.old.journal) M
             → AnswersOrRefuses L.program M (query_of query) answered }
         requires fits { FitsCall L.program (model.Ask (query_of query)) (reported_of answered) }
@@ -263,6 +278,7 @@ impl<L: Run, C: Command> Locked<L, C> {
         ensures fits { FitsCall L.program (model.Ask (query_of query)) (said_noted result self.new.journal) }
         ensures enters { OnOk result (Enters L.program self.old.journal seat.old.number (model.Ask (query_of query))
             (last_said self.new.journal) self.new.journal) }
+        ensures left_out { IfErr result (IsUnready (length self.old.journal)) }
         ensures says { OnOk result (last_said self.new.journal ≡ reported_of answered) }
     {
         let Locked { session, log, .. } = self;
@@ -272,7 +288,7 @@ impl<L: Run, C: Command> Locked<L, C> {
             share,
             view,
         } = seat;
-        log.make_room(own)?;
+        log.reserve(own)?;
         let said = said_to_query(answered)?;
         let own_call = SmallCall::ask(alloc, &query)?;
         let own_said = SmallSaid::new(alloc, &said)?;
@@ -297,7 +313,9 @@ impl<L: Run, C: Command> Locked<L, C> {
         ensures fits { FitsCall L.program (model.Ask (query_of query)) (said_noted result self.new.journal) }
         ensures enters { OnOk result (Enters L.program self.old.journal seat.old.number (model.Ask (query_of query))
             (last_said self.new.journal) self.new.journal) }
+        ensures left_out { IfErr result (IsUnready (length self.old.journal)) }
     {
+        self.look_for_place()?;
         let answered = self.session.ask(alloc, &query);
         self.log_answer(alloc, seat, query, answered)
     }
@@ -317,7 +335,8 @@ impl<L: Run, C: Command> Locked<L, C> {
         self.session.scan(rt, alloc, command.plan(), gate)
     }
 
-    /// Gives a command for a seat, as `enter` does. Several threads, which ask the gate, scan the conjuncts of a breakpoint.
+    /// Gives a command for a seat, as `enter` does. Several threads, which ask the gate, scan the conjuncts of a breakpoint, unless the journal
+    /// is full.
     pub(crate) fn call<R: Threads + Wait + Sync, G: Gate>(
         &mut self,
         rt: &R,
@@ -331,12 +350,9 @@ impl<L: Run, C: Command> Locked<L, C> {
             self.new.journal }
         ensures notes { Notes L.program self.old seat.old (model.Give (C.order command)) (said_of result) self.new seat.new }
     {
-        match self.scan(rt, alloc, &command, gate) {
-            Ok(scan) => self.enter(alloc, seat, command, scan),
-            // A full journal is reported also if memory ran out.
-            Err(_) if self.calls() >= CALLS => Err(Refusal::JournalFull),
-            Err(refusal) => Err(refusal),
-        }
+        self.look_for_place()?;
+        let scan = self.scan(rt, alloc, &command, gate)?;
+        self.enter(alloc, seat, command, scan)
     }
 
     /// Checks that each of these seats has recorded exactly its calls in the journal, in order. It does not allocate.

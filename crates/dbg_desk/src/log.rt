@@ -3,6 +3,7 @@
 ghost use Rattle.std.specs.Prelude.{◌≡◌, ◌↔◌, ◌+◌, ◌<◌, ◌≤◌, ◌++◌, ◌∷◌, [], length, OnOk, IfOk, IfErr, IsSome, IsTrue};
 ghost use Rattle.std.specs.Vec.{vec_len, vec_capacity};
 ghost use Rattle.dbg_base.specs.declared.limits.TheConstants.{BREAKPOINTS, CALLS};
+ghost use Rattle.dbg_base.specs.declared.refusal.Refusal.TheVariants.{Memory};
 ghost use Rattle.std.specs.Option.{option_map};
 ghost use Rattle.dbg_base.specs.Calls.{Call};
 ghost use Rattle.dbg_base.specs.Copies.{counts_in};
@@ -68,6 +69,19 @@ impl<L: Run> CallLog<L> {
         if self.journal.len() >= CALLS {
             return Err(Refusal::JournalFull);
         }
+        self.reserve(own)
+    }
+
+    /// As `make_room`, if the journal is not full. Error: `Memory`.
+    pub(crate) fn reserve(&mut self, own: &mut Vec<RecordedCall>) -> Result<(), Refusal>
+        requires few { vec_len self.old.journal < CALLS }
+        ensures journal { self.new.journal.items ≡ self.old.journal.items }
+        ensures publisher { self.new.publisher ≡ self.old.publisher }
+        ensures own { own.new.items ≡ own.old.items }
+        ensures room { OnOk result (vec_len self.new.journal < vec_capacity self.new.journal) }
+        ensures record_room { OnOk result (vec_len own.new < vec_capacity own.new) }
+        ensures refuses { IfErr result (λ refusal. refusal ≡ Memory) }
+    {
         self.journal.reserve(1)?;
         own.reserve(1)?;
         Ok(())

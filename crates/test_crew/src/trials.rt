@@ -6,7 +6,7 @@ use crate::desk_trial::make_opening;
 use crate::many::{play_all, two_commands};
 use crate::plain::{expect_alike, said_at_a_desk, said_under_lock};
 use crate::shown::each_call_is_shown;
-use crate::wide::the_scan_meets;
+use crate::wide::{a_full_journal_is_not_scanned, the_scan_meets};
 use dbg_base::{Plan, Refusal};
 use dbg_command::{BatchCmd, BreakCmd, Command, NextCmd, PassCmd, RollbackCmd, UndoCmd};
 use std::alloc::Global;
@@ -22,6 +22,8 @@ pub enum Trial {
     Shown,
     /// A seat sets a breakpoint, whose scan several threads make.
     Wide,
+    /// A seat sets a breakpoint when the journal is full.
+    Full,
     /// A seat has the same answers at a desk and under its lock.
     Alike,
     /// Many seats play, each in its own thread.
@@ -52,6 +54,12 @@ pub fn run<R: Threads + Wait + Abort + Sync>(rt: &R, alloc: Global, trial: Trial
         Trial::Wide => {
             let opening = make_opening(rt, alloc, 1);
             the_scan_meets::<Brand, Box<dyn Command>, _, R>(rt, alloc, &make, opening);
+        }
+        Trial::Full => {
+            let opening = make_opening(rt, alloc, 1);
+            a_full_journal_is_not_scanned::<Brand, Box<dyn Command>, _, R>(
+                rt, alloc, &make, opening,
+            );
         }
         Trial::Alike => {
             let opening = make_opening(rt, alloc, 1);

@@ -9,7 +9,8 @@ use crate::expecting::{expect_same, expect_true};
 use crate::plans::{four_events, halting, named};
 use crate::reported::{is_cut, said_to_question};
 use crate::trials::{Trial, run};
-use dbg_base::{OpenGate, Plan, Query, Refusal};
+use dbg_base::limits::CALLS;
+use dbg_base::{OpenGate, Pid, Plan, Query, Refusal};
 use dbg_command::Command;
 use dbg_desk::{Desk, Opening, Run, Seat};
 use std::alloc::Global;
@@ -70,7 +71,49 @@ pub fn the_scan_meets<
     drop(desk);
 }
 
+// The seat asks until the journal is full.
+fn fill<L: Run, C: Command, R: Threads + Wait + Abort + Sync>(
+    rt: &R,
+    alloc: Global,
+    desk: &Desk<L, C>,
+    seat: &mut Seat<L>,
+) {
+    for _ in seat.own_calls().len()..CALLS {
+        let asked = desk.ask(rt, alloc, seat, Query::Place(Pid(0)));
+        expect_true(rt, asked.is_ok());
+    }
+}
+
+/// Expects a breakpoint that is set when the journal is full to be refused before a scan: no worker asks the gate.
+pub fn a_full_journal_is_not_scanned<
+    L: Run,
+    C: Command,
+    M: Fn(Plan) -> Result<C, Refusal>,
+    R: Threads + Wait + Abort + Sync,
+>(rt: &R, alloc: Global, make: &M, opening: Opening)
+    requires makes { (M.IsAlwaysCallable make.now) × MakesFresh (M.post make.now) C.IsFresh }
+    requires run { IsOpeningOf L.program L.board L.name L.parts L.seats opening }
+{
+    let (desk, mut seats) = opening.desk::<L, C>(alloc).expect(rt, "a desk");
+    let mut seat = seats.pop().expect(rt, "a seat");
+    play_four(rt, alloc, &desk, &mut seat, make);
+    fill(rt, alloc, &desk, &mut seat);
+    let gate = CrewGate::new();
+    let plan = halting(rt, alloc);
+    let outcome = give(rt, alloc, &desk, &mut seat, make, plan, &gate);
+    expect_true(rt, matches!(outcome, Err(Refusal::JournalFull)));
+    expect_true(rt, !gate.two_met());
+    drop(seat);
+    drop(seats);
+    drop(desk);
+}
+
 #[test]
 fn scan_meets(rt: HostRuntime) {
     run(&rt, rt.alloc(), Trial::Wide);
+}
+
+#[test]
+fn full_journal_is_not_scanned(rt: HostRuntime) {
+    run(&rt, rt.alloc(), Trial::Full);
 }

@@ -16,7 +16,6 @@ use crate::copies::{outcome_again, outcome_of};
 use crate::locked::Locked;
 use crate::run::Run;
 use crate::seat::Seat;
-use dbg_base::limits::CALLS;
 use dbg_base::{Answer, Query, Refusal, Reply};
 use dbg_command::Command;
 use least_cut::Scan;
@@ -29,9 +28,7 @@ impl<L: Run, C: Command> Locked<L, C> {
         ensures room { IfOk result (λ room. length L.program ≤ vec_capacity room) }
         ensures refuses { IfErr result (IsUnready (length self.now.journal)) }
     {
-        if self.calls() >= CALLS {
-            return Err(Refusal::JournalFull);
-        }
+        self.look_for_place()?;
         let places = self.program().processes() as usize;
         Ok(Vec::with_capacity(*self.log.journal.allocator(), places)?)
     }
@@ -80,15 +77,10 @@ impl<L: Run, C: Command> Locked<L, C> {
         ensures notes { Notes L.program self.old seat.old (model.Ask (query_of query)) (reported_of result) self.new seat.new }
         ensures fits { FitsCall L.program (model.Ask (query_of query)) (reported_of result) }
     {
+        self.look_for_place()?;
         let answered = self.session.ask(alloc, &query);
-        match outcome_again(&answered) {
-            Ok(again) => {
-                self.log_answer(alloc, seat, query, answered)?;
-                again
-            }
-            // A full journal is reported also if memory ran out.
-            Err(_) if self.calls() >= CALLS => Err(Refusal::JournalFull),
-            Err(refusal) => Err(refusal),
-        }
+        let again = outcome_again(&answered)?;
+        self.log_answer(alloc, seat, query, answered)?;
+        again
     }
 }

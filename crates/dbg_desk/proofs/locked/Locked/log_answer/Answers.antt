@@ -1,4 +1,5 @@
-use Rattle.std.proofs.Common.{◌≡◌, ◌<◌, List, [], ◌∷◌, ◌++◌, length, map, vec_len, refl, ap, ◌∙◌, subst, rules}
+use Rattle.std.proofs.Common.{◌≡◌, ◌<◌, List, [], ◌∷◌, ◌++◌, length, map, vec_len, refl, ap, ◌∙◌, subst, arith, rules}
+use Rattle.std.proofs.lemmas.List.{length-map}
 use Rattle.dbg_base.specs.declared.limits.TheConstants.{CALLS}
 use Rattle.dbg_base.specs.Calls.{Ask, query_of, call_of}
 use Rattle.dbg_base.specs.Journals.{LeadsTo, effective}
@@ -22,7 +23,10 @@ here g c =
     let kept = c.new-entry.result in
     let mine = c.new-kept.result in
     let pair : Glance = record { calls = vec_len c.enter.new.self.journal; halt = c.halt_at.result } in
-    let few : length items < CALLS = search rules in
+    let place = c.requires.place in
+    let before = ap (λ (s : Standing). length s.journal) c.self.view_is in
+    let same = length-map items entry_of in
+    let few : length items < CALLS = omega (arith, place, before, same) in
     let long : vec_len c.enter.new.self.journal ≡ length c.enter.new.self.journal.items = search rules in
     let answers : AnswersOrRefuses g.L.Run.program session.state (query_of c.args.query) c.args.answered =
     c.requires.answers session.state
@@ -33,14 +37,14 @@ here g c =
     (Ask (query_of c.args.query)) (reported_of c.args.answered) few due
     kept c.new-entry.ensures.seat (ap call_of c.new-entry.ensures.call) (c.new-entry.ensures.said ∙ c.in_ok-said.ensures.said)
     c.enter.new.self.journal.items
-    (c.enter.ensures.journal ∙ ap (λ (l : List entry.Entry). l ++ kept ∷ []) c.make_room.ensures.journal)
+    (c.enter.ensures.journal ∙ ap (λ (l : List entry.Entry). l ++ kept ∷ []) c.reserve.ensures.journal)
     session refl refl (leads_to_still _ _ _ _ _ c.self.invariant) c.halt_at.result c.halt_at.ensures.place (vec_len c.enter.new.self.journal) long
     c.enter.new.self.publisher.pairs
-    (c.enter.ensures.pairs ∙ ap (λ (l : Listing). l.pairs ++ pair ∷ []) c.make_room.ensures.publisher)
+    (c.enter.ensures.pairs ∙ ap (λ (l : Listing). l.pairs ++ pair ∷ []) c.reserve.ensures.publisher)
     c.seat.invariant.among c.args.self.now c.args.seat.now mine c.seat.inside.own.items c.enter.new.own.items c.seat.inside.view.pairs
     c.enter.new.view.pairs c.self.view_is c.seat.view_is (ap small_call_of c.new-kept.ensures.call ∙ c.in_ok-own_call.ensures.copies)
     (ap small_said_of c.new-kept.ensures.said ∙ c.in_ok-own_said.ensures ∙ c.in_ok-said.ensures.said)
-    (c.enter.ensures.own ∙ ap (λ (l : List own.RecordedCall). l ++ mine ∷ []) c.make_room.ensures.own)
+    (c.enter.ensures.own ∙ ap (λ (l : List own.RecordedCall). l ++ mine ∷ []) c.reserve.ensures.own)
     (ap (λ (l : Listing). l.pairs) c.enter.ensures.seen.0)
     c.enter.ensures.seen.1
 
