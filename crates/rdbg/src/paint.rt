@@ -8,16 +8,8 @@ use std::io;
 use std::io::{ErrorKind, Stderr, Stdout, Write};
 use ui_text::put_visible;
 
-// Escape sequences that set how text looks: Select Graphic Rendition of ISO 6429.
+// Ends what an escape sequence has set.
 const PLAIN: &str = "\x1b[0m";
-
-const BOLD: &str = "\x1b[1m";
-
-const FAINT: &str = "\x1b[2m";
-
-const INVERSE: &str = "\x1b[7m";
-
-const RED: &str = "\x1b[31m";
 
 // The colours of processes, by their numbers.
 const HUES: [&str; 6] = [
@@ -73,18 +65,18 @@ pub(crate) struct Painted {
     run_style: Style,
 }
 
-// The escape sequence of a style. It is empty for plain text.
+// The escape sequence of a style, by Select Graphic Rendition of ISO 6429. It is empty for plain text.
 fn sequence_of(style: Style) -> &'static str {
     match style {
-        Style::Plain | Style::Echo => "",
+        Style::Plain => "",
         Style::Process(number) => {
             let place = number as usize % HUES.len();
             HUES.get(place).copied().unwrap_or(PLAIN)
         }
-        Style::Value | Style::Halt => BOLD,
-        Style::Place => FAINT,
-        Style::Refusal => RED,
-        Style::Halted(_) => INVERSE,
+        Style::Value | Style::Halt => "\x1b[1m", // bold
+        Style::Place => "\x1b[2m", // faint
+        Style::Refusal => "\x1b[31m", // red
+        Style::Halted(_) => "\x1b[7m", // inverse
     }
 }
 
@@ -171,14 +163,11 @@ impl Painted {
         is_empty && self.style == Style::Plain && self.run_style == Style::Plain
     }
 
-    // Writes bytes for a person, up to their last line end. It has a function of its own because those of a run are written as they are.
+    // Writes bytes for a person, up to their last line end.
     #[inline(never)]
     fn write_text(&mut self, bytes: &[u8]) -> io::Result<usize>
         ensures { WritesAtMost result bytes.now }
     {
-        if self.is_plain() && are_plain_lines(bytes) {
-            return self.inner.write(bytes);
-        }
         if self.style != self.run_style {
             self.paint_run()?;
             self.run_style = self.style;
@@ -199,10 +188,10 @@ impl Painted {
 
 impl Write for Painted {
     fn write(&mut self, bytes: &[u8]) -> io::Result<usize> {
-        match self.look {
-            Look::Raw => self.inner.write(bytes),
-            Look::Visible | Look::Coloured => self.write_text(bytes),
+        if self.look == Look::Raw || (self.is_plain() && are_plain_lines(bytes)) {
+            return self.inner.write(bytes);
         }
+        self.write_text(bytes)
     }
 
     fn flush(&mut self) -> io::Result<()> {

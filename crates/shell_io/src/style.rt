@@ -9,8 +9,6 @@ use std::io::Write;
 pub enum Style {
     /// Plain words, or another reply.
     Plain,
-    /// A line of a session that is written again.
-    Echo,
     /// The name of the process of this number.
     Process(u32),
     /// The new value of a variable.

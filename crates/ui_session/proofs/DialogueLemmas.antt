@@ -87,12 +87,6 @@ pub gap_stops : {A B : Type 0} {e : ServeFault} {r : Result B ServeFault} (line 
 gap_stops line gap a b is h same =
     record { text = gap ++ as_line line; form = inr (gap, is, refl); written = stopped (as_line line) h same }
 
--- the gap was written, and the style of the line was not set
-pub style_stops : {A B C : Type 0} {u : A} {e : ServeFault} {r : Result C ServeFault} (line gap : List ℕ) (a b c : Seen) → IsGap gap
-    → Writes {A = A} a b (Ok u) gap → Writes {A = B} b c (Err e) [] → IsErrAnd r (λ f. f ≡ e) → WritesForm (IsEcho line) a r c
-style_stops line gap a b c is h k same =
-    record { text = gap ++ as_line line; form = inr (gap, is, refl); written = writes_then h (stopped (as_line line) k same) }
-
 -- the gap was written, and the line was not
 pub echo_stops : {A B C : Type 0} {u : A} {e : ServeFault} {r : Result C ServeFault} (line gap : List ℕ) (a b c : Seen) → IsGap gap
     → Writes {A = A} a b (Ok u) gap → Writes {A = B} b c (Err e) line → IsErrAnd r (λ f. f ≡ e) → WritesForm (IsEcho line) a r c

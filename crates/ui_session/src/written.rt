@@ -95,7 +95,6 @@ pub(crate) fn write_echo<W: Sink>(
         return Ok(());
     }
     write_whole(writer, gap)?;
-    set_style(Style::Echo, writer)?;
-    write_styled(line, &[], writer)?;
+    write_whole(writer, line)?;
     write_whole(writer, b"\n")
 }
