@@ -203,6 +203,16 @@ module _ {S R : Type 0} (Gives : S → R → Given → S → R → Type 0) where
         more_gives : GivesAll Gives s r (answered.lines ++ line ∷ []) t u
         more_gives = gives_more answered.lines line s m t r k u answered.gives (subst (λ (g : Given). Gives m k g t u) (sym same) gave)
 
+        -- the output, with that for the line
+        all_said : (text : List ℕ) → Says M P line J text after → SaysAll M P (answered.lines ++ line ∷ []) [] (answered.text ++ text)
+        all_said text says = (
+          answered.text ++ text,
+          after,
+          says_more M P answered.lines line [] answered.text J text after answered.says says,
+          says_legal M P line J text after says answered.legal,
+          sym (append-nil (answered.text ++ text)),
+        )
+
         -- it was answered, and the session continues
         pub line_answered : {A : Type 0} {v : A} → WritesLine {A = A} M P line J mid (Ok v) new after → ends_session M line ≡ false
             → Answered M P s r t u after old new
@@ -228,13 +238,7 @@ module _ {S R : Type 0} (Gives : S → R → Given → S → R → Type 0) where
           ends = (refl, inl ((refl, refl), (answered.lines, line, refl, answered.none, last)));
           writes = (
             answered.text ++ wrote.text,
-            (
-              answered.text ++ wrote.text,
-              after,
-              says_more M P answered.lines line [] answered.text J wrote.text after answered.says wrote.says,
-              says_legal M P line J wrote.text after wrote.says answered.legal,
-              sym (append-nil (answered.text ++ wrote.text)),
-            ),
+            all_said wrote.text wrote.says,
             appended_then old mid new answered.text wrote.text answered.written wrote.written.whole,
           );
         }
@@ -253,13 +257,7 @@ module _ {S R : Type 0} (Gives : S → R → Given → S → R → Type 0) where
               ends = inl (refl, (refl, refl));
               writes = (
                 answered.text ++ wrote.text,
-                (
-                  answered.text ++ wrote.text,
-                  after,
-                  says_more M P answered.lines line [] answered.text J wrote.text after answered.says wrote.says,
-                  says_legal M P line J wrote.text after wrote.says answered.legal,
-                  sym (append-nil (answered.text ++ wrote.text)),
-                ),
+                all_said wrote.text wrote.says,
                 prefix_then old mid new answered.text wrote.text answered.written wrote.written.part,
               );
             })
