@@ -13,6 +13,7 @@ import termios
 from harness import TOP, Fault, temporary_folder
 
 PROGRAM = "process a { var x = 0; when (x < 2) : x := (x + 1); }\n%%\n"
+MODEL = "process p[i: 1..2] { var x = 0; now: when x < 2 : x := x + 1; later: when x > 5 : x := 0; }\n%%\n"
 LINES = ["1 next a", "1 vars a", "1 next a", "1 next a", "1 undo a", "1 nonsense"]
 REPLIES = ["ok a 0", "vars a x=1", "ok a 0", "no 24", "ok a 0", "no 22"]
 PROMPT = "> "
@@ -155,6 +156,21 @@ def repetition_problem(suite, file):
     return "" if status == 0 and shown.count("ok a 0\n") == 2 else f"status {status}, and the terminal shows {shown!r}"
 
 
+def members_problem(suite, file):
+    """Types a line with `for`. The lines that it stands for are shown, each with its reply. A line that stands for itself is not shown again."""
+    terminal = Terminal(suite.program, "talk", file)
+    terminal.until(PROMPT)
+    terminal.type("for i: 1..2 : step p[i] later\n")
+    shown = terminal.until(f"\n{PROMPT}")
+    terminal.type("next p[2]\n")
+    shown += terminal.until("ok p_2 0\n")
+    terminal.type("quit\n")
+    _, status = terminal.ended()
+    lines = [line for line in shown.splitlines() if line and not line.startswith("  ")]
+    wanted = ["for i: 1..2 : step p[i] later", "step p_1 1", "no 3", "step p_2 1", "no 3", "> next p[2]", "ok p_2 0"]
+    return "" if (status, lines) == (0, wanted) else f"status {status}, and the terminal shows {shown!r}"
+
+
 def width_problem(suite, width, *words):
     """How wide a picture in a session is: the names of processes are cut at the width."""
     program = "".join(f"process a_process_with_the_long_name_{n} {{ }}\n" for n in range(3))
@@ -215,8 +231,9 @@ def run(suite):
     for words in (["run"], ["talk"]):
         suite.attempt(f"{words[0]}, line by line through a pipe", pipe_problem, suite, words)
     with temporary_folder() as room:
-        session, program, counter = (room / f"{name}.rdbg" for name in ("session", "program", "counter"))
+        session, program, counter, model = (room / f"{name}.rdbg" for name in ("session", "program", "counter", "model"))
         session.write_text(PROGRAM)
+        model.write_text(MODEL)
         program.write_text(PROGRAM.partition("%%")[0])
         counter.write_text(PROGRAM.replace("process a", "process counter"))
         suite.attempt("talk, typed at a terminal", terminal_problem, suite, session)
@@ -224,6 +241,7 @@ def run(suite):
         suite.attempt("an escape sequence, at a terminal", control_problem, suite, session)
         suite.attempt("a file without a line %%, at a terminal", program_file_problem, suite, program)
         suite.attempt("a line that asks for several events, at a terminal", repetition_problem, suite, session)
+        suite.attempt("a line with `for`, at a terminal", members_problem, suite, model)
         suite.attempt("a picture in a session, as wide as COLUMNS says", width_problem, suite, 60, suite.program, "talk")
         suite.attempt("a picture in a session, as wide as the terminal", width_problem, suite, SIZE[1], TOP / "dist" / "start", "talk", "--no-rlwrap")
         suite.attempt("a picture of a file, at a terminal", picture_problem, suite, session)

@@ -21,4 +21,19 @@ pub enum Directive<'a> {
     Quit,
     /// A line that begins with this word, and has a word too many.
     TooLong(&'a [u8]),
+    /// A line that begins with this word, and would write its answer to a file.
+    ToFile(&'a [u8]),
+}
+
+impl<'a> Directive<'a> {
+    /// The name of the process that it is about, which is empty if it is about none or all.
+    pub fn process(&self) -> &'a [u8] {
+        match self {
+            Directive::On(name)
+            | Directive::List(name)
+            | Directive::State(name)
+            | Directive::Line(name) => name,
+            _ => &[],
+        }
+    }
 }

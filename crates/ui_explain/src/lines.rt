@@ -75,6 +75,28 @@ fn named_seat(line: &[u8]) -> Option<(&[u8], &[u8])> {
     }
 }
 
+// Whether bytes that are no blank are beside a `;`.
+fn has_bare_separator(arguments: &[u8]) -> bool {
+    let mut words = arguments.split(|byte| is_blank(*byte));
+    words.any(|word| word.len() > 1 && word.contains(&b';'))
+}
+
+// What to write in place of a command with these arguments, if many try that.
+fn usual_form(command: &[u8], arguments: &[u8]) -> Option<&'static str> {
+    let is_short = next_word(next_word(arguments).1).0.is_empty();
+    if command == b"batch".as_slice() && has_bare_separator(arguments) {
+        Some("a blank is before and after each `;`: `batch next a ; next b`")
+    } else if command == b"undo".as_slice() && !is_short {
+        Some("`undo` takes back one event; `rollback P N` goes back to the first N events of P")
+    } else if command == b"redo".as_slice() && !is_short {
+        Some("`redo` makes one event again")
+    } else if command == b"back".as_slice() {
+        Some("`back` takes back one command")
+    } else {
+        None
+    }
+}
+
 /// The process of this name.
 pub(crate) fn process_named(program: &Program, word: &[u8]) -> Option<Pid> {
     program.find_process(Name::new(word)?)
@@ -145,7 +167,10 @@ impl SourceView<'_> {
         if command == b"break".as_slice() {
             return self.tell_wrong_break(notes, arguments);
         }
-        Ok(())
+        match usual_form(command, arguments) {
+            Some(words) => notes.say(&[Part::Text(words)]),
+            None => Ok(()),
+        }
     }
 
     /// Says why a command line is refused of which no call was entered. A line that names no seat is one of the first seat.

@@ -112,6 +112,7 @@ impl WrongBreak {
 fn wrong_end(rest: &[u8]) -> Option<&'static str> {
     match rest.first() {
         Some(b')') => Some("there is a `)` too many"),
+        Some(b',') => Some("a blank is between the parts, and no comma"),
         None | Some(b' ' | b'\t') => None,
         Some(_) => Some("a blank is missing after the predicate, or parentheses around it"),
     }

@@ -3,6 +3,7 @@
 ghost use Rattle.shell_input.specs.Spans.{EndsWith};
 
 use crate::expanding::{write_notes, write_text};
+use crate::naming::plain_names;
 use crate::opening::{OpenSession, Opening, PlayedSession, open};
 use crate::written_program::WrittenProgram;
 use shell_io::{Sink, Source};
@@ -121,8 +122,7 @@ fn report_unknown<E: Sink>(
         report(alloc, &[before, Part::Count(number), after], errors)?;
         return Ok(Some(Drawn::NoLine));
     }
-    let unknown = only.and_then(|list| unknown_name(&session.program, list));
-    if let Some(name) = unknown {
+    if let Some(name) = only.and_then(|list| unknown_name(&session.program, list)) {
         let before = Part::Text("the program has no process `");
         report(alloc, &[before, Part::Bytes(name), Part::Text("`")], errors)?;
         return Ok(Some(Drawn::NoProcess));
@@ -145,6 +145,12 @@ fn draw_open<R: Source + Typed, W: Sink, E: Sink>(
     let wanted = match picture.moment {
         Moment::Line(number) => Some(number as usize),
         _ => None,
+    };
+    let names = plain_names(alloc, &session.program, written, picture.only.unwrap_or(""))?;
+    let only = str::from_utf8(names.as_slice()).ok();
+    let picture = Picture {
+        only: only.filter(|_| picture.only.is_some()),
+        ..picture
     };
     if let Some(drawn) = report_unknown(alloc, picture.only, wanted, &session, errors)? {
         return Ok(drawn);

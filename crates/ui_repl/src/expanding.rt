@@ -38,10 +38,8 @@ fn fault_notes(
     fault: &Fault,
 ) -> Result<Notes, AllocError> {
     let (line, column) = line_and_column(text, fault.at());
-    let (line, column) = (
-        Part::Count(line.saturating_add(before)),
-        Part::Count(column),
-    );
+    let line = Part::Count(line.saturating_add(before));
+    let column = Part::Count(column);
     let mut notes = Notes::new(alloc);
     notes.say(&[Part::Text("line "), line, Part::Text(", column "), column])?;
     for line in message(alloc, text, fault)?.iter().skip(1) {

@@ -189,14 +189,18 @@ fn write_refusal<W: Sink>(
     Ok(served)
 }
 
-/// Reports that no line ends the program text, and what can be done.
+/// Reports that no line of a text ends the program, and what can be done.
 #[tactic(auto, using(crate::proofs::TalkLemmas::memory_talks))]
-pub(crate) fn refuse_unended<W: Sink>(alloc: Global, writer: &mut W) -> Result<Served, ServeFault>
+pub(crate) fn refuse_unended<W: Sink>(
+    alloc: Global,
+    text: &[u8],
+    writer: &mut W,
+) -> Result<Served, ServeFault>
     ensures talks { Talks (W.seen writer.old) result (W.seen writer.new) }
     ensures reader { source_after result ≡ Fine }
 {
     let mut notes = Notes::new(alloc);
-    if explain_no_end_line(&mut notes).is_err() {
+    if explain_no_end_line(&mut notes, text).is_err() {
         return Err(ServeFault::Memory);
     }
     write_refusal(None, &notes, writer)

@@ -46,14 +46,6 @@ impl Filler {
         }
         Ok(())
     }
-
-    // Keeps a reply, in place of an earlier one to the same line.
-    fn answer(&mut self, reply: &[u8]) {
-        self.reply.clear();
-        let kept = self.reply.extend_from_slice(reply);
-        self.is_out_of_memory = self.is_out_of_memory || kept.is_err();
-        self.is_answered = true;
-    }
 }
 
 impl Explainer<Option<LineFault>> for Filler {
@@ -78,7 +70,10 @@ impl Explainer<Option<LineFault>> for Filler {
         reply: &[u8],
         _notes: &mut Notes,
     ) {
-        self.answer(reply);
+        self.reply.clear();
+        let kept = self.reply.extend_from_slice(reply);
+        self.is_out_of_memory = self.is_out_of_memory || kept.is_err();
+        self.is_answered = true;
     }
 }
 

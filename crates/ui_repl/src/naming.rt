@@ -28,6 +28,41 @@ fn written_name(
     }
 }
 
+// The plain name of the process that has this name in the text of the author, or this name if none has.
+fn put_plain_name(
+    alloc: Global,
+    program: &Program,
+    written: &WrittenProgram,
+    word: &[u8],
+    names: &mut Vec<u8>,
+) -> Result<(), AllocError> {
+    for p in 0..program.processes() {
+        if written_name(alloc, program, written, Pid(p))?.as_slice() == word {
+            if let Some(name) = program.process_name(Pid(p)) {
+                return names.extend_from_slice(name.bytes());
+            }
+        }
+    }
+    names.extend_from_slice(word)
+}
+
+/// A list of processes, separated by commas, with their plain names in place of those in the text of the author.
+pub(crate) fn plain_names(
+    alloc: Global,
+    program: &Program,
+    written: &WrittenProgram,
+    list: &str,
+) -> Result<Vec<u8>, AllocError> {
+    let mut names = Vec::new(alloc);
+    for (number, word) in list.as_bytes().split(|byte| *byte == b',').enumerate() {
+        if number > 0 {
+            names.push(b',')?;
+        }
+        put_plain_name(alloc, program, written, word.trim_ascii(), &mut names)?;
+    }
+    Ok(names)
+}
+
 // Appends the line of a command.
 fn put_command(
     notes: &mut Notes,
@@ -99,5 +134,43 @@ pub fn name_commands<R: Source, W: Sink, E: Sink>(
     match read_text(alloc, text)? {
         ReadText::Program(written, program) => write_commands(alloc, &program, &written, writer),
         ReadText::Wrong(fault) => write_fault(alloc, text, &fault, errors),
+    }
+}
+
+// Says what reads a program of this name, if it is in the model notation.
+fn write_hint<E: Sink>(
+    alloc: Global,
+    name: &str,
+    written: &WrittenProgram,
+    errors: &mut E,
+) -> Result<(), ServeFault> {
+    if written.expansion().is_none() {
+        return Ok(());
+    }
+    let mut notes = Notes::new(alloc);
+    notes.say(&[Part::Text("hint: '")])?;
+    notes.add(&[Part::Text(name)])?;
+    notes.add(&[Part::Text(
+        "' is in the model notation, which `check --explain`, `talk`, `test` and `draw` read; `expand` makes it plain",
+    )])?;
+    write_notes(&notes, errors)
+}
+
+/// Says what reads the program of this file, if the program is in the model notation. Errors: the reader or the writer failed, or memory
+/// ran out.
+pub fn tell_notation<R: Source, E: Sink>(
+    alloc: Global,
+    name: &str,
+    reader: &mut R,
+    errors: &mut E,
+) -> Result<(), ServeFault> {
+    let mut input = Input::new(alloc)?;
+    let end = read_program_text(&mut input, reader)?;
+    let Some(text) = text_alone(&input, end) else {
+        return Ok(());
+    };
+    match read_text(alloc, text)? {
+        ReadText::Program(written, _program) => write_hint(alloc, name, &written, errors),
+        ReadText::Wrong(_fault) => Ok(()),
     }
 }

@@ -125,7 +125,7 @@ pub(crate) fn open<R: Source, W: Sink>(
     let mut input = Input::new(alloc)?;
     match read_program_text(&mut input, reader)? {
         TextEnd::Before(span) => open_text(alloc, input, span.from, writer),
-        TextEnd::End => Ok(Opening::Refused(refuse_unended(alloc, writer))),
+        TextEnd::End => Ok(Opening::Refused(refuse_unended(alloc, input.bytes(), writer))),
         TextEnd::TooLong => Ok(Opening::Refused(tell_too_long(writer))),
     }
 }

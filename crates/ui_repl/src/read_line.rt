@@ -111,9 +111,8 @@ impl<'a> ReadLine<'a> {
         self.played.clear();
         if line.len() > LINE_BYTES || words.are_remark() {
             let is_whole = line.len() > LINE_BYTES || LineWords::of(line).are_remark();
-            return self
-                .played
-                .extend_from_slice(if is_whole { line } else { bare });
+            let played = if is_whole { line } else { bare };
+            return self.played.extend_from_slice(played);
         }
         if self.expander.is_none() && words.are_whole() {
             let (once, times) = repeated(bare, &words).unwrap_or((bare, 1));

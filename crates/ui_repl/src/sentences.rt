@@ -9,7 +9,7 @@ use shell_parse::next_word;
 use std::alloc::{AllocError, Global};
 use ui_diagram::{ALL_EVENTS, draw_text};
 use ui_explain::{Before, CountedCommand, Directive, Echo, Explainer, SourceView, Told};
-use ui_text::{Notes, Part, tell_help, tell_too_long};
+use ui_text::{Notes, Part, tell_help, tell_to_file, tell_too_long};
 use ui_timeline::Selection;
 
 /// The most bytes of explanations of a session. A line that is answered without a call counts more, by the work that its answer takes.
@@ -51,6 +51,21 @@ impl LineKind {
             Some(b'>') => LineKind::Expectation,
             Some(_) => LineKind::Command,
         }
+    }
+}
+
+// Whether a line begins with `for`.
+fn is_for(line: &[u8]) -> bool {
+    next_word(without_seat(line)).0 == b"for".as_slice()
+}
+
+// How a line that was typed, or one that it stands for, is written.
+fn echo_of_typed(line: &ExpandedLine<'_>) -> Echo {
+    let stands_alone = !is_for(line.written) || is_for(line.played.unwrap_or(line.written));
+    match (stands_alone, line.is_first) {
+        (true, _) => Echo::Nothing,
+        (false, true) => Echo::Line,
+        (false, false) => Echo::Separated,
     }
 }
 
@@ -112,7 +127,8 @@ impl<'a> Sentences<'a> {
                     .tell_line_fault(alloc, notes, view.program, line, fault)?,
             );
         }
-        if *refusal == Refusal::UnknownProcess && self.program.tell_family(notes, line)? {
+        let arguments = next_word(without_seat(line)).1;
+        if *refusal == Refusal::UnknownProcess && self.program.tell_family(notes, arguments)? {
             return Ok(());
         }
         view_of(self.program, view).tell_bad_line(alloc, notes, line, refusal)?;
@@ -178,6 +194,9 @@ impl<'a> Sentences<'a> {
         directive: Directive<'_>,
     ) -> Result<(), Refusal> {
         let view = view_of(self.program, view);
+        if self.program.tell_family(notes, directive.process())? {
+            return Ok(());
+        }
         match directive {
             Directive::Remark | Directive::Quit => Ok(()),
             Directive::Help(word) => Ok(tell_help(notes, word)?),
@@ -187,13 +206,14 @@ impl<'a> Sentences<'a> {
             Directive::Line(name) => Ok(view.tell_line(notes, name)?),
             Directive::Draw => self.draw(alloc, notes, view.session),
             Directive::TooLong(word) => Ok(tell_too_long(notes, word)?),
+            Directive::ToFile(word) => Ok(tell_to_file(notes, word)?),
         }
     }
 }
 
 impl Explainer<Option<LineFault>> for Sentences<'_> {
-    // The terminal already shows what was typed. Of other lines, those that belong together are together: comments, a command, and the
-    // reply that is expected to it.
+    // The terminal already shows what was typed, but not the lines that a `for` stands for. Of other lines, those that belong together are
+    // together: comments, a command, and the reply that is expected to it.
     fn hear(&mut self, _alloc: Global, line: &ExpandedLine<'_>) -> Echo {
         let before = self.last_kind;
         let kind = LineKind::of(line.played.unwrap_or(line.written));
@@ -201,7 +221,7 @@ impl Explainer<Option<LineFault>> for Sentences<'_> {
             self.last_kind = kind;
         }
         if line.is_typed {
-            return Echo::Nothing;
+            return echo_of_typed(line);
         }
         match (before, kind) {
             (_, LineKind::Blank) => Echo::Nothing,

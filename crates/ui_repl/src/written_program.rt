@@ -5,9 +5,11 @@ ghost use Rattle.shell_print.specs.declared.outcome.ServeFault.TheVariants.{Memo
 
 use crate::fault_places::FaultPlace;
 use crate::read_line::LineFault;
+use crate::words::without_seat;
 use dbg_base::{Choice, Pid};
 use notation::{ExpandedProgram, Expansion, Fault, NotationError, Problem, expand_program};
 use proc_lang::{ProgError, Program, parse_program};
+use shell_parse::next_word;
 use shell_print::ServeFault;
 use std::alloc::{AllocError, Global};
 use ui_text::{DeclaredAs, Notes, Part, ProgramText, find_declaration};
@@ -83,6 +85,19 @@ pub(crate) fn read_text(alloc: Global, text: &[u8]) -> Result<ReadText, ServeFau
     }
 }
 
+// What to write in place of this line, if its `for` has a form or a place that many try.
+fn usual_for(line: &[u8]) -> Option<&'static str> {
+    let (command, rest) = next_word(without_seat(line));
+    let mut words = rest.split(|byte| byte.is_ascii_whitespace());
+    if command == b"for".as_slice() && words.nth(2) == Some(b"in".as_slice()) {
+        Some("a colon is between the name and its range: `for i: 1..2 : next p[i]`")
+    } else if command == b"batch".as_slice() && words.any(|word| word == b"for".as_slice()) {
+        Some("a `for` comes before a whole command, and not in a batch: `for i: 1..2 : next p[i]`")
+    } else {
+        None
+    }
+}
+
 impl WrittenProgram {
     /// The expansion, if the program is in the notation.
     pub(crate) fn expansion(&self) -> Option<&Expansion> {
@@ -131,6 +146,9 @@ impl WrittenProgram {
         let explanation = place.explanation(alloc)?;
         for number in 1..explanation.count() {
             notes.say(&[Part::Bytes(explanation.line(number).bytes)])?;
+        }
+        if let Some(words) = usual_for(line) {
+            notes.say(&[Part::Text(words)])?;
         }
         if fault.fault.problem() != Problem::NoLabel {
             return Ok(());

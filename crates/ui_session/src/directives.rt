@@ -101,6 +101,9 @@ pub(crate) fn directive(line: &[u8]) -> Directive<'_> {
         return Directive::Remark;
     };
     let (argument, rest) = next_word(rest);
+    if verb != Verb::Quit && argument.first() == Some(&b'>') {
+        return Directive::ToFile(word);
+    }
     if is_remark(argument) {
         return verb.with(&[]);
     }

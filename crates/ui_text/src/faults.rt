@@ -221,11 +221,20 @@ impl<'a> UnknownName<'a> {
     }
 }
 
-/// Says that no line ends the program.
-pub fn tell_no_end_line(notes: &mut Notes) -> Result<(), AllocError> {
+/// Says that no line of a text ends the program, and which line was probably meant to.
+pub fn tell_no_end_line(notes: &mut Notes, text: &[u8]) -> Result<(), AllocError> {
     notes.say(&[Part::Text(
         "no line is `%%`: this line ends the program, and command lines follow it",
-    )])
+    )])?;
+    let mut lines = text.split(|byte| *byte == b'\n');
+    match lines.position(|line| line.trim_ascii() == b"%%".as_slice()) {
+        Some(before) => notes.say(&[
+            Part::Text("line "),
+            Part::Count(before.saturating_add(1)),
+            Part::Text(" has blanks beside its `%%`"),
+        ]),
+        None => Ok(()),
+    }
 }
 
 /// Says how a fault of a program text may be corrected, if that is known: which symbol is missing, or which name may be meant.

@@ -9,7 +9,7 @@ use strsim::osa_distance;
 // be missing. `..` means more words.
 static COMMANDS: [&str; 20] = [
     "`next P [N]`: process P makes its first command that fires, up to N times: a refusal or a halt ends that",
-    "`step P K`: process P makes its command number K, from 0",
+    "`step P K`: process P makes its command K: a number, from 0, or in a model a label",
     "`undo P`: undoes P's last event",
     "`redo P`: P makes the command at its place again",
     "`rollback P N`: P goes back to its first N events, and the others no further than they must",
@@ -39,6 +39,11 @@ static DIRECTIVES: [&str; 7] = [
     "`draw`: draws a picture: a column for each process, events downward",
     "`help [WORD]`: shows these lines, or what a command or the number of a refusal means; so does `?`",
     "`quit`: ends the session; so do `exit` and `q`",
+];
+
+// What a word means in a line of a model that no line begins with alone.
+static PREFIXES: [&str; 1] = [
+    "`for I: LOW..HIGH : LINE`: gives LINE for each number I, as in `for i: 1..3 : next p[i]`; in a model",
 ];
 
 // Other words for directives.
@@ -81,6 +86,11 @@ fn is_about(line: &str, word: &[u8]) -> bool {
 fn line_about(word: &[u8]) -> Option<&'static str> {
     let mut lines = COMMANDS.iter().chain(&DIRECTIVES).copied();
     lines.find(|line| is_about(line, word))
+}
+
+// The line of the help about a word before a command.
+fn prefix_about(word: &[u8]) -> Option<&'static str> {
+    PREFIXES.iter().copied().find(|line| is_about(line, word))
 }
 
 // The same for a word that may be another word for it.
@@ -137,7 +147,7 @@ fn small_number(word: &[u8]) -> Option<u32> {
 
 /// Shows the form of the command that begins with this word. False if there is none.
 pub fn tell_word(notes: &mut Notes, word: &[u8]) -> Result<bool, AllocError> {
-    let found = help_line(word);
+    let found = help_line(word).or_else(|| prefix_about(word));
     if let Some(line) = found {
         notes.say(&[Part::Text(line)])?;
     }
@@ -198,6 +208,17 @@ pub fn tell_too_long(notes: &mut Notes, word: &[u8]) -> Result<(), AllocError> {
     notes.say(&[Part::Text("the line has a word too many")])?;
     let _found = tell_word(notes, word)?;
     Ok(())
+}
+
+/// Says that a directive, which begins with this word, writes no file.
+pub fn tell_to_file(notes: &mut Notes, word: &[u8]) -> Result<(), AllocError> {
+    say_of_word(notes, word, "` is answered here, and writes no file")?;
+    let words = if word == b"draw".as_slice() {
+        "`rdbg draw SESSION > FILE` writes the picture into one"
+    } else {
+        "`rdbg talk SESSION > FILE` writes a session with its answers into one"
+    };
+    notes.say(&[Part::Text(words)])
 }
 
 /// Shows the lines that can be typed, or what a word or the number of a refusal means.

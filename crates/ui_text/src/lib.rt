@@ -13,8 +13,8 @@ mod source;
 pub use escapes::{put_visible, visible};
 pub use faults::{foreign_correction, say_mark, tell_correction, tell_mark, tell_no_end_line};
 pub use forms::{
-    is_directive_word, is_whole_word, tell_help, tell_near_word, tell_too_long, tell_word,
-    whole_word,
+    is_directive_word, is_whole_word, tell_help, tell_near_word, tell_to_file, tell_too_long,
+    tell_word, whole_word,
 };
 pub use names::{Declaration, DeclaredAs, find_declaration};
 pub use notes::{NoteLine, Notes, Part, StyleChange};

@@ -8,7 +8,7 @@ use std::alloc::{AllocError, Global};
 // The fewest blanks between two columns.
 const GAP: usize = 2;
 
-// For so many bytes more than are needed is room made.
+// How much more room is made than is needed, in bytes.
 const ROOM: usize = 256;
 
 static BLANKS: [u8; 32] = [b' '; 32];
