@@ -31,7 +31,7 @@ _rdbg() {
         choices+=' --schedules --length --weight --at-most --test --compare --help'
         ;;
       talk) choices='--color --help' ;;
-      test) choices='--fill --help' ;;
+      test) choices='--fill --tap --help' ;;
       draw) choices='--as --at --at-halt --last --only --width --theme --help' ;;
       *) choices='--help' ;;
     esac

@@ -17,6 +17,7 @@ complete -c rdbg -n '__fish_seen_subcommand_from expand' -l names -d 'List the c
 complete -c rdbg -n '__fish_seen_subcommand_from crew' -l turns -x -d 'How often to give next for each process'
 complete -c rdbg -n '__fish_seen_subcommand_from talk' -l color -x -a 'auto always never' -d 'Whether output is coloured'
 complete -c rdbg -n '__fish_seen_subcommand_from test' -l fill -d 'Print the session with its replies'
+complete -c rdbg -n '__fish_seen_subcommand_from test' -l tap -d 'Print the results in the Test Anything Protocol'
 complete -c rdbg -n '__fish_seen_subcommand_from draw' -l as -x -a 'text svg html shiviz mermaid' -d 'The form of the picture'
 complete -c rdbg -n '__fish_seen_subcommand_from draw' -l at -x -d 'The state after this line'
 complete -c rdbg -n '__fish_seen_subcommand_from draw' -l at-halt -d 'The state at the first halt'

@@ -44,8 +44,9 @@ pub enum Work<'a> {
 pub enum Request<'a> {
     /// This work, with the file of this name, or with standard input.
     Work(Work<'a>, Option<&'a str>),
-    /// Play the sessions of these files, at least one, and compare their replies.
-    Test(Vec<&'a str>),
+    /// Play the sessions of these files and folders, at least one, and compare their replies. The results are written as the Test Anything
+    /// Protocol has them, or in words.
+    Test(Vec<&'a str>, bool),
     /// Print the session of this file with the replies that it has now.
     Fill(&'a str),
     /// Print the version.

@@ -184,10 +184,15 @@ fn test<'a>(alloc: Global) -> Result<Command<'a>, AllocError> {
             "Plays sessions, and compares the reply to each command line with the line `> REPLY` after it",
         )
         .arg(
-            file(alloc)
-                .required(true)
-                .num_args(1..)
-                .help("The sessions"),
+            file(alloc).required(true).num_args(1..).help(
+                "The sessions. A folder stands for each session `*.rdbg` below it",
+            ),
+        )?
+        .arg(
+            Arg::new(alloc, "tap")
+                .long("tap")
+                .action(ArgAction::SetTrue)
+                .help("Prints the results as the Test Anything Protocol has them"),
         )?
         .arg(
             Arg::new(alloc, "fill")
@@ -255,7 +260,13 @@ fn named_test<'a>(
 {
     let files = named_files(alloc, matches)?;
     if !matches.get_flag("fill") {
-        return Ok(Request::Test(files));
+        return Ok(Request::Test(files, matches.get_flag("tap")));
+    }
+    if matches.get_flag("tap") {
+        return Err(command.error(
+            ErrorKind::ArgumentConflict,
+            "'--fill' and '--tap' cannot be used together",
+        )?);
     }
     match files.as_slice() {
         [file] => Ok(Request::Fill(file)),

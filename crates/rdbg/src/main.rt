@@ -4,6 +4,8 @@
 mod output;
 mod paint;
 mod serving;
+mod sessions;
+mod testing;
 #[cfg(test)]
 mod tests;
 mod typing;
@@ -20,24 +22,25 @@ use std::process::ExitCode;
 use std::sync::Wait;
 use std::thread::Threads;
 use std::{env, io};
+use testing::test;
 use typing::{Device, FileInput, Typing, open};
 use ui_diagram::{PictureForm, WIDTH};
 use ui_repl::{
-    Tested, draw, draw_status, expand, explain, fill_session, name_commands, talk, test_session,
+    draw, draw_status, expand, explain, fill_session, name_commands, talk, tell_notation,
 };
 use words::{WordsFault, words};
 
 static VERSION: &str = "rdbg 1.0";
 
-// The status if output could not be written.
-const NOT_WRITTEN: u8 = 1;
+// The status if output could not be written, or if a session did not have the expected replies.
+pub(crate) const FAILED: u8 = 1;
 
-// The status if a session did not have the expected replies.
-const DIFFERS: u8 = 1;
+// The status if a program was refused.
+const REFUSED: u8 = 3;
 
 // What this work reads: the file of this name, standard input, or one after the other. `-` means standard input. Nobody is to type what a
 // picture or an expanded session is made of.
-fn device_of<'a>(
+pub(crate) fn device_of<'a>(
     rt: &'a HostRuntime,
     work: Option<Work<'_>>,
     name: &str,
@@ -86,32 +89,24 @@ fn do_work<R: Threads + Wait + Sync, W: Sink, E: Sink>(
     }
 }
 
+// Says what reads the program of a file that is refused, if it is in the model notation, which a run and a check do not read. It is read
+// again, unless it can be read only once.
+fn hint<E: Sink>(rt: &HostRuntime, work: Work<'_>, name: &str, errors: &mut E) {
+    let is_plain = matches!(work, Work::Job(Job::Run | Job::Check));
+    if let Ok(file) = open(rt, name) {
+        if is_plain && file.metadata().is_ok_and(|data| data.is_file()) {
+            let mut reader = Noted::new(FileInput::new(file, false));
+            let _ = tell_notation(rt.alloc(), name, &mut reader, errors);
+        }
+    }
+}
+
 // Reports that a file cannot be read, and returns the status of a usage error.
-fn tell_unreadable(rt: &HostRuntime, name: &str, error: &Error) -> u8 {
+pub(crate) fn tell_unreadable(rt: &HostRuntime, name: &str, error: &Error) -> u8 {
     let _ = eprintln!(rt;
         "error: the file '{name}' cannot be read: {error}\n\nFor more information, try '--help'."
     );
     2
-}
-
-// Plays the sessions of these files. Returns the largest status of them all.
-fn test<W: Sink>(rt: &HostRuntime, files: &[&str], writer: &mut W) -> u8 {
-    let mut worst = 0;
-    for name in files {
-        let mut session = match device_of(rt, None, name) {
-            Ok(device) => Noted::new(device),
-            Err(error) => {
-                worst = worst.max(tell_unreadable(rt, name, &error));
-                continue;
-            }
-        };
-        match test_session(rt.alloc(), name, &mut session, writer) {
-            Ok(Tested::Passed) => {}
-            Ok(Tested::Failed) => worst = worst.max(DIFFERS),
-            Err(fault) => return fault.status(),
-        }
-    }
-    worst
 }
 
 // Writes the session of this file with its replies, and returns the exit status.
@@ -146,7 +141,7 @@ fn look_of(rt: &HostRuntime, request: &Request<'_>) -> Look {
     match request {
         Request::Work(Work::Talk(Coloring::Auto), _) if shows_colours(rt) => Look::Coloured,
         Request::Work(Work::Talk(Coloring::Always), _) => Look::Coloured,
-        Request::Work(Work::Talk(_) | Work::Explain, _) | Request::Test(_) => Look::Visible,
+        Request::Work(Work::Talk(_) | Work::Explain, _) | Request::Test(_, _) => Look::Visible,
         Request::Work(Work::Draw(picture), _) if picture.form == PictureForm::Text => Look::Visible,
         Request::Work(Work::Job(_) | Work::Expand | Work::NameCommands | Work::Draw(_), _)
         | Request::Fill(_)
@@ -168,15 +163,21 @@ fn do_request<R: Threads + Wait + Sync>(
         Request::Work(work, file) => {
             let name = file.unwrap_or("-");
             match device_of(rt, Some(*work), name) {
-                Ok(input) => do_work(rt, threads, *work, input, &mut writer, &mut errors),
+                Ok(input) => {
+                    let status = do_work(rt, threads, *work, input, &mut writer, &mut errors);
+                    if status == REFUSED {
+                        hint(rt, *work, name, &mut errors);
+                    }
+                    status
+                }
                 Err(error) => tell_unreadable(rt, name, &error),
             }
         }
-        Request::Test(files) => test(rt, files.as_slice(), &mut writer),
+        Request::Test(names, is_tap) => test(rt, names.as_slice(), *is_tap, &mut writer),
         Request::Fill(file) => fill(rt, file, &mut writer, &mut errors),
         Request::Version => match println!(rt; "{VERSION}") {
             Ok(()) => 0,
-            Err(_) => NOT_WRITTEN,
+            Err(_) => FAILED,
         },
     }
 }
@@ -201,7 +202,7 @@ fn main(rt: HostRuntime) -> ExitCode {
             }
             let is_help = error.exit_code() == 0;
             match error.print(&rt) {
-                Err(_) if is_help => ExitCode::from(NOT_WRITTEN),
+                Err(_) if is_help => ExitCode::from(FAILED),
                 _ => ExitCode::from(error.exit_code() as u8),
             }
         }

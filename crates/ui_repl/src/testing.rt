@@ -25,8 +25,10 @@ use ui_text::{Notes, Part};
 pub enum Tested {
     /// Each reply was the expected one.
     Passed,
-    /// A reply was not, no reply is expected, an expected reply is at a wrong place, the program was refused, or the input was too long.
+    /// A reply was not, an expected reply is at a wrong place, the program was refused, or the input was too long.
     Failed,
+    /// No reply is expected.
+    Unchecked,
 }
 
 // The last line that is no remark: its number in the input, its text, its last reply, and the explanation of that.
@@ -167,13 +169,6 @@ impl<'a> Tester<'a> {
         Ok(self.lines.push(PlayedLine::Unanswered)?)
     }
 
-    // The present line has this reply, which is explained next.
-    fn answer(&mut self, reply: &[u8]) {
-        let reply = Vec::from_slice(self.alloc, reply);
-        self.is_out_of_memory = self.is_out_of_memory || reply.is_err();
-        self.asked.reply = reply.ok();
-    }
-
     // The report, and the result.
     fn result(&mut self) -> Result<(Notes, Tested), ServeFault> {
         let compared = compare(self.lines.as_slice()).compared;
@@ -187,7 +182,7 @@ impl<'a> Tester<'a> {
         notes.say(&[Part::Text(self.name)])?;
         if compared == 0 {
             notes.add(&[Part::Text(": no line `> REPLY` gives an expected reply")])?;
-            return Ok((notes, Tested::Failed));
+            return Ok((notes, Tested::Unchecked));
         }
         let word = if compared == 1 { " reply" } else { " replies" };
         notes.add(&[
@@ -229,7 +224,9 @@ impl Explainer<Option<LineFault>> for Tester<'_> {
         reply: &[u8],
         _notes: &mut Notes,
     ) {
-        self.answer(reply);
+        let kept = Vec::from_slice(alloc, reply);
+        self.is_out_of_memory = self.is_out_of_memory || kept.is_err();
+        self.asked.reply = kept.ok();
         let notes = &mut self.asked.notes;
         self.sentences
             .explain(alloc, view, line, told, reply, notes);
@@ -264,10 +261,10 @@ fn test_open<'a, R: Source + Typed>(
     tester.result()
 }
 
-/// Plays the session of this name, which may be in the model notation. Writes how many replies were compared, or the first that was not the
-/// expected one, with its explanation. A line `> REPLY` gives the expected reply to the command line before it; between the two there are
-/// only comments and blank lines. A program that is refused, and input that is too long, are reported as an
-/// interactive session reports them.
+/// Plays the session of this name, which may be in the model notation. Writes a report: how many replies were compared, or the first that
+/// was not the expected one, with its explanation. A line `> REPLY` gives the expected reply to the command line before it; between the two
+/// there are only comments and blank lines. A program that is refused, and input that is too long, are reported as an interactive session
+/// reports them.
 pub fn test_session<R: Source + Typed, W: Sink>(
     alloc: Global,
     name: &str,

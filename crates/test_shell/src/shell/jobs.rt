@@ -64,7 +64,7 @@ pub(super) fn expect_refused(rt: &impl Abort, alloc: Global, row: &Row) {
 }
 
 // A crew has turns within bounds.
-const REFUSED: [Row; 8] = [
+const REFUSED: [Row; 9] = [
     (
         ErrorKind::ValueValidation,
         &[
@@ -102,6 +102,7 @@ const REFUSED: [Row; 8] = [
     (ErrorKind::InvalidSubcommand, &["jump"]),
     (ErrorKind::MissingRequiredArgument, &["test", "crew"]),
     (ErrorKind::TooManyValues, &["test --fill one two"]),
+    (ErrorKind::ArgumentConflict, &["test --fill --tap one"]),
 ];
 
 #[test]
@@ -116,14 +117,14 @@ fn other_words_are_refused(rt: HostRuntime) {
 fn request_of(alloc: Global, words: ArgumentList) -> (&'static str, Option<&'static str>) {
     match asked(alloc, words) {
         Ok(Request::Work(_, file)) => ("work", file),
-        Ok(Request::Test(files)) => ("test", files.first().copied()),
+        Ok(Request::Test(files, _)) => ("test", files.first().copied()),
         Ok(Request::Fill(file)) => ("fill", Some(file)),
         Ok(Request::Version) => ("version", None),
         Err(_) => ("error", None),
     }
 }
 
-const FILES: [(ArgumentList, &str, Option<&str>); 10] = [
+const FILES: [(ArgumentList, &str, Option<&str>); 11] = [
     (&["rdbg", "run", "one"], "work", Some("one")),
     (&["rdbg", "check", "a b"], "work", Some("a b")),
     (
@@ -134,6 +135,7 @@ const FILES: [(ArgumentList, &str, Option<&str>); 10] = [
     (&["rdbg", "talk", "--", "--now"], "work", Some("--now")),
     (&["rdbg", "test", "one", "two"], "test", Some("one")),
     (&["rdbg", "test", "one"], "test", Some("one")),
+    (&["rdbg", "test", "--tap", "one"], "test", Some("one")),
     (&["rdbg", "test", "--fill", "one"], "fill", Some("one")),
     (&["rdbg", "test", "one", "--fill"], "fill", Some("one")),
     (&["rdbg", "run"], "work", None),
