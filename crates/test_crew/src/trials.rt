@@ -6,7 +6,7 @@ use crate::desk_trial::make_opening;
 use crate::many::{play_all, two_commands};
 use crate::plain::{expect_alike, said_at_a_desk, said_under_lock};
 use crate::shown::each_call_is_shown;
-use crate::wide::{a_full_journal_is_not_scanned, the_scan_meets};
+use crate::wide::the_scan_meets;
 use dbg_base::{Plan, Refusal};
 use dbg_command::{BatchCmd, BreakCmd, Command, NextCmd, PassCmd, RollbackCmd, UndoCmd};
 use std::alloc::Global;
@@ -51,15 +51,10 @@ pub fn run<R: Threads + Wait + Abort + Sync>(rt: &R, alloc: Global, trial: Trial
             let opening = make_opening(rt, alloc, 2);
             each_call_is_shown::<Brand, Box<dyn Command>, _, R>(rt, alloc, &make, opening);
         }
-        Trial::Wide => {
+        Trial::Wide | Trial::Full => {
+            let is_full = matches!(trial, Trial::Full);
             let opening = make_opening(rt, alloc, 1);
-            the_scan_meets::<Brand, Box<dyn Command>, _, R>(rt, alloc, &make, opening);
-        }
-        Trial::Full => {
-            let opening = make_opening(rt, alloc, 1);
-            a_full_journal_is_not_scanned::<Brand, Box<dyn Command>, _, R>(
-                rt, alloc, &make, opening,
-            );
+            the_scan_meets::<Brand, Box<dyn Command>, _, R>(rt, alloc, &make, opening, is_full);
         }
         Trial::Alike => {
             let opening = make_opening(rt, alloc, 1);

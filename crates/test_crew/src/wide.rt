@@ -49,28 +49,6 @@ fn expect_halt<
     expect_true(rt, gate.two_met());
 }
 
-/// Expects the workers of the scan to meet at the gate, and the breakpoint to halt at its least cut: the first has counted to 2, and the
-/// others to 1.
-pub fn the_scan_meets<
-    L: Run,
-    C: Command,
-    M: Fn(Plan) -> Result<C, Refusal>,
-    R: Threads + Wait + Abort + Sync,
->(rt: &R, alloc: Global, make: &M, opening: Opening)
-    requires makes { (M.IsAlwaysCallable make.now) × MakesFresh (M.post make.now) C.IsFresh }
-    requires run { IsOpeningOf L.program L.board L.name L.parts L.seats opening }
-{
-    let (desk, mut seats) = opening.desk::<L, C>(alloc).expect(rt, "a desk");
-    let mut seat = seats.pop().expect(rt, "a seat");
-    play_four(rt, alloc, &desk, &mut seat, make);
-    expect_halt(rt, alloc, &desk, &mut seat, make);
-    let asked = desk.ask(rt, alloc, &mut seat, Query::CutOf(named(rt, "w")));
-    expect_true(rt, is_cut(&said_to_question(asked), &[2, 1, 1]));
-    drop(seat);
-    drop(seats);
-    drop(desk);
-}
-
 // The seat asks until the journal is full.
 fn fill<L: Run, C: Command, R: Threads + Wait + Abort + Sync>(
     rt: &R,
@@ -84,25 +62,44 @@ fn fill<L: Run, C: Command, R: Threads + Wait + Abort + Sync>(
     }
 }
 
-/// Expects a breakpoint that is set when the journal is full to be refused before a scan: no worker asks the gate.
-pub fn a_full_journal_is_not_scanned<
+// The breakpoint is refused before a scan: no worker asks the gate.
+fn expect_no_scan<
     L: Run,
     C: Command,
     M: Fn(Plan) -> Result<C, Refusal>,
     R: Threads + Wait + Abort + Sync,
->(rt: &R, alloc: Global, make: &M, opening: Opening)
+>(rt: &R, alloc: Global, desk: &Desk<L, C>, seat: &mut Seat<L>, make: &M)
+    requires makes { (M.IsAlwaysCallable make.now) × MakesFresh (M.post make.now) C.IsFresh }
+{
+    let gate = CrewGate::new();
+    let plan = halting(rt, alloc);
+    let outcome = give(rt, alloc, desk, seat, make, plan, &gate);
+    expect_true(rt, matches!(outcome, Err(Refusal::JournalFull)));
+    expect_true(rt, !gate.two_met());
+}
+
+/// Expects the workers of the scan to meet at the gate, and the breakpoint to halt at its least cut: the first has counted to 2, and the
+/// others to 1. If the journal is full, expects the breakpoint to be refused before a scan.
+pub fn the_scan_meets<
+    L: Run,
+    C: Command,
+    M: Fn(Plan) -> Result<C, Refusal>,
+    R: Threads + Wait + Abort + Sync,
+>(rt: &R, alloc: Global, make: &M, opening: Opening, is_full: bool)
     requires makes { (M.IsAlwaysCallable make.now) × MakesFresh (M.post make.now) C.IsFresh }
     requires run { IsOpeningOf L.program L.board L.name L.parts L.seats opening }
 {
     let (desk, mut seats) = opening.desk::<L, C>(alloc).expect(rt, "a desk");
     let mut seat = seats.pop().expect(rt, "a seat");
     play_four(rt, alloc, &desk, &mut seat, make);
-    fill(rt, alloc, &desk, &mut seat);
-    let gate = CrewGate::new();
-    let plan = halting(rt, alloc);
-    let outcome = give(rt, alloc, &desk, &mut seat, make, plan, &gate);
-    expect_true(rt, matches!(outcome, Err(Refusal::JournalFull)));
-    expect_true(rt, !gate.two_met());
+    if is_full {
+        fill(rt, alloc, &desk, &mut seat);
+        expect_no_scan(rt, alloc, &desk, &mut seat, make);
+    } else {
+        expect_halt(rt, alloc, &desk, &mut seat, make);
+        let asked = desk.ask(rt, alloc, &mut seat, Query::CutOf(named(rt, "w")));
+        expect_true(rt, is_cut(&said_to_question(asked), &[2, 1, 1]));
+    }
     drop(seat);
     drop(seats);
     drop(desk);

@@ -24,9 +24,3 @@ ghosts-said_under_lock-L-Ledger g a = record { name = a.opening.blank.name; part
 
 abbrev pub ghosts-said_under_lock-L-Run : goal.ghosts-said_under_lock-L-Run
 ghosts-said_under_lock-L-Run g a = record { program = program_of a.opening.program; board = a.opening.board; seats = a.opening.blank.parts }
-
-abbrev pub ghosts-a_full_journal_is_not_scanned-L-Ledger : goal.ghosts-a_full_journal_is_not_scanned-L-Ledger
-ghosts-a_full_journal_is_not_scanned-L-Ledger g a = record { name = a.opening.blank.name; parts = a.opening.blank.parts }
-
-abbrev pub ghosts-a_full_journal_is_not_scanned-L-Run : goal.ghosts-a_full_journal_is_not_scanned-L-Run
-ghosts-a_full_journal_is_not_scanned-L-Run g a = record { program = program_of a.opening.program; board = a.opening.board; seats = a.opening.blank.parts }
