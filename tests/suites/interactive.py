@@ -157,7 +157,7 @@ def repetition_problem(suite, file):
 
 
 def members_problem(suite, file):
-    """Types a line with `for`. The lines that it stands for are shown, each with its reply. A line that stands for itself is not shown again."""
+    """Types a line with `for`. Its plain lines are shown, each with its reply. A line that is plain itself is not shown again."""
     terminal = Terminal(suite.program, "talk", file)
     terminal.until(PROMPT)
     terminal.type("for i: 1..2 : step p[i] later\n")
