@@ -185,7 +185,7 @@ fn test<'a>(alloc: Global) -> Result<Command<'a>, AllocError> {
         )
         .arg(
             file(alloc).required(true).num_args(1..).help(
-                "The sessions. A folder stands for each session `*.rdbg` below it",
+                "The sessions, or folders: each session `*.rdbg` below a folder is played",
             ),
         )?
         .arg(

@@ -37,7 +37,7 @@ fn files_below(rt: &HostRuntime, folder: &str) -> io::Result<Vec<String>> {
     Ok(files)
 }
 
-/// The files that a name stands for: itself, or, if it is a folder, the sessions below that.
+/// The file of this name, or, if it is a folder, the sessions below that.
 pub(crate) fn session_files(rt: &HostRuntime, name: &str) -> io::Result<Vec<SessionFile>> {
     let is_found = metadata(rt, name).is_ok_and(|data| data.is_dir());
     let mut files = Vec::new(rt.alloc());

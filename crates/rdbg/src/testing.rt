@@ -8,7 +8,8 @@ use std::alloc::AllocError;
 use ui_repl::{Tested, test_session, write_plan, write_result};
 use ui_session::Room;
 
-// The files that these names stand for. What cannot be read is reported, and the status is then that of a usage error.
+// The files of these names, and the sessions below those that are folders. What cannot be read is reported, and the status is then that of a
+// usage error.
 fn named_sessions(
     rt: &HostRuntime,
     names: &[&str],

@@ -147,7 +147,7 @@ impl Server {
     }
 }
 
-// Leaves out the lines of explanations, which begin with a blank, and the line that `for` stands for, which is written before its reply.
+// Leaves out the lines of explanations, which begin with a blank, and the plain line of a `for`, which is written before its reply.
 fn keep_replies(written: &mut Vec<u8>, rest: &mut Vec<u8>) -> Result<(), AllocError> {
     rest.clear();
     for line in written.split_inclusive(|byte| *byte == b'\n') {

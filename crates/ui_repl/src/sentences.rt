@@ -59,10 +59,10 @@ fn is_for(line: &[u8]) -> bool {
     next_word(without_seat(line)).0 == b"for".as_slice()
 }
 
-// How a line that was typed, or one that it stands for, is written.
+// How a typed line, or a plain line of one, is written.
 fn echo_of_typed(line: &ExpandedLine<'_>) -> Echo {
-    let stands_alone = !is_for(line.written) || is_for(line.played.unwrap_or(line.written));
-    match (stands_alone, line.is_first) {
+    let is_alone = !is_for(line.written) || is_for(line.played.unwrap_or(line.written));
+    match (is_alone, line.is_first) {
         (true, _) => Echo::Nothing,
         (false, true) => Echo::Line,
         (false, false) => Echo::Separated,
@@ -212,8 +212,8 @@ impl<'a> Sentences<'a> {
 }
 
 impl Explainer<Option<LineFault>> for Sentences<'_> {
-    // The terminal already shows what was typed, but not the lines that a `for` stands for. Of other lines, those that belong together are
-    // together: comments, a command, and the reply that is expected to it.
+    // The terminal already shows what was typed, but not the plain lines of a `for`. Of other lines, those that belong together are together:
+    // comments, a command, and the reply that is expected to it.
     fn hear(&mut self, _alloc: Global, line: &ExpandedLine<'_>) -> Echo {
         let before = self.last_kind;
         let kind = LineKind::of(line.played.unwrap_or(line.written));
