@@ -31,17 +31,35 @@ impl<'a> Environment<'a> {
         Ok(longer)
     }
 
+    // The values that the members of these ranges have, in order: all, or more than this limit after some range. Whether no range was cut
+    // short comes with them.
+    fn first_combinations(
+        &mut self,
+        ranges: &'a [Binder],
+        limit: usize,
+    ) -> Expanding<(Vec<Vec<i64>>, bool)> {
+        let mut tuples = Vec::new(self.alloc);
+        tuples.push(Vec::new(self.alloc))?;
+        let mut is_whole = true;
+        for (i, binder) in ranges.iter().enumerate() {
+            tuples = self.longer(&ranges[..i], binder, tuples.as_slice(), limit)?;
+            is_whole = is_whole && tuples.len() <= limit;
+        }
+        Ok((tuples, is_whole))
+    }
+
     /// The values that the members of these ranges have, in order: all, or more than this limit.
     pub(crate) fn combinations(
         &mut self,
         ranges: &'a [Binder],
         limit: usize,
     ) -> Expanding<Vec<Vec<i64>>> {
-        let mut tuples = Vec::new(self.alloc);
-        tuples.push(Vec::new(self.alloc))?;
-        for (i, binder) in ranges.iter().enumerate() {
-            tuples = self.longer(&ranges[..i], binder, tuples.as_slice(), limit)?;
+        let (tuples, is_whole) = self.first_combinations(ranges, limit)?;
+        if is_whole || tuples.len() > limit {
+            return Ok(tuples);
         }
+        // Later members of a range may have members of the next one.
+        let (tuples, _) = self.first_combinations(ranges, usize::MAX)?;
         Ok(tuples)
     }
 }
