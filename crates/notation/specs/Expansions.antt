@@ -1,6 +1,10 @@
--- What contracts see of an expansion: its plain text, and how many bytes its source has.
+-- What contracts see of an expansion: the model that was read, its plain text, and how many bytes its source has.
 use Rattle.std.specs.Prelude.{ℕ, List}
 use Rattle.notation.specs.declared.expansion.Expansion.{Expansion}
+use Rattle.notation.specs.declared.model.ParsedModel.{ParsedModel}
+
+abbrev pub model_of : Expansion → ParsedModel
+model_of expansion = expansion.model
 
 abbrev pub plain_of : Expansion → List ℕ
 plain_of expansion = expansion.built.text.bytes.items

@@ -2,3 +2,9 @@ pub mod Levels
 pub mod Places
 pub mod TokenCounts
 pub mod Expansions
+pub mod ModelScopes
+pub mod ModelValues
+pub mod PlainExpressions
+pub mod ModelFamilies
+pub mod ModelPrograms
+pub mod AgreementViews

@@ -90,6 +90,8 @@ pub enum Problem {
     ManyCopies,
     /// A fault that the process language finds in the plain text.
     Plain(FaultKind),
+    /// The plain text is not what the model means. This is a fault of rdbg, and not of the text.
+    Disagreement,
 }
 
 /// A member of a range, and its value in a copy.

@@ -4,6 +4,7 @@
 //! from which place of the source it comes. A `LineExpander` does the same for the command lines of a session.
 #![tactic(auto)]
 
+mod agreement;
 mod building;
 mod built;
 mod environment;

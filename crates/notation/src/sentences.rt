@@ -81,6 +81,8 @@ fn problem_text(problem: Problem) -> &'static str {
         Problem::ManyCopies =>
             "one line expands to at most 65536 plain lines, and a breakpoint has at most as many parts",
         Problem::Plain(kind) => plain_text(kind),
+        Problem::Disagreement =>
+            "the plain text that rdbg made is not what this text means: this is a fault of rdbg, and not of the text",
     }
 }
 

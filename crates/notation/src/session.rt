@@ -1,13 +1,15 @@
 //! Whole programs.
 
-ghost use Rattle.std.specs.Prelude.{◌≡◌, length, IfOk, IfErr};
+ghost use Rattle.std.specs.Prelude.{◌≡◌, ℕ, length, IfOk, IfErr};
 ghost use Rattle.dbg_base.specs.Checks.{Reads};
 ghost use Rattle.proc_lang.specs.Programs.{program_of};
 ghost use Rattle.notation.specs.Places.{IsInside};
-ghost use Rattle.notation.specs.Expansions.{plain_of, source_length};
+ghost use Rattle.notation.specs.Expansions.{model_of, plain_of, source_length};
+ghost use Rattle.notation.specs.ModelPrograms.{ProgramOf};
 
+use crate::agreement::agrees;
 use crate::expansion::{Expansion, expand};
-use crate::fault::NotationError;
+use crate::fault::{Fault, NotationError, Problem};
 use proc_lang::{ProgError, Program, parse_program};
 use std::alloc::Global;
 
@@ -18,15 +20,33 @@ pub struct ExpandedProgram {
     pub program: Program,
 }
 
+// The fault of an expansion that is not what the text means: a fault of the expander, and of no text.
+fn disagreement(alloc: Global) -> NotationError
+    ensures { (bytes : ℕ) → IsInside bytes result }
+{
+    NotationError::Bad(Fault {
+        problem: Problem::Disagreement,
+        at: 0,
+        members: Vec::new(alloc),
+    })
+}
+
 /// The expansion of a program text, and the program as which the process language reads it, or the first fault.
 pub fn expand_program(alloc: Global, program: &[u8]) -> Result<ExpandedProgram, NotationError>
     ensures source { IfOk result (λ expanded. source_length expanded.expansion ≡ length program.now) }
     ensures reads { IfOk result (λ expanded. Reads (plain_of expanded.expansion) (program_of expanded.program)) }
+    ensures means { IfOk result (λ expanded. ProgramOf (model_of expanded.expansion) (program_of expanded.program)) }
     ensures inside { IfErr result (IsInside (length program.now)) }
 {
     let expansion = expand(alloc, program)?;
     match parse_program(alloc, expansion.plain()) {
-        Ok(program) => Ok(ExpandedProgram { expansion, program }),
+        Ok(program) => {
+            if agrees(alloc, &expansion.model, &program)? {
+                Ok(ExpandedProgram { expansion, program })
+            } else {
+                Err(disagreement(alloc))
+            }
+        }
         Err(ProgError::Memory) => Err(NotationError::Memory),
         Err(ProgError::Bad(found)) => Err(NotationError::Bad(expansion.fault(alloc, &found)?)),
     }

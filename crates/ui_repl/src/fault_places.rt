@@ -42,7 +42,8 @@ fn fault_kind(problem: Problem) -> FaultKind {
         | Problem::LongText
         | Problem::MuchWork
         | Problem::SessionWork
-        | Problem::ManyCopies => FaultKind::Limit,
+        | Problem::ManyCopies
+        | Problem::Disagreement => FaultKind::Limit,
         Problem::Plain(kind) => kind,
     }
 }

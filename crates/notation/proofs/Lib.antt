@@ -1,0 +1,9 @@
+mod AgreementLemmas
+mod AgreementPlain
+mod AgreementWritten
+mod AgreementScopes
+mod AgreementFamilies
+mod AgreementCommands
+mod AgreementParts
+mod AgreementPrograms
+mod MeaningRows

@@ -1,0 +1,44 @@
+//! What expressions refer to.
+
+ghost use Rattle.std.specs.Prelude.{◌≡◌, slice_get, Some, IfSome};
+ghost use Rattle.notation.specs.AgreementViews.{context_of, value_of};
+
+use crate::environment::ConstantValue;
+use crate::syntax::Definition;
+use dbg_base::Pid;
+use proc_lang::Program;
+use std::alloc::Global;
+
+/// What is the same for all expressions at a place: the definitions of the model, and the values of its constants so far, by their numbers.
+/// Memory comes from `alloc`.
+#[derive(Clone, Copy)]
+pub(crate) struct Known<'a> {
+    pub(crate) alloc: Global,
+    pub(crate) definitions: &'a [Definition],
+    pub(crate) constants: &'a [Option<ConstantValue>],
+}
+
+/// What is known, the plain program, and the number of the process there.
+#[derive(Clone, Copy)]
+pub(crate) struct PlainSetting<'a> {
+    pub(crate) known: Known<'a>,
+    pub(crate) program: &'a Program,
+    pub(crate) own: Pid,
+}
+
+/// A definition.
+pub(crate) fn definition_of<'a>(known: &Known<'a>, number: usize) -> Option<&'a Definition>
+    ensures { IfSome result (λ d. slice_get (context_of known.now).definitions number ≡ Some d.now) }
+{
+    known.definitions.get(number)
+}
+
+/// The value of a constant.
+pub(crate) fn constant(known: &Known<'_>, number: usize) -> Option<ConstantValue>
+    ensures { IfSome result (λ v. slice_get (context_of known.now).constants number ≡ Some (Some (value_of v))) }
+{
+    match known.constants.get(number) {
+        Some(Some(value)) => Some(*value),
+        _ => None,
+    }
+}
