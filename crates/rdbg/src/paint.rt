@@ -96,13 +96,29 @@ fn put_run(text: &mut Vec<u8>, style: Style, bytes: &[u8]) -> Result<(), AllocEr
     text.extend_from_slice(PLAIN.as_bytes())
 }
 
-// Whether these are lines of plain characters. It checks all bytes, which is faster than to stop at the first that is not.
-fn are_plain_lines(bytes: &[u8]) -> bool {
+// How many bytes are checked at once.
+const BLOCK: usize = 16;
+
+// Whether these are plain characters, and line ends. It checks all bytes, which is faster than to stop at the first that is not.
+fn are_plain(bytes: &[u8]) -> bool {
     let is_plain = |byte: u8| (b' ' <= byte && byte <= b'~') || byte == b'\n';
-    let are_plain = bytes
+    bytes
         .iter()
-        .fold(true, |before, byte| before & is_plain(*byte));
-    are_plain && bytes.last() == Some(&b'\n')
+        .fold(true, |before, byte| before & is_plain(*byte))
+}
+
+// Whether these are lines of plain characters.
+#[inline(never)]
+fn are_plain_lines(bytes: &[u8]) -> bool {
+    let is_line = bytes.last() == Some(&b'\n');
+    let Some(end) = bytes.last_chunk::<BLOCK>() else {
+        return is_line && are_plain(bytes);
+    };
+    let mut are_all_plain = is_line && are_plain(end);
+    for block in bytes.chunks_exact(BLOCK) {
+        are_all_plain &= are_plain(block);
+    }
+    are_all_plain
 }
 
 // Writes all of the bytes. A write that failed is not tried again.

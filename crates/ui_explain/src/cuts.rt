@@ -2,7 +2,7 @@
 
 use crate::accepted::put_events;
 use crate::breakpoints::part_of;
-use crate::events::{longest_name, sending};
+use crate::events::sending;
 use crate::view::SourceView;
 use dbg_base::{Cut, Expr, Pid};
 use event_rows::{Event, Exchange};
@@ -229,7 +229,7 @@ impl SourceView<'_> {
         cut: &Cut,
     ) -> Result<(), AllocError> {
         let processes = self.session.program.processes();
-        let columns = CutColumns::after(longest_name(self.session.program));
+        let columns = CutColumns::after(self.longest_name);
         for p in 0..processes {
             self.tell_process_of_cut(notes, detector, columns, Pid(p), cut.count(Pid(p)))?;
         }

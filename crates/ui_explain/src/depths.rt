@@ -1,6 +1,6 @@
 //! The events below a halt, in columns by causal depth.
 
-use crate::events::{longest_name, sending};
+use crate::events::sending;
 use crate::view::SourceView;
 use causal_world::World;
 use dbg_base::{Cut, Pid};
@@ -180,7 +180,7 @@ impl SourceView<'_> {
         let depths = Depths::of(alloc, self.session.world, cut, processes)?;
         let last = depths.last();
         let columns = DepthColumns {
-            begin: longest_name(program).saturating_add(2),
+            begin: self.longest_name.saturating_add(2),
             width: if events < 10 { 4 } else { 6 },
             first: last.saturating_sub(COLUMNS).saturating_add(1),
             last,

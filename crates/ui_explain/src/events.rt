@@ -63,9 +63,8 @@ struct EventColumns {
 }
 
 impl EventColumns {
-    // The columns for a program. One process alone has no messages.
-    fn of(program: &Program) -> EventColumns {
-        let longest = longest_name(program);
+    // The columns for a program whose longest name has so many bytes. One process alone has no messages.
+    fn of(program: &Program, longest: usize) -> EventColumns {
         let has_messages = program.processes() > 1;
         let message = longest.saturating_add(NUMBER);
         let settings = if has_messages {
@@ -82,8 +81,8 @@ impl EventColumns {
     }
 }
 
-/// The longest name of a process, in bytes.
-pub(crate) fn longest_name(program: &Program) -> usize {
+/// How many bytes the longest name of a process has.
+pub fn longest_name(program: &Program) -> usize {
     let mut longest = 0usize;
     for p in 0..program.processes() {
         if let Some(name) = program.process_name(Pid(p)) {
@@ -100,7 +99,9 @@ impl ProcessView<'_> {
         word: &'static str,
         setting: &Setting,
     ) -> Result<(), AllocError> {
-        notes.put(&Part::Text(word))?;
+        if !word.is_empty() {
+            notes.put(&Part::Text(word))?;
+        }
         notes.put(&self.variable(setting.variable))?;
         if setting.old == setting.new {
             notes.put(&Part::Text(" stays "))?;
@@ -241,8 +242,8 @@ impl SourceView<'_> {
             return Ok(());
         };
         let scope = self.scope(pid);
-        let columns = EventColumns::of(self.session.program);
-        notes.say(&[])?;
+        let columns = EventColumns::of(self.session.program, self.longest_name);
+        notes.begin_line(Style::Plain)?;
         if news == EventNews::MadeByBatch {
             notes.put(&Part::Text("  "))?;
         }

@@ -177,7 +177,7 @@ fn tell_refusal<W: Sink>(fault: Option<&ProgFault>, writer: &mut W) -> Result<Se
 // The same, with an explanation.
 fn write_refusal<W: Sink>(
     fault: Option<&ProgFault>,
-    notes: &Notes,
+    notes: &mut Notes,
     writer: &mut W,
 ) -> Result<Served, ServeFault>
     ensures talks { Talks (W.seen writer.old) result (W.seen writer.new) }
@@ -204,7 +204,7 @@ pub(crate) fn refuse_unended<W: Sink>(
     if explain_no_end_line(&mut notes, text).is_err() {
         return Err(ServeFault::Memory);
     }
-    write_refusal(None, &notes, writer)
+    write_refusal(None, &mut notes, writer)
 }
 
 /// Reports that a program text is refused, and explains why: the line and the column, the text of the line with a mark under the place,
@@ -219,10 +219,10 @@ pub(crate) fn refuse<W: Sink>(
     ensures talks { Talks (W.seen writer.old) result (W.seen writer.new) }
     ensures reader { source_after result ≡ Fine }
 {
-    let Ok(notes) = FaultPlace::in_program(text, fault).explanation(alloc) else {
+    let Ok(mut notes) = FaultPlace::in_program(text, fault).explanation(alloc) else {
         return Err(ServeFault::Memory);
     };
     let kind = fault_kind(fault.problem());
     let at = fault.at();
-    write_refusal(Some(&ProgFault { kind, at }), &notes, writer)
+    write_refusal(Some(&ProgFault { kind, at }), &mut notes, writer)
 }

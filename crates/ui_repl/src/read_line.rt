@@ -1,6 +1,6 @@
 //! A line of a session as its author wrote it, and the lines that are played for it.
 
-use crate::words::{LineWords, completed, repeated, without_comment};
+use crate::words::{LineWords, completed, is_plain, repeated, without_comment};
 use crate::written_program::WrittenProgram;
 use dbg_base::Name;
 use dbg_base::limits::LINE_BYTES;
@@ -32,8 +32,10 @@ pub(crate) struct ReadLine<'a> {
     // Its plain lines, and how many of them were begun. There is none if the line is plain.
     plain: PlainLines,
     next: usize,
-    // The line that is played, unless memory ran out before it was made, and how often it is to be played again.
+    // The line that is played, unless it is played as it is written, or memory ran out before it was made, and how often it is to be
+    // played again.
     pub(crate) played: Vec<u8>,
+    pub(crate) is_as_written: bool,
     pub(crate) is_lost: bool,
     pub(crate) is_first: bool,
     again: u32,
@@ -63,6 +65,7 @@ impl<'a> ReadLine<'a> {
             plain: PlainLines::new(alloc),
             next: 0,
             played: Vec::new(alloc),
+            is_as_written: false,
             is_lost: false,
             is_first: false,
             again: 0,
@@ -105,6 +108,7 @@ impl<'a> ReadLine<'a> {
     }
 
     // Makes the first line that is played for this one.
+    #[inline(never)]
     fn make(&mut self, line: &[u8]) -> Result<(), AllocError> {
         let bare = without_comment(line);
         let words = LineWords::of(bare);
@@ -127,16 +131,20 @@ impl<'a> ReadLine<'a> {
     pub(crate) fn begin(&mut self, span: Span, line: &[u8], is_typed: bool) {
         self.span = span;
         self.is_typed = is_typed;
-        self.fault = None;
+        if self.fault.is_some() {
+            self.fault = None;
+        }
         self.plain.clear();
         self.next = 0;
         self.is_first = true;
-        self.is_lost = self.make(line).is_err();
+        self.is_as_written = self.expander.is_none() && is_plain(line);
+        self.is_lost = !self.is_as_written && self.make(line).is_err();
     }
 
     /// Begins to play the next of its lines, after this answer to the one before. Returns whether there is one.
     pub(crate) fn is_under_way(&mut self, last: Answer) -> bool {
         self.is_first = false;
+        self.is_as_written = false;
         if self.again > 0 && !stops(last) {
             self.again = self.again.saturating_sub(1);
             return true;
@@ -147,6 +155,15 @@ impl<'a> ReadLine<'a> {
         }
         self.is_lost = self.take().is_err();
         true
+    }
+
+    /// How many bytes the line has that is played.
+    pub(crate) fn length(&self) -> usize {
+        if self.is_as_written {
+            self.span.to.saturating_sub(self.span.from)
+        } else {
+            self.played.len()
+        }
     }
 
     /// Whether nothing more is played for it, whatever the answer is.

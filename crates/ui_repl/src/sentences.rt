@@ -45,7 +45,7 @@ enum LineKind {
 
 impl LineKind {
     fn of(line: &[u8]) -> LineKind {
-        match line.trim_ascii().first() {
+        match line.trim_ascii_start().first() {
             None => LineKind::Blank,
             Some(b'#') => LineKind::Comment,
             Some(b'>') => LineKind::Expectation,
@@ -77,8 +77,11 @@ fn events_of(view: SessionView<'_>) -> usize {
 
 // A session of this program, with its text.
 fn view_of<'b>(program: &'b WrittenProgram, session: SessionView<'b>) -> SourceView<'b> {
-    let text = program.text();
-    SourceView { session, text }
+    SourceView {
+        session,
+        text: program.text(),
+        longest_name: program.longest_name(),
+    }
 }
 
 impl<'a> Sentences<'a> {
@@ -167,10 +170,8 @@ impl<'a> Sentences<'a> {
 
     // Takes so many bytes and these explanations off what is left.
     fn spend(&mut self, notes: &Notes, more: usize) {
-        // Each line has two blanks before it, and an end.
-        let ends = notes.count().saturating_mul(3);
-        let length = notes.length().saturating_add(ends);
-        self.left = self.left.saturating_sub(length.saturating_add(more));
+        let length = notes.length().saturating_add(more);
+        self.left = self.left.saturating_sub(length);
     }
 
     // Says that nothing is left, in place of an explanation.

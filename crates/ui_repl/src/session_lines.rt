@@ -2,7 +2,7 @@
 
 ghost use Rattle.std.specs.Prelude.{◌≡◌, ◌<◌, IfOk, IfSome};
 ghost use Rattle.shell_input.specs.Spans.{EndsWith};
-ghost use Rattle.ui_repl.specs.LineSources.{HoldsLine, lines_left, FewerIfLine};
+ghost use Rattle.ui_repl.specs.LineSources.{HoldsLine, written_line, lines_left, FewerIfLine};
 
 use crate::read_line::{ExpandedLine, LineFault, ReadLine};
 use crate::written_program::WrittenProgram;
@@ -60,6 +60,19 @@ impl<'a> SessionLines<'a> {
         self.count
     }
 
+    // The line that was read last, as it is written.
+    fn written(&self) -> &[u8]
+        ensures { result.now ≡ written_line self.now }
+    {
+        let Span { from, to } = self.line.span;
+        let bytes = self.input.bytes();
+        if from <= to && to <= bytes.len() {
+            &bytes[from..to]
+        } else {
+            &[]
+        }
+    }
+
     // Whether no further line is read.
     fn is_at_end(&self) -> bool {
         self.wanted.is_some_and(|wanted| self.count >= wanted)
@@ -83,15 +96,19 @@ impl<'a> SessionLines<'a> {
         }
     }
 
-    // How many bytes the line takes in the plain session, at least one. The last line may have no end.
+    // Whether the last line of the input has no line end, and is played for the last time.
+    fn is_unended(&self) -> bool {
+        let input = &self.input;
+        let is_last = input.ended && input.at >= input.bytes().len() && self.line.is_last();
+        is_last && input.bytes().last() != Some(&b'\n')
+    }
+
+    // How many bytes the line takes in the plain session, at least one.
     fn length(&self) -> usize
         ensures { 0 < result }
     {
-        let is_last = self.input.ended && self.input.at >= self.input.bytes().len();
-        let has_end = self.input.bytes().last() == Some(&b'\n');
-        let is_unended = is_last && !has_end && self.line.is_last();
-        let end = if is_unended { 0 } else { 1 };
-        self.line.played.len().saturating_add(end).max(1)
+        let end = if self.is_unended() { 0 } else { 1 };
+        self.line.length().saturating_add(end).max(1)
     }
 
     // Gives the line that is played, unless the plain session becomes too long.
@@ -140,13 +157,16 @@ impl<'a, R: Source + Typed> LineSource<R, Option<LineFault>> for SessionLines<'a
 
     fn line(&self, _span: Span) -> ExpandedLine<'_> {
         let line = &self.line;
+        let written = self.written();
         let played = if line.is_lost {
             None
+        } else if line.is_as_written {
+            Some(written)
         } else {
             Some(line.played.as_slice())
         };
         GivenLine {
-            written: self.input.line(line.span),
+            written,
             played,
             is_first: line.is_first,
             is_typed: line.is_typed,

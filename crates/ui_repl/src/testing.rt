@@ -165,7 +165,7 @@ impl<'a> Tester<'a> {
         self.asked.number = self.number;
         self.asked.text = Vec::from_slice(self.alloc, line)?;
         self.asked.reply = None;
-        self.asked.notes.clear();
+        self.asked.notes.truncate(0);
         Ok(self.lines.push(PlayedLine::Unanswered)?)
     }
 
@@ -205,7 +205,7 @@ impl Explainer<Option<LineFault>> for Tester<'_> {
             let begun = self.begin(line.written);
             self.is_out_of_memory = self.is_out_of_memory || begun.is_err();
         } else {
-            self.asked.notes.clear();
+            self.asked.notes.truncate(0);
         }
         Echo::Nothing
     }

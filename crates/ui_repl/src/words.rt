@@ -49,6 +49,20 @@ impl<'a> LineWords<'a> {
     }
 }
 
+/// Whether a line is plain at a glance, as most are: a seat of one digit or none, one of these commands, and the name of a process.
+pub(crate) fn is_plain(line: &[u8]) -> bool {
+    let command = match line {
+        [b'1'..=b'9', b' ', command @ ..] => command,
+        _ => line,
+    };
+    match command {
+        [b'n', b'e', b'x', b't', b' ', name @ ..]
+        | [b'u', b'n', b'd', b'o', b' ', name @ ..]
+        | [b'r', b'e', b'd', b'o', b' ', name @ ..] => name.iter().all(|byte| is_word_byte(*byte)),
+        _ => false,
+    }
+}
+
 /// The line without its seat.
 pub(crate) fn without_seat(line: &[u8]) -> &[u8] {
     let (first, rest) = next_word(line);
@@ -173,7 +187,7 @@ fn times_of(word: &[u8]) -> Option<u32> {
 
 /// Of a plain line `next P N`, the line without N, and N.
 pub(crate) fn repeated<'a>(line: &'a [u8], words: &LineWords<'_>) -> Option<(&'a [u8], u32)> {
-    if words.command != b"next".as_slice() {
+    if !matches!(words.command, b"next") {
         return None;
     }
     let (process, others) = next_word(words.arguments);

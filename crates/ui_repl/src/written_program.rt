@@ -12,11 +12,13 @@ use proc_lang::{ProgError, Program, parse_program};
 use shell_parse::next_word;
 use shell_print::ServeFault;
 use std::alloc::{AllocError, Global};
+use ui_explain::longest_name;
 use ui_text::{DeclaredAs, Notes, Part, ProgramText, find_declaration};
 
 /// The text of a program as its author wrote it, and its expansion if it is in the notation.
 pub struct WrittenProgram {
     text: ProgramText,
+    longest_name: usize,
     expansion: Option<Expansion>,
 }
 
@@ -24,6 +26,7 @@ impl Drop for WrittenProgram {
     fn drop(self) {
         let WrittenProgram {
             text: _,
+            longest_name: _,
             expansion: _,
         } = self;
     }
@@ -65,6 +68,7 @@ pub(crate) fn read_text(alloc: Global, text: &[u8]) -> Result<ReadText, ServeFau
         Ok(program) => {
             let written = WrittenProgram {
                 text: ProgramText::new(alloc, text)?,
+                longest_name: longest_name(&program),
                 expansion: None,
             };
             return Ok(ReadText::Program(written, program));
@@ -76,6 +80,7 @@ pub(crate) fn read_text(alloc: Global, text: &[u8]) -> Result<ReadText, ServeFau
         Ok(ExpandedProgram { expansion, program }) => {
             let written = WrittenProgram {
                 text: text_of(alloc, text, &expansion, &program)?,
+                longest_name: longest_name(&program),
                 expansion: Some(expansion),
             };
             Ok(ReadText::Program(written, program))
@@ -102,6 +107,11 @@ impl WrittenProgram {
     /// The expansion, if the program is in the notation.
     pub(crate) fn expansion(&self) -> Option<&Expansion> {
         self.expansion.as_ref()
+    }
+
+    /// How many bytes the longest name of a process has.
+    pub(crate) fn longest_name(&self) -> usize {
+        self.longest_name
     }
 
     /// The text, with the places of the commands.

@@ -1,3 +1,2 @@
 pub mod DialogueLemmas
 pub mod StyleLemmas
-pub mod UnendedLemmas

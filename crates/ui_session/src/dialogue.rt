@@ -118,13 +118,14 @@ impl<T: Explainer<N>, N> Observer<N> for Dialogue<T> {
     ) -> Result<(), ServeFault> {
         self.explainer
             .answer_directive(alloc, view, directive(line), &mut self.notes);
-        explain(&self.notes, writer)
+        explain(&mut self.notes, writer)
     }
 
     fn prepare(&mut self, alloc: Global, view: SessionView<'_>, call: &Call) {
         self.explainer.prepare(alloc, view, call, &mut self.notes);
     }
 
+    #[inline(always)]
     fn explain<W: Sink>(
         &mut self,
         alloc: Global,
@@ -149,7 +150,7 @@ impl<T: Explainer<N>, N> Observer<N> for Dialogue<T> {
             line.played.unwrap_or(line.written),
             reply,
         );
-        explain(&self.notes, writer)
+        explain(&mut self.notes, writer)
     }
 
     fn end(&mut self, alloc: Global, view: SessionView<'_>) {

@@ -37,10 +37,7 @@ fn verb_of(word: &[u8]) -> Option<Verb>
     ensures is { is_some result ≡ list_any (bytes_eq word.now) directive_words }
     ensures quits { is_quit_verb result ≡ list_any (bytes_eq word.now) quit_words }
 {
-    // Most lines begin with a seat, and no directive does.
-    if is_seat(word) {
-        None
-    } else if word == b"help".as_slice() || word == b"?".as_slice() {
+    if word == b"help".as_slice() || word == b"?".as_slice() {
         Some(Verb::Help)
     } else if word == b"on".as_slice() {
         Some(Verb::On)
@@ -65,6 +62,14 @@ pub(crate) fn sort(line: &[u8]) -> LineSort
     ensures ends { result.ends ≡ is_quit line.now }
     ensures seat { result.needs_seat ≡ needs_seat line.now }
 {
+    // Most lines begin with a seat, and no directive does.
+    if is_seat(line) {
+        return LineSort {
+            is_directive: false,
+            ends: false,
+            needs_seat: false,
+        };
+    }
     let (word, rest) = next_word(without_return(line));
     let verb = verb_of(word);
     LineSort {

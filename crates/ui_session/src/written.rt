@@ -1,6 +1,6 @@
 //! Output besides the replies.
 
-ghost use Rattle.std.specs.Prelude.{◌≡◌};
+ghost use Rattle.std.specs.Prelude.{◌≡◌, true, IfSome};
 ghost use Rattle.shell_print.specs.Writing.{Writes};
 ghost use Rattle.shell_input.specs.Spans.{is_unended};
 ghost use Rattle.shell_serve.specs.Sessions.{WritesForm};
@@ -9,12 +9,17 @@ ghost use Rattle.ui_session.specs.Dialogues.{IsExplanation, IsEcho, IsGap, expla
 use shell_io::{Sink, Style};
 use shell_print::{ServeFault, set_style, write_whole};
 use ui_explain::Echo;
-use ui_text::{NoteLine, Notes, StyleChange};
+use ui_text::{Notes, StyleChange};
 
 fn is_unended(line: &[u8]) -> bool
     ensures { result ≡ is_unended line.now }
 {
-    !line.contains(&b'\n')
+    // It reads all bytes, which is faster than to stop at the first line end.
+    let mut is_unended = true;
+    for byte in line {
+        is_unended &= *byte != b'\n';
+    }
+    is_unended
 }
 
 // Writes bytes in the present style, and in others from where it changes. Then the style is plain.
@@ -38,8 +43,21 @@ fn write_styled<W: Sink>(
     set_style(Style::Plain, writer)
 }
 
+// What a line of an explanation has between its two blanks and its end, unless there is a line end in it.
+#[inline(always)]
+fn content_of(whole: &[u8]) -> Option<&[u8]>
+    ensures line { IfSome result (λ bytes. whole.now ≡ explanation_line bytes.now) }
+    ensures unended { IfSome result (λ bytes. is_unended bytes.now ≡ true) }
+{
+    match whole {
+        [b' ', b' ', bytes @ .., b'\n'] if is_unended(bytes) => Some(bytes),
+        _ => None,
+    }
+}
+
 // Writes these bytes as a line of an explanation, which begins in a style.
-fn write_line<W: Sink>(
+#[inline(never)]
+fn write_in_styles<W: Sink>(
     first_style: Style,
     bytes: &[u8],
     changes: &[StyleChange],
@@ -53,19 +71,34 @@ fn write_line<W: Sink>(
     write_whole(writer, b"\n")
 }
 
-/// Writes an explanation.
-pub fn explain<W: Sink>(notes: &Notes, writer: &mut W) -> Result<(), ServeFault>
+// Writes the line of this number, which has these bytes.
+#[inline(always)]
+fn write_line<W: Sink>(
+    notes: &Notes,
+    number: usize,
+    whole: &[u8],
+    bytes: &[u8],
+    writer: &mut W,
+) -> Result<(), ServeFault>
+    requires { whole.now ≡ explanation_line bytes.now }
+    ensures { Writes (W.seen writer.old) (W.seen writer.new) result (explanation_line bytes.now) }
+{
+    if notes.has_styles() {
+        let line = notes.line(number);
+        return write_in_styles(line.first_style, bytes, line.changes, writer);
+    }
+    write_whole(writer, whole)
+}
+
+/// Ends an explanation, and writes it.
+pub fn explain<W: Sink>(notes: &mut Notes, writer: &mut W) -> Result<(), ServeFault>
     ensures written { WritesForm IsExplanation (W.seen writer.old) result (W.seen writer.new) }
 {
+    notes.end();
     for number in 0..notes.count() {
-        let NoteLine {
-            bytes,
-            first_style,
-            changes,
-        } = notes.line(number);
-        // No line of an explanation has a line end.
-        if is_unended(bytes) {
-            write_line(first_style, bytes, changes, writer)?;
+        let whole = notes.whole_line(number);
+        if let Some(bytes) = content_of(whole) {
+            write_line(notes, number, whole, bytes, writer)?;
         }
     }
     Ok(())

@@ -11,7 +11,8 @@ const GAP: usize = 2;
 // How much more room is made than is needed, in bytes.
 const ROOM: usize = 256;
 
-static BLANKS: [u8; 32] = [b' '; 32];
+// What is before a line in the text: the end of the line before it, and two blanks.
+const BEGIN: &[u8] = b"\n  ";
 
 /// A part of a line: words, bytes, a name or a number. The name of a process with its number, and a new value, have a style of their own.
 #[derive(Clone, Copy)]
@@ -42,7 +43,7 @@ pub struct NoteLine<'a> {
     pub changes: &'a [StyleChange],
 }
 
-// Where a line begins in the text of all lines, and in the changes of all lines.
+// Where a line begins in the text of all lines, after its two blanks, and in the changes of all lines.
 #[derive(Clone, Copy, Debug)]
 struct LineStart {
     text: usize,
@@ -53,7 +54,7 @@ struct LineStart {
 /// The lines of an explanation. They share one text, so that those which are cleared and filled again need no new memory.
 #[derive(Debug, Drop)]
 pub struct Notes {
-    // The text, and room for more after it.
+    // The text, and blanks after it, as room for more.
     text: Vec<u8>,
     length: usize,
     changes: Vec<StyleChange>,
@@ -83,15 +84,15 @@ impl Notes {
         *self.text.allocator()
     }
 
-    /// Forgets all lines.
-    pub fn clear(&mut self) {
-        self.truncate(0);
-    }
-
     /// Forgets all lines after so many.
     pub fn truncate(&mut self, count: usize) {
         let end = self.start(count);
-        self.length = end.text;
+        let length = end.text.saturating_sub(BEGIN.len());
+        let last = self.length.saturating_add(1).min(self.text.len());
+        if let Some(rest) = self.text.as_mut_slice().get_mut(length..last) {
+            rest.fill(b' ');
+        }
+        self.length = length;
         self.changes.truncate(end.changes);
         self.starts.truncate(count);
         self.last = self.start(count.saturating_sub(1)).text;
@@ -99,7 +100,7 @@ impl Notes {
 
     /// Forgets all lines. The next ones have styles, or all are plain.
     pub fn begin(&mut self, has_styles: bool) {
-        self.clear();
+        self.truncate(0);
         self.has_styles = has_styles;
     }
 
@@ -108,20 +109,35 @@ impl Notes {
         self.starts.len()
     }
 
-    /// How many bytes all lines have.
+    /// How many bytes all lines have, each with two blanks and a line end.
     pub fn length(&self) -> usize {
         self.length
     }
 
     /// The line of this number, from 0, or an empty one if there is none.
     pub fn line(&self, number: usize) -> NoteLine<'_> {
-        let end = self.start(number.saturating_add(1));
+        let next = self.start(number.saturating_add(1));
         let start = self.start(number);
+        let end = next.text.saturating_sub(BEGIN.len());
         NoteLine {
-            bytes: self.text.get(start.text..end.text).unwrap_or(&[]),
+            bytes: self.text.get(start.text..end).unwrap_or(&[]),
             first_style: start.first_style,
-            changes: self.changes.get(start.changes..end.changes).unwrap_or(&[]),
+            changes: self.changes.get(start.changes..next.changes).unwrap_or(&[]),
         }
+    }
+
+    /// The same line after two blanks, and with a line end, once the lines are ended.
+    pub fn whole_line(&self, number: usize) -> &[u8] {
+        let begin = self.start(number).text.saturating_sub(GAP);
+        let next = self.start(number.saturating_add(1));
+        self.text
+            .get(begin..next.text.saturating_sub(GAP))
+            .unwrap_or(&[])
+    }
+
+    /// Whether lines have styles.
+    pub fn has_styles(&self) -> bool {
+        self.has_styles
     }
 
     // Where the line of this number begins, or would begin.
@@ -129,7 +145,7 @@ impl Notes {
         match self.starts.get(number) {
             Some(start) => *start,
             None => LineStart {
-                text: self.length,
+                text: self.length.saturating_add(BEGIN.len()),
                 changes: self.changes.len(),
                 first_style: Style::Plain,
             },
@@ -141,25 +157,36 @@ impl Notes {
         self.length.saturating_sub(self.last)
     }
 
-    // Makes room for a text of so many bytes.
-    #[cold]
-    #[inline(never)]
-    fn make_room(&mut self, length: usize) -> Result<(), AllocError> {
-        self.text.resize(length.saturating_add(ROOM), b' ')
+    /// Puts an end to the last line.
+    pub fn end(&mut self) {
+        if let Some(end) = self.text.as_mut_slice().get_mut(self.length) {
+            *end = b'\n';
+        }
     }
 
-    // Appends bytes.
+    // Appends bytes for which there is no room yet.
+    #[cold]
+    #[inline(never)]
+    fn put_in_new_room(&mut self, bytes: &[u8]) -> Result<(), AllocError> {
+        self.text.resize(self.length, b' ')?;
+        self.text.extend_from_slice(bytes)?;
+        self.length = self.text.len();
+        self.text.resize(self.length.saturating_add(ROOM), b' ')
+    }
+
+    // Appends bytes. After them there is room for one more.
+    #[inline(always)]
     fn put_bytes(&mut self, bytes: &[u8]) -> Result<(), AllocError> {
-        let from = self.length;
-        let to = from.checked_add(bytes.len()).ok_or(AllocError)?;
-        if self.text.len() < to {
-            self.make_room(to)?;
+        match self.length.checked_add(bytes.len()) {
+            Some(to) if to < self.text.len() => {
+                if let Some(place) = self.text.as_mut_slice().get_mut(self.length..to) {
+                    place.copy_from_slice(bytes);
+                    self.length = to;
+                }
+                Ok(())
+            }
+            _ => self.put_in_new_room(bytes),
         }
-        if let Some(place) = self.text.as_mut_slice().get_mut(from..to) {
-            place.copy_from_slice(bytes);
-            self.length = to;
-        }
-        Ok(())
     }
 
     // From this byte on, the last line has this style.
@@ -170,13 +197,24 @@ impl Notes {
 
     // Appends bytes in a style. The bytes after them have the style before.
     fn put_styled(&mut self, style: Style, bytes: &[u8]) -> Result<(), AllocError> {
-        if !self.has_styles {
-            return self.put_bytes(bytes);
-        }
         let before = self.style;
         self.change_style(self.width(), style)?;
         self.put_bytes(bytes)?;
         self.change_style(self.width(), before)
+    }
+
+    // Appends a number by way of a buffer.
+    #[inline(never)]
+    fn put_digits(&mut self, number: i64) -> Result<(), AllocError> {
+        self.put_bytes(Buffer::new().format(number).as_bytes())
+    }
+
+    // Appends a number. Most are of one digit.
+    fn put_number(&mut self, number: i64) -> Result<(), AllocError> {
+        match u8::try_from(number) {
+            Ok(digit) if digit < 10 => self.put_bytes(&[b'0' + digit]),
+            _ => self.put_digits(number),
+        }
     }
 
     /// Appends a part to the last line.
@@ -186,12 +224,16 @@ impl Notes {
             Part::Text(words) => self.put_bytes(words.as_bytes()),
             Part::Bytes(bytes) => self.put_bytes(bytes),
             Part::Name(name) => self.put_bytes(name.bytes()),
-            Part::Number(number) => self.put_bytes(Buffer::new().format(*number).as_bytes()),
-            Part::Count(count) => self.put_bytes(Buffer::new().format(*count).as_bytes()),
-            Part::Process(name, number) => self.put_styled(Style::Process(*number), name.bytes()),
-            Part::Value(value) => {
+            Part::Number(number) => self.put_number(*number),
+            Part::Count(count) => self.put_number(i64::try_from(*count).unwrap_or(i64::MAX)),
+            Part::Process(name, number) if self.has_styles => {
+                self.put_styled(Style::Process(*number), name.bytes())
+            }
+            Part::Process(name, _) => self.put_bytes(name.bytes()),
+            Part::Value(value) if self.has_styles => {
                 self.put_styled(Style::Value, Buffer::new().format(*value).as_bytes())
             }
+            Part::Value(value) => self.put_number(*value),
         }
     }
 
@@ -200,15 +242,21 @@ impl Notes {
         self.say_in(Style::Plain, parts)
     }
 
-    /// Begins a line in this style with these parts.
-    pub fn say_in(&mut self, style: Style, parts: &[Part<'_>]) -> Result<(), AllocError> {
+    /// Begins a line in this style.
+    pub fn begin_line(&mut self, style: Style) -> Result<(), AllocError> {
         self.style = style;
-        self.last = self.length;
+        self.last = self.length.saturating_add(BEGIN.len());
         self.starts.push(LineStart {
-            text: self.length,
+            text: self.last,
             changes: self.changes.len(),
             first_style: style,
         })?;
+        self.put_bytes(BEGIN)
+    }
+
+    /// Begins a line in this style with these parts.
+    pub fn say_in(&mut self, style: Style, parts: &[Part<'_>]) -> Result<(), AllocError> {
+        self.begin_line(style)?;
         self.add(parts)
     }
 
@@ -222,11 +270,13 @@ impl Notes {
 
     /// Appends blanks to the last line, up to this width and at least two.
     pub fn tab(&mut self, width: usize) -> Result<(), AllocError> {
-        let blanks = width.saturating_sub(self.width()).max(GAP);
-        for _ in 0..blanks / BLANKS.len() {
-            self.put_bytes(&BLANKS)?;
+        let to = self.last.saturating_add(width);
+        let to = to.max(self.length.saturating_add(GAP));
+        if to >= self.text.len() {
+            self.text.resize(to.saturating_add(ROOM), b' ')?;
         }
-        self.put_bytes(BLANKS.get(..blanks % BLANKS.len()).unwrap_or(&[]))
+        self.length = to;
+        Ok(())
     }
 
     /// The same. From the last two blanks on, the line has this style.

@@ -1,7 +1,7 @@
 use Rattle.std.proofs.Common.{◌∷◌, []}
 use Rattle.shell_print.proofs.WriteLemmas.{stopped, writes_then}
 use Rattle.dbg_base.specs.Shell.{as_line}
-use Rattle.ui_session.proofs.written.write_line.Goals as goal
+use Rattle.ui_session.proofs.written.write_in_styles.Goals as goal
 
 pub returns-in_err-set_style : goal.returns-in_err-set_style
 returns-in_err-set_style g c = stopped _ c.in_err-set_style.ensures c.from_residual.ensures.1
