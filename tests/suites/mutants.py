@@ -1,21 +1,18 @@
-"""The mutants: every edit of mutants/ and must-fail/ can be applied, and with --prove the prover refuses every mutant.
+"""The mutants: every edit of mutants/ and must-fail/ can be applied and is compiled; with --prove the prover refuses every mutant.
 
-An edit has lines `file: PATH`, `old: TEXT` and `new: TEXT`, in the form that `rt must-fail` reads. A mutant changes the body of a
-function, and its file is crates/NAME/mutants/MODULE.FUNCTION.what_it_does.edit, with `.` for `/` in MODULE.
+A mutant changes the body of a function, and its file is crates/NAME/mutants/MODULE.FUNCTION.what_it_does.edit, with `.` for `/` in MODULE.
 
 With --prove, mutants of different functions of a crate are applied together, and one check looks at the modules that they change. A
 mutant is refused if the check refuses its own function. What is not refused so is tried again alone.
 """
-import os
 import re
 import shutil
-import subprocess
 import sys
 
-from harness import TOP, stop, temporary_folder
+from harness import TOP, Fault, stop, temporary_folder
+from harness.compiling import compile_batches, uncompiled
+from harness.edits import CRATES, BadEdit, all_crates, changed_places, edit_files, pairs, rt
 
-CRATES = TOP / "crates"
-FUNCTION = re.compile(r"\bfn (\w+)")
 EDIT_NAME = re.compile(r"[A-Za-z0-9_-][A-Za-z0-9_.-]*\.edit")
 NOT_PROVED = re.compile(r"fn (\S+): (?!proved|assumed)")
 BATCH = 40  # mutants at most in one check
@@ -23,70 +20,13 @@ BATCH = 40  # mutants at most in one check
 COPIED = {"src": "src", "specs": "specs", "proofs": "proofs", "mutants": "must-fail", "out/rlib": "out/rlib"}
 
 
-class BadEdit(Exception):
-    """Why an edit cannot be applied."""
-
-
 def crate_names(options):
-    """The crates that were chosen, or all of crates.txt, in its order."""
-    lines = (TOP / "crates.txt").read_text(encoding="utf-8").splitlines()
-    names = [line.partition(":")[0].strip() for line in lines if ":" in line.partition("#")[0]]
+    """The crates that were chosen, or all, lowest first."""
+    names = all_crates()
     for name in options.crate:
         if name not in names:
             stop(f"crates.txt has no crate {name}")
     return [name for name in names if name in options.crate or not options.crate]
-
-
-def edit_files(crate, folder):
-    """The files of a crate's folder of edits. Documents (.md) are none."""
-    return sorted(file for file in (CRATES / crate / folder).rglob("*") if file.is_file() and file.suffix != ".md")
-
-
-def pairs(text):
-    """The changes of an edit: for each the path of a file, the text to replace, and the new text."""
-    path = old = ""
-    for line in text.split("\n"):
-        if line.startswith("file: "):
-            path = line[len("file: "):].strip()
-            if os.path.normpath(path) != path or not path.startswith(("src/", "specs/", "proofs/")):
-                raise BadEdit(f"the file {path} is not below src/, specs/ or proofs/")
-        elif line.startswith("old: "):
-            if old:
-                raise BadEdit(f"an `old:` line has no `new:` line: {old}")
-            old = line[len("old: "):]
-        elif line.startswith("new:"):
-            if not path or not old:
-                raise BadEdit("a `new:` line has no `file:` and `old:` line before it")
-            new = line[len("new:"):]
-            yield path, old, new[1:] if new.startswith(" ") else new
-            old = ""
-        elif line.strip() and not line.startswith(("#", "--", "//")):
-            raise BadEdit(f"`rt` ignores the line: {line}")
-    if old or not path:
-        raise BadEdit(f"an `old:` line has no `new:` line: {old}" if old else "it has no `file:` line")
-
-
-def changed_places(edit):
-    """Applies an edit in memory. Returns the place of each change as MODULE.FUNCTION, or BadEdit."""
-    crate, texts, places = edit.parents[1], {}, []
-    for path, old, new in pairs(edit.read_text(encoding="utf-8")):
-        if path not in texts:
-            if not (crate / path).is_file():
-                raise BadEdit(f"there is no file {path}")
-            texts[path] = (crate / path).read_text(encoding="utf-8")
-        text = texts[path]
-        if text.count(old) != 1:
-            raise BadEdit(f"{path} has the `old:` text {text.count(old)} times, not once: {old}")
-        if old == new:
-            raise BadEdit(f"the `new:` text is the `old:` text: {old}")
-        # The nearest function above the first byte that differs.
-        functions = FUNCTION.findall(text, 0, text.index(old) + len(os.path.commonprefix([old, new])))
-        module = path.partition("/")[2].rpartition(".")[0].replace("/", ".")
-        places.append(f"{module}.{functions[-1] if functions else '(no function)'}")
-        texts[path] = text.replace(old, new)
-    if not places:
-        raise BadEdit("it has no `old:` and `new:` lines")
-    return places
 
 
 def edit_problem(edit, folder):
@@ -110,11 +50,6 @@ def copy_crates(room):
         for part, copied in COPIED.items():
             if (crate / part).is_dir():
                 shutil.copytree(crate / part, room / "crates" / crate.name / copied)
-
-
-def rt(folder, *words):
-    return subprocess.run(["rt", *words], cwd=folder, stdin=subprocess.DEVNULL, stdout=subprocess.PIPE, stderr=subprocess.STDOUT,
-                          text=True, errors="replace")
 
 
 def verdicts(crate, report):
@@ -250,11 +185,28 @@ def prove_all(suite, crates):
     print(f"{'crate':20} {'refused':>8} {'failed':>8}", *(f"{crate:20} {refused:8} {failed:8}" for crate, refused, failed in rows), sep="\n")
 
 
+def test_compiled(suite, edits):
+    """Tests that each of these edits is compiled."""
+    said = {}
+    try:
+        for part in compile_batches(edits):
+            said |= uncompiled(part)
+    except Fault as fault:
+        suite.case("the compiler reads the crates", fault)
+        return
+    for edit in edits:
+        suite.case(f"{edit.relative_to(CRATES)} is compiled", said.get(edit, ""))
+
+
 def run(suite):
-    crates = crate_names(suite.options)
+    crates, edits = crate_names(suite.options), []
     for crate in crates:
         for folder in ("mutants", "must-fail"):
             for edit in edit_files(crate, folder):
-                suite.case(f"{crate}/{folder}/{edit.relative_to(CRATES / crate / folder)}", edit_problem(edit, folder))
+                if suite.case(str(edit.relative_to(CRATES)), edit_problem(edit, folder)):
+                    edits.append(edit)
+    edits = [edit for edit in edits if all(path.startswith("src/") for path, *_ in pairs(edit.read_text(encoding="utf-8")))]
+    if edits and suite.needs("rt", "which mutants compile"):
+        test_compiled(suite, edits)
     if suite.options.prove and suite.needs("rt", "what the prover refuses"):
         prove_all(suite, crates)
