@@ -1,9 +1,0 @@
-use Rattle.std.proofs.Common.{subst, sym}
-use Rattle.proc_lang.specs.Programs.{program_of}
-use Rattle.causal_world.specs.Scenes.{IsWorldOf}
-use Rattle.test_world.proofs.world_calls.unstep.Goals as goal
-
-pub returns : goal.returns
-returns c =
-    let P = program_of c.args.program.now in
-    subst (IsWorldOf P) (sym (c.in-Ok.ensures.back P c.requires)) c.requires.of
