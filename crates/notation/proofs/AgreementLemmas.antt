@@ -1,8 +1,7 @@
 -- Steps of the comparison of a model with a plain program, over plain variables.
-use Rattle.std.proofs.Common.{◌≡◌, ℤ, pos, ◌+ℤ◌, ◌≤ℤ◌, ◌<ℤ◌, Bool, true, false, List, [], ◌∷◌, ◌++◌, sym, subst, ◌-ℤ◌, ◌-◌, ◌/◌, ◌≤◌, take, drop, length, append_assoc, Option, Some, arith}
+use Rattle.std.proofs.Common.{◌≡◌, ℤ, pos, ◌+ℤ◌, ◌≤ℤ◌, ◌<ℤ◌, Bool, true, false, List, [], ◌∷◌, ◌++◌, subst, ◌-ℤ◌, ◌-◌, ◌/◌, ◌≤◌, take, drop, length, append_assoc, Some, arith}
 use Rattle.std.proofs.lemmas.Int.{ints}
 use Rattle.std.proofs.lemmas.List.{append-nil, nil_from_length}
-use Rattle.std.specs.Option.{option_map}
 use Rattle.dbg_base.specs.declared.expr.Operator.TheVariants as operator
 use Rattle.notation.specs.declared.environment.ConstantValue.{ConstantValue}
 use Rattle.notation.specs.declared.environment.ConstantValue.TheVariants as constants
@@ -14,10 +13,6 @@ use Rattle.notation.specs.AgreementViews.{value_of}
 use Rattle.notation.specs.ModelValues.{HasValue, LinksGive, no_links, more_links, LinkGives, and_false, and_true, or_false, or_true, MembersFrom, range_end, kept, left_out}
 use Rattle.notation.specs.ModelValues.{ConditionIs, SumIs, no_terms, one_term, two_halves, EnoughHold, enough, too_few, holds, fails}
 use Rattle.dbg_base.specs.Evaluation.{Value, Num, Tru, on_numbers}
-
--- an optional value that is there, under a map
-pub mapped : {A B : Type 0} (f : A → B) (a : A) (o : Option B) → option_map f (Some a) ≡ o → o ≡ Some (f a)
-mapped f a o e = sym e
 
 -- what is left of a range, from `at` on, belongs after these members
 abbrev pub Continues : Context → Scope → Binder → ℤ → ℤ → ℤ → List ℤ → Type 0

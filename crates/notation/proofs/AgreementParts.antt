@@ -1,5 +1,5 @@
 -- Parts of a plain program that follow one another.
-use Rattle.std.proofs.Common.{◌≡◌, ℕ, suc, ◌<◌, ℤ, List, [], ◌∷◌, ◌++◌, length, set, take, refl, sym, ◌∙◌, ap, subst, add-one, Option, Some, None}
+use Rattle.std.proofs.Common.{◌≡◌, ℕ, suc, ◌<◌, ℤ, List, [], ◌∷◌, ◌++◌, length, set, take, sym, ◌∙◌, ap, subst, add-one, Option, Some}
 use Rattle.std.proofs.lemmas.List.{nil_from_length, take_more, map-set}
 use Rattle.std.proofs.lemmas.Option.{slice_get_within, get_or_from_slice_get}
 use Rattle.std.specs.Prelude.{slice_get}
@@ -28,15 +28,6 @@ take_next all k x e =
     let first = get_or_from_slice_get all k x x e in
     let within : k < length all = slice_get_within all k x e in
     ap (λ n. take n all) (sym (add-one k)) ∙ take_more all k x within ∙ ap (λ y. take k all ++ (y ∷ [])) first
-
--- an element whose parts are known
-pub pair_there : (o : Option Variable) (found : List ℕ) (initial : ℤ) → Some found ≡ option_map (λ v. v.0) o
-    → Some initial ≡ option_map (λ v. v.1) o → o ≡ Some (found, initial)
-pair_there None found initial e f = cc
-pair_there (Some v) found initial e f =
-    let g : found ≡ v.0 = cc in
-    let h : initial ≡ v.1 = cc in
-    rw (g, h) refl
 
 -- the constants, where one more has a value
 pub constant_set : (constants : List (Option ConstantValue)) (number : ℕ) (v : ConstantValue)

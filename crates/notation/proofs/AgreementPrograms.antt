@@ -1,9 +1,6 @@
 -- Items, processes and declarations, once their parts are known.
-use Rattle.std.proofs.Common.{◌≡◌, ℕ, zero, suc, List, [], ◌∷◌, ◌++◌, length, map, take, replicate, refl, sym, ◌∙◌, ap, subst, Option, Some, None, arith}
+use Rattle.std.proofs.Common.{◌≡◌, ℕ, zero, suc, List, [], ◌∷◌, ◌++◌, length, take, replicate, refl, ap, subst, None, arith}
 use Rattle.std.proofs.lemmas.List.{take_all}
-use Rattle.std.proofs.lemmas.Option.{get_or_from_slice_get}
-use Rattle.std.specs.Prelude.{slice_get}
-use Rattle.std.specs.Option.{option_map}
 use Rattle.dbg_base.specs.Evaluation.{Value}
 use Rattle.dbg_base.specs.Trees as tree
 use Rattle.dbg_base.specs.Trees.{process_of, no_process}
@@ -12,13 +9,11 @@ use Rattle.notation.specs.declared.syntax.CommandNode.{CommandNode}
 use Rattle.notation.specs.declared.syntax.Definition.{Definition}
 use Rattle.notation.specs.declared.syntax.ItemNode.{ItemNode, out-ItemNode}
 use Rattle.notation.specs.declared.syntax.ItemNode.TheOpen as opened
-use Rattle.notation.specs.declared.syntax.ProcessNode.{ProcessNode}
 use Rattle.notation.specs.declared.syntax.DeclarationNode.{DeclarationNode}
 use Rattle.notation.specs.declared.syntax.DeclarationNode.TheVariants as declared
 use Rattle.notation.specs.ModelScopes.{Constants, Scope, Top}
 use Rattle.notation.specs.ModelValues.{HasValue}
-use Rattle.notation.specs.ModelFamilies.{Place, IsIndexed}
-use Rattle.notation.specs.ModelPrograms.{Variable, Frame, setting_in, with_constant, CommandOf, ItemOf, constant_item, command_item, ItemsOf, ProcessOf}
+use Rattle.notation.specs.ModelPrograms.{Variable, Frame, setting_in, with_constant, CommandOf, ItemOf, constant_item, command_item}
 use Rattle.notation.specs.ModelPrograms.{DeclarationOf, constant_declared, DeclarationsOf}
 use Rattle.notation.specs.AgreementViews.{constants_of}
 
@@ -45,57 +40,6 @@ pub declared_constant : (D : List Definition) (names : List (List ℕ)) (c : Con
     → later ≡ with_constant constants c.number v
     → DeclarationOf D names (declared.Constant c) (record { constants = constants; processes = ps }) (record { constants = later; processes = ps })
 declared_constant D names c v constants later ps h e = rw e (constant_declared h)
-
--- a process whose name is known
-pub process_there : (o : Option tree.Process) (found : List ℕ) → Some found ≡ option_map (λ p. p.name) o
-    → (p : tree.Process) × (o ≡ Some p) × (p.name ≡ found)
-process_there None found e = cc
-process_there (Some p) found e =
-    let g : p.name ≡ found = cc in
-    (p, refl, g)
-
-pub process_done : (D : List Definition) (names : List (List ℕ)) (node : ProcessNode) (place : Place) (constants later : Constants)
-    (P : tree.Program) (number : ℕ) (found whole : List ℕ) (variables commands : ℕ)
-    → Some found ≡ option_map (λ p. p.name) (slice_get P number) → found ≡ whole → IsIndexed node.name place.indices whole
-    → ItemsOf (record { definitions = D; processes = names; variables = map (λ v. v.0) (process_of P number).variables }) place.scope
-    node.items.items (record { constants = constants; variables = []; commands = [] })
-    (record {
-      constants = later;
-      variables = take variables (process_of P number).variables;
-      commands = take commands (process_of P number).commands;
-    })
-    → variables ≡ length (process_of P number).variables → commands ≡ length (process_of P number).commands
-    → (p : tree.Process) × (slice_get P number ≡ Some p) × ProcessOf D names node place constants later p
-process_done D names node place constants later P number found whole variables commands there same named rule all_variables all_commands =
-    let w = process_there (slice_get P number) found there in
-    let p : tree.Process = w.0 in
-    let here : process_of P number ≡ p = get_or_from_slice_get P number p no_process w.1 in
-    let vs : take variables (process_of P number).variables ≡ p.variables =
-    take_all variables (process_of P number).variables (omega arith) ∙ ap (λ q. q.variables) here in
-    let cs : take commands (process_of P number).commands ≡ p.commands =
-    take_all commands (process_of P number).commands (omega arith) ∙ ap (λ q. q.commands) here in
-    let items : ItemsOf (record { definitions = D; processes = names; variables = map (λ v. v.0) p.variables }) place.scope node.items.items
-    (record { constants = constants; variables = []; commands = [] })
-    (record { constants = later; variables = p.variables; commands = p.commands }) =
-    subst
-    (λ z. ItemsOf (record { definitions = D; processes = names; variables = map (λ v. v.0) p.variables }) place.scope node.items.items
-    (record { constants = constants; variables = []; commands = [] })
-    (record { constants = later; variables = p.variables; commands = z })) cs
-    (subst
-    (λ z. ItemsOf (record { definitions = D; processes = names; variables = map (λ v. v.0) p.variables }) place.scope node.items.items
-    (record { constants = constants; variables = []; commands = [] })
-    (record { constants = later; variables = z; commands = take commands (process_of P number).commands })) vs
-    (subst
-    (λ q. ItemsOf (record { definitions = D; processes = names; variables = map (λ v. v.0) q.variables }) place.scope node.items.items
-    (record { constants = constants; variables = []; commands = [] })
-    (record {
-      constants = later;
-      variables = take variables (process_of P number).variables;
-      commands = take commands (process_of P number).commands;
-    })) here rule)) in
-    let name : IsIndexed node.name place.indices p.name =
-    subst (λ z. IsIndexed node.name place.indices z) (sym same ∙ sym w.2) named in
-    (p, w.1, record { name = name; items = items })
 
 pub program_done : (D : List Definition) (names : List (List ℕ)) (nodes : List DeclarationNode) (count n : ℕ) (constants later : Constants)
     (P : tree.Program) → DeclarationsOf D names nodes (record { constants = constants; processes = [] })

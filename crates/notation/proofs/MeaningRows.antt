@@ -35,41 +35,41 @@ module _ (D : List Definition) (e : Expression) where
   known = record { definitions = D; constants = None ∷ Some (Num (pos 5)) ∷ [] }
 
   number_row : out-Expression e ≡ form.Number 0 (pos 3) → HasValue known Top e (Num (pos 3))
-  number_row is = v.number is
+  number_row is = v.simple (v.number is)
 
   truth_row : out-Expression e ≡ form.Truth 0 true → HasValue known Top e (Tru true)
-  truth_row is = v.truth is
+  truth_row is = v.simple (v.truth is)
 
   constant_row : out-Expression e ≡ form.Constant 0 1 → HasValue known Top e (Num (pos 5))
-  constant_row is = v.constant is refl
+  constant_row is = v.simple (v.constant is refl)
 
   -- the innermost member of a number counts
   member_row : out-Expression e ≡ form.Member 0 7 → HasValue known (Member 7 (pos 2) (Member 7 (pos 1) Top)) e (Num (pos 2))
-  member_row is = v.member is refl
+  member_row is = v.simple (v.member is refl)
 
   -- an argument means what it means at the call, also where the definition has a member of its own
   parameter_row : (a : Expression) → out-Expression e ≡ form.Parameter 0 4 → out-Expression a ≡ form.Member 0 7
       → HasValue known (Member 7 (pos 9) (Call 4 (a ∷ []) (Member 7 (pos 1) Top))) e (Num (pos 1))
-  parameter_row a is arg = v.parameter (record { expression = a; scope = Member 7 (pos 1) Top }) is refl (v.member arg refl)
+  parameter_row a is arg = v.parameter (record { expression = a; scope = Member 7 (pos 1) Top }) is refl (v.simple (v.member arg refl))
 
 -- values of expressions with others in them
 module _ (K : Context) (s : Scope) (e one two three : Expression) (is_one : out-Expression one ≡ form.Number 0 (pos 1))
     (is_two : out-Expression two ≡ form.Number 0 (pos 2)) (is_three : out-Expression three ≡ form.Number 0 (pos 3)) where
   not_row : (operand : _) (is : out-Expression e ≡ form.Not 0 operand) → out-Expression operand.value ≡ form.Truth 0 false
       → HasValue K s e (Tru true)
-  not_row operand is h = v.opposite operand is (v.truth h)
+  not_row operand is h = v.opposite operand is (v.simple (v.truth h))
 
   negative_row : (operand : _) (is : out-Expression e ≡ form.Negate 0 operand) → out-Expression operand.value ≡ form.Number 0 (pos 3)
       → HasValue K s e (Num (negsuc 2))
-  negative_row operand is h = v.negative operand is (v.number h) refl
+  negative_row operand is h = v.negative operand is (v.simple (v.number h)) refl
 
   -- (1 - 2) - 3, from the left
   links_row : (a b : Link) → (out-Link a).operator ≡ operator.Subtract → (out-Link a).operand ≡ two
       → (out-Link b).operator ≡ operator.Subtract → (out-Link b).operand ≡ three
       → LinksGive K s (Num (pos 1)) (a ∷ b ∷ []) (Num (negsuc 3))
   links_row a b ao ae bo be =
-      v.more_links (v.numbers {x = pos 1} {y = pos 2} {v = Num (negsuc 0)} (rw ae (v.number is_two)) (rw ao refl))
-      (v.more_links (v.numbers {x = negsuc 0} {y = pos 3} {v = Num (negsuc 3)} (rw be (v.number is_three)) (rw bo refl)) v.no_links)
+      v.more_links (v.numbers {x = pos 1} {y = pos 2} {v = Num (negsuc 0)} (rw ae (v.simple (v.number is_two))) (rw ao refl))
+      (v.more_links (v.numbers {x = negsuc 0} {y = pos 3} {v = Num (negsuc 3)} (rw be (v.simple (v.number is_three))) (rw bo refl)) v.no_links)
 
   -- `false and x` is false, whatever x is
   decided_row : (a : Link) → (out-Link a).operator ≡ operator.And → LinksGive K s (Tru false) (a ∷ []) (Tru false)
@@ -79,7 +79,7 @@ module _ (K : Context) (s : Scope) (e one two three : Expression) (is_one : out-
   call_row : (arguments : _) (is : out-Expression e ≡ form.Call 0 4 arguments) → arguments.items ≡ [] → (d : Definition)
       → slice_get K.definitions 4 ≡ Some d → d.count ≡ 0 → d.body ≡ three → HasValue K s e (Num (pos 3))
   call_row arguments is none d there count body =
-      v.call d arguments is there (rw none (sym count)) (rw body (v.number is_three))
+      v.call d arguments is there (rw none (sym count)) (rw body (v.simple (v.number is_three)))
 
   -- the sum over 1..3 of an expression whose value is that of the member, and the empty sum
   sum_row : (each : Each)
@@ -96,17 +96,17 @@ module _ (K : Context) (s : Scope) (e one two three : Expression) (is_one : out-
   range_row : (b : Binder) → (out-Binder b).condition ≡ None → (out-Binder b).low ≡ one → (out-Binder b).high ≡ three
       → HasMembers K s b (pos 1 ∷ pos 2 ∷ pos 3 ∷ [])
   range_row b c l h =
-      v.range {low = pos 1} {high = pos 3} (rw l (v.number is_one)) (rw h (v.number is_three))
+      v.range {low = pos 1} {high = pos 3} (rw l (v.simple (v.number is_one))) (rw h (v.simple (v.number is_three)))
       (v.kept (omega (arith, ints)) (v.unconditional c)
       (v.kept (omega (arith, ints)) (v.unconditional c) (v.kept (omega (arith, ints)) (v.unconditional c) (v.range_end (omega (arith, ints))))))
 
   empty_range_row : (b : Binder) → (out-Binder b).low ≡ two → (out-Binder b).high ≡ one → HasMembers K s b []
-  empty_range_row b l h = v.range {low = pos 2} {high = pos 1} (rw l (v.number is_two)) (rw h (v.number is_one)) (v.range_end (omega (arith, ints)))
+  empty_range_row b l h = v.range {low = pos 2} {high = pos 1} (rw l (v.simple (v.number is_two))) (rw h (v.simple (v.number is_one))) (v.range_end (omega (arith, ints)))
 
   -- two of three are enough for 2, and the third is not computed
   enough_row : (each : Each) → (out-Each each).body ≡ e → out-Expression e ≡ form.Truth 0 true
       → EnoughHold K s each (pos 2) (pos 1 ∷ pos 2 ∷ pos 3 ∷ []) true
-  enough_row each b is = v.holds (rw b (v.truth is)) (v.holds (rw b (v.truth is)) (v.enough (omega (arith, ints))))
+  enough_row each b is = v.holds (rw b (v.simple (v.truth is))) (v.holds (rw b (v.simple (v.truth is))) (v.enough (omega (arith, ints))))
 
   too_few_row : (each : Each) → EnoughHold K s each (pos 2) (pos 1 ∷ []) false
   too_few_row each = v.too_few (omega (arith, ints))
@@ -137,7 +137,7 @@ module _ (S : Setting) (s : Scope) (one two three : Expression) (is_one : out-Ex
       → (out-Reference r).indices.items ≡ two ∷ [] → S.variables ≡ codes "x_1" ∷ codes "x_2" ∷ [] → Stands S s e (tree.Variable 1)
   unfolding digits
   name_row e r is name indices variables =
-      let named : HasName S.context s (codes "x") (two ∷ []) (codes "x_2") = p.more_indices (v.number is_two) p.no_indices in
+      let named : HasName S.context s (codes "x") (two ∷ []) (codes "x_2") = p.more_indices (v.simple (v.number is_two)) p.no_indices in
       p.name r is (record { name = codes "x_2"; named = rw (name, indices) named; there = rw variables refl })
 
   -- `sent(q)` counts the messages to the process `q`
@@ -153,8 +153,8 @@ module _ (S : Setting) (s : Scope) (one two three : Expression) (is_one : out-Ex
       (tree.Binary (out-Link b).operator (tree.Binary (out-Link a).operator (tree.Number (pos 1)) (tree.Number (pos 2))) (tree.Number (pos 3)))
   chain_row a b ao bo =
       p.last_operand {links = a ∷ []} b
-      (p.last_operand {links = []} a (p.first_operand (p.number is_one written_number_1)) (rw ao (p.number is_two written_number_2)))
-      (rw bo (p.number is_three written_row))
+      (p.last_operand {links = []} a (p.first_operand (p.simple (v.number is_one) written_number_1)) (rw ao (p.simple (v.number is_two) written_number_2)))
+      (rw bo (p.simple (v.number is_three) written_row))
 
 -- forms over the members 1, 2, 3 and so on, for which the expression is t1, t2, t3 and so on
 module _ (S : Setting) (s : Scope) (each : Each) (t1 t2 t3 t4 t5 : tree.Tree)
@@ -233,4 +233,4 @@ constant_item_row F node c is n value =
     subst
     (λ k. ItemOf F Top node (record { constants = None ∷ []; variables = []; commands = [] })
     (record { constants = with_constant (None ∷ []) k (Num (pos 3)); variables = []; commands = [] })) n
-    (m.constant_item c is (v.number value))
+    (m.constant_item c is (v.simple (v.number value)))

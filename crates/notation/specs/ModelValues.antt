@@ -12,15 +12,19 @@ use Rattle.notation.specs.declared.syntax.FormNode.TheVariants as node
 use Rattle.notation.specs.declared.syntax.Definition.{Definition}
 use Rattle.notation.specs.ModelScopes.{Context, Scope, Member, Call, Meant, member_in, argument_in}
 
+-- in this context, an expression with no other in it has this value in this scope
+pub data IsSimple (K : Context) : Scope → Expression → Value → Type 0 where
+  number : {s : Scope} {e : Expression} {at : ℕ} {z : ℤ} → out-Expression e ≡ form.Number at z → IsSimple K s e (Num z)
+  truth : {s : Scope} {e : Expression} {at : ℕ} {b : Bool} → out-Expression e ≡ form.Truth at b → IsSimple K s e (Tru b)
+  constant : {s : Scope} {e : Expression} {at n : ℕ} {v : Value}
+      → out-Expression e ≡ form.Constant at n → slice_get K.constants n ≡ Some (Some v) → IsSimple K s e v
+  member : {s : Scope} {e : Expression} {at n : ℕ} {z : ℤ}
+      → out-Expression e ≡ form.Member at n → member_in s n ≡ Some z → IsSimple K s e (Num z)
+
 mutual
-  -- in this context, the expression has this value in this scope
+  -- the expression has this value
   pub data HasValue (K : Context) : Scope → Expression → Value → Type 0 where
-    number : {s : Scope} {e : Expression} {at : ℕ} {z : ℤ} → out-Expression e ≡ form.Number at z → HasValue K s e (Num z)
-    truth : {s : Scope} {e : Expression} {at : ℕ} {b : Bool} → out-Expression e ≡ form.Truth at b → HasValue K s e (Tru b)
-    constant : {s : Scope} {e : Expression} {at n : ℕ} {v : Value}
-        → out-Expression e ≡ form.Constant at n → slice_get K.constants n ≡ Some (Some v) → HasValue K s e v
-    member : {s : Scope} {e : Expression} {at n : ℕ} {z : ℤ}
-        → out-Expression e ≡ form.Member at n → member_in s n ≡ Some z → HasValue K s e (Num z)
+    simple : {s : Scope} {e : Expression} {v : Value} → IsSimple K s e v → HasValue K s e v
     parameter : {s : Scope} {e : Expression} {at n : ℕ} {v : Value} (m : Meant) → out-Expression e ≡ form.Parameter at n
         → argument_in s n ≡ Some m → HasValue K m.scope m.expression v → HasValue K s e v
     call : {s : Scope} {e : Expression} {at n : ℕ} {v : Value} (d : Definition) (arguments : _)
@@ -32,18 +36,20 @@ mutual
         → HasValue K s operand.value (Num z) → ranged (pos 0 -ℤ z) ≡ Some v → HasValue K s e v
     chain : {s : Scope} {e : Expression} {at : ℕ} {u v : Value} (first links : _) → out-Expression e ≡ form.Chain at first links
         → HasValue K s first.value u → LinksGive K s u links.items v → HasValue K s e v
-    sum : {s : Scope} {e : Expression} {ms : List ℤ} {z : ℤ} (each : _) → out-Expression e ≡ form.Each each
-        → (out-Each each.value).form ≡ node.Sum → HasMembers K s (out-Each each.value).binder ms → SumIs K s each.value ms z
-        → HasValue K s e (Num z)
-    all : {s : Scope} {e : Expression} {ms : List ℤ} {b : Bool} (each : _) → out-Expression e ≡ form.Each each
-        → (out-Each each.value).form ≡ node.All → HasMembers K s (out-Each each.value).binder ms
-        → EnoughHold K s each.value (pos (length ms)) ms b → HasValue K s e (Tru b)
-    some : {s : Scope} {e : Expression} {ms : List ℤ} {b : Bool} (each : _) → out-Expression e ≡ form.Each each
-        → (out-Each each.value).form ≡ node.Some → HasMembers K s (out-Each each.value).binder ms
-        → EnoughHold K s each.value (pos 1) ms b → HasValue K s e (Tru b)
-    at_least : {s : Scope} {e least : Expression} {ms : List ℤ} {k : ℤ} {b : Bool} (each : _) → out-Expression e ≡ form.Each each
-        → (out-Each each.value).form ≡ node.AtLeast → HasMembers K s (out-Each each.value).binder ms
-        → (out-Each each.value).least ≡ Some least → HasValue K s least (Num k) → EnoughHold K s each.value k ms b → HasValue K s e (Tru b)
+    form_of : {s : Scope} {e : Expression} {v : Value} (each : _) → out-Expression e ≡ form.Each each → FormGives K s each.value v
+        → HasValue K s e v
+
+  -- `sum`, `all`, `some` or `at_least` has this value
+  pub data FormGives (K : Context) : Scope → Each → Value → Type 0 where
+    sum : {s : Scope} {each : Each} {ms : List ℤ} {z : ℤ} → (out-Each each).form ≡ node.Sum
+        → HasMembers K s (out-Each each).binder ms → SumIs K s each ms z → FormGives K s each (Num z)
+    all : {s : Scope} {each : Each} {ms : List ℤ} {b : Bool} → (out-Each each).form ≡ node.All
+        → HasMembers K s (out-Each each).binder ms → EnoughHold K s each (pos (length ms)) ms b → FormGives K s each (Tru b)
+    some : {s : Scope} {each : Each} {ms : List ℤ} {b : Bool} → (out-Each each).form ≡ node.Some
+        → HasMembers K s (out-Each each).binder ms → EnoughHold K s each (pos 1) ms b → FormGives K s each (Tru b)
+    at_least : {s : Scope} {each : Each} {least : Expression} {ms : List ℤ} {k : ℤ} {b : Bool} → (out-Each each).form ≡ node.AtLeast
+        → HasMembers K s (out-Each each).binder ms → (out-Each each).least ≡ Some least → HasValue K s least (Num k)
+        → EnoughHold K s each k ms b → FormGives K s each (Tru b)
 
   -- operators with their right operands, after a left operand of this value, give this value
   pub data LinksGive (K : Context) : Scope → Value → List Link → Value → Type 0 where

@@ -14,8 +14,8 @@ use Rattle.notation.specs.declared.syntax.Binder.{out-Binder}
 use Rattle.notation.specs.declared.syntax.Each.{Each, out-Each}
 use Rattle.notation.specs.declared.syntax.FormNode.TheVariants as node
 use Rattle.notation.specs.declared.syntax.Definition.{Definition}
-use Rattle.notation.specs.ModelScopes.{Context, Scope, Member, Call, Meant, member_in, argument_in}
-use Rattle.notation.specs.ModelValues.{HasValue, HasMembers}
+use Rattle.notation.specs.ModelScopes.{Context, Scope, Member, Call, Meant, argument_in}
+use Rattle.notation.specs.ModelValues.{IsSimple, HasValue, HasMembers}
 
 -- what expressions of a process refer to: the context, and in the plain program the names of all processes and those of the variables of
 -- the process
@@ -49,14 +49,7 @@ pub record Names (K : Context) (s : Scope) (reference : Reference) (names : List
 mutual
   -- the expression stands for this plain expression in this scope
   pub data Stands (S : Setting) : Scope → Expression → Tree → Type 0 where
-    number : {s : Scope} {e : Expression} {at : ℕ} {z : ℤ} {t : Tree}
-        → out-Expression e ≡ form.Number at z → IsWritten (Num z) t → Stands S s e t
-    truth : {s : Scope} {e : Expression} {at : ℕ} {b : Bool} {t : Tree}
-        → out-Expression e ≡ form.Truth at b → IsWritten (Tru b) t → Stands S s e t
-    constant : {s : Scope} {e : Expression} {at n : ℕ} {v : Value} {t : Tree}
-        → out-Expression e ≡ form.Constant at n → slice_get S.context.constants n ≡ Some (Some v) → IsWritten v t → Stands S s e t
-    member : {s : Scope} {e : Expression} {at n : ℕ} {z : ℤ} {t : Tree}
-        → out-Expression e ≡ form.Member at n → member_in s n ≡ Some z → IsWritten (Num z) t → Stands S s e t
+    simple : {s : Scope} {e : Expression} {v : Value} {t : Tree} → IsSimple S.context s e v → IsWritten v t → Stands S s e t
     parameter : {s : Scope} {e : Expression} {at n : ℕ} {t : Tree} (m : Meant) → out-Expression e ≡ form.Parameter at n
         → argument_in s n ≡ Some m → Stands S m.scope m.expression t → Stands S s e t
     name : {s : Scope} {e : Expression} {i : ℕ} (reference : Reference) → out-Expression e ≡ form.Name reference
@@ -72,19 +65,20 @@ mutual
         → out-Expression e ≡ form.Negate at operand → Stands S s operand.value t → Stands S s e (Negate t)
     chain : {s : Scope} {e : Expression} {at : ℕ} {t : Tree} (first links : _) → out-Expression e ≡ form.Chain at first links
         → ChainStands S s first.value links.items t → Stands S s e t
-    sum : {s : Scope} {e : Expression} {ms : List ℤ} {t : Tree} (each : _) → out-Expression e ≡ form.Each each
-        → (out-Each each.value).form ≡ node.Sum → HasMembers S.context s (out-Each each.value).binder ms
-        → Joined S s each.value Add (Num (pos 0)) ms t → Stands S s e t
-    all : {s : Scope} {e : Expression} {ms : List ℤ} {t : Tree} (each : _) → out-Expression e ≡ form.Each each
-        → (out-Each each.value).form ≡ node.All → HasMembers S.context s (out-Each each.value).binder ms
-        → Joined S s each.value And (Tru true) ms t → Stands S s e t
-    some : {s : Scope} {e : Expression} {ms : List ℤ} {t : Tree} (each : _) → out-Expression e ≡ form.Each each
-        → (out-Each each.value).form ≡ node.Some → HasMembers S.context s (out-Each each.value).binder ms
-        → Joined S s each.value Or (Tru false) ms t → Stands S s e t
-    at_least : {s : Scope} {e least : Expression} {ms : List ℤ} {k : ℤ} {t : Tree} (each : _) → out-Expression e ≡ form.Each each
-        → (out-Each each.value).form ≡ node.AtLeast → HasMembers S.context s (out-Each each.value).binder ms
-        → (out-Each each.value).least ≡ Some least → HasValue S.context s least (Num k)
-        → AtLeast S s each.value k ms t → Stands S s e t
+    form_of : {s : Scope} {e : Expression} {t : Tree} (each : _) → out-Expression e ≡ form.Each each → FormStands S s each.value t
+        → Stands S s e t
+
+  -- `sum`, `all`, `some` or `at_least` stands for this plain expression
+  pub data FormStands (S : Setting) : Scope → Each → Tree → Type 0 where
+    sum : {s : Scope} {each : Each} {ms : List ℤ} {t : Tree} → (out-Each each).form ≡ node.Sum
+        → HasMembers S.context s (out-Each each).binder ms → Joined S s each Add (Num (pos 0)) ms t → FormStands S s each t
+    all : {s : Scope} {each : Each} {ms : List ℤ} {t : Tree} → (out-Each each).form ≡ node.All
+        → HasMembers S.context s (out-Each each).binder ms → Joined S s each And (Tru true) ms t → FormStands S s each t
+    some : {s : Scope} {each : Each} {ms : List ℤ} {t : Tree} → (out-Each each).form ≡ node.Some
+        → HasMembers S.context s (out-Each each).binder ms → Joined S s each Or (Tru false) ms t → FormStands S s each t
+    at_least : {s : Scope} {each : Each} {least : Expression} {ms : List ℤ} {k : ℤ} {t : Tree} → (out-Each each).form ≡ node.AtLeast
+        → HasMembers S.context s (out-Each each).binder ms → (out-Each each).least ≡ Some least → HasValue S.context s least (Num k)
+        → AtLeast S s each k ms t → FormStands S s each t
 
   -- operands with operators between them, grouped from the left: the last operator joins all before it and its right operand
   pub data ChainStands (S : Setting) : Scope → Expression → List Link → Tree → Type 0 where

@@ -14,6 +14,7 @@ mod plain;
 mod programs;
 mod scopes;
 mod setting;
+mod simple;
 mod values;
 mod variables;
 mod written;

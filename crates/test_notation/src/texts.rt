@@ -1,5 +1,6 @@
 //! Tests of `notation`. In the texts of the tables of faults `^` marks the place of the fault; it is taken out before a text is expanded.
 
+mod agreement;
 mod expansions;
 mod faults;
 mod hostile;

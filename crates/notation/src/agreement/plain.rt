@@ -1,18 +1,21 @@
 //! Whether an expression of a model stands for a plain expression.
 
-ghost use Rattle.std.specs.Prelude.{◌≡◌, IfOk, IsTrue};
+ghost use Rattle.std.specs.Prelude.{◌≡◌, pos, ◌<ℤ◌, length, IfOk, IsTrue};
 ghost use Rattle.dbg_base.specs.Trees.{tree_of};
 ghost use Rattle.notation.specs.AgreementViews.{scope_of, setting_of, value_of};
-ghost use Rattle.notation.specs.PlainExpressions.{Stands, ChainStands, Joined, AtLeast};
+ghost use Rattle.notation.specs.PlainExpressions.{Stands, FormStands, ChainStands, Joined, AtLeast};
 
 use crate::agreement::difference::{Difference, deeper};
-use crate::agreement::scopes::{PlaceScope, argument, member};
-use crate::agreement::setting::{PlainSetting, constant, definition_of};
+use crate::agreement::scopes::{PlaceScope, argument};
+use crate::agreement::setting::{PlainSetting, callee};
+use crate::agreement::simple::simple_value;
 use crate::agreement::values::{count_of, members, number};
-use crate::agreement::written::{is_written, names_process, names_variable};
+use crate::agreement::written::{
+    is_count, is_variable, is_written, operand_of_minus, operand_of_not,
+};
 use crate::environment::ConstantValue;
 use crate::syntax::{Each, Expression, FormNode, Link};
-use dbg_base::{Direction, Expr, Operator};
+use dbg_base::{Expr, Operator};
 
 // Whether two operators are the same.
 fn is_operator(one: Operator, other: Operator) -> bool
@@ -33,29 +36,11 @@ pub(crate) fn stands(
     ensures { IfOk result (λ _. Stands (setting_of setting.now) (scope_of scope.now) expression.now (tree_of tree.now)) }
 {
     let inner = deeper(depth)?;
+    if let Some(value) = simple_value(&setting.known, scope, expression) {
+        is_written(value, tree)?;
+        return Ok(());
+    }
     match expression {
-        Expression::Number(_, number) => {
-            is_written(ConstantValue::Number(*number), tree)?;
-            Ok(())
-        }
-        Expression::Truth(_, truth) => {
-            is_written(ConstantValue::Truth(*truth), tree)?;
-            Ok(())
-        }
-        Expression::Constant(_, number) => {
-            let Some(value) = constant(&setting.known, *number) else {
-                return Err(Difference::Found);
-            };
-            is_written(value, tree)?;
-            Ok(())
-        }
-        Expression::Member(_, number) => {
-            let Some(held) = member(scope, *number) else {
-                return Err(Difference::Found);
-            };
-            is_written(ConstantValue::Number(held), tree)?;
-            Ok(())
-        }
         Expression::Parameter(_, number) => {
             let Some(meant) = argument(&*scope, *number) else {
                 return Err(Difference::Found);
@@ -64,50 +49,26 @@ pub(crate) fn stands(
             Ok(())
         }
         Expression::Name(reference) => {
-            let Expr::Variable(index) = tree else {
-                return Err(Difference::Found);
-            };
-            names_variable(setting, scope, reference, *index, inner)?;
+            is_variable(setting, scope, reference, tree, inner)?;
             Ok(())
         }
-        Expression::Count(_, direction, other) => match direction {
-            Direction::Sent => {
-                let Expr::Sent(pid) = tree else {
-                    return Err(Difference::Found);
-                };
-                names_process(setting, scope, other, *pid, inner)?;
-                Ok(())
-            }
-            Direction::Got => {
-                let Expr::Got(pid) = tree else {
-                    return Err(Difference::Found);
-                };
-                names_process(setting, scope, other, *pid, inner)?;
-                Ok(())
-            }
-        },
+        Expression::Count(_, direction, other) => {
+            is_count(setting, scope, *direction, other, tree, inner)?;
+            Ok(())
+        }
         Expression::Call(_, number, arguments) => {
-            let Some(definition) = definition_of(&setting.known, *number) else {
-                return Err(Difference::Found);
-            };
-            if arguments.len() != definition.count {
-                return Err(Difference::Found);
-            }
+            let definition = callee(&setting.known, *number, arguments.as_slice())?;
             let within = PlaceScope::Call(definition.first, arguments.as_slice(), &*scope);
             stands(setting, &within, &definition.body, tree, inner)?;
             Ok(())
         }
         Expression::Not(_, operand) => {
-            let Expr::Not(found) = tree else {
-                return Err(Difference::Found);
-            };
+            let found = operand_of_not(tree)?;
             stands(setting, scope, operand, found, inner)?;
             Ok(())
         }
         Expression::Negate(_, operand) => {
-            let Expr::Negate(found) = tree else {
-                return Err(Difference::Found);
-            };
+            let found = operand_of_minus(tree)?;
             stands(setting, scope, operand, found, inner)?;
             Ok(())
         }
@@ -116,59 +77,77 @@ pub(crate) fn stands(
             Ok(())
         }
         Expression::Each(each) => {
-            let found = members(&setting.known, scope, &each.binder, inner)?;
-            match each.form {
-                FormNode::Sum => {
-                    let nothing = ConstantValue::Number(0);
-                    joined(
-                        setting,
-                        scope,
-                        each,
-                        Operator::Add,
-                        nothing,
-                        found.as_slice(),
-                        tree,
-                        inner,
-                    )?;
-                    Ok(())
-                }
-                FormNode::All => {
-                    let nothing = ConstantValue::Truth(true);
-                    joined(
-                        setting,
-                        scope,
-                        each,
-                        Operator::And,
-                        nothing,
-                        found.as_slice(),
-                        tree,
-                        inner,
-                    )?;
-                    Ok(())
-                }
-                FormNode::Some => {
-                    let nothing = ConstantValue::Truth(false);
-                    joined(
-                        setting,
-                        scope,
-                        each,
-                        Operator::Or,
-                        nothing,
-                        found.as_slice(),
-                        tree,
-                        inner,
-                    )?;
-                    Ok(())
-                }
-                FormNode::AtLeast => {
-                    let Some(least) = &each.least else {
-                        return Err(Difference::Found);
-                    };
-                    let wanted = number(&setting.known, scope, least, inner)?;
-                    at_least(setting, scope, each, wanted, found.as_slice(), tree, inner)?;
-                    Ok(())
-                }
-            }
+            form_stands(setting, scope, each, tree, inner)?;
+            Ok(())
+        }
+        _ => Err(Difference::Found),
+    }
+}
+
+// Whether a form stands for this plain expression.
+#[cycle(standing)]
+fn form_stands(
+    setting: &PlainSetting<'_>,
+    scope: &PlaceScope<'_>,
+    each: &Each,
+    tree: &Expr,
+    depth: u32,
+) -> Result<(), Difference>
+    ensures { IfOk result (λ _. FormStands (setting_of setting.now) (scope_of scope.now) each.now (tree_of tree.now)) }
+{
+    let inner = deeper(depth)?;
+    let found = members(&setting.known, scope, &each.binder, inner)?;
+    let members = found.as_slice();
+    match each.form {
+        FormNode::Sum => {
+            let nothing = ConstantValue::Number(0);
+            joined(
+                setting,
+                scope,
+                each,
+                Operator::Add,
+                nothing,
+                members,
+                tree,
+                inner,
+            )?;
+            Ok(())
+        }
+        FormNode::All => {
+            let nothing = ConstantValue::Truth(true);
+            joined(
+                setting,
+                scope,
+                each,
+                Operator::And,
+                nothing,
+                members,
+                tree,
+                inner,
+            )?;
+            Ok(())
+        }
+        FormNode::Some => {
+            let nothing = ConstantValue::Truth(false);
+            joined(
+                setting,
+                scope,
+                each,
+                Operator::Or,
+                nothing,
+                members,
+                tree,
+                inner,
+            )?;
+            Ok(())
+        }
+        FormNode::AtLeast => {
+            let Some(least) = &each.least else {
+                return Err(Difference::Found);
+            };
+            let wanted = number(&setting.known, scope, least, inner)?;
+            at_least(setting, scope, each, wanted, members, tree, inner)?;
+            Ok(())
         }
     }
 }
@@ -297,6 +276,26 @@ fn at_least(
         )?;
         return Ok(());
     }
+    either(setting, scope, each, least, members, tree, inner)?;
+    Ok(())
+}
+
+// The same for a number above 1, and below that of the members.
+#[cycle(standing)]
+fn either(
+    setting: &PlainSetting<'_>,
+    scope: &PlaceScope<'_>,
+    each: &Each,
+    least: i64,
+    members: &[i64],
+    tree: &Expr,
+    depth: u32,
+) -> Result<(), Difference>
+    requires above { pos 1 <ℤ least }
+    requires below { least <ℤ pos (length members.now) }
+    ensures { IfOk result (λ _. AtLeast (setting_of setting.now) (scope_of scope.now) each.now least members.now (tree_of tree.now)) }
+{
+    let inner = deeper(depth)?;
     let Some((first, others)) = members.split_first() else {
         return Err(Difference::Found);
     };

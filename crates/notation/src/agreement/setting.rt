@@ -1,10 +1,11 @@
 //! What expressions refer to.
 
-ghost use Rattle.std.specs.Prelude.{◌≡◌, slice_get, Some, IfSome};
+ghost use Rattle.std.specs.Prelude.{◌≡◌, length, slice_get, Some, IfOk, IfSome};
 ghost use Rattle.notation.specs.AgreementViews.{context_of, value_of};
 
+use crate::agreement::difference::Difference;
 use crate::environment::ConstantValue;
-use crate::syntax::Definition;
+use crate::syntax::{Definition, Expression};
 use dbg_base::Pid;
 use proc_lang::Program;
 use std::alloc::Global;
@@ -26,11 +27,21 @@ pub(crate) struct PlainSetting<'a> {
     pub(crate) own: Pid,
 }
 
-/// A definition.
-pub(crate) fn definition_of<'a>(known: &Known<'a>, number: usize) -> Option<&'a Definition>
-    ensures { IfSome result (λ d. slice_get (context_of known.now).definitions number ≡ Some d.now) }
+/// The definition of this number, which has so many arguments.
+pub(crate) fn callee<'a>(
+    known: &Known<'a>,
+    number: usize,
+    arguments: &[Expression],
+) -> Result<&'a Definition, Difference>
+    ensures { IfOk result (λ d. (slice_get (context_of known.now).definitions number ≡ Some d.now) × (length arguments.now ≡ d.now.count)) }
 {
-    known.definitions.get(number)
+    let Some(definition) = known.definitions.get(number) else {
+        return Err(Difference::Found);
+    };
+    if arguments.len() != definition.count {
+        return Err(Difference::Found);
+    }
+    Ok(definition)
 }
 
 /// The value of a constant.

@@ -3,12 +3,13 @@
 ghost use Rattle.std.specs.Prelude.{◌≡◌, pos, length, IfOk};
 ghost use Rattle.dbg_base.specs.Evaluation.{Num, Tru};
 ghost use Rattle.notation.specs.AgreementViews.{context_of, scope_of, value_of};
-ghost use Rattle.notation.specs.ModelValues.{HasValue, LinksGive, LinkGives, HasMembers, MembersFrom, ConditionIs, SumIs, EnoughHold};
+ghost use Rattle.notation.specs.ModelValues.{HasValue, FormGives, LinksGive, LinkGives, HasMembers, MembersFrom, ConditionIs, SumIs, EnoughHold};
 
 use crate::agreement::arithmetic::{calculated, negated};
 use crate::agreement::difference::{Difference, deeper};
-use crate::agreement::scopes::{PlaceScope, argument, member};
-use crate::agreement::setting::{Known, constant, definition_of};
+use crate::agreement::scopes::{PlaceScope, argument};
+use crate::agreement::setting::{Known, callee};
+use crate::agreement::simple::simple_value;
 use crate::environment::ConstantValue;
 use crate::syntax::{Binder, Each, Expression, FormNode, Link};
 use dbg_base::Operator;
@@ -24,21 +25,10 @@ pub(crate) fn value(
     ensures { IfOk result (λ v. HasValue (context_of known.now) (scope_of scope.now) expression.now (value_of v)) }
 {
     let inner = deeper(depth)?;
+    if let Some(found) = simple_value(known, scope, expression) {
+        return Ok(found);
+    }
     match expression {
-        Expression::Number(_, number) => Ok(ConstantValue::Number(*number)),
-        Expression::Truth(_, truth) => Ok(ConstantValue::Truth(*truth)),
-        Expression::Constant(_, number) => {
-            let Some(found) = constant(known, *number) else {
-                return Err(Difference::Found);
-            };
-            Ok(found)
-        }
-        Expression::Member(_, number) => {
-            let Some(held) = member(scope, *number) else {
-                return Err(Difference::Found);
-            };
-            Ok(ConstantValue::Number(held))
-        }
         Expression::Parameter(_, number) => {
             let Some(meant) = argument(&*scope, *number) else {
                 return Err(Difference::Found);
@@ -46,14 +36,8 @@ pub(crate) fn value(
             let found = value(known, meant.scope, meant.expression, inner)?;
             Ok(found)
         }
-        Expression::Name(_) | Expression::Count(_, _, _) => Err(Difference::Found),
         Expression::Call(_, number, arguments) => {
-            let Some(definition) = definition_of(known, *number) else {
-                return Err(Difference::Found);
-            };
-            if arguments.len() != definition.count {
-                return Err(Difference::Found);
-            }
+            let definition = callee(known, *number, arguments.as_slice())?;
             let within = PlaceScope::Call(definition.first, arguments.as_slice(), &*scope);
             let found = value(known, &within, &definition.body, inner)?;
             Ok(found)
@@ -75,30 +59,46 @@ pub(crate) fn value(
             Ok(found)
         }
         Expression::Each(each) => {
-            let found = members(known, scope, &each.binder, inner)?;
-            match each.form {
-                FormNode::Sum => {
-                    let total = sum(known, scope, each, found.as_slice(), inner)?;
-                    Ok(ConstantValue::Number(total))
-                }
-                FormNode::All => {
-                    let count = count_of(found.as_slice())?;
-                    let all = enough(known, scope, each, count, found.as_slice(), inner)?;
-                    Ok(ConstantValue::Truth(all))
-                }
-                FormNode::Some => {
-                    let some = enough(known, scope, each, 1, found.as_slice(), inner)?;
-                    Ok(ConstantValue::Truth(some))
-                }
-                FormNode::AtLeast => {
-                    let Some(least) = &each.least else {
-                        return Err(Difference::Found);
-                    };
-                    let wanted = number(known, scope, least, inner)?;
-                    let held = enough(known, scope, each, wanted, found.as_slice(), inner)?;
-                    Ok(ConstantValue::Truth(held))
-                }
-            }
+            let found = form_value(known, scope, each, inner)?;
+            Ok(found)
+        }
+        _ => Err(Difference::Found),
+    }
+}
+
+// The value of a form.
+#[cycle(values)]
+fn form_value(
+    known: &Known<'_>,
+    scope: &PlaceScope<'_>,
+    each: &Each,
+    depth: u32,
+) -> Result<ConstantValue, Difference>
+    ensures { IfOk result (λ v. FormGives (context_of known.now) (scope_of scope.now) each.now (value_of v)) }
+{
+    let inner = deeper(depth)?;
+    let found = members(known, scope, &each.binder, inner)?;
+    match each.form {
+        FormNode::Sum => {
+            let total = sum(known, scope, each, found.as_slice(), inner)?;
+            Ok(ConstantValue::Number(total))
+        }
+        FormNode::All => {
+            let count = count_of(found.as_slice())?;
+            let all = enough(known, scope, each, count, found.as_slice(), inner)?;
+            Ok(ConstantValue::Truth(all))
+        }
+        FormNode::Some => {
+            let some = enough(known, scope, each, 1, found.as_slice(), inner)?;
+            Ok(ConstantValue::Truth(some))
+        }
+        FormNode::AtLeast => {
+            let Some(least) = &each.least else {
+                return Err(Difference::Found);
+            };
+            let wanted = number(known, scope, least, inner)?;
+            let held = enough(known, scope, each, wanted, found.as_slice(), inner)?;
+            Ok(ConstantValue::Truth(held))
         }
     }
 }

@@ -1,7 +1,7 @@
 //! Values and names as they are written in the process language.
 
-ghost use Rattle.std.specs.Prelude.{IfOk};
-ghost use Rattle.dbg_base.specs.Trees.{tree_of};
+ghost use Rattle.std.specs.Prelude.{◌≡◌, ℕ, IfOk};
+ghost use Rattle.dbg_base.specs.Trees.{tree_of, Variable, Count, Not, Negate};
 ghost use Rattle.notation.specs.PlainExpressions.{Names, IsWritten};
 ghost use Rattle.notation.specs.AgreementViews.{scope_of, setting_of, value_of};
 
@@ -11,7 +11,7 @@ use crate::agreement::scopes::PlaceScope;
 use crate::agreement::setting::PlainSetting;
 use crate::environment::ConstantValue;
 use crate::syntax::Reference;
-use dbg_base::{Expr, Pid};
+use dbg_base::{Direction, Expr, Pid};
 
 /// Whether a plain expression is a value as it is written.
 pub(crate) fn is_written(value: ConstantValue, tree: &Expr) -> Result<(), Difference>
@@ -105,4 +105,72 @@ pub(crate) fn names_process(
         return Err(Difference::Found);
     }
     Ok(())
+}
+
+/// Whether a name is this plain variable.
+pub(crate) fn is_variable(
+    setting: &PlainSetting<'_>,
+    scope: &PlaceScope<'_>,
+    reference: &Reference,
+    tree: &Expr,
+    depth: u32,
+) -> Result<(), Difference>
+    ensures { IfOk result (λ _. (i : ℕ) × (tree_of tree.now ≡ Variable i)
+        × Names (setting_of setting.now).context (scope_of scope.now) reference.now (setting_of setting.now).variables i) }
+{
+    let Expr::Variable(index) = tree else {
+        return Err(Difference::Found);
+    };
+    names_variable(setting, scope, reference, *index, depth)?;
+    Ok(())
+}
+
+/// Whether a count of messages is this plain one.
+pub(crate) fn is_count(
+    setting: &PlainSetting<'_>,
+    scope: &PlaceScope<'_>,
+    direction: Direction,
+    other: &Reference,
+    tree: &Expr,
+    depth: u32,
+) -> Result<(), Difference>
+    ensures { IfOk result (λ _. (p : ℕ) × (tree_of tree.now ≡ Count direction p)
+        × Names (setting_of setting.now).context (scope_of scope.now) other.now (setting_of setting.now).processes p) }
+{
+    match direction {
+        Direction::Sent => {
+            let Expr::Sent(pid) = tree else {
+                return Err(Difference::Found);
+            };
+            names_process(setting, scope, other, *pid, depth)?;
+            Ok(())
+        }
+        Direction::Got => {
+            let Expr::Got(pid) = tree else {
+                return Err(Difference::Found);
+            };
+            names_process(setting, scope, other, *pid, depth)?;
+            Ok(())
+        }
+    }
+}
+
+/// The operand of a plain `not`.
+pub(crate) fn operand_of_not(tree: &Expr) -> Result<&Expr, Difference>
+    ensures { IfOk result (λ found. tree_of tree.now ≡ Not (tree_of found.now)) }
+{
+    match tree {
+        Expr::Not(operand) => Ok(operand),
+        _ => Err(Difference::Found),
+    }
+}
+
+/// The operand of a plain minus sign.
+pub(crate) fn operand_of_minus(tree: &Expr) -> Result<&Expr, Difference>
+    ensures { IfOk result (λ found. tree_of tree.now ≡ Negate (tree_of found.now)) }
+{
+    match tree {
+        Expr::Negate(operand) => Ok(operand),
+        _ => Err(Difference::Found),
+    }
 }

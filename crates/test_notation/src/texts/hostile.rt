@@ -147,7 +147,7 @@ fn nested(alloc: Global, count: u32) -> Result<Vec<u8>, AllocError> {
 
 #[test]
 fn nested_repetitions_expand(rt: HostRuntime) {
-    let text = nested(rt.alloc(), 32).expect(&rt, MEMORY);
+    let text = nested(rt.alloc(), 64).expect(&rt, MEMORY);
     let found = expanded(rt.alloc(), text.as_slice()).expect(&rt, MEMORY);
     expect_same(&rt, found.as_str(), "processa{varx=0;whentrue:x:=1;}");
 }

@@ -137,75 +137,61 @@ sum-returns-in-Number t c =
     (first_of (omega (arith, c.in-Some.ensures.cases.1), grind (arith, c.in-Some.ensures.cases.1)))
     c.split_at.ensures.front c.split_at.ensures.back (sym e))
 
-pub value-returns-in-Number : goal.value-returns-in-Number
-unfolding out-Expression denote.Hole.Carrier.out
-value-returns-in-Number t c =
-    let f : SFits w64 c.in-Number.number = search rules in simp to_z-of_z (v.number (ap out-Expression c.in-Number.is))
+pub value-returns-in-Some : goal.value-returns-in-Some
+value-returns-in-Some t c = v.simple c.in-Some.ensures
 
-pub value-returns-in-Truth : goal.value-returns-in-Truth
+pub value-returns-in_ok-found-in-Parameter : goal.value-returns-in_ok-found-in-Parameter
 unfolding out-Expression denote.Hole.Carrier.out
-value-returns-in-Truth t c = v.truth (ap out-Expression c.in-Truth.is)
-
-pub value-returns-in-Constant : goal.value-returns-in-Constant
-unfolding out-Expression denote.Hole.Carrier.out
-value-returns-in-Constant t c =
-    v.constant (ap out-Expression c.in-Constant.is) c.in-Some.ensures
-
-pub value-returns-in-Member : goal.value-returns-in-Member
-unfolding out-Expression denote.Hole.Carrier.out
-value-returns-in-Member t c =
-    let f : SFits w64 c.in-Some-member.held = search rules in
-    simp to_z-of_z (v.member (ap out-Expression c.in-Member.is) (sym c.in-Some-member.ensures))
-
-pub value-returns-in-Parameter : goal.value-returns-in-Parameter
-unfolding out-Expression denote.Hole.Carrier.out
-value-returns-in-Parameter t c =
+value-returns-in_ok-found-in-Parameter t c =
     v.parameter _ (ap out-Expression c.in-Parameter.is) c.in-Some-argument.ensures c.in_ok-found-in-Parameter.ensures
 
-pub value-returns-in-Call : goal.value-returns-in-Call
-value-returns-in-Call t c =
-    v.call _ _ (ap out-Expression c.in-Call.is ∙ view.outs-Call c.in-Call.field-0 c.in-Call.number c.in-Call.arguments) c.in-Some-definition_of.ensures (first_of (search rules, omega arith, grind arith))
-    (rw c.as_slice.ensures.value at c.in_ok-found-in-Call.ensures)
+pub value-returns-in_ok-found-in-Call : goal.value-returns-in_ok-found-in-Call
+value-returns-in_ok-found-in-Call t c =
+    let d = rw c.as_slice.ensures.value at c.in_ok-definition-in-Call.ensures in
+    v.call _ _ (ap out-Expression c.in-Call.is ∙ view.outs-Call c.in-Call.field-0 c.in-Call.number c.in-Call.arguments) d.0 d.1
+    (rw c.as_slice-in-Call.ensures.value at c.in_ok-found-in-Call.ensures)
 
-pub value-returns-in-Not : goal.value-returns-in-Not
+pub value-returns-in_ok-held-in-Not : goal.value-returns-in_ok-held-in-Not
 unfolding out-Expression denote.Hole.Carrier.out
-value-returns-in-Not t c =
+value-returns-in_ok-held-in-Not t c =
     v.opposite _ (ap out-Expression c.in-Not.is) (rw c.deref.ensures at c.in_ok-held-in-Not.ensures)
 
-pub value-returns-in-Negate : goal.value-returns-in-Negate
+pub value-returns-in-Some-negated : goal.value-returns-in-Some-negated
 unfolding out-Expression denote.Hole.Carrier.out
-value-returns-in-Negate t c =
+value-returns-in-Some-negated t c =
     let f : SFits w64 c.in_ok-held-in-Negate.held = search rules in
     v.negative _ (ap out-Expression c.in-Negate.is) (rw c.deref-in-Negate.ensures at c.in_ok-held-in-Negate.ensures)
     (sym (simp to_z-of_z at c.in-Some-negated.ensures))
 
-pub value-returns-in-Chain : goal.value-returns-in-Chain
-value-returns-in-Chain t c =
-    v.chain _ _ (ap out-Expression c.in-Chain.is ∙ view.outs-Chain c.in-Chain.field-0 c.in-Chain.first c.in-Chain.links) (rw c.deref-in-Chain.ensures at c.in_ok-left-in-Chain.ensures)
+pub value-returns-in_ok-found-in-Chain : goal.value-returns-in_ok-found-in-Chain
+value-returns-in_ok-found-in-Chain t c =
+    v.chain _ _ (ap out-Expression c.in-Chain.is ∙ view.outs-Chain c.in-Chain.field-0 c.in-Chain.first c.in-Chain.links)
+    (rw c.deref-in-Chain.ensures at c.in_ok-left-in-Chain.ensures)
     (rw c.as_slice-in-Chain.ensures.value at c.in_ok-found-in-Chain.ensures)
 
-pub value-returns-in-Sum : goal.value-returns-in-Sum
-value-returns-in-Sum t c =
-    let f : SFits w64 c.in_ok-total-in-Sum.total = search rules in
-    simp to_z-of_z (v.sum _ (ap out-Expression c.in-Each.is ∙ view.outs-Each c.in-Each.each) (rw c.deref-in-Each-2.ensures at c.in-Sum.is) (rw c.deref-in-Each.ensures at c.in_ok-found-in-Each.ensures)
-    (rw (c.deref-in-Sum.ensures, c.as_slice-in-Sum.ensures.value) at c.in_ok-total-in-Sum.ensures))
+pub value-returns-in_ok-found-in-Each : goal.value-returns-in_ok-found-in-Each
+value-returns-in_ok-found-in-Each t c =
+    v.form_of _ (ap out-Expression c.in-Each.is ∙ view.outs-Each c.in-Each.each) (rw c.deref-in-Each.ensures at c.in_ok-found-in-Each.ensures)
 
-pub value-returns-in-All : goal.value-returns-in-All
-value-returns-in-All t c =
+pub form_value-returns-in-Sum : goal.form_value-returns-in-Sum
+form_value-returns-in-Sum t c =
+    let f : SFits w64 c.in_ok-total-in-Sum.total = search rules in
+    simp to_z-of_z (v.sum c.in-Sum.is c.in_ok-found.ensures (rw c.as_slice.ensures.value at c.in_ok-total-in-Sum.ensures))
+
+pub form_value-returns-in-All : goal.form_value-returns-in-All
+form_value-returns-in-All t c =
     let f : SFits w64 c.in_ok-count-in-All.count = search rules in
     let enough = simp to_z-of_z at c.in_ok-all-in-All.ensures in
-    v.all _ (ap out-Expression c.in-Each.is ∙ view.outs-Each c.in-Each.each) (rw c.deref-in-Each-2.ensures at c.in-All.is) (rw c.deref-in-Each.ensures at c.in_ok-found-in-Each.ensures)
-    (rw (c.deref-in-All.ensures, c.as_slice-in-All-2.ensures.value, c.in_ok-count-in-All.ensures, c.as_slice-in-All.ensures.value) at enough)
+    v.all c.in-All.is c.in_ok-found.ensures
+    (rw (c.as_slice-in-All-2.ensures.value, c.in_ok-count-in-All.ensures, c.as_slice-in-All.ensures.value) at enough)
 
-pub value-returns-in-Some-form : goal.value-returns-in-Some-form
-value-returns-in-Some-form t c =
-    v.some _ (ap out-Expression c.in-Each.is ∙ view.outs-Each c.in-Each.each) (rw c.deref-in-Each-2.ensures at c.in-Some-form.is) (rw c.deref-in-Each.ensures at c.in_ok-found-in-Each.ensures)
-    (rw (c.deref-in-Some-form.ensures, c.as_slice-in-Some-form.ensures.value) at c.in_ok-some-in-Some-form.ensures)
+pub form_value-returns-in-Some : goal.form_value-returns-in-Some
+form_value-returns-in-Some t c =
+    v.some c.in-Some.is c.in_ok-found.ensures (rw c.as_slice-in-Some.ensures.value at c.in_ok-some-in-Some.ensures)
 
-pub value-returns : goal.value-returns
-value-returns t c =
+pub form_value-returns : goal.form_value-returns
+form_value-returns t c =
     let f : SFits w64 c.in_ok-wanted-in-AtLeast.wanted = search rules in
     let enough = simp to_z-of_z at c.in_ok-held-in-AtLeast.ensures in
-    v.at_least _ (ap out-Expression c.in-Each.is ∙ view.outs-Each c.in-Each.each) (rw c.deref-in-Each-2.ensures at c.in-AtLeast.is) (rw c.deref-in-Each.ensures at c.in_ok-found-in-Each.ensures)
-    (rw c.deref-in-AtLeast.ensures at c.in-Some-least.is) c.in_ok-wanted-in-AtLeast.ensures
-    (rw (c.deref-in-AtLeast-2.ensures, c.as_slice-in-AtLeast.ensures.value) at enough)
+    v.at_least c.in-AtLeast.is c.in_ok-found.ensures c.in-Some-least.is c.in_ok-wanted-in-AtLeast.ensures
+    (rw c.as_slice-in-AtLeast.ensures.value at enough)

@@ -6,6 +6,9 @@ use Rattle.notation.proofs.agreement.values.+values.Given as goal
 abbrev pub decreases-value : goal.decreases-value
 decreases-value l = l.depth
 
+abbrev pub decreases-form_value : goal.decreases-form_value
+decreases-form_value l = l.depth
+
 abbrev pub decreases-number : goal.decreases-number
 decreases-number l = l.depth
 
