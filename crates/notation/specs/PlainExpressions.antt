@@ -1,4 +1,4 @@
--- Which plain expression an expression of a model stands for.
+-- Which plain expression an expression of a model means.
 use Rattle.std.specs.Prelude.{◌≡◌, ℕ, ◌-◌, ◌/◌, ◌≤◌, ℤ, pos, neg_ℤ, ◌-ℤ◌, ◌≤ℤ◌, ◌<ℤ◌, Bool, true, false, List, [], ◌∷◌, ◌++◌, length, take, drop}
 use Rattle.std.specs.Prelude.{Some, slice_get, decimal}
 use Rattle.dbg_base.specs.declared.expr.Direction.{Direction}
@@ -47,7 +47,7 @@ pub record Names (K : Context) (s : Scope) (reference : Reference) (names : List
   pub there : slice_get names number ≡ Some name
 
 mutual
-  -- the expression stands for this plain expression in this scope
+  -- the expression means this plain expression in this scope
   pub data Stands (S : Setting) : Scope → Expression → Tree → Type 0 where
     simple : {s : Scope} {e : Expression} {v : Value} {t : Tree} → IsSimple S.context s e v → IsWritten v t → Stands S s e t
     parameter : {s : Scope} {e : Expression} {at n : ℕ} {t : Tree} (m : Meant) → out-Expression e ≡ form.Parameter at n
@@ -68,7 +68,7 @@ mutual
     form_of : {s : Scope} {e : Expression} {t : Tree} (each : _) → out-Expression e ≡ form.Each each → FormStands S s each.value t
         → Stands S s e t
 
-  -- `sum`, `all`, `some` or `at_least` stands for this plain expression
+  -- `sum`, `all`, `some` or `at_least` means this plain expression
   pub data FormStands (S : Setting) : Scope → Each → Tree → Type 0 where
     sum : {s : Scope} {each : Each} {ms : List ℤ} {t : Tree} → (out-Each each).form ≡ node.Sum
         → HasMembers S.context s (out-Each each).binder ms → Joined S s each Add (Num (pos 0)) ms t → FormStands S s each t

@@ -1,4 +1,4 @@
-//! Whether an expression of a model stands for a plain expression.
+//! Whether an expression of a model means a plain expression.
 
 ghost use Rattle.std.specs.Prelude.{◌≡◌, pos, ◌<ℤ◌, length, IfOk, IsTrue};
 ghost use Rattle.dbg_base.specs.Trees.{tree_of};
@@ -24,7 +24,7 @@ fn is_operator(one: Operator, other: Operator) -> bool
     one == other
 }
 
-/// Whether an expression stands for this plain expression.
+/// Whether an expression means this plain expression.
 #[cycle(standing)]
 pub(crate) fn stands(
     setting: &PlainSetting<'_>,
@@ -84,7 +84,7 @@ pub(crate) fn stands(
     }
 }
 
-// Whether a form stands for this plain expression.
+// Whether a form means this plain expression.
 #[cycle(standing)]
 fn form_stands(
     setting: &PlainSetting<'_>,
@@ -152,7 +152,7 @@ fn form_stands(
     }
 }
 
-// Whether operands with operators between them stand for this plain expression.
+// Whether operands with operators between them mean this plain expression.
 #[cycle(standing)]
 fn chain_stands(
     setting: &PlainSetting<'_>,
