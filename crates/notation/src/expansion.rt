@@ -6,7 +6,7 @@ ghost use Rattle.notation.specs.Places.{IsInside};
 ghost use Rattle.notation.specs.TokenCounts.{token_count};
 ghost use Rattle.notation.specs.Expansions.{plain_of, source_length};
 
-use crate::building::{Builder, CommandOrigin, put_indices};
+use crate::building::{Builder, put_indices};
 use crate::built::Built;
 use crate::environment::{Environment, member_values};
 use crate::fault::{ExpansionStop, Fault, MemberValue, NotationError, Problem};
@@ -125,13 +125,8 @@ pub fn expand(alloc: Global, source: &[u8]) -> Result<Expansion, NotationError>
 
 // The last of these tokens that begins at this offset of the plain text, or before.
 fn origin_at(origins: &[Origin], offset: usize) -> Option<Origin> {
-    let mut found = None;
-    for origin in origins {
-        if origin.start <= offset {
-            found = Some(*origin);
-        }
-    }
-    found
+    let mut before = origins.iter().rev();
+    before.find(|origin| origin.start <= offset).copied()
 }
 
 impl Expansion {
@@ -222,24 +217,11 @@ impl Expansion {
         }
     }
 
-    fn command(&self, pid: Pid, choice: Choice) -> Option<&CommandOrigin> {
+    /// The offset in the source at which a command begins, and its label with its indices, as `hear[2]`. The label is empty if it has none.
+    pub fn command(&self, pid: Pid, choice: Choice) -> Option<(usize, &[u8])> {
         let process = self.built.processes.get(pid.0 as usize)?;
-        process.commands.get(choice.0 as usize)
-    }
-
-    /// The label of a command, with its indices, as `hear[2]`; None where it has no label.
-    pub fn label(&self, pid: Pid, choice: Choice) -> Option<&[u8]> {
-        let command = self.command(pid, choice)?;
-        if command.label.is_empty() {
-            return None;
-        }
-        Some(command.label.as_slice())
-    }
-
-    /// The offset in the source at which a command begins.
-    pub fn command_place(&self, pid: Pid, choice: Choice) -> Option<usize> {
-        let command = self.command(pid, choice)?;
-        Some(command.at)
+        let command = process.commands.get(choice.0 as usize)?;
+        Some((command.at, command.label.as_slice()))
     }
 }
 

@@ -27,12 +27,7 @@ fn gap_length(bytes: &[u8]) -> usize
 
 // The number that these digits write, or None where it is above the largest.
 fn number_value(digits: &[u8]) -> Option<i64> {
-    let mut value: i64 = 0;
-    for byte in digits {
-        let digit = i64::from(byte.saturating_sub(b'0'));
-        value = value.checked_mul(10)?.checked_add(digit)?;
-    }
-    Some(value)
+    str::from_utf8(digits).ok()?.parse::<i64>().ok()
 }
 
 // The mark at the start and how many bytes it has, or what is wrong there.

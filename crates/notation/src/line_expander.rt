@@ -3,14 +3,15 @@
 ghost use Rattle.std.specs.Prelude.{length, IfErr};
 ghost use Rattle.notation.specs.Places.{IsInside};
 
+use crate::divider::Divider;
 use crate::expansion::{Expansion, failed, failed_in};
 use crate::fault::{Expanding, ExpansionStop, NotationError};
 use crate::lexer::tokens;
 use crate::limits::SESSION_STEPS;
-use crate::lines::PlainLines;
-use crate::pieces::{Divider, LinePieces};
+use crate::pieces::LinePieces;
 use crate::rendering::Renderer;
 use crate::scope::ModelNames;
+use crate::token::SourceToken;
 use dbg_base::Name;
 use dbg_base::limits::LINE_BYTES;
 use std::alloc::{AllocError, Global};
@@ -70,30 +71,42 @@ impl<'a> LineExpander<'a> {
         self.process
     }
 
+    // Divides the line of these tokens.
+    fn divider<'b>(&'b self, line: &'b [u8], tokens: &'b [SourceToken]) -> Divider<'b> {
+        Divider::new(self.alloc, self.expansion, &self.names, line, tokens)
+    }
+
     // The pieces of a line.
     fn divided(&self, line: &[u8]) -> Expanding<LinePieces> {
         let tokens = tokens(self.alloc, line)?;
-        let names = &self.names;
-        let mut divider = Divider::new(self.alloc, self.expansion, names, line, tokens.as_slice());
-        divider.line()
+        self.divider(line, tokens.as_slice()).line()
     }
 
-    // Appends the plain lines of these pieces. No fault is past this offset.
+    /// How many bytes of a line are before its command, if ranges of a `for` are. 0 if none are, or one has a fault.
+    pub fn head(&self, line: &[u8]) -> Result<usize, AllocError> {
+        let tokens = tokens(self.alloc, line)?;
+        match self.divider(line, tokens.as_slice()).head() {
+            Ok(head) => Ok(head),
+            Err(ExpansionStop::Bad(_, _)) => Ok(0),
+            Err(ExpansionStop::Memory) => Err(AllocError),
+        }
+    }
+
+    // The plain lines of these pieces. No fault is past this offset.
     fn render(
         &mut self,
         line: &[u8],
         pieces: &LinePieces,
         length: usize,
-        plain: &mut PlainLines,
-    ) -> Result<(), NotationError>
+    ) -> Result<Vec<Vec<u8>>, NotationError>
         ensures { IfErr result (IsInside length) }
     {
-        let mut renderer = Renderer::new(self.alloc, self.expansion, line, pieces, plain);
+        let mut renderer = Renderer::new(self.alloc, self.expansion, line, pieces);
         renderer.writer.environment.session_steps = self.steps;
-        let rendered = renderer.lines();
+        let rendered = renderer.render();
         self.steps = renderer.writer.environment.session_steps;
         match rendered {
-            Ok(()) => Ok(()),
+            Ok(()) => Ok(renderer.lines),
             Err(stop) => {
                 self.process = Name::new(renderer.process.as_slice());
                 let stop = placed(stop, self.expansion.source, renderer.from);
@@ -102,17 +115,12 @@ impl<'a> LineExpander<'a> {
         }
     }
 
-    // Appends the plain lines of a line without a comment. No fault is past this offset.
-    fn expand_bare(
-        &mut self,
-        line: &[u8],
-        length: usize,
-        plain: &mut PlainLines,
-    ) -> Result<(), NotationError>
+    // The plain lines of a line without a comment. No fault is past this offset.
+    fn expand_bare(&mut self, line: &[u8], length: usize) -> Result<Vec<Vec<u8>>, NotationError>
         ensures { IfErr result (IsInside length) }
     {
         match self.divided(line) {
-            Ok(pieces) => self.render(line, &pieces, length, plain),
+            Ok(pieces) => self.render(line, &pieces, length),
             Err(stop) => {
                 let stop = placed(stop, self.expansion.source, 0);
                 Err(failed(stop, Vec::new(self.alloc), length))
@@ -120,20 +128,15 @@ impl<'a> LineExpander<'a> {
         }
     }
 
-    /// Appends the plain lines to which a command line expands. A line that has nothing of the notation stays as it is. After an error the
-    /// plain lines are as they were.
-    pub fn expand(&mut self, line: &[u8], plain: &mut PlainLines) -> Result<(), NotationError>
+    /// The plain lines to which a command line expands. A line that has nothing of the notation stays as it is.
+    pub fn expand(&mut self, line: &[u8]) -> Result<Vec<Vec<u8>>, NotationError>
         ensures { IfErr result (IsInside (length line.now)) }
     {
-        if line.len() > LINE_BYTES || is_expectation(line) {
-            plain.push(line)?;
-            return Ok(());
+        if line.len() <= LINE_BYTES && !is_expectation(line) {
+            return self.expand_bare(without_comment(line), line.len());
         }
-        let count = plain.count();
-        let expanded = self.expand_bare(without_comment(line), line.len(), plain);
-        if expanded.is_err() {
-            plain.truncate(count);
-        }
-        expanded
+        let mut lines = Vec::new(self.alloc);
+        lines.push(Vec::from_slice(self.alloc, line)?)?;
+        Ok(lines)
     }
 }

@@ -184,6 +184,12 @@ impl<'a> ModelParser<'a> {
         }
     }
 
+    /// Whether the next token is the last one.
+    pub(crate) fn is_last(&self) -> bool {
+        let after = self.token_numbered(self.next.saturating_add(1));
+        matches!(after.kind, SourceTokenKind::End)
+    }
+
     /// Whether no token is left.
     pub(crate) fn is_at_end(&self) -> bool {
         matches!(self.token().kind, SourceTokenKind::End)

@@ -105,14 +105,12 @@ fn begins_token(before: u8, byte: u8) -> bool
 
 // The origin of the token of this number.
 fn origin_of(origins: &[Origin], number: usize) -> Origin {
-    match origins.get(number) {
-        Some(origin) => *origin,
-        None => Origin {
-            start: 0,
-            at: 0,
-            copy: 0,
-        },
-    }
+    let first = Origin {
+        start: 0,
+        at: 0,
+        copy: 0,
+    };
+    origins.get(number).copied().unwrap_or(first)
 }
 
 /// For each token of a plain text where it comes from; the tokens were written in the order of these origins.

@@ -4,13 +4,11 @@ use crate::building::{ProcessCopy, put_indices};
 use crate::environment::Environment;
 use crate::expansion::Expansion;
 use crate::fault::{Expanding, ExpansionStop, Problem};
-use crate::finding::{find_command, find_process};
 use crate::lexer::tokens;
 use crate::limits::{COPIES, UNFOLDING};
-use crate::lines::PlainLines;
 use crate::pieces::{LinePiece, LinePieces, Meant, Reading};
 use crate::plain_text::PlainText;
-use crate::syntax::{Binder, DeclarationNode, Expression, Reference};
+use crate::syntax::{Binder, DeclarationNode, Expression, Reference, place};
 use crate::token::part;
 use crate::writing::Writer;
 use dbg_base::limits::INPUT_BYTES;
@@ -26,9 +24,10 @@ pub(crate) struct Renderer<'a> {
     pieces: &'a LinePieces,
     /// The name that was written last.
     pub(crate) process: Vec<u8>,
-    plain: &'a mut PlainLines,
-    // How many bytes the lines of other command lines have.
-    start: usize,
+    // The lines that are written, the one that is being written, and how many bytes they have.
+    pub(crate) lines: Vec<Vec<u8>>,
+    present: Vec<u8>,
+    length: usize,
     /// Where the piece begins that is written.
     pub(crate) from: usize,
 }
@@ -46,28 +45,27 @@ fn have_same_tokens(alloc: Global, left: &[u8], right: &[u8]) -> Result<bool, Al
 }
 
 impl<'a> Renderer<'a> {
-    /// Appends what it writes to these lines.
+    /// Nothing is written.
     pub(crate) fn new(
         alloc: Global,
         expansion: &'a Expansion,
         line: &'a [u8],
         pieces: &'a LinePieces,
-        plain: &'a mut PlainLines,
-    ) -> Self {
+    ) -> Renderer<'a> {
         let tables = &expansion.model.tables;
         let constants = expansion.built.constants.as_slice();
         let mut environment = Environment::knowing(alloc, tables, constants);
         environment.line_members = pieces.members.as_slice();
         let text = PlainText::new(alloc);
-        let start = plain.length();
         Renderer {
             writer: Writer { environment, text },
             expansion,
             line,
             pieces,
             process: Vec::new(alloc),
-            plain,
-            start,
+            lines: Vec::new(alloc),
+            present: Vec::new(alloc),
+            length: 0,
             from: 0,
         }
     }
@@ -79,7 +77,7 @@ impl<'a> Renderer<'a> {
     // The process of the name that was written last.
     fn last_process(&self) -> Option<&'a ProcessCopy> {
         let processes: &'a [ProcessCopy] = self.expansion.built.processes.as_slice();
-        find_process(processes, self.process.as_slice())
+        processes.iter().find(|process| process.name.as_slice() == self.process.as_slice())
     }
 
     // A fault at the piece that is written.
@@ -89,11 +87,11 @@ impl<'a> Renderer<'a> {
 
     // Writes bytes, unless the lines become too long.
     fn put(&mut self, bytes: &[u8]) -> Expanding<()> {
-        let used = self.plain.length().saturating_sub(self.start);
-        if bytes.len() > INPUT_BYTES.saturating_sub(used) {
+        if bytes.len() > INPUT_BYTES.saturating_sub(self.length) {
             return Err(self.fault(Problem::LongText));
         }
-        self.plain.put(bytes)?;
+        self.length = self.length.saturating_add(bytes.len());
+        self.present.extend_from_slice(bytes)?;
         Ok(())
     }
 
@@ -122,14 +120,29 @@ impl<'a> Renderer<'a> {
         Ok(label)
     }
 
-    // Writes the number of the command of a label. A name that is no label remains.
-    fn label(&mut self, reference: &'a Reference) -> Expanding<()> {
+    // Writes a number that is computed. It cannot be below 0.
+    fn number(&mut self, expression: &'a Expression) -> Expanding<()> {
+        let number = self.writer.environment.number(expression, UNFOLDING)?;
+        if number < 0 {
+            return Err(ExpansionStop::Bad(Problem::BelowZero, place(expression)));
+        }
+        self.put(Buffer::new().format(number).as_bytes())
+    }
+
+    // Writes the number of the command of a label, or else the number that this expression gives. Another name remains.
+    fn label(&mut self, reference: &'a Reference, number: &'a Option<Expression>) -> Expanding<()> {
         let label = self.label_text(reference)?;
         if let Some(process) = self.last_process() {
-            if let Some(number) = find_command(process.commands.as_slice(), label.as_slice()) {
+            let mut commands = process.commands.iter();
+            let place = commands.position(|command| command.label.as_slice() == label.as_slice());
+            if let Some(number) = place {
                 let mut buffer = Buffer::new();
                 return self.put(buffer.format(number).as_bytes());
             }
+        }
+        match number {
+            Some(Expression::Name(_)) | None => {}
+            Some(number) => return self.number(number),
         }
         if reference.indices.is_empty() {
             return self.put(reference.name.bytes());
@@ -192,7 +205,8 @@ impl<'a> Renderer<'a> {
         self.from = piece.from;
         match &piece.meant {
             Meant::Name(reference) => self.name(reference),
-            Meant::Label(reference) => self.label(reference),
+            Meant::Label(reference, number) => self.label(reference, number),
+            Meant::Number(expression) => self.number(expression),
             Meant::Predicate(readings) => self.predicate(piece, readings.as_slice()),
             Meant::Nothing | Meant::Repeat(_, _, _) => Ok(()),
         }
@@ -260,7 +274,7 @@ impl<'a> Renderer<'a> {
     }
 
     /// Writes a line for each member of the ranges.
-    pub(crate) fn lines(&mut self) -> Expanding<()> {
+    pub(crate) fn render(&mut self) -> Expanding<()> {
         let pieces = self.pieces;
         let ranges = pieces.ranges.as_slice();
         let tuples = self.copies(ranges)?;
@@ -269,7 +283,9 @@ impl<'a> Renderer<'a> {
             let before = environment.enter_all(ranges, values.as_slice())?;
             self.whole(pieces.pieces.as_slice())?;
             self.writer.environment.leave(before);
-            self.plain.end_line()?;
+            let present = Vec::new(self.alloc());
+            self.lines
+                .push(std::mem::replace(&mut self.present, present))?;
         }
         Ok(())
     }

@@ -199,10 +199,16 @@ fn put_marked(
     Ok(())
 }
 
-/// A fault of this text, for a person, line by line: the line and the column, the line of the text with a mark under the place, what is
-/// wrong and in which copy, and what was probably meant.
-pub fn message(alloc: Global, text: &[u8], fault: &Fault) -> Result<Vec<Vec<u8>>, AllocError> {
+/// A fault of this text, which follows so many lines, for a person, line by line: the line and the column, the line of the text with a mark
+/// under the place, what is wrong and in which copy, and what was probably meant.
+pub fn message(
+    alloc: Global,
+    before: usize,
+    text: &[u8],
+    fault: &Fault,
+) -> Result<Vec<Vec<u8>>, AllocError> {
     let (line, column) = line_and_column(text, fault.at());
+    let line = line.saturating_add(before);
     let mut lines = Vec::new(alloc);
     lines.push(format!(in alloc; "line {line}, column {column}")?.into_bytes())?;
     put_marked(&mut lines, alloc, text, fault.at())?;

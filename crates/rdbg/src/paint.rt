@@ -97,11 +97,12 @@ fn put_run(text: &mut Vec<u8>, style: Style, bytes: &[u8]) -> Result<(), AllocEr
 }
 
 // How many bytes are checked at once.
-const BLOCK: usize = 16;
+const BLOCK: usize = 32;
 
 // Whether these are plain characters, and line ends. It checks all bytes, which is faster than to stop at the first that is not.
 fn are_plain(bytes: &[u8]) -> bool {
-    let is_plain = |byte: u8| (b' ' <= byte && byte <= b'~') || byte == b'\n';
+    // The comparison of signed numbers leaves out what is above `~`, too.
+    let is_plain = |byte: u8| byte.wrapping_add(1).cast_signed() > 32 || byte == b'\n';
     bytes
         .iter()
         .fold(true, |before, byte| before & is_plain(*byte))

@@ -1,7 +1,7 @@
 //! The readers of the program: standard input and files.
 
 use shell_input::is_end_line;
-use shell_io::ClosedLines;
+use shell_io::{ClosedLines, FixedBuffer};
 use std::fs::{File, OpenFile};
 use std::io;
 use std::io::{Chain, Error, ErrorKind, Read, Stdin};
@@ -11,21 +11,17 @@ use ui_session::Typed;
 const KEPT: usize = 4;
 
 // Whether a line `%%` was read.
-#[derive(Clone, Copy)]
+#[derive(Drop)]
 struct ProgramEnd {
-    // The first bytes of the present line, and how many of these it has.
-    line: [u8; KEPT],
-    length: usize,
+    // The first bytes of the present line.
+    line: FixedBuffer<KEPT>,
     is_passed: bool,
 }
 
 impl ProgramEnd {
     fn new(is_passed: bool) -> ProgramEnd {
-        ProgramEnd {
-            line: [0; KEPT],
-            length: 0,
-            is_passed,
-        }
+        let line = FixedBuffer::new();
+        ProgramEnd { line, is_passed }
     }
 
     // Looks at the next bytes. After the first line `%%` there is nothing to look for.
@@ -36,18 +32,16 @@ impl ProgramEnd {
             }
             if *byte == b'\n' {
                 self.is_passed = self.is_passed_at_end();
-                self.length = 0;
-            } else if let Some(kept) = self.line.get_mut(self.length) {
-                *kept = *byte;
-                self.length = self.length.saturating_add(1);
+                self.line.clear();
+            } else if self.line.room() > 0 {
+                self.line.push(*byte);
             }
         }
     }
 
     // The end of the bytes ends a line, too.
     fn is_passed_at_end(&self) -> bool {
-        let line = self.line.get(..self.length);
-        self.is_passed || line.is_some_and(|line| is_end_line(line))
+        self.is_passed || is_end_line(self.line.bytes())
     }
 }
 

@@ -29,18 +29,6 @@ use std::alloc::Global;
 use std::marker::Brand;
 use std::mem;
 
-// Ends a session, and leaves its memory to the process. To free what each call took would cost a tenth of a long run.
-fn leave<L: Run, C: Command, T: Observer<N>, N>(
-    alloc: Global,
-    observer: &mut T,
-    locked: Locked<L, C>,
-    seats: Vec<Seat<L>>,
-) {
-    observer.end(alloc, locked.view());
-    mem::forget(locked);
-    mem::forget(seats);
-}
-
 // Answers the lines of a session in which no call was made yet.
 fn answer_lines<
     L: Run,
@@ -87,7 +75,7 @@ fn answer_lines<
     }
 }
 
-// Opens a session, answers its lines, and ends it.
+// Opens a session, answers its lines, and leaves its memory to the process: to free what each call took would cost a tenth of a long run.
 fn begin<
     L: Run,
     C: Command,
@@ -117,9 +105,7 @@ fn begin<
     ensures writer { (W.seen writer.old).health ≡ Fine → (W.seen writer.new).health ≡ sink_after result }
 {
     match opening.lock::<L, C>(alloc) {
-        Ok((locked, seats)) => {
-            let mut locked = locked;
-            let mut seats = seats;
+        Ok((mut locked, mut seats)) => {
             let served = answer_lines(
                 alloc,
                 make,
@@ -130,7 +116,9 @@ fn begin<
                 reader,
                 writer,
             );
-            leave(alloc, observer, locked, seats);
+            observer.end(alloc, locked.view());
+            mem::forget(locked);
+            mem::forget(seats);
             served
         }
         Err(_) => Err(ServeFault::Memory),

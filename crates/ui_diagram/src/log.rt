@@ -15,7 +15,7 @@ use itoa::Buffer;
 use proc_lang::Program;
 use std::alloc::{AllocError, Global};
 use ui_explain::ProcessView;
-use ui_text::{Notes, Part};
+use ui_text::{Notes, Part, ProgramText};
 use ui_timeline::{ShownEvent, event_of};
 
 // The processes of which a clock counts at least one event, in order.
@@ -137,28 +137,37 @@ fn prefix_line(text: &[u8]) -> &[u8]
 fn tell_event(
     notes: &mut Notes,
     view: SessionView<'_>,
+    text: &ProgramText,
     shown: ShownEvent,
 ) -> Result<(), AllocError> {
     if let Some(event) = event_of(view.world, shown) {
-        let choice = Part::Number(i64::from(event.choice().0));
-        notes.say(&[Part::Text("command "), choice, Part::Text(": ")])?;
-        ProcessView::new(view.program, shown.pid).put_event(notes, view.world, event)?;
+        notes.say_with("command {}: ", &[Part::Natural(event.choice().0)])?;
+        ProcessView::new(view.program, text, shown.pid).put_event(notes, view.world, event)?;
     }
     Ok(())
 }
 
 // What an event did, in words.
-fn words_of(alloc: Global, view: SessionView<'_>, shown: ShownEvent) -> Result<Vec<u8>, AllocError>
+fn words_of(
+    alloc: Global,
+    view: SessionView<'_>,
+    text: &ProgramText,
+    shown: ShownEvent,
+) -> Result<Vec<u8>, AllocError>
     ensures { IfOk result (λ words. IsOneLine words.items) }
 {
     let mut notes = Notes::new(alloc);
-    tell_event(&mut notes, view, shown)?;
+    tell_event(&mut notes, view, text, shown)?;
     Vec::from_slice(alloc, prefix_line(notes.line(0).bytes))
 }
 
 /// The events of a session as a log, in an order in which they can have happened. For each event: the process and its clock, and in a line
 /// of its own what it did. Error: `Memory`, if an allocation fails.
-pub fn write_log(alloc: Global, view: SessionView<'_>) -> Result<Vec<u8>, Refusal>
+pub fn write_log(
+    alloc: Global,
+    view: SessionView<'_>,
+    source: &ProgramText,
+) -> Result<Vec<u8>, Refusal>
     ensures log { IfOk result (λ text. ∥ IsLog (program_of view.entry.program.now) (history_of view.entry.world.now.state) text.items ∥₁) }
     ensures refuses { IfErr result (λ refusal. refusal ≡ Memory) }
 {
@@ -169,7 +178,7 @@ pub fn write_log(alloc: Global, view: SessionView<'_>) -> Result<Vec<u8>, Refusa
             pid: event.pid,
             number: event.number,
         };
-        let words = words_of(alloc, view, shown)?;
+        let words = words_of(alloc, view, source, shown)?;
         put_entry(alloc, &mut text, view.program, event, words.as_slice())?;
     }
     Ok(text)

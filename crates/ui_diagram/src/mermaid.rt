@@ -1,9 +1,8 @@
 //! A session as a sequence diagram of Mermaid, which issue trackers draw.
 
 use dbg_base::{Pid, Refusal};
-use dbg_command::SessionView;
 use std::alloc::{AllocError, Global};
-use ui_explain::ProcessView;
+use ui_explain::{ProcessView, SourceView};
 use ui_text::{Notes, Part};
 use ui_timeline::{
     NamedCut, Selection, ShownEvent, Timeline, bytes_of, event_of, halting, named_cuts,
@@ -17,7 +16,7 @@ const SHOWN: usize = 400;
 #[derive(Clone, Copy)]
 struct MermaidSheet<'a> {
     alloc: Global,
-    view: SessionView<'a>,
+    view: SourceView<'a>,
     selection: &'a Selection,
     timeline: &'a Timeline,
 }
@@ -26,10 +25,10 @@ struct MermaidSheet<'a> {
 fn put_text(notes: &mut Notes, text: &[u8]) -> Result<(), AllocError> {
     let mut rest = text;
     for part in text.split(|byte| *byte == b'<') {
-        notes.add(&[Part::Bytes(part)])?;
+        notes.add_with("{}", &[Part::Bytes(part)])?;
         rest = rest.get(part.len()..).unwrap_or(&[]);
         if !rest.is_empty() {
-            notes.add(&[Part::Text("#lt;")])?;
+            notes.add("#lt;")?;
             rest = rest.get(1..).unwrap_or(&[]);
         }
     }
@@ -38,32 +37,32 @@ fn put_text(notes: &mut Notes, text: &[u8]) -> Result<(), AllocError> {
 
 impl MermaidSheet<'_> {
     fn scope(&self, pid: Pid) -> ProcessView<'_> {
-        ProcessView::new(self.view.program, pid)
+        self.view.scope(pid)
     }
 
     // Appends the name that a process has in the diagram. A name of the program may be a word of Mermaid.
     fn put_alias(&self, notes: &mut Notes, pid: Pid) -> Result<(), AllocError> {
-        notes.add(&[Part::Text("p"), Part::Number(i64::from(pid.0))])
+        notes.add_with("p{}", &[Part::Natural(pid.0)])
     }
 
     fn say_participants(&self, notes: &mut Notes) -> Result<(), AllocError> {
         for pid in self.selection.pids() {
-            notes.say(&[Part::Text("  participant ")])?;
+            notes.say("  participant ")?;
             self.put_alias(notes, *pid)?;
-            notes.add(&[Part::Text(" as "), self.scope(*pid).name()])?;
+            notes.add_with(" as {}", &[self.scope(*pid).name()])?;
         }
         Ok(())
     }
 
     // Begins a note over one process, or from the first to the last.
     fn say_note(&self, notes: &mut Notes, first: Pid, last: Pid) -> Result<(), AllocError> {
-        notes.say(&[Part::Text("  Note over ")])?;
+        notes.say("  Note over ")?;
         self.put_alias(notes, first)?;
         if first != last {
-            notes.add(&[Part::Text(",")])?;
+            notes.add(",")?;
             self.put_alias(notes, last)?;
         }
-        notes.add(&[Part::Text(": ")])
+        notes.add(": ")
     }
 
     // Begins a note over all processes that are shown.
@@ -84,16 +83,16 @@ impl MermaidSheet<'_> {
         to: Pid,
         value: i64,
     ) -> Result<(), AllocError> {
-        notes.say(&[Part::Text("  ")])?;
+        notes.say("  ")?;
         self.put_alias(notes, from)?;
-        notes.add(&[Part::Text(arrow)])?;
+        notes.add(arrow)?;
         self.put_alias(notes, to)?;
-        notes.add(&[Part::Text(": "), Part::Number(value)])
+        notes.add_with(": {}", &[Part::Number(value)])
     }
 
     // The message that an event received. Its arrow is where it was received. There is none from a process that is not shown.
     fn say_received(&self, notes: &mut Notes, shown: ShownEvent) -> Result<(), AllocError> {
-        let received = match self.timeline.received_by(self.view.world, shown) {
+        let received = match self.timeline.received_by(self.view.session.world, shown) {
             Some(received) if self.selection.contains(received.source) => received,
             _ => return Ok(()),
         };
@@ -101,7 +100,7 @@ impl MermaidSheet<'_> {
         let next = received.sender.saturating_add(1);
         let row = self.timeline.row(shown.pid, shown.number);
         match self.timeline.row(received.source, next) {
-            Some(after) if Some(after) < row => notes.add(&[Part::Text(" (sent earlier)")]),
+            Some(after) if Some(after) < row => notes.add(" (sent earlier)"),
             _ => Ok(()),
         }
     }
@@ -114,7 +113,7 @@ impl MermaidSheet<'_> {
             if next.pid == shown.pid {
                 return false;
             }
-            match self.timeline.received_by(self.view.world, *next) {
+            match self.timeline.received_by(self.view.session.world, *next) {
                 Some(received) if received.source == shown.pid && received.sender == shown.number =>
                     {
                         return true;
@@ -128,12 +127,12 @@ impl MermaidSheet<'_> {
     // What an event set, in parts of a note: nothing, if it set nothing.
     fn settings(&self, shown: ShownEvent) -> Result<Notes, AllocError> {
         let mut words = Notes::new(self.alloc);
-        let settings = match event_of(self.view.world, shown) {
+        let settings = match event_of(self.view.session.world, shown) {
             Some(event) => event.settings(),
             None => &[],
         };
         for setting in settings {
-            words.say(&[])?;
+            words.say("")?;
             put_setting(&mut words, self.scope(shown.pid), setting)?;
         }
         Ok(words)
@@ -147,7 +146,10 @@ impl MermaidSheet<'_> {
         self.say_note(notes, pid, pid)?;
         let mut word = "";
         for number in 0..parts.count() {
-            notes.add(&[Part::Text(word), Part::Bytes(parts.line(number).bytes)])?;
+            notes.add_with(
+                "{}{}",
+                &[Part::Text(word), Part::Bytes(parts.line(number).bytes)],
+            )?;
             word = ", ";
         }
         Ok(())
@@ -155,11 +157,11 @@ impl MermaidSheet<'_> {
 
     // Adds the message that an event received from a process that is not shown.
     fn put_hidden_source(&self, parts: &mut Notes, shown: ShownEvent) -> Result<(), AllocError> {
-        match self.timeline.received_by(self.view.world, shown) {
+        match self.timeline.received_by(self.view.session.world, shown) {
             Some(received) if !self.selection.contains(received.source) => {
                 let from = self.scope(received.source).name();
                 let value = Part::Number(received.value);
-                parts.say(&[Part::Text("receives "), value, Part::Text(" from "), from])
+                parts.say_with("receives {} from {}", &[value, from])
             }
             _ => Ok(()),
         }
@@ -169,19 +171,19 @@ impl MermaidSheet<'_> {
         self.say_received(notes, shown)?;
         let mut parts = self.settings(shown)?;
         self.put_hidden_source(&mut parts, shown)?;
-        let Some(sent) = self.timeline.sent_by(self.view.world, shown) else {
+        let Some(sent) = self.timeline.sent_by(self.view.session.world, shown) else {
             return self.say_parts(notes, shown.pid, &parts);
         };
         let has_target = self.selection.contains(sent.target);
         if !has_target || !sent.is_on_its_way && !self.is_received_next(shown) {
             let to = self.scope(sent.target).name();
             let value = Part::Number(sent.value);
-            parts.say(&[Part::Text("sends "), value, Part::Text(" to "), to])?;
+            parts.say_with("sends {} to {}", &[value, to])?;
         }
         self.say_parts(notes, shown.pid, &parts)?;
         if has_target && sent.is_on_its_way {
             self.say_arrow(notes, shown.pid, "--)", sent.target, sent.value)?;
-            notes.add(&[Part::Text(" (on its way)")])?;
+            notes.add(" (on its way)")?;
         }
         Ok(())
     }
@@ -193,15 +195,15 @@ impl MermaidSheet<'_> {
         place: usize,
         cuts: &[NamedCut],
     ) -> Result<(), AllocError> {
-        let processes = self.view.program.processes();
+        let processes = self.view.session.program.processes();
         for cut in cuts {
             if cut.is_prefix && size(&cut.cut, processes) == place {
                 self.say_wide_note(notes)?;
                 let name = Part::Name(cut.name);
                 let word = Part::Text(if cut.halts { " halts here: " } else { ": " });
-                notes.add(&[name, word])?;
+                notes.add_with("{}{}", &[name, word])?;
                 let mut predicate = Notes::new(self.alloc);
-                predicate.say(&[])?;
+                predicate.say("")?;
                 cut.put_predicate(&mut predicate)?;
                 put_text(notes, bytes_of(&predicate))?;
             }
@@ -225,7 +227,7 @@ impl MermaidSheet<'_> {
             return Ok(());
         }
         self.say_wide_note(notes)?;
-        self.selection.put_hidden(notes, self.view.program)
+        self.selection.put_hidden(notes, self.view)
     }
 
     // The events after the first ones, with the cuts.
@@ -253,21 +255,21 @@ impl MermaidSheet<'_> {
 pub fn draw_mermaid(
     alloc: Global,
     notes: &mut Notes,
-    view: SessionView<'_>,
+    view: SourceView<'_>,
     selection: &Selection,
 ) -> Result<(), Refusal> {
     let mut cuts = named_cuts(alloc, view)?;
-    let timeline = Timeline::of(alloc, view.world, cuts.as_mut_slice())?;
+    let timeline = Timeline::of(alloc, view.session.world, cuts.as_mut_slice())?;
     let sheet = MermaidSheet {
         alloc,
         view,
         selection,
         timeline: &timeline,
     };
-    notes.say(&[Part::Text("sequenceDiagram")])?;
+    notes.say("sequenceDiagram")?;
     if let Some(cut) = halting(cuts.as_slice()) {
         let heading = cut.heading(alloc)?;
-        notes.say(&[Part::Text("  %% "), Part::Bytes(bytes_of(&heading))])?;
+        notes.say_with("  %% {}", &[Part::Bytes(bytes_of(&heading))])?;
     }
     sheet.say_participants(notes)?;
     let first = timeline.left_out_of(selection, selection.last().min(SHOWN));

@@ -5,8 +5,8 @@ mod words;
 
 use crate::canvas::{Canvas, CanvasRow};
 use dbg_base::{Pid, Refusal};
-use dbg_command::SessionView;
 use std::alloc::{AllocError, Global};
+use ui_explain::SourceView;
 use ui_text::{Notes, Part};
 use ui_timeline::{
     NamedCut, Selection, ShownEvent, Timeline, bytes_of, halting, named_cuts, put_left_out, size,
@@ -30,7 +30,7 @@ struct TextSheet<'a> {
 }
 
 fn say_row(notes: &mut Notes, row: &CanvasRow) -> Result<(), AllocError> {
-    notes.say(&[Part::Bytes(row.text())])
+    notes.say_with("{}", &[Part::Bytes(row.text())])
 }
 
 // How many of these events a process has.
@@ -42,7 +42,10 @@ impl TextSheet<'_> {
     // The predicate of the breakpoint that halts the session.
     fn say_heading(&self, notes: &mut Notes, cuts: &[NamedCut]) -> Result<(), AllocError> {
         match halting(cuts) {
-            Some(cut) => notes.say(&[Part::Bytes(bytes_of(&cut.heading(self.scene.alloc)?))]),
+            Some(cut) => notes.say_with(
+                "{}",
+                &[Part::Bytes(bytes_of(&cut.heading(self.scene.alloc)?))],
+            ),
             None => Ok(()),
         }
     }
@@ -50,7 +53,7 @@ impl TextSheet<'_> {
     fn say_names(&self, notes: &mut Notes) -> Result<(), AllocError> {
         let mut row = self.canvas.filled(self.scene.alloc, b' ')?;
         for pid in self.scene.selection.pids() {
-            let name = words(self.scene.alloc, &[self.scene.scope(*pid).name()])?;
+            let name = words(self.scene.alloc, "{}", &[self.scene.scope(*pid).name()])?;
             let at = self.canvas.place(*pid);
             row.put_cut(at, bytes_of(&name), self.canvas.room(*pid));
         }
@@ -91,7 +94,7 @@ impl TextSheet<'_> {
         match self
             .scene
             .timeline
-            .received_by(self.scene.view.world, shown)
+            .received_by(self.scene.view.session.world, shown)
         {
             Some(received) if self.scene.selection.contains(received.source) => {
                 let label = self.scene.received(received)?;
@@ -126,8 +129,7 @@ impl TextSheet<'_> {
         let at = self.canvas.place(pid);
         let room = self.canvas.room(pid);
         row.fill(at, at.saturating_add(room), b'=');
-        let name = [Part::Text("= "), Part::Name(cut.name), Part::Text(" ")];
-        let name = words(self.scene.alloc, &name)?;
+        let name = words(self.scene.alloc, "= {} ", &[Part::Name(cut.name)])?;
         row.put_cut(at, bytes_of(&name), room);
         Ok(())
     }
@@ -242,9 +244,8 @@ impl TextSheet<'_> {
         if self.scene.selection.is_whole() {
             return Ok(());
         }
-        notes.say(&[Part::Text(".. ")])?;
-        let program = self.scene.view.program;
-        self.scene.selection.put_hidden(notes, program)
+        notes.say(".. ")?;
+        self.scene.selection.put_hidden(notes, self.scene.view)
     }
 
     // How many events of the processes that are shown are left out, if there are some.
@@ -253,15 +254,15 @@ impl TextSheet<'_> {
         if count == 0 {
             return Ok(());
         }
-        notes.say(&[Part::Text(".. ")])?;
+        notes.say(".. ")?;
         put_left_out(notes, count)?;
-        notes.add(&[Part::Text(":")])?;
+        notes.add(":")?;
         let mut word = " ";
         for pid in self.scene.selection.pids() {
             let own = own_events(left, *pid);
             if own > 0 {
                 let name = self.scene.scope(*pid).name();
-                notes.add(&[Part::Text(word), Part::Count(own), Part::Text(" of "), name])?;
+                notes.add_with("{}{} of {}", &[Part::Text(word), Part::Count(own), name])?;
                 word = ", ";
             }
         }
@@ -296,12 +297,12 @@ impl TextSheet<'_> {
 pub fn draw_text(
     alloc: Global,
     notes: &mut Notes,
-    view: SessionView<'_>,
+    view: SourceView<'_>,
     selection: &Selection,
     width: usize,
 ) -> Result<(), Refusal> {
     let mut cuts = named_cuts(alloc, view)?;
-    let timeline = Timeline::of(alloc, view.world, cuts.as_mut_slice())?;
+    let timeline = Timeline::of(alloc, view.session.world, cuts.as_mut_slice())?;
     let events = timeline.events();
     let first = timeline.left_out_of(selection, selection.last().min(SHOWN));
     let scene = TextScene {

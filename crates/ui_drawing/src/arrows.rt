@@ -78,37 +78,40 @@ pub(crate) fn arrow_of(scene: Scene<'_>, layout: &Layout, shown: ShownEvent) -> 
 impl SvgSheet<'_> {
     // What the message is that an event received, if it did.
     fn put_received(&self, title: &mut Notes, shown: ShownEvent) -> Result<(), AllocError> {
-        let world = self.scene.view.world;
+        let world = self.scene.view.session.world;
         let Some(received) = self.scene.timeline.received_by(world, shown) else {
             return Ok(());
         };
-        title.add(&[
-            Part::Number(received.value),
-            Part::Text(" from event "),
-            Part::Number(i64::from(received.sender)),
-            Part::Text(" of "),
-            self.scene.scope(received.source).name(),
-            Part::Text(" to event "),
-            Part::Number(i64::from(shown.number)),
-            Part::Text(" of "),
-            self.scene.scope(shown.pid).name(),
-        ])
+        title.add_with(
+            "{} from event {} of {} to event {} of {}",
+            &[
+                Part::Number(received.value),
+                Part::Natural(received.sender),
+                self.scene.scope(received.source).name(),
+                Part::Natural(shown.number),
+                self.scene.scope(shown.pid).name(),
+            ],
+        )
     }
 
     // What the message is that an event sent, if it did.
     fn put_sent(&self, title: &mut Notes, shown: ShownEvent) -> Result<(), AllocError> {
-        let Some(sent) = self.scene.timeline.sent_by(self.scene.view.world, shown) else {
+        let Some(sent) = self
+            .scene
+            .timeline
+            .sent_by(self.scene.view.session.world, shown)
+        else {
             return Ok(());
         };
-        title.add(&[
-            Part::Number(sent.value),
-            Part::Text(" from event "),
-            Part::Number(i64::from(shown.number)),
-            Part::Text(" of "),
-            self.scene.scope(shown.pid).name(),
-            Part::Text(", on its way to "),
-            self.scene.scope(sent.target).name(),
-        ])
+        title.add_with(
+            "{} from event {} of {}, on its way to {}",
+            &[
+                Part::Number(sent.value),
+                Part::Natural(shown.number),
+                self.scene.scope(shown.pid).name(),
+                self.scene.scope(sent.target).name(),
+            ],
+        )
     }
 
     /// The line of the message of an event, if there is one.
@@ -121,21 +124,18 @@ impl SvgSheet<'_> {
         } else {
             ("message", "head")
         };
-        notes.say(&[
-            Part::Text("  <line class=\"rdbg-"),
-            Part::Text(class),
-            Part::Text("\""),
-        ])?;
+        notes.say_with("  <line class=\"rdbg-{}\"", &[Part::Text(class)])?;
         put_ends(notes, arrow.stroke.from, arrow.stroke.to)?;
-        notes.add(&[Part::Text(" marker-end=\"url(#rdbg-")])?;
-        notes.add(&[Part::Number(self.id), Part::Text("-"), Part::Text(head)])?;
-        notes.add(&[Part::Text(")\"><title>")])?;
+        notes.add_with(
+            " marker-end=\"url(#rdbg-{}-{})\"><title>",
+            &[Part::Number(self.id), Part::Text(head)],
+        )?;
         if arrow.is_waiting {
             self.put_sent(notes, shown)?;
         } else {
             self.put_received(notes, shown)?;
         }
-        notes.add(&[Part::Text("</title></line>")])
+        notes.add("</title></line>")
     }
 
     /// The words at the arrow of an event, with their middle at this point.
@@ -150,7 +150,7 @@ impl SvgSheet<'_> {
         };
         say_text(notes, "value", middle)?;
         let words = escaped(self.scene.alloc, bytes_of(words))?;
-        notes.add(&[Part::Bytes(words.as_slice())])?;
+        notes.add_with("{}", &[Part::Bytes(words.as_slice())])?;
         end_text(notes)
     }
 }

@@ -28,17 +28,17 @@ pub(crate) fn put_cut_class(
     class: &'static str,
     cut: &NamedCut,
 ) -> Result<(), AllocError> {
-    notes.add(&[Part::Text(" class=\"rdbg-"), Part::Text(class)])?;
     if cut.halts {
-        return notes.add(&[Part::Text(" rdbg-halts\"")]);
+        return notes.add_with(" class=\"rdbg-{} rdbg-halts\"", &[Part::Text(class)]);
     }
-    notes.add(&[
-        Part::Text(" rdbg-colour"),
-        Part::Count(cut.place % COLOURS),
-        Part::Text(" rdbg-pattern"),
-        Part::Count(cut.place % PATTERNS),
-        Part::Text("\""),
-    ])
+    notes.add_with(
+        " class=\"rdbg-{} rdbg-colour{} rdbg-pattern{}\"",
+        &[
+            Part::Text(class),
+            Part::Count(cut.place % COLOURS),
+            Part::Count(cut.place % PATTERNS),
+        ],
+    )
 }
 
 /// The height of a cut on a process's line: below its last event in the cut. Cuts below the same event are at different heights.
@@ -82,8 +82,7 @@ impl SvgSheet<'_> {
     // Appends the corners of a cut to the last line, from left to right.
     fn put_corners(&self, notes: &mut Notes, cut: &NamedCut) -> Result<(), AllocError> {
         for corner in &corners(self.scene, self.layout, cut)? {
-            notes.add(&[Part::Text(" "), Part::Number(corner.x), Part::Text(",")])?;
-            notes.add(&[Part::Number(corner.y)])?;
+            notes.add_with(" {},{}", &[Part::Number(corner.x), Part::Number(corner.y)])?;
         }
         Ok(())
     }
@@ -94,32 +93,24 @@ impl SvgSheet<'_> {
             return Ok(());
         };
         let top = self.layout.top().saturating_sub(8);
-        notes.say(&[Part::Text("  <polygon")])?;
+        notes.say("  <polygon")?;
         put_cut_class(notes, "inside", cut)?;
-        notes.add(&[
-            Part::Text(" points=\""),
-            Part::Number(EDGE),
-            Part::Text(","),
-        ])?;
-        notes.add(&[Part::Number(top)])?;
+        notes.add_with(" points=\"{},{}", &[Part::Number(EDGE), Part::Number(top)])?;
         self.put_corners(notes, cut)?;
-        notes.add(&[
-            Part::Text(" "),
-            Part::Number(right_of(self.layout)),
-            Part::Text(","),
-        ])?;
-        notes.add(&[Part::Number(top), Part::Text("\"/>")])
+        notes.add_with(
+            " {},{}\"/>",
+            &[Part::Number(right_of(self.layout)), Part::Number(top)],
+        )
     }
 
     /// The line of a cut.
     pub(crate) fn say_cut(&self, notes: &mut Notes, cut: &NamedCut) -> Result<(), AllocError> {
-        notes.say(&[Part::Text("  <polyline")])?;
+        notes.say("  <polyline")?;
         put_cut_class(notes, "cut", cut)?;
-        notes.add(&[Part::Text(" points=\"")])?;
+        notes.add(" points=\"")?;
         self.put_corners(notes, cut)?;
         let name = Part::Name(cut.name);
-        notes.add(&[Part::Text("\"><title>the cut of "), name])?;
-        notes.add(&[Part::Text("</title></polyline>")])
+        notes.add_with("\"><title>the cut of {}</title></polyline>", &[name])
     }
 
     /// The name of a cut, which begins at this point.
@@ -129,12 +120,12 @@ impl SvgSheet<'_> {
         cut: &NamedCut,
         at: Point,
     ) -> Result<(), AllocError> {
-        notes.say(&[Part::Text("  <text")])?;
+        notes.say("  <text")?;
         put_cut_class(notes, "of", cut)?;
         put_number(notes, "x", at.x)?;
         put_number(notes, "y", at.y)?;
         let title = cut.title(self.scene.alloc)?;
-        notes.add(&[Part::Text(">"), Part::Bytes(bytes_of(&title))])?;
+        notes.add_with(">{}", &[Part::Bytes(bytes_of(&title))])?;
         end_text(notes)
     }
 
@@ -146,7 +137,7 @@ impl SvgSheet<'_> {
         y: i64,
     ) -> Result<(), AllocError> {
         let middle = y.saturating_sub(4);
-        notes.say(&[Part::Text("  <line")])?;
+        notes.say("  <line")?;
         put_cut_class(notes, "cut", cut)?;
         let from = Point {
             x: MARGIN,
@@ -157,12 +148,12 @@ impl SvgSheet<'_> {
             y: middle,
         };
         put_ends(notes, from, to)?;
-        notes.add(&[Part::Text("/>")])?;
+        notes.add("/>")?;
         let x = MARGIN.saturating_add(42);
         say_text(notes, "key", Point { x, y })?;
         let words = self.scene.cut_sentence(cut)?;
         let words = escaped(self.scene.alloc, words.as_slice())?;
-        notes.add(&[Part::Bytes(words.as_slice())])?;
+        notes.add_with("{}", &[Part::Bytes(words.as_slice())])?;
         end_text(notes)
     }
 
@@ -177,12 +168,12 @@ impl SvgSheet<'_> {
                 continue;
             }
             let last = self.layout.event(self.scene, *pid, count);
-            notes.say(&[Part::Text("  <circle")])?;
+            notes.say("  <circle")?;
             put_cut_class(notes, "decides", cut)?;
             put_number(notes, "cx", last.x)?;
             put_number(notes, "cy", last.y)?;
             put_number(notes, "r", 8)?;
-            notes.add(&[Part::Text("/>")])?;
+            notes.add("/>")?;
         }
         Ok(())
     }

@@ -18,7 +18,10 @@ const RADIUS: i64 = 5;
 fn put_parts(notes: &mut Notes, parts: &Notes) -> Result<(), AllocError> {
     let mut word = "";
     for number in 0..parts.count() {
-        notes.add(&[Part::Text(word), Part::Bytes(parts.line(number).bytes)])?;
+        notes.add_with(
+            "{}{}",
+            &[Part::Text(word), Part::Bytes(parts.line(number).bytes)],
+        )?;
         word = ", ";
     }
     Ok(())
@@ -29,19 +32,19 @@ impl SvgSheet<'_> {
     fn deeds(&self, shown: ShownEvent, event: &Event) -> Result<Notes, AllocError> {
         let mut deeds = Notes::new(self.scene.alloc);
         for setting in event.settings() {
-            deeds.say(&[])?;
+            deeds.say("")?;
             put_setting(&mut deeds, self.scene.scope(shown.pid), setting)?;
         }
-        let world = self.scene.view.world;
+        let world = self.scene.view.session.world;
         if let Some(received) = self.scene.timeline.received_by(world, shown) {
             let value = Part::Number(received.value);
             let name = self.scene.scope(received.source).name();
-            deeds.say(&[Part::Text("received "), value, Part::Text(" from "), name])?;
+            deeds.say_with("received {} from {}", &[value, name])?;
         }
         if let Some(sent) = self.scene.timeline.sent_by(world, shown) {
             let value = Part::Number(sent.value);
             let name = self.scene.scope(sent.target).name();
-            deeds.say(&[Part::Text("sent "), value, Part::Text(" to "), name])?;
+            deeds.say_with("sent {} to {}", &[value, name])?;
         }
         Ok(deeds)
     }
@@ -50,20 +53,15 @@ impl SvgSheet<'_> {
     fn event_title(&self, shown: ShownEvent) -> Result<Vec<u8>, AllocError> {
         let scope = self.scene.scope(shown.pid);
         let mut title = Notes::new(self.scene.alloc);
-        let number = Part::Number(i64::from(shown.number));
-        title.say(&[
-            Part::Text("event "),
-            number,
-            Part::Text(" of "),
-            scope.name(),
-        ])?;
-        if let Some(event) = event_of(self.scene.view.world, shown) {
-            title.add(&[Part::Text(": ")])?;
+        let number = Part::Natural(shown.number);
+        title.say_with("event {} of {}", &[number, scope.name()])?;
+        if let Some(event) = event_of(self.scene.view.session.world, shown) {
+            title.add(": ")?;
             put_parts(&mut title, &self.deeds(shown, event)?)?;
             let choice = event.choice();
-            let number = Part::Number(i64::from(choice.0));
-            title.add(&[Part::Text("; command "), number, Part::Text(": ")])?;
-            if let Some(command) = self.scene.view.program.command(shown.pid, choice) {
+            let number = Part::Natural(choice.0);
+            title.add_with("; command {}: ", &[number])?;
+            if let Some(command) = self.scene.view.session.program.command(shown.pid, choice) {
                 put_command(&mut title, scope, command)?;
             }
         }
@@ -99,11 +97,10 @@ impl SvgSheet<'_> {
         };
         say_circle(notes, class, at, RADIUS)?;
         let title = self.event_title(shown)?;
-        notes.add(&[
-            Part::Text("<title>"),
-            Part::Bytes(title.as_slice()),
-            Part::Text("</title></circle>"),
-        ])
+        notes.add_with(
+            "<title>{}</title></circle>",
+            &[Part::Bytes(title.as_slice())],
+        )
     }
 
     /// The words at an event.
@@ -122,7 +119,7 @@ impl SvgSheet<'_> {
         };
         say_text(notes, class, place.point)?;
         let label = escaped(self.scene.alloc, words.label.as_slice())?;
-        notes.add(&[Part::Bytes(label.as_slice())])?;
+        notes.add_with("{}", &[Part::Bytes(label.as_slice())])?;
         end_text(notes)
     }
 
@@ -130,14 +127,14 @@ impl SvgSheet<'_> {
     fn say_again(&self, notes: &mut Notes, pid: Pid, n: u32) -> Result<(), AllocError> {
         let (x, y) = (self.layout.line(pid), self.layout.again(n));
         say_circle(notes, "again", Point { x, y }, RADIUS)?;
-        notes.add(&[Part::Text("</circle>")])?;
+        notes.add("</circle>")?;
         let words = Point {
             x: self.layout.words(pid),
             y: y.saturating_add(4),
         };
         say_text(notes, "faint", words)?;
         let label = self.scene.again_label(pid, n)?;
-        notes.add(&[Part::Bytes(bytes_of(&label))])?;
+        notes.add_with("{}", &[Part::Bytes(bytes_of(&label))])?;
         end_text(notes)
     }
 

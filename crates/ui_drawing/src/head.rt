@@ -106,35 +106,37 @@ impl SvgSheet<'_> {
         if let Some(cut) = halting(self.scene.cuts) {
             let heading = cut.heading(self.scene.alloc)?;
             let words = escaped(self.scene.alloc, bytes_of(&heading))?;
-            notes.say(&[Part::Text("  <title>"), Part::Bytes(words.as_slice())])?;
-            return notes.add(&[Part::Text("</title>")]);
+            notes.say_with("  <title>{}", &[Part::Bytes(words.as_slice())])?;
+            return notes.add("</title>");
         }
-        notes.say(&[Part::Text("  <title>A session of")])?;
+        notes.say("  <title>A session of")?;
         let mut word = " ";
         for pid in self.scene.selection.pids() {
-            notes.add(&[Part::Text(word), self.scene.scope(*pid).name()])?;
+            notes.add_with("{}{}", &[Part::Text(word), self.scene.scope(*pid).name()])?;
             word = ", ";
         }
-        notes.add(&[Part::Text("</title>")])
+        notes.add("</title>")
     }
 
     // How the drawing is to be read.
     fn say_description(&self, notes: &mut Notes) -> Result<(), AllocError> {
         let count = self.scene.events.len();
-        notes.say(&[
-            Part::Text("  <desc>"),
-            Part::Count(count),
-            Part::Text(if count == 1 { " event" } else { " events" }),
-        ])?;
+        notes.say_with(
+            "  <desc>{}{}",
+            &[
+                Part::Count(count),
+                Part::Text(if count == 1 { " event" } else { " events" }),
+            ],
+        )?;
         let left = self.scene.left_out();
         if left > 0 {
-            notes.add(&[Part::Text(" (")])?;
+            notes.add(" (")?;
             put_left_out(notes, left)?;
-            notes.add(&[Part::Text(")")])?;
+            notes.add(")")?;
         }
-        notes.add(&[Part::Text(
+        notes.add(
             ", each below those on which it depends; arrows are messages, with their values; dashed arrows are on their way; dotted marks can be redone; stepped lines across are the cuts of breakpoints</desc>",
-        )])
+        )
     }
 
     // The head of an arrow, which has a name of its own in each drawing.
@@ -144,63 +146,60 @@ impl SvgSheet<'_> {
         class: &'static str,
         path: &'static str,
     ) -> Result<(), AllocError> {
-        notes.say(&[Part::Text("  <marker id=\"rdbg-"), Part::Number(self.id)])?;
-        notes.add(&[Part::Text("-"), Part::Text(class), Part::Text("\"")])?;
-        notes.add(&[Part::Text(
-            " viewBox=\"0 0 8 8\" refX=\"8\" refY=\"4\" markerWidth=\"8\" markerHeight=\"8\" orient=\"auto\">",
-        )])?;
-        notes.add(&[Part::Text("<path class=\"rdbg-"), Part::Text(class)])?;
-        notes.add(&[
-            Part::Text("\" d=\""),
-            Part::Text(path),
-            Part::Text("\"/></marker>"),
-        ])
+        notes.say_with(
+            "  <marker id=\"rdbg-{}-{}\" viewBox=\"0 0 8 8\" refX=\"8\" refY=\"4\" markerWidth=\"8\" markerHeight=\"8\" orient=\"auto\"><path class=\"rdbg-{}\" d=\"{}\"/></marker>",
+            &[
+                Part::Number(self.id),
+                Part::Text(class),
+                Part::Text(class),
+                Part::Text(path),
+            ],
+        )
     }
 
     // The colours.
     fn say_style(&self, notes: &mut Notes) -> Result<(), AllocError> {
-        notes.say(&[Part::Text(LIGHT)])?;
+        notes.say(LIGHT)?;
         match self.theme {
             Theme::Auto => {
-                notes.say(&[Part::Text("    @media (prefers-color-scheme: dark) {")])?;
-                notes.say(&[Part::Text(DARK)])?;
-                notes.say(&[Part::Text("    }")])?;
+                notes.say("    @media (prefers-color-scheme: dark) {")?;
+                notes.say(DARK)?;
+                notes.say("    }")?;
             }
             Theme::Light => {}
-            Theme::Dark => notes.say(&[Part::Text(DARK)])?,
+            Theme::Dark => notes.say(DARK)?,
         }
-        notes.say(&[Part::Text("  </style>")])
+        notes.say("  </style>")
     }
 
     /// The start of the drawing.
     pub(crate) fn say_head(&self, notes: &mut Notes) -> Result<(), AllocError> {
         let (width, height) = (self.width()?, self.height());
-        notes.say(&[Part::Text(
-            "<svg xmlns=\"http://www.w3.org/2000/svg\" class=\"rdbg-drawing\" role=\"img\" viewBox=\"0 0 ",
-        )])?;
-        notes.add(&[Part::Number(width), Part::Text(" "), Part::Number(height)])?;
-        notes.add(&[Part::Text("\"")])?;
+        notes.say_with(
+            "<svg xmlns=\"http://www.w3.org/2000/svg\" class=\"rdbg-drawing\" role=\"img\" viewBox=\"0 0 {} {}\"",
+            &[Part::Number(width), Part::Number(height)],
+        )?;
         put_number(notes, "width", width)?;
         put_number(notes, "height", height)?;
-        notes.add(&[Part::Text(">")])?;
+        notes.add(">")?;
         self.say_title(notes)?;
         self.say_description(notes)?;
         self.say_style(notes)?;
         self.say_marker(notes, "head", "M0 0L8 4L0 8z")?;
         self.say_marker(notes, "open", "M1 1L8 4L1 7")?;
-        notes.say(&[Part::Text("  <rect class=\"rdbg-ground\" width=\"100%\" height=\"100%\"/>")])
+        notes.say("  <rect class=\"rdbg-ground\" width=\"100%\" height=\"100%\"/>")
     }
 
     /// The line of a process, down to the last event.
     pub(crate) fn say_process_line(&self, notes: &mut Notes, pid: Pid) -> Result<(), AllocError> {
         let x = self.layout.line(pid);
-        notes.say(&[Part::Text("  <line class=\"rdbg-line\"")])?;
+        notes.say("  <line class=\"rdbg-line\"")?;
         let from = Point {
             x,
             y: self.layout.top().saturating_sub(8),
         };
         put_ends(notes, from, Point { x, y: self.end() })?;
-        notes.add(&[Part::Text("/>")])
+        notes.add("/>")
     }
 
     /// The name of a process, above its line.
@@ -208,7 +207,7 @@ impl SvgSheet<'_> {
         let x = self.layout.line(pid).saturating_sub(8);
         let y = self.layout.top().saturating_sub(14);
         say_text(notes, "name", Point { x, y })?;
-        notes.add(&[self.scene.scope(pid).name()])?;
+        notes.add_with("{}", &[self.scene.scope(pid).name()])?;
         end_text(notes)
     }
 
@@ -222,7 +221,7 @@ impl SvgSheet<'_> {
         for number in 0..self.heading.count() {
             say_text(notes, class, Point { x: MARGIN, y })?;
             let words = escaped(self.scene.alloc, self.heading.line(number).bytes)?;
-            notes.add(&[Part::Bytes(words.as_slice())])?;
+            notes.add_with("{}", &[Part::Bytes(words.as_slice())])?;
             end_text(notes)?;
             y = y.saturating_add(SENTENCE_ROW);
         }
@@ -244,7 +243,7 @@ impl SvgSheet<'_> {
         let mut y = top;
         for number in 0..self.key.count() {
             say_text(notes, "key", Point { x: MARGIN, y })?;
-            notes.add(&[Part::Bytes(self.key.line(number).bytes)])?;
+            notes.add_with("{}", &[Part::Bytes(self.key.line(number).bytes)])?;
             end_text(notes)?;
             y = y.saturating_add(SENTENCE_ROW);
         }

@@ -64,11 +64,11 @@ impl EventWords {
 
 impl<'a> Scene<'a> {
     pub(crate) fn processes(&self) -> u32 {
-        self.view.program.processes()
+        self.view.session.program.processes()
     }
 
     pub(crate) fn scope(&self, pid: Pid) -> ProcessView<'a> {
-        ProcessView::new(self.view.program, pid)
+        self.view.scope(pid)
     }
 
     // Whether the predicate of the first cut, which is that of the breakpoint that halts the session if one does, names a variable.
@@ -76,7 +76,7 @@ impl<'a> Scene<'a> {
         let Some(cut) = self.cuts.first() else {
             return false;
         };
-        let Some((_, breakpoint)) = self.view.book.find(cut.name) else {
+        let Some((_, breakpoint)) = self.view.session.book.find(cut.name) else {
             return false;
         };
         let detector = breakpoint.detector();
@@ -102,7 +102,7 @@ impl<'a> Scene<'a> {
             if count < most && self.is_named(pid, setting.variable) == named {
                 let name = self.scope(pid).variable(setting.variable);
                 let value = Part::Number(setting.new);
-                words.add(&[Part::Text(" "), name, Part::Text("="), value])?;
+                words.add_with(" {}={}", &[name, value])?;
                 count = count.saturating_add(1);
             }
         }
@@ -111,7 +111,7 @@ impl<'a> Scene<'a> {
 
     /// The message that an event received from a process that is shown.
     pub(crate) fn received(&self, shown: ShownEvent) -> Option<Received> {
-        let received = self.timeline.received_by(self.view.world, shown)?;
+        let received = self.timeline.received_by(self.view.session.world, shown)?;
         if self.selection.contains(received.source) {
             Some(received)
         } else {
@@ -121,7 +121,7 @@ impl<'a> Scene<'a> {
 
     /// The message that an event sent to a process that is shown, and that is on its way.
     pub(crate) fn waiting(&self, shown: ShownEvent) -> Option<Sent> {
-        let sent = self.timeline.sent_by(self.view.world, shown)?;
+        let sent = self.timeline.sent_by(self.view.session.world, shown)?;
         if sent.is_on_its_way && self.selection.contains(sent.target) {
             Some(sent)
         } else {
@@ -131,7 +131,7 @@ impl<'a> Scene<'a> {
 
     // Appends the message of an event from or to a process that is not shown to the last line.
     fn put_hidden_message(&self, words: &mut Notes, shown: ShownEvent) -> Result<(), AllocError> {
-        let world = self.view.world;
+        let world = self.view.session.world;
         let message = match (
             self.timeline.received_by(world, shown),
             self.timeline.sent_by(world, shown),
@@ -144,7 +144,7 @@ impl<'a> Scene<'a> {
             Some((value, sign, partner)) if !self.selection.contains(partner) => {
                 let name = self.scope(partner).name();
                 let value = Part::Number(value);
-                words.add(&[Part::Text(" "), value, Part::Text(sign), name])
+                words.add_with(" {}{}{}", &[value, Part::Text(sign), name])
             }
             _ => Ok(()),
         }
@@ -154,17 +154,17 @@ impl<'a> Scene<'a> {
     // never left out.
     fn event_label(&self, shown: ShownEvent) -> Result<Vec<u8>, AllocError> {
         let mut words = Notes::new(self.alloc);
-        words.say(&[Part::Number(i64::from(shown.number))])?;
+        words.say_with("{}", &[Part::Natural(shown.number)])?;
         let mut room = LABEL;
-        if let Some(event) = event_of(self.view.world, shown) {
-            words.add(&[Part::Text(":"), Part::Number(i64::from(event.choice().0))])?;
+        if let Some(event) = event_of(self.view.session.world, shown) {
+            words.add_with(":{}", &[Part::Natural(event.choice().0)])?;
             let all = event.settings().len();
             let named = self.put_settings(&mut words, shown.pid, event, true, all)?;
             room = room.max(bytes_of(&words).len().saturating_add(3));
             let most = WORDS.saturating_sub(named);
             let others = self.put_settings(&mut words, shown.pid, event, false, most)?;
             if all > named.saturating_add(others) {
-                words.add(&[Part::Text(" ..")])?;
+                words.add(" ..")?;
             }
         }
         self.put_hidden_message(&mut words, shown)?;
@@ -187,13 +187,13 @@ impl<'a> Scene<'a> {
     fn message_label(&self, shown: ShownEvent) -> Result<Option<Notes>, AllocError> {
         let mut words = Notes::new(self.alloc);
         if let Some(received) = self.received(shown) {
-            words.say(&[Part::Number(received.value)])?;
+            words.say_with("{}", &[Part::Number(received.value)])?;
             return Ok(Some(words));
         }
         match self.waiting(shown) {
             Some(sent) => {
                 let name = self.scope(sent.target).name();
-                words.say(&[Part::Number(sent.value), Part::Text(" > "), name])?;
+                words.say_with("{} > {}", &[Part::Number(sent.value), name])?;
                 Ok(Some(words))
             }
             None => Ok(None),
@@ -216,25 +216,25 @@ impl<'a> Scene<'a> {
 
     /// How many events of a process are drawn that can be redone.
     pub(crate) fn again(&self, pid: Pid) -> u32 {
-        let world = self.view.world;
+        let world = self.view.session.world;
         let length = world.line_len(pid);
         length.saturating_sub(world.place(pid)).min(AGAIN)
     }
 
     /// The words at such an event, the n-th of its process, from 0: its command. After the last one that is drawn, how many others there are.
     pub(crate) fn again_label(&self, pid: Pid, n: u32) -> Result<Notes, AllocError> {
-        let world = self.view.world;
+        let world = self.view.session.world;
         let mut words = Notes::new(self.alloc);
-        words.say(&[])?;
+        words.say("")?;
         let place = world.place(pid).saturating_add(n);
         if let Some(choice) = world.choice(pid, place) {
-            words.add(&[Part::Number(i64::from(choice.0))])?;
+            words.add_with("{}", &[Part::Natural(choice.0)])?;
         }
         let next = place.saturating_add(1);
         let left = world.line_len(pid).saturating_sub(next);
         if n.saturating_add(1) == self.again(pid) && left > 0 {
-            let left = Part::Number(i64::from(left));
-            words.add(&[Part::Text(" and "), left, Part::Text(" more")])?;
+            let left = Part::Natural(left);
+            words.add_with(" and {} more", &[left])?;
         }
         Ok(words)
     }
@@ -262,7 +262,7 @@ impl Scene<'_> {
         let Some(cut) = halting(self.cuts) else {
             let count = self.selection.count(self.timeline.events());
             let events = Part::Text(if count == 1 { " event" } else { " events" });
-            heading.say(&[Part::Count(count), events, Part::Text(", not halted")])?;
+            heading.say_with("{}{}, not halted", &[Part::Count(count), events])?;
             return Ok(heading);
         };
         let line = cut.heading(self.alloc)?;
@@ -272,7 +272,7 @@ impl Scene<'_> {
         let lines = cut.heading_lines(self.alloc)?;
         for number in 0..lines.count() {
             let line = shortened(self.alloc, lines.line(number).bytes, SENTENCE)?;
-            heading.say(&[Part::Bytes(line.as_slice())])?;
+            heading.say_with("{}", &[Part::Bytes(line.as_slice())])?;
         }
         Ok(heading)
     }
@@ -280,17 +280,17 @@ impl Scene<'_> {
     /// What a cut is, below a drawing: its breakpoint, and the events in it.
     pub(crate) fn cut_sentence(&self, cut: &NamedCut) -> Result<Vec<u8>, AllocError> {
         let mut line = Notes::new(self.alloc);
-        line.say(&[Part::Name(cut.name)])?;
+        line.say_with("{}", &[Part::Name(cut.name)])?;
         if !cut.halts {
-            line.add(&[Part::Text(": ")])?;
+            line.add(": ")?;
             cut.put_predicate(&mut line)?;
         }
-        line.add(&[Part::Text(" holds first ")])?;
+        line.add(" holds first ")?;
         if size(&cut.cut, self.processes()) == 0 {
-            line.add(&[Part::Text("at the start")])?;
+            line.add("at the start")?;
         } else {
-            line.add(&[Part::Text("after ")])?;
-            cut.put_counts(&mut line, self.view.program)?;
+            line.add("after ")?;
+            cut.put_counts(&mut line, self.view)?;
         }
         shortened(self.alloc, bytes_of(&line), SENTENCE)
     }
@@ -298,27 +298,25 @@ impl Scene<'_> {
     /// What the marks of a drawing mean.
     pub(crate) fn key(&self) -> Result<Notes, AllocError> {
         let mut key = Notes::new(self.alloc);
-        key.say(&[Part::Text("3:0 is the third event of its process, by command 0.")])?;
+        key.say("3:0 is the third event of its process, by command 0.")?;
         if !self.cuts.is_empty() {
-            key.say(&[Part::Text(
-                "After the events with large marks, the parts of a predicate hold.",
-            )])?;
+            key.say("After the events with large marks, the parts of a predicate hold.")?;
         }
         if self.is_waiting() {
-            key.say(&[Part::Text("Dashed arrows are messages on their way.")])?;
+            key.say("Dashed arrows are messages on their way.")?;
         }
         if self.most_again() > 0 {
-            key.say(&[Part::Text("Dotted marks are events that can be redone.")])?;
+            key.say("Dotted marks are events that can be redone.")?;
         }
         let left = self.left_out();
         if left > 0 {
-            key.say(&[])?;
+            key.say("")?;
             put_left_out(&mut key, left)?;
-            key.add(&[Part::Text(".")])?;
+            key.add(".")?;
         }
         if !self.selection.is_whole() {
-            key.say(&[])?;
-            self.selection.put_hidden(&mut key, self.view.program)?;
+            key.say("")?;
+            self.selection.put_hidden(&mut key, self.view)?;
         }
         Ok(key)
     }

@@ -98,10 +98,7 @@ impl Layout {
             self.gutters.push(0)?;
             return Ok(self.ends.push(0)?);
         }
-        let name = match scene.view.program.process_name(pid) {
-            Some(name) => width_of(name.bytes()),
-            None => 0,
-        };
+        let name = width_of(scene.view.text.process_name(pid));
         self.gutters.push(LEAST_GUTTER)?;
         self.ends.push(name.max(LEAST_LABEL))?;
         self.measure_again(scene, pid)

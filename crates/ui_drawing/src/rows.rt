@@ -54,7 +54,7 @@ impl RowNumbers {
 
     // The row of the event that sent what an event received, or 0.
     fn sender_row(&self, scene: Scene<'_>, shown: ShownEvent) -> i64 {
-        match scene.timeline.received_by(scene.view.world, shown) {
+        match scene.timeline.received_by(scene.view.session.world, shown) {
             Some(received) => self.row(scene, received.source, received.sender),
             None => 0,
         }

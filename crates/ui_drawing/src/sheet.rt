@@ -5,8 +5,8 @@ use crate::labels::EventWords;
 use crate::layout::Layout;
 use crate::places::WordPlaces;
 use dbg_base::Refusal;
-use dbg_command::SessionView;
 use std::alloc::{AllocError, Global};
+use ui_explain::SourceView;
 use ui_text::{Notes, Part};
 use ui_timeline::{NamedCut, Selection, ShownEvent, Theme, Timeline, event_of, named_cuts, size};
 
@@ -14,7 +14,7 @@ use ui_timeline::{NamedCut, Selection, ShownEvent, Theme, Timeline, event_of, na
 #[derive(Clone, Copy)]
 pub(crate) struct Scene<'a> {
     pub(crate) alloc: Global,
-    pub(crate) view: SessionView<'a>,
+    pub(crate) view: SourceView<'a>,
     pub(crate) timeline: &'a Timeline,
     pub(crate) cuts: &'a [NamedCut],
     pub(crate) selection: &'a Selection,
@@ -65,7 +65,7 @@ impl Scene<'_> {
         let mut number = self.processes();
         for shown in self.events {
             number = mixed(number, shown.pid.0);
-            if let Some(event) = event_of(self.view.world, *shown) {
+            if let Some(event) = event_of(self.view.session.world, *shown) {
                 number = mixed(number, event.choice().0);
             }
         }
@@ -186,7 +186,7 @@ fn draw_scene(notes: &mut Notes, scene: Scene<'_>, theme: Theme) -> Result<(), A
     sheet.say_head(notes)?;
     sheet.say_shapes(notes)?;
     sheet.say_words(notes)?;
-    notes.say(&[Part::Text("</svg>")])
+    notes.say("</svg>")
 }
 
 /// Draws a session in its present state, as `draw_text` does, as a drawing (SVG): its lines. Only the events of the processes of
@@ -194,12 +194,12 @@ fn draw_scene(notes: &mut Notes, scene: Scene<'_>, theme: Theme) -> Result<(), A
 pub fn draw_drawing(
     alloc: Global,
     notes: &mut Notes,
-    view: SessionView<'_>,
+    view: SourceView<'_>,
     selection: &Selection,
     theme: Theme,
 ) -> Result<(), Refusal> {
     let mut cuts = named_cuts(alloc, view)?;
-    let timeline = Timeline::of(alloc, view.world, cuts.as_mut_slice())?;
+    let timeline = Timeline::of(alloc, view.session.world, cuts.as_mut_slice())?;
     let left = timeline.left_out_of(selection, selection.last());
     let events = selected_events(alloc, &timeline, selection, left)?;
     let scene = Scene {

@@ -10,13 +10,7 @@ pub(crate) fn put_number(
     name: &'static str,
     number: i64,
 ) -> Result<(), AllocError> {
-    notes.add(&[
-        Part::Text(" "),
-        Part::Text(name),
-        Part::Text("=\""),
-        Part::Number(number),
-        Part::Text("\""),
-    ])
+    notes.add_with(" {}=\"{}\"", &[Part::Text(name), Part::Number(number)])
 }
 
 /// Appends the ends of a line to the last line.
@@ -34,12 +28,11 @@ pub(crate) fn say_circle(
     at: Point,
     radius: i64,
 ) -> Result<(), AllocError> {
-    notes.say(&[Part::Text("  <circle class=\"rdbg-"), Part::Text(class)])?;
-    notes.add(&[Part::Text("\"")])?;
+    notes.say_with("  <circle class=\"rdbg-{}\"", &[Part::Text(class)])?;
     put_number(notes, "cx", at.x)?;
     put_number(notes, "cy", at.y)?;
     put_number(notes, "r", radius)?;
-    notes.add(&[Part::Text(">")])
+    notes.add(">")
 }
 
 /// Begins a text, up to its words.
@@ -48,16 +41,15 @@ pub(crate) fn say_text(
     class: &'static str,
     at: Point,
 ) -> Result<(), AllocError> {
-    notes.say(&[Part::Text("  <text class=\"rdbg-"), Part::Text(class)])?;
-    notes.add(&[Part::Text("\"")])?;
+    notes.say_with("  <text class=\"rdbg-{}\"", &[Part::Text(class)])?;
     put_number(notes, "x", at.x)?;
     put_number(notes, "y", at.y)?;
-    notes.add(&[Part::Text(">")])
+    notes.add(">")
 }
 
 /// Ends a text.
 pub(crate) fn end_text(notes: &mut Notes) -> Result<(), AllocError> {
-    notes.add(&[Part::Text("</text>")])
+    notes.add("</text>")
 }
 
 /// The characters of a text, as an SVG has them.

@@ -24,12 +24,6 @@ impl Drop for Before {
     }
 }
 
-/// Appends a count of events to the last line.
-pub(crate) fn put_events(notes: &mut Notes, count: u32) -> Result<(), AllocError> {
-    let word = if count == 1 { " event" } else { " events" };
-    notes.add(&[Part::Number(i64::from(count)), Part::Text(word)])
-}
-
 impl Before {
     /// Nothing is known. It does not allocate.
     pub fn new(alloc: Global) -> Before {
@@ -69,18 +63,19 @@ impl SourceView<'_> {
         before: &mut Before,
         call: &Call,
     ) -> Result<(), AllocError> {
-        before.places.clear();
         match call {
+            Call::Give(Plan::Step(_, _) | Plan::Next(_) | Plan::Redo(_)) => {}
             Call::Give(Plan::Undo(pid)) => {
                 before.lines = Some(notes.count());
                 self.tell_last(notes, EventNews::Undone, *pid)?;
             }
             Call::Give(Plan::Rollback(_, _) | Plan::Goto(_) | Plan::Batch(_)) | Call::Back => {
+                before.places.clear();
                 for p in 0..self.session.program.processes() {
                     before.places.push(self.place_of(Pid(p)))?;
                 }
             }
-            _ => {}
+            _ => before.places.clear(),
         }
         Ok(())
     }
@@ -88,28 +83,24 @@ impl SourceView<'_> {
     // Says how many events a process has now, and how many it can make again.
     fn tell_place(&self, notes: &mut Notes, pid: Pid, old_place: u32) -> Result<(), AllocError> {
         let (place, line) = self.place_of(pid);
-        notes.say(&[self.scope(pid).name(), Part::Text(": ")])?;
-        if place < old_place {
-            notes.add(&[
-                Part::Text("back from "),
-                Part::Number(i64::from(old_place)),
-                Part::Text(" to "),
-            ])?;
-        } else if place > old_place {
-            notes.add(&[
-                Part::Text("from "),
-                Part::Number(i64::from(old_place)),
-                Part::Text(" to "),
-            ])?;
+        let scope = self.scope(pid);
+        if place == old_place {
+            notes.say_with("{}: {}", &[scope.name(), Part::Events(place)])?;
+        } else {
+            let back = if place < old_place { "back " } else { "" };
+            notes.say_with(
+                "{}: {}from {} to {}",
+                &[
+                    scope.name(),
+                    Part::Text(back),
+                    Part::Natural(old_place),
+                    Part::Events(place),
+                ],
+            )?;
         }
-        put_events(notes, place)?;
         let redo = line.saturating_sub(place);
         if redo > 0 {
-            notes.add(&[
-                Part::Text(", "),
-                Part::Number(i64::from(redo)),
-                Part::Text(" to redo"),
-            ])?;
+            notes.add_with(", {} to redo", &[Part::Natural(redo)])?;
         }
         Ok(())
     }

@@ -1,6 +1,5 @@
 //! Explanations of the answers to queries.
 
-use crate::accepted::put_events;
 use crate::breakpoints::part_of;
 use crate::view::SourceView;
 use dbg_base::{Call, Cause, Choice, Elimination, Name, Pid, Query, Refusal};
@@ -75,34 +74,30 @@ impl SourceView<'_> {
         states: usize,
         last: u32,
     ) -> Result<(), AllocError> {
-        notes.say(&[self.scope(pid).name(), Part::Text(": its part is false ")])?;
+        let scope = self.scope(pid);
         if states == 1 {
-            notes.add(&[Part::Text("after ")])?;
-        } else {
-            notes.add(&[
-                Part::Text("in "),
-                Part::Count(states),
-                Part::Text(" states that were looked at, the last of them after "),
-            ])?;
+            let parts = [scope.name(), Part::Events(last)];
+            return notes.say_with("{}: its part is false after {}", &parts);
         }
-        put_events(notes, last)
+        notes.say_with(
+            "{}: its part is false in {} states that were looked at, the last of them after {}",
+            &[scope.name(), Part::Count(states), Part::Events(last)],
+        )
     }
 
     // Says how many events of a process are needed, and for which event of another one.
     fn tell_needed(&self, notes: &mut Notes, pid: Pid, needed: Needed) -> Result<(), AllocError> {
         let scope = self.scope(pid);
-        notes.say(&[scope.name(), Part::Text(": at least ")])?;
-        put_events(notes, needed.events)?;
-        notes.add(&[
-            Part::Text(", since event "),
-            Part::Number(i64::from(needed.event)),
-            Part::Text(" of "),
-            scope.process(needed.by),
-        ])?;
-        notes.add(&[
-            Part::Text(" depends on its event "),
-            Part::Number(i64::from(needed.events)),
-        ])
+        notes.say_with(
+            "{}: at least {}, since event {} of {} depends on its event {}",
+            &[
+                scope.name(),
+                Part::Events(needed.events),
+                Part::Natural(needed.event),
+                scope.process(needed.by),
+                Part::Natural(needed.events),
+            ],
+        )
     }
 
     // Says what was ruled out of the states of all processes.
@@ -135,15 +130,15 @@ impl SourceView<'_> {
         for number in 0..self.session.program.commands(pid) {
             if scope.fires(alloc, self.session.world, Choice(number))? {
                 let word = if fires { ", " } else { "; it can now fire " };
-                notes.add(&[Part::Text(word)])?;
-                scope.put_command(notes, self.text, Choice(number))?;
+                notes.add(word)?;
+                scope.put_command(notes, Choice(number))?;
                 fires = true;
             }
         }
         if fires {
             return Ok(());
         }
-        Ok(notes.add(&[Part::Text("; none of its commands can fire now")])?)
+        Ok(notes.add("; none of its commands can fire now")?)
     }
 
     // Says that the part of a process held too early, if it did: before what an event of another process depends on.
@@ -164,24 +159,17 @@ impl SourceView<'_> {
             return Ok(());
         };
         let scope = self.scope(pid);
-        notes.say(&[
-            Part::Text("the part of "),
-            scope.name(),
-            Part::Text(" held last after "),
-        ])?;
-        put_events(notes, held)?;
-        notes.add(&[
-            Part::Text(", but event "),
-            Part::Number(i64::from(needed.event)),
-            Part::Text(" of "),
-            scope.process(needed.by),
-        ])?;
-        notes.add(&[
-            Part::Text(" depends on event "),
-            Part::Number(i64::from(needed.events)),
-            Part::Text(" of "),
-            scope.name(),
-        ])
+        notes.say_with(
+            "the part of {} held last after {}, but event {} of {} depends on event {} of {}",
+            &[
+                scope.name(),
+                Part::Events(held),
+                Part::Natural(needed.event),
+                scope.process(needed.by),
+                Part::Natural(needed.events),
+                scope.name(),
+            ],
+        )
     }
 
     /// Explains the answer to a query. For `why`, says how the search for the cut went, which parts do not hold yet, which commands of
@@ -218,7 +206,7 @@ impl SourceView<'_> {
         let rows = ruled_out(alloc, detector.why(), self.session.program.processes())?;
         self.tell_ruled_out(notes, rows.as_slice())?;
         if let Some(cut) = detector.cut() {
-            notes.say(&[Part::Text("what is left is the earliest state:")])?;
+            notes.say("what is left is the earliest state:")?;
             return Ok(self.tell_cut_state(notes, detector, cut)?);
         }
         let past = self.past_processes(alloc, detector)?;

@@ -1,6 +1,5 @@
 //! The predicate of a breakpoint, and its cut.
 
-use crate::expressions::ProcessView;
 use crate::view::SourceView;
 use dbg_base::{Cut, Expr, Head, Name, Pid, Refusal};
 use least_cut::Detector;
@@ -8,41 +7,6 @@ use proc_lang::Program;
 use shell_io::Style;
 use std::alloc::{AllocError, Global};
 use ui_text::{Notes, Part};
-
-// Appends the conjuncts of a breakpoint to the last line.
-fn put_conjuncts(
-    notes: &mut Notes,
-    program: &Program,
-    detector: &Detector,
-) -> Result<(), AllocError> {
-    let mut word = "";
-    for at in 0..program.processes() {
-        let Some((pid, expr)) = detector.conjunct(at as usize) else {
-            break;
-        };
-        let scope = ProcessView { program, pid };
-        notes.add(&[Part::Text(word), scope.name(), Part::Text(" ")])?;
-        scope.put_expression(notes, expr)?;
-        word = " and ";
-    }
-    Ok(())
-}
-
-// Says how many events of each process a cut has.
-fn tell_cut(notes: &mut Notes, program: &Program, cut: &Cut) -> Result<(), AllocError> {
-    notes.say(&[Part::Text("it holds first after these events:")])?;
-    let mut word = " ";
-    for p in 0..program.processes() {
-        let scope = ProcessView {
-            program,
-            pid: Pid(p),
-        };
-        let count = Part::Number(i64::from(cut.count(Pid(p))));
-        notes.add(&[Part::Text(word), count, Part::Text(" of "), scope.name()])?;
-        word = ", ";
-    }
-    Ok(())
-}
 
 /// The part of a breakpoint's predicate that this process has.
 pub(crate) fn part_of<'a>(detector: &'a Detector, program: &Program, pid: Pid) -> Option<&'a Expr> {
@@ -56,6 +20,34 @@ pub(crate) fn part_of<'a>(detector: &'a Detector, program: &Program, pid: Pid) -
 }
 
 impl SourceView<'_> {
+    // Appends the conjuncts of a breakpoint to the last line.
+    fn put_conjuncts(&self, notes: &mut Notes, detector: &Detector) -> Result<(), AllocError> {
+        let mut word = "";
+        for at in 0..self.session.program.processes() {
+            let Some((pid, expr)) = detector.conjunct(at as usize) else {
+                break;
+            };
+            let scope = self.scope(pid);
+            notes.add_with("{}{} ", &[Part::Text(word), scope.name()])?;
+            scope.put_expression(notes, expr)?;
+            word = " and ";
+        }
+        Ok(())
+    }
+
+    // Says how many events of each process a cut has.
+    fn tell_cut(&self, notes: &mut Notes, cut: &Cut) -> Result<(), AllocError> {
+        notes.say("it holds first after these events:")?;
+        let mut word = " ";
+        for p in 0..self.session.program.processes() {
+            let count = Part::Natural(cut.count(Pid(p)));
+            let name = self.scope(Pid(p)).name();
+            notes.add_with("{}{} of {}", &[Part::Text(word), count, name])?;
+            word = ", ";
+        }
+        Ok(())
+    }
+
     /// Says that the part of a process does not hold yet, and which values make it false. It is false in the present state of the process,
     /// since that state was ruled out, and no later event can rule it out for another reason.
     pub(crate) fn tell_not_yet(
@@ -66,13 +58,13 @@ impl SourceView<'_> {
     ) -> Result<(), AllocError> {
         let program = self.session.program;
         let scope = self.scope(pid);
-        notes.say(&[Part::Text("not yet in "), scope.name()])?;
+        notes.say_with("not yet in {}", &[scope.name()])?;
         match (
             part_of(detector, program, pid),
             self.session.world.local_state(pid),
         ) {
             (Some(part), Some(env)) => {
-                notes.add(&[Part::Text(": ")])?;
+                notes.add(": ")?;
                 scope.put_false(notes, env, part)
             }
             _ => Ok(()),
@@ -106,10 +98,10 @@ impl SourceView<'_> {
             return Ok(());
         };
         let detector = breakpoint.detector();
-        notes.say(&[Part::Name(name), Part::Text(": ")])?;
-        put_conjuncts(notes, self.session.program, detector)?;
+        notes.say_with("{}: ", &[Part::Name(name)])?;
+        self.put_conjuncts(notes, detector)?;
         if let Some(cut) = detector.cut() {
-            return Ok(tell_cut(notes, self.session.program, cut)?);
+            return Ok(self.tell_cut(notes, cut)?);
         }
         for pid in &self.past_processes(alloc, detector)? {
             self.tell_not_yet(notes, detector, *pid)?;
@@ -162,10 +154,10 @@ impl SourceView<'_> {
             return Ok(());
         };
         let detector = breakpoint.detector();
-        let words = [Part::Text("halted by "), Part::Name(name), Part::Text(": ")];
-        notes.say_in(Style::Halt, &words)?;
-        put_conjuncts(notes, self.session.program, detector)?;
-        notes.say(&[Part::Text("the earliest global state in which this holds:")])?;
+        notes.begin_line(Style::Halt)?;
+        notes.add_with("halted by {}: ", &[Part::Name(name)])?;
+        self.put_conjuncts(notes, detector)?;
+        notes.say("the earliest global state in which this holds:")?;
         match detector.cut() {
             Some(cut) => {
                 self.tell_cut_state(notes, detector, cut)?;
@@ -186,16 +178,19 @@ impl SourceView<'_> {
             return Ok(());
         };
         let detector = breakpoint.detector();
-        notes.say(&[Part::Name(name), Part::Text(": ")])?;
-        put_conjuncts(notes, self.session.program, detector)?;
-        notes.add(&[
-            Part::Text(if is_armed { ", armed" } else { ", not armed" }),
-            Part::Text(if detector.cut().is_some() {
-                ", has a cut"
-            } else {
-                ", no cut yet"
-            }),
-        ])
+        notes.say_with("{}: ", &[Part::Name(name)])?;
+        self.put_conjuncts(notes, detector)?;
+        notes.add_with(
+            "{}{}",
+            &[
+                Part::Text(if is_armed { ", armed" } else { ", not armed" }),
+                Part::Text(if detector.cut().is_some() {
+                    ", has a cut"
+                } else {
+                    ", no cut yet"
+                }),
+            ],
+        )
     }
 
     /// Says of all breakpoints what their predicates are, and which of them have cuts.

@@ -3,26 +3,20 @@
 use crate::expressions::ProcessView;
 use dbg_base::Choice;
 use std::alloc::{AllocError, Global};
-use ui_text::{Notes, Part, ProgramText};
+use ui_text::{Notes, Part};
 
 impl ProcessView<'_> {
     /// Appends a command to the last line: its label, its number, and the line of the text at which it begins.
-    pub(crate) fn put_command(
-        &self,
-        notes: &mut Notes,
-        source: &ProgramText,
-        choice: Choice,
-    ) -> Result<(), AllocError> {
-        let number = Part::Number(i64::from(choice.0));
-        let label = source.label(self.pid, choice);
+    pub(crate) fn put_command(&self, notes: &mut Notes, choice: Choice) -> Result<(), AllocError> {
+        let label = self.text.label(self.pid, choice);
         if label.is_empty() {
-            notes.add(&[Part::Text("command "), number])?;
+            notes.add_with("command {}", &[Part::Natural(choice.0)])?;
         } else {
-            notes.add(&[Part::Bytes(label)])?;
-            notes.add(&[Part::Text(" (command "), number, Part::Text(")")])?;
+            let number = Part::Natural(choice.0);
+            notes.add_with("{} (command {})", &[Part::Bytes(label), number])?;
         }
-        match source.place(self.pid, choice) {
-            Some(place) => notes.add(&[Part::Text(" in line "), Part::Count(place.number)]),
+        match self.text.place(self.pid, choice) {
+            Some(place) => notes.add_with(" in line {}", &[Part::Count(place)]),
             None => Ok(()),
         }
     }
@@ -32,10 +26,9 @@ impl ProcessView<'_> {
         &self,
         alloc: Global,
         notes: &mut Notes,
-        source: &ProgramText,
         choice: Choice,
     ) -> Result<(), AllocError> {
-        let text = source.command_text(alloc, self.pid, choice)?;
-        notes.add(&[Part::Text(": "), Part::Bytes(text.as_slice())])
+        let text = self.text.command_text(alloc, self.pid, choice)?;
+        notes.add_with(": {}", &[Part::Bytes(text.as_slice())])
     }
 }

@@ -1,6 +1,5 @@
 //! The state of a cut: what each process had done in it, and the messages on their way.
 
-use crate::accepted::put_events;
 use crate::breakpoints::part_of;
 use crate::events::sending;
 use crate::view::SourceView;
@@ -47,6 +46,11 @@ impl CutColumns {
 struct HeldSince {
     event: u32,
     is_exact: bool,
+}
+
+// Appends how many of the events of a process there are.
+fn put_share(notes: &mut Notes, count: u32, place: u32) -> Result<(), AllocError> {
+    notes.add_with("{} of {}", &[Part::Natural(count), Part::Events(place)])
 }
 
 impl SourceView<'_> {
@@ -135,11 +139,11 @@ impl SourceView<'_> {
         };
         let since = self.held_since(pid, part, env, count)?;
         if since.event == 0 {
-            return notes.add(&[Part::Text("holds from the start")]);
+            return notes.add("holds from the start");
         }
-        let event = Part::Number(i64::from(since.event));
+        let event = Part::Natural(since.event);
         let end = if since.is_exact { "" } else { " or earlier" };
-        notes.add(&[Part::Text("holds since event "), event, Part::Text(end)])
+        notes.add_with("holds since event {}{}", &[event, Part::Text(end)])
     }
 
     // Says what a process has done in a cut.
@@ -153,10 +157,9 @@ impl SourceView<'_> {
     ) -> Result<(), AllocError> {
         let scope = self.scope(pid);
         let env = self.state_after(pid, count)?;
-        notes.say(&[scope.head()])?;
+        notes.say_with("{}", &[scope.head()])?;
         notes.tab(columns.events)?;
-        notes.add(&[Part::Number(i64::from(count)), Part::Text(" of ")])?;
-        put_events(notes, self.session.world.place(pid))?;
+        put_share(notes, count, self.session.world.place(pid))?;
         notes.tab(columns.since)?;
         self.put_since(notes, detector, pid, &env, count)?;
         notes.tab(columns.values)?;
@@ -193,29 +196,20 @@ impl SourceView<'_> {
             return Ok(());
         }
         let scope = self.scope(source);
-        notes.say(&[Part::Text("on the way")])?;
+        notes.say("on the way")?;
         notes.tab(columns.events)?;
-        notes.add(&[
-            Part::Text("from "),
-            scope.name(),
-            Part::Text(" to "),
-            scope.process(target),
-        ])?;
+        notes.add_with("from {} to {}", &[scope.name(), scope.process(target)])?;
         let mut word = ": ";
         let last = sent.min(got.saturating_add(SHOWN));
         for count in got..last {
             if let Some(value) = self.message(source, target, count.saturating_add(1)) {
-                notes.add(&[Part::Text(word), Part::Number(value)])?;
+                notes.add_with("{}{}", &[Part::Text(word), Part::Number(value)])?;
                 word = ", ";
             }
         }
         let left_out = sent.saturating_sub(last);
         if left_out > 0 {
-            notes.add(&[
-                Part::Text(" and "),
-                Part::Number(i64::from(left_out)),
-                Part::Text(" more"),
-            ])?;
+            notes.add_with(" and {} more", &[Part::Natural(left_out)])?;
         }
         Ok(())
     }
@@ -229,7 +223,7 @@ impl SourceView<'_> {
         cut: &Cut,
     ) -> Result<(), AllocError> {
         let processes = self.session.program.processes();
-        let columns = CutColumns::after(self.longest_name);
+        let columns = CutColumns::after(self.text.longest_name());
         for p in 0..processes {
             self.tell_process_of_cut(notes, detector, columns, Pid(p), cut.count(Pid(p)))?;
         }

@@ -139,20 +139,20 @@ impl SourceView<'_> {
         count: usize,
     ) -> Result<(), AllocError> {
         let stars = has_part(detector, self.session.program.processes(), pid);
-        notes.say(&[self.scope(pid).head()])?;
+        notes.say_with("{}", &[self.scope(pid).head()])?;
         notes.tab(columns.begin)?;
         if depths.last_of(pid) < columns.first {
-            return notes.add(&[Part::Text("|")]);
+            return notes.add("|");
         }
         for depth in columns.first..=columns.last {
             match depths.event_at(pid, depth) {
                 Some(number) if number == count => {
                     let star = Part::Text(if stars { "*" } else { "" });
-                    notes.add(&[star, Part::Count(number), Part::Text(" |")])?;
+                    notes.add_with("{}{} |", &[star, Part::Count(number)])?;
                     return Ok(());
                 }
-                Some(number) => notes.add(&[Part::Count(number)])?,
-                None => notes.add(&[Part::Text(".")])?,
+                Some(number) => notes.add_with("{}", &[Part::Count(number)])?,
+                None => notes.add(".")?,
             }
             notes.tab(columns.after(depth))?;
         }
@@ -180,7 +180,7 @@ impl SourceView<'_> {
         let depths = Depths::of(alloc, self.session.world, cut, processes)?;
         let last = depths.last();
         let columns = DepthColumns {
-            begin: self.longest_name.saturating_add(2),
+            begin: self.text.longest_name().saturating_add(2),
             width: if events < 10 { 4 } else { 6 },
             first: last.saturating_sub(COLUMNS).saturating_add(1),
             last,
@@ -190,7 +190,7 @@ impl SourceView<'_> {
         } else {
             "its events, one column for each causal depth; `|` is the cut, `*` the last event of a part:"
         };
-        notes.say(&[Part::Text(header)])?;
+        notes.say(header)?;
         for p in 0..processes {
             let count = cut.count(Pid(p)) as usize;
             self.tell_row(notes, &depths, columns, detector, Pid(p), count)?;

@@ -81,17 +81,6 @@ impl EventColumns {
     }
 }
 
-/// How many bytes the longest name of a process has.
-pub fn longest_name(program: &Program) -> usize {
-    let mut longest = 0usize;
-    for p in 0..program.processes() {
-        if let Some(name) = program.process_name(Pid(p)) {
-            longest = longest.max(name.bytes().len());
-        }
-    }
-    longest
-}
-
 impl ProcessView<'_> {
     fn put_setting(
         &self,
@@ -125,33 +114,26 @@ impl ProcessView<'_> {
             Exchange::Nothing => Ok(()),
             Exchange::Sent { target, value, .. } => {
                 let value = Part::Number(value);
-                notes.add(&[
-                    Part::Text(word),
-                    Part::Text("sent "),
-                    value,
-                    Part::Text(" to "),
-                    self.process(target),
-                ])
+                notes.add_with(
+                    "{}sent {} to {}",
+                    &[Part::Text(word), value, self.process(target)],
+                )
             }
             Exchange::Took {
                 source,
                 message,
                 count,
             } => {
-                let message = Part::Number(message);
-                notes.add(&[
-                    Part::Text(word),
-                    Part::Text("received "),
-                    message,
-                    Part::Text(" from "),
-                    self.process(source),
-                ])?;
                 let sender = sending(world, source, self.pid, count);
-                notes.add(&[
-                    Part::Text(" (sent by its event "),
-                    Part::Number(i64::from(sender)),
-                    Part::Text(")"),
-                ])
+                notes.add_with(
+                    "{}received {} from {} (sent by its event {})",
+                    &[
+                        Part::Text(word),
+                        Part::Number(message),
+                        self.process(source),
+                        Part::Natural(sender),
+                    ],
+                )
             }
         }
     }
@@ -164,7 +146,7 @@ impl ProcessView<'_> {
             word = ", ";
         }
         if event.settings().is_empty() && event.exchange() == Exchange::Nothing {
-            return notes.add(&[Part::Text("nothing changed")]);
+            return notes.add("nothing changed");
         }
         Ok(())
     }
@@ -210,7 +192,7 @@ impl ProcessView<'_> {
                 notes.put(&Part::Text(" < "))?;
                 notes.put(&self.process(source))?;
                 notes.put(&Part::Text(" "))?;
-                notes.put(&Part::Number(i64::from(sender)))
+                notes.put(&Part::Natural(sender))
             }
         }
     }
@@ -242,7 +224,7 @@ impl SourceView<'_> {
             return Ok(());
         };
         let scope = self.scope(pid);
-        let columns = EventColumns::of(self.session.program, self.longest_name);
+        let columns = EventColumns::of(self.session.program, self.text.longest_name());
         notes.begin_line(Style::Plain)?;
         if news == EventNews::MadeByBatch {
             notes.put(&Part::Text("  "))?;

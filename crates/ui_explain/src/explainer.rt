@@ -5,7 +5,7 @@ use crate::directive::Directive;
 use dbg_base::{Call, Refusal, Said};
 use dbg_command::SessionView;
 use shell_io::GivenLine;
-use std::alloc::Global;
+use std::alloc::{AllocError, Global};
 use ui_text::Notes;
 
 /// How a line is written before its reply.
@@ -29,7 +29,7 @@ pub enum Told<'a> {
 }
 
 /// Explains each line of a session, of which its source notes an `N`. It borrows the session, so it does not change it. The default methods
-/// explain nothing.
+/// explain nothing. Errors: memory ran out.
 pub trait Explainer<N> {
     /// Whether it needs the lines of the replies.
     fn keeps_replies(&self) -> bool {
@@ -37,8 +37,8 @@ pub trait Explainer<N> {
     }
 
     /// A line is about to be answered. Returns how the line is written before its reply.
-    fn hear(&mut self, _alloc: Global, _line: &GivenLine<'_, N>) -> Echo {
-        Echo::Nothing
+    fn hear(&mut self, _alloc: Global, _line: &GivenLine<'_, N>) -> Result<Echo, AllocError> {
+        Ok(Echo::Nothing)
     }
 
     /// A call is about to be made. Writes what has to be known before it into the explanation.
@@ -60,7 +60,9 @@ pub trait Explainer<N> {
         _told: Told<'_>,
         _reply: &[u8],
         _notes: &mut Notes,
-    ) {}
+    ) -> Result<(), AllocError> {
+        Ok(())
+    }
 
     /// Writes the answer to a directive.
     fn answer_directive(
@@ -72,5 +74,7 @@ pub trait Explainer<N> {
     ) {}
 
     /// The session is over.
-    fn end(&mut self, _alloc: Global, _view: SessionView<'_>) {}
+    fn end(&mut self, _alloc: Global, _view: SessionView<'_>) -> Result<(), AllocError> {
+        Ok(())
+    }
 }

@@ -1,15 +1,16 @@
 //! Expressions and commands as text, and the names in them.
 
-use dbg_base::{Direction, Expr, Name, Operator, Pid};
+use dbg_base::{Direction, Expr, Operator, Pid};
 use local_eval::Env;
 use proc_lang::{Action, Guarded, Program};
 use std::alloc::AllocError;
-use ui_text::{Notes, Part};
+use ui_text::{Notes, Part, ProgramText};
 
-/// A process of a program, for texts about its expressions.
+/// A process of a program, with its names as they were written.
 #[derive(Clone, Copy)]
 pub struct ProcessView<'a> {
     pub program: &'a Program,
+    pub text: &'a ProgramText,
     pub pid: Pid,
 }
 
@@ -31,79 +32,58 @@ fn operator_text(operator: Operator) -> &'static str {
     }
 }
 
-pub(crate) fn direction_text(direction: Direction) -> &'static str {
+/// How a count of messages is written.
+pub(crate) fn count_form(direction: Direction) -> &'static str {
     match direction {
-        Direction::Sent => "sent(",
-        Direction::Got => "got(",
-    }
-}
-
-// The name as a part of a line, or a question mark if there is none.
-fn named(name: Option<Name>) -> Part<'static> {
-    match name {
-        Some(name) => Part::Name(name),
-        None => Part::Text("?"),
+        Direction::Sent => "sent({})",
+        Direction::Got => "got({})",
     }
 }
 
 impl<'a> ProcessView<'a> {
     /// A process of this program.
-    pub fn new(program: &'a Program, pid: Pid) -> ProcessView<'a> {
-        ProcessView { program, pid }
+    pub fn new(program: &'a Program, text: &'a ProgramText, pid: Pid) -> ProcessView<'a> {
+        ProcessView { program, text, pid }
     }
 
     /// The name of the process.
-    pub fn name(&self) -> Part<'static> {
+    pub fn name(&self) -> Part<'a> {
         self.process(self.pid)
     }
 
     /// The name of the process, at the beginning of a line about it.
-    pub(crate) fn head(&self) -> Part<'static> {
-        match self.program.process_name(self.pid) {
-            Some(name) => Part::Process(name, self.pid.0),
-            None => Part::Text("?"),
-        }
+    pub(crate) fn head(&self) -> Part<'a> {
+        Part::Process(self.text.process_name(self.pid), self.pid.0)
     }
 
     /// The name of a process.
-    pub fn process(&self, pid: Pid) -> Part<'static> {
-        named(self.program.process_name(pid))
+    pub fn process(&self, pid: Pid) -> Part<'a> {
+        Part::Bytes(self.text.process_name(pid))
     }
 
     /// The name of a variable.
-    pub fn variable(&self, variable: u32) -> Part<'static> {
-        named(self.program.variable_name(self.pid, variable))
-    }
-
-    fn put_count(
-        &self,
-        notes: &mut Notes,
-        direction: Direction,
-        pid: Pid,
-    ) -> Result<(), AllocError> {
-        let open = Part::Text(direction_text(direction));
-        notes.add(&[open, self.process(pid), Part::Text(")")])
+    pub fn variable(&self, variable: u32) -> Part<'a> {
+        Part::Bytes(self.text.variable_name(self.pid, variable))
     }
 
     /// Appends an expression to the last line.
     #[cycle(expression)]
     pub fn put_expression(&self, notes: &mut Notes, expr: &Expr) -> Result<(), AllocError> {
         match expr {
-            Expr::Number(number) => notes.add(&[Part::Number(*number)]),
-            Expr::Variable(variable) => notes.add(&[self.variable(*variable)]),
-            Expr::Truth(true) => notes.add(&[Part::Text("true")]),
-            Expr::Truth(false) => notes.add(&[Part::Text("false")]),
-            Expr::Sent(pid) => self.put_count(notes, Direction::Sent, *pid),
-            Expr::Got(pid) => self.put_count(notes, Direction::Got, *pid),
+            Expr::Number(number) => notes.add_with("{}", &[Part::Number(*number)]),
+            Expr::Variable(variable) => notes.add_with("{}", &[self.variable(*variable)]),
+            Expr::Truth(true) => notes.add("true"),
+            Expr::Truth(false) => notes.add("false"),
+            Expr::Sent(pid) => notes.add_with(count_form(Direction::Sent), &[self.process(*pid)]),
+            Expr::Got(pid) => notes.add_with(count_form(Direction::Got), &[self.process(*pid)]),
             Expr::Not(operand) => self.put_with_sign(notes, "(not ", operand),
             Expr::Negate(operand) => self.put_with_sign(notes, "(- ", operand),
             Expr::Binary(operator, left, right) => {
-                notes.add(&[Part::Text("(")])?;
+                notes.add("(")?;
                 self.put_expression(notes, left)?;
-                let sign = Part::Text(operator_text(*operator));
-                notes.add(&[Part::Text(" "), sign, Part::Text(" ")])?;
+                notes.add_with(" {} ", &[Part::Text(operator_text(*operator))])?;
                 self.put_expression(notes, right)?;
-                notes.add(&[Part::Text(")")])
+                notes.add(")")
             }
         }
     }
@@ -115,8 +95,8 @@ impl<'a> ProcessView<'a> {
         sign: &str,
         operand: &Expr,
     ) -> Result<(), AllocError> {
-        notes.add(&[Part::Text(sign)])?;
+        notes.add(sign)?;
         self.put_expression(notes, operand)?;
-        notes.add(&[Part::Text(")")])
+        notes.add(")")
     }
 }

@@ -8,7 +8,7 @@ use local_eval::{Env, eval, guard};
 use proc_lang::{Action, Guarded};
 use std::alloc::{AllocError, Global};
 use ui_firing::{Hindrance, find_hindrance};
-use ui_text::{Notes, Part, ProgramText, meaning};
+use ui_text::{Notes, Part, meaning};
 
 // At most this many bytes of an expression are shown.
 const SHOWN: usize = 160;
@@ -59,13 +59,13 @@ impl ProcessView<'_> {
     // Appends an expression to the last line. Of a long one it is the beginning.
     fn put_shortened(&self, notes: &mut Notes, expr: &Expr) -> Result<(), AllocError> {
         let mut text = Notes::new(notes.alloc());
-        text.say(&[])?;
+        text.say("")?;
         self.put_expression(&mut text, expr)?;
         let whole = text.line(0).bytes;
         let shown = whole.get(..SHOWN).unwrap_or(whole);
-        notes.add(&[Part::Bytes(shown)])?;
+        notes.add_with("{}", &[Part::Bytes(shown)])?;
         if shown.len() < whole.len() {
-            notes.add(&[Part::Text(" ..")])?;
+            notes.add(" ..")?;
         }
         Ok(())
     }
@@ -73,9 +73,9 @@ impl ProcessView<'_> {
     // Appends an expression that faults, the part of it that faults, and the values of the names in it to the last line.
     fn put_fault(&self, notes: &mut Notes, env: &Env, expr: &Expr) -> Result<(), AllocError> {
         self.put_shortened(notes, expr)?;
-        notes.add(&[Part::Text(" faults")])?;
+        notes.add(" faults")?;
         if let Some(part) = faulting_part(expr, env) {
-            notes.add(&[Part::Text(" at ")])?;
+            notes.add(" at ")?;
             self.put_shortened(notes, part)?;
         }
         self.put_values(notes, env, expr)
@@ -94,7 +94,7 @@ impl ProcessView<'_> {
         }
         let part = false_part(expr, env);
         self.put_shortened(notes, part)?;
-        notes.add(&[Part::Text(" is false")])?;
+        notes.add(" is false")?;
         self.put_values(notes, env, part)
     }
 
@@ -132,11 +132,7 @@ impl ProcessView<'_> {
                 after.set(*variable, message);
             }
         }
-        notes.add(&[
-            Part::Text("with the message "),
-            Part::Number(message),
-            Part::Text(", "),
-        ])?;
+        notes.add_with("with the message {}, ", &[Part::Number(message)])?;
         self.put_faulting(notes, &after, command)
     }
 
@@ -150,16 +146,12 @@ impl ProcessView<'_> {
     ) -> Result<(), AllocError> {
         match hindrance {
             Hindrance::NoCommand | Hindrance::Full => {
-                notes.add(&[Part::Text(meaning(hindrance.refusal().number()))])
+                notes.add(meaning(hindrance.refusal().number()))
             }
             Hindrance::GuardFalse => self.put_false(notes, env, &command.guard),
             Hindrance::GuardFaults => self.put_fault(notes, env, &command.guard),
             Hindrance::NoMessage(source) => {
-                notes.add(&[
-                    Part::Text("no message from "),
-                    self.process(source),
-                    Part::Text(" is on its way"),
-                ])
+                notes.add_with("no message from {} is on its way", &[self.process(source)])
             }
             Hindrance::Faults(None) => self.put_faulting(notes, env, command),
             Hindrance::Faults(Some(message)) => {
@@ -177,7 +169,7 @@ impl ProcessView<'_> {
         choice: Choice,
     ) -> Result<(), Refusal> {
         let Some(hindrance) = find_hindrance(alloc, self.program, world, self.pid, choice)? else {
-            return Ok(notes.add(&[Part::Text("it can fire")])?);
+            return Ok(notes.add("it can fire")?);
         };
         match (
             self.program.command(self.pid, choice),
@@ -195,13 +187,12 @@ impl ProcessView<'_> {
         &self,
         alloc: Global,
         notes: &mut Notes,
-        source: &ProgramText,
         world: &World,
         choice: Choice,
     ) -> Result<(), Refusal> {
-        notes.say(&[])?;
-        self.put_command(notes, source, choice)?;
-        notes.add(&[Part::Text(": ")])?;
+        notes.say("")?;
+        self.put_command(notes, choice)?;
+        notes.add(": ")?;
         self.put_verdict(alloc, notes, world, choice)
     }
 
@@ -210,11 +201,10 @@ impl ProcessView<'_> {
         &self,
         alloc: Global,
         notes: &mut Notes,
-        source: &ProgramText,
         world: &World,
     ) -> Result<(), Refusal> {
         for number in 0..self.program.commands(self.pid) {
-            self.tell_hindrance(alloc, notes, source, world, Choice(number))?;
+            self.tell_hindrance(alloc, notes, world, Choice(number))?;
         }
         Ok(())
     }

@@ -26,7 +26,6 @@ mod view;
 pub use accepted::Before;
 pub use counted::{BreakpointChange, CountedCommand, CountedCommands};
 pub use directive::Directive;
-pub use events::longest_name;
 pub use explainer::{Echo, Explainer, Told};
 pub use expressions::ProcessView;
 pub use values::names_variable;

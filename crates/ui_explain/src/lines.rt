@@ -140,26 +140,24 @@ impl SourceView<'_> {
         arguments: &[u8],
     ) -> Result<(), AllocError> {
         if !is_seat(seat) {
-            return notes.say(&[
-                Part::Text("`"),
-                Part::Bytes(seat),
-                Part::Text("` is not a seat: seats are the numbers from 1 to 16"),
-            ]);
+            return notes.say_with(
+                "`{}` is not a seat: seats are the numbers from 1 to 16",
+                &[Part::Bytes(seat)],
+            );
         }
         if is_directive_word(command) {
-            return notes.say(&[
-                Part::Text("no seat is before `"),
-                Part::Bytes(command),
-                Part::Text("`: give it alone"),
-            ]);
+            return notes.say_with(
+                "no seat is before `{}`: give it alone",
+                &[Part::Bytes(command)],
+            );
         }
         if command.is_empty() {
-            return notes.say(&[Part::Text("a command is missing after the seat")]);
+            return notes.say("a command is missing after the seat");
         }
         if command == b"for".as_slice() {
-            return notes.say(&[Part::Text(
+            return notes.say(
                 "several `for` are side by side, before one colon: `for i: 1..2 for j: 1..2 where i != j : next p[i][j]`",
-            )]);
+            );
         }
         if !tell_word(notes, command)? {
             return tell_near_word(notes, command);
@@ -168,7 +166,7 @@ impl SourceView<'_> {
             return self.tell_wrong_break(notes, arguments);
         }
         match usual_form(command, arguments) {
-            Some(words) => notes.say(&[Part::Text(words)]),
+            Some(words) => notes.say(words),
             None => Ok(()),
         }
     }
@@ -181,14 +179,14 @@ impl SourceView<'_> {
         line: &[u8],
         refusal: &Refusal,
     ) -> Result<(), Refusal> {
-        notes.say(&[Part::Text(meaning(refusal.number()))])?;
+        notes.say(meaning(refusal.number()))?;
         let (seat, rest, length) = match named_seat(line) {
             Some((seat, rest)) => (seat, rest, line.len()),
             // The seat and a blank count.
             None => (b"1".as_slice(), line, line.len().saturating_add(2)),
         };
         if length > LINE_BYTES {
-            return Ok(notes.say(&[Part::Text("a line has at most 1024 bytes")])?);
+            return Ok(notes.say("a line has at most 1024 bytes")?);
         }
         let (command, arguments) = next_word(rest);
         match refusal {

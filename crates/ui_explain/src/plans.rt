@@ -7,7 +7,7 @@ use ui_text::{Notes, Part};
 
 // Appends a command that names a breakpoint to the last line.
 fn put_of_breakpoint(notes: &mut Notes, word: &'static str, name: Name) -> Result<(), AllocError> {
-    notes.add(&[Part::Text(word), Part::Text(" "), Part::Name(name)])
+    notes.add_with("{} {}", &[Part::Text(word), Part::Name(name)])
 }
 
 impl SourceView<'_> {
@@ -19,9 +19,9 @@ impl SourceView<'_> {
         pid: Pid,
         number: Option<u32>,
     ) -> Result<(), AllocError> {
-        notes.add(&[Part::Text(word), Part::Text(" "), self.scope(pid).name()])?;
+        notes.add_with("{} {}", &[Part::Text(word), self.scope(pid).name()])?;
         match number {
-            Some(number) => notes.add(&[Part::Text(" "), Part::Number(i64::from(number))]),
+            Some(number) => notes.add_with(" {}", &[Part::Natural(number)]),
             None => Ok(()),
         }
     }
@@ -41,7 +41,7 @@ impl SourceView<'_> {
             Plan::Clear(name) => put_of_breakpoint(notes, "clear", *name),
             Plan::Arm(name) => put_of_breakpoint(notes, "arm", *name),
             Plan::Pass(name) => put_of_breakpoint(notes, "pass", *name),
-            Plan::Batch(_) => notes.add(&[Part::Text("batch")]),
+            Plan::Batch(_) => notes.add("batch"),
         }
     }
 
@@ -57,9 +57,9 @@ impl SourceView<'_> {
             .and_then(|place| plans.get(place));
         match plan {
             Some(plan) => {
-                notes.add(&[Part::Text(", `")])?;
+                notes.add(", `")?;
                 self.put_plan(notes, plan)?;
-                notes.add(&[Part::Text("`")])
+                notes.add("`")
             }
             None => Ok(()),
         }

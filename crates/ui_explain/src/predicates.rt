@@ -123,14 +123,14 @@ impl SourceView<'_> {
     fn tell_variables(&self, notes: &mut Notes, pid: Pid) -> Result<(), AllocError> {
         let scope = self.scope(pid);
         let count = self.session.program.variables(pid);
-        notes.say(&[scope.name()])?;
+        notes.say_with("{}", &[scope.name()])?;
         let mut word = match count {
-            0 => return notes.add(&[Part::Text(" has no variable")]),
+            0 => return notes.add(" has no variable"),
             1 => " has the variable ",
             _ => " has the variables ",
         };
         for variable in 0..count {
-            notes.add(&[Part::Text(word), scope.variable(variable)])?;
+            notes.add_with("{}{}", &[Part::Text(word), scope.variable(variable)])?;
             word = ", ";
         }
         Ok(())
@@ -138,10 +138,10 @@ impl SourceView<'_> {
 
     // Says whose variable it is, and where its part goes.
     fn put_owner(&self, notes: &mut Notes, owner: Pid) -> Result<(), AllocError> {
-        notes.add(&[self.scope(owner).name()])?;
-        notes.add(&[Part::Text(": what it must be is in a part of its own, `")])?;
-        notes.add(&[self.scope(owner).name()])?;
-        notes.add(&[Part::Text(" (..)`")])
+        notes.add_with(
+            "{}: what it must be is in a part of its own, `{} (..)`",
+            &[self.scope(owner).name(), self.scope(owner).name()],
+        )
     }
 
     // Says that a process has no variable of this name, and which process has one.
@@ -152,11 +152,7 @@ impl SourceView<'_> {
         word: &[u8],
     ) -> Result<(), AllocError> {
         if let Some(owner) = owner_of(self.session.program, word) {
-            notes.say(&[
-                Part::Text("`"),
-                Part::Bytes(word),
-                Part::Text("` is a variable of "),
-            ])?;
+            notes.say_with("`{}` is a variable of ", &[Part::Bytes(word)])?;
             return self.put_owner(notes, owner);
         }
         self.tell_variables(notes, pid)
@@ -170,12 +166,12 @@ impl SourceView<'_> {
         text: &[u8],
         fault: &ProgFault,
     ) -> Result<(), AllocError> {
-        notes.say(&[Part::Bytes(text)])?;
+        notes.say_with("{}", &[Part::Bytes(text)])?;
         tell_mark(notes, text.get(..fault.at).unwrap_or(text), fault.kind)?;
         match fault.kind {
             FaultKind::Grammar | FaultKind::Byte => {
                 match grammar_correction(self.session.program, text, fault.at) {
-                    Some(correction) => notes.say(&[Part::Text(correction)]),
+                    Some(correction) => notes.say(correction),
                     None => Ok(()),
                 }
             }
@@ -228,12 +224,10 @@ impl SourceView<'_> {
             }
             if let Some(has) = has_part.get_mut(pid.0 as usize) {
                 if *has {
-                    return Ok(notes.say(&[
-                        Part::Bytes(word),
-                        Part::Text(
-                            " already has a part: combine both, as in `((x = 1) and (y = 2))`",
-                        ),
-                    ])?);
+                    return Ok(notes.say_with(
+                        "{} already has a part: combine both, as in `((x = 1) and (y = 2))`",
+                        &[Part::Bytes(word)],
+                    )?);
                 }
                 *has = true;
             }
@@ -248,9 +242,11 @@ impl SourceView<'_> {
         for p in 0..program.processes() {
             if program.variables(Pid(p)) > 0 {
                 let scope = self.scope(Pid(p));
-                notes.say(&[Part::Text("for example `break b "), scope.name()])?;
-                notes.add(&[Part::Text(" ("), scope.variable(0)])?;
-                return notes.add(&[Part::Text(" = 1)`")]);
+                notes.say_with(
+                    "for example `break b {} ({}",
+                    &[scope.name(), scope.variable(0)],
+                )?;
+                return notes.add(" = 1)`");
             }
         }
         Ok(())
@@ -324,9 +320,9 @@ impl SourceView<'_> {
         let at = arguments.len().saturating_sub(wrong.left);
         let mut before = Vec::from_slice(notes.alloc(), b"break")?;
         before.extend_from_slice(arguments.get(..at).unwrap_or(arguments))?;
-        notes.say(&[Part::Text("break"), Part::Bytes(arguments)])?;
+        notes.say_with("break{}", &[Part::Bytes(arguments)])?;
         say_mark(notes, before.as_slice())?;
-        notes.add(&[Part::Text(wrong.why)])?;
+        notes.add(wrong.why)?;
         self.tell_example(notes)
     }
 }

@@ -1,6 +1,5 @@
 //! Why a call is refused, and what the person can do.
 
-use crate::accepted::put_events;
 use crate::events::receiving;
 use crate::view::SourceView;
 use dbg_base::{Call, Choice, Name, Pid, Plan, Query, Refusal};
@@ -49,11 +48,11 @@ impl SourceView<'_> {
         let count = self.session.program.commands(pid);
         let name = self.scope(pid).name();
         match count.checked_sub(1) {
-            None => notes.say(&[name, Part::Text(" has no command")]),
-            Some(0) => notes.say(&[name, Part::Text(" has only command 0")]),
+            None => notes.say_with("{} has no command", &[name]),
+            Some(0) => notes.say_with("{} has only command 0", &[name]),
             Some(last) => {
-                let last = Part::Number(i64::from(last));
-                notes.say(&[name, Part::Text(" has commands 0 to "), last])
+                let last = Part::Natural(last);
+                notes.say_with("{} has commands 0 to {}", &[name, last])
             }
         }
     }
@@ -79,20 +78,19 @@ impl SourceView<'_> {
         };
         let events = self.session.world.rows().len(pid);
         let scope = self.scope(pid);
-        notes.say(&[
-            scope.process(receiver),
-            Part::Text(" received the message of event "),
-        ])?;
-        notes.add(&[Part::Count(events), Part::Text(" of "), scope.name()])?;
-        notes.add(&[
-            Part::Text(" by its event "),
-            Part::Number(i64::from(received)),
-        ])?;
-        notes.say(&[Part::Text("`rollback "), scope.name(), Part::Text(" ")])?;
-        notes.add(&[
-            Part::Count(events.saturating_sub(1)),
-            Part::Text("` undoes this event and all events that depend on it"),
-        ])
+        notes.say_with(
+            "{} received the message of event {} of {} by its event {}",
+            &[
+                scope.process(receiver),
+                Part::Count(events),
+                scope.name(),
+                Part::Natural(received),
+            ],
+        )?;
+        notes.say_with(
+            "`rollback {} {}` undoes this event and all events that depend on it",
+            &[scope.name(), Part::Count(events.saturating_sub(1))],
+        )
     }
 
     /// Another armed breakpoint that has a cut, so it halts the session after `pass`.
@@ -124,24 +122,22 @@ impl SourceView<'_> {
         notes: &mut Notes,
         halting: Name,
     ) -> Result<(), Refusal> {
-        notes.say(&[Part::Text("`pass "), Part::Name(halting)])?;
+        notes.say_with("`pass {}", &[Part::Name(halting)])?;
         match self.next_halting(alloc, halting)? {
-            Some(next) => notes.add(&[
-                Part::Text("` disarms it, and then the breakpoint "),
-                Part::Name(next),
-                Part::Text(" halts the session"),
-            ])?,
-            None => notes.add(&[Part::Text("` lets the session continue")])?,
+            Some(next) => notes.add_with(
+                "` disarms it, and then the breakpoint {} halts the session",
+                &[Part::Name(next)],
+            )?,
+            None => notes.add("` lets the session continue")?,
         }
-        notes.say(&[])?;
+        notes.say("")?;
         if self.is_beyond_cut(halting) {
-            notes.add(&[
-                Part::Text("`goto "),
-                Part::Name(halting),
-                Part::Text("` undoes the events that are not in its cut; "),
-            ])?;
+            notes.add_with(
+                "`goto {}` undoes the events that are not in its cut; ",
+                &[Part::Name(halting)],
+            )?;
         }
-        notes.add(&[Part::Text("`undo`, `rollback` and `back` undo what led there")])?;
+        notes.add("`undo`, `rollback` and `back` undo what led there")?;
         Ok(())
     }
 
@@ -149,15 +145,15 @@ impl SourceView<'_> {
     fn tell_breakpoints(&self, alloc: Global, notes: &mut Notes) -> Result<(), Refusal> {
         let marks = self.session.book.list(alloc)?;
         if marks.items().is_empty() {
-            return Ok(notes.say(&[Part::Text("no breakpoint is set")])?);
+            return Ok(notes.say("no breakpoint is set")?);
         }
         let mut word = match marks.items().len() {
             1 => "the only breakpoint is ",
             _ => "the breakpoints are ",
         };
-        notes.say(&[])?;
+        notes.say("")?;
         for (name, _) in marks.items() {
-            notes.add(&[Part::Text(word), Part::Name(*name)])?;
+            notes.add_with("{}{}", &[Part::Text(word), Part::Name(*name)])?;
             word = ", ";
         }
         Ok(())
@@ -176,24 +172,21 @@ impl SourceView<'_> {
             Refusal::UnknownChoice => self.tell_commands(notes, pid)?,
             Refusal::GuardFalse | Refusal::Fault | Refusal::ChannelEmpty => {
                 if let Some(choice) = self.choice_of(plan) {
-                    scope.tell_hindrance(alloc, notes, self.text, self.session.world, choice)?;
+                    scope.tell_hindrance(alloc, notes, self.session.world, choice)?;
                 }
             }
-            Refusal::NoneEnabled => scope.tell_hindrances(
-                alloc,
-                notes,
-                self.text,
-                self.session.world,
-            )?,
-            Refusal::NothingToUndo => notes.say(&[scope.name(), Part::Text(" is at its start")])?,
+            Refusal::NoneEnabled => scope.tell_hindrances(alloc, notes, self.session.world)?,
+            Refusal::NothingToUndo => notes.say_with("{} is at its start", &[scope.name()])?,
             Refusal::Consequence(receiver) => self.tell_consequence(notes, pid, *receiver)?,
-            Refusal::NothingToRedo => notes.say(&[
-                scope.name(),
-                Part::Text("'s redo list is empty; `next` and `step` make new events"),
-            ])?,
+            Refusal::NothingToRedo => notes.say_with(
+                "{}'s redo list is empty; `next` and `step` make new events",
+                &[scope.name()],
+            )?,
             Refusal::BadPlace => {
-                notes.say(&[scope.name(), Part::Text(" has ")])?;
-                put_events(notes, self.session.world.place(pid))?;
+                notes.say_with(
+                    "{} has {}",
+                    &[scope.name(), Part::Events(self.session.world.place(pid))],
+                )?;
             }
             _ => {}
         }
@@ -210,11 +203,7 @@ impl SourceView<'_> {
         match refusal {
             Refusal::UnknownBreak => self.tell_breakpoints(alloc, notes),
             Refusal::BreakTaken | Refusal::NoCut => self.tell_breakpoint(alloc, notes, name),
-            Refusal::NotArmed => Ok(notes.say(&[
-                Part::Text("`arm "),
-                Part::Name(name),
-                Part::Text("` arms it"),
-            ])?),
+            Refusal::NotArmed => Ok(notes.say_with("`arm {}` arms it", &[Part::Name(name)])?),
             Refusal::AlreadyArmed if self.has_cut(name) => {
                 self.tell_continuing(alloc, notes, name)
             }
@@ -287,24 +276,22 @@ impl SourceView<'_> {
                 self.tell_continuing(alloc, notes, *name)
             }
             Refusal::OtherSeat(seat) => {
-                let seat = Part::Number(i64::from(*seat));
-                Ok(notes.say(&[Part::Text("`"), seat, Part::Text(" back` takes it back")])?)
+                let seat = Part::Natural(*seat);
+                Ok(notes.say_with("`{} back` takes it back", &[seat])?)
             }
-            Refusal::NothingBack => Ok(notes.say(&[Part::Text(
+            Refusal::NothingBack => Ok(notes.say(
                 "every accepted command is already taken back; queries and refused lines leave nothing to take back",
-            )])?),
-            Refusal::ProcessFull => Ok(notes.say(&[Part::Text(
+            )?),
+            Refusal::ProcessFull => Ok(notes.say(
                 "`undo`, `rollback` and `goto` make room for new events",
-            )])?),
-            Refusal::BreaksFull => {
-                Ok(notes.say(&[Part::Text("`clear B` removes one of them")])?)
-            }
-            Refusal::JournalFull => Ok(notes.say(&[Part::Text(
+            )?),
+            Refusal::BreaksFull => { Ok(notes.say("`clear B` removes one of them")?) }
+            Refusal::JournalFull => Ok(notes.say(
                 "a new session can begin with the lines that lead here, without those that were taken back",
-            )])?),
-            Refusal::Memory => Ok(notes.say(&[Part::Text(
+            )?),
+            Refusal::Memory => Ok(notes.say(
                 "the session is as it was before the line; `clear` and `back` may free memory",
-            )])?),
+            )?),
             _ => Ok(()),
         }
     }
@@ -317,7 +304,7 @@ impl SourceView<'_> {
         call: &Call,
         refusal: &Refusal,
     ) -> Result<(), Refusal> {
-        notes.say(&[Part::Text(meaning(refusal.number()))])?;
+        notes.say(meaning(refusal.number()))?;
         self.tell_remedy(alloc, notes, refusal)?;
         match call {
             Call::Give(plan) => self.tell_of_plan(alloc, notes, plan, refusal),

@@ -98,10 +98,10 @@ impl SourceView<'_> {
     ) -> Result<(), Refusal> {
         let marks = self.session.book.list(alloc)?;
         let mut word = "after the commands before it, a breakpoint halts the session: ";
-        notes.say(&[])?;
+        notes.say("")?;
         for (name, is_armed) in marks.items() {
             if is_armed_after(plans, *name, *is_armed) {
-                notes.add(&[Part::Text(word), Part::Name(*name)])?;
+                notes.add_with("{}{}", &[Part::Text(word), Part::Name(*name)])?;
                 word = " or ";
             }
         }
@@ -109,7 +109,7 @@ impl SourceView<'_> {
             let later = plans.get(at.saturating_add(1)..).unwrap_or(&[]);
             match plan {
                 Plan::Break(name, _) if self.is_new_after(*name, later) => {
-                    notes.add(&[Part::Text(word), Part::Name(*name)])?;
+                    notes.add_with("{}{}", &[Part::Text(word), Part::Name(*name)])?;
                     word = " or ";
                 }
                 _ => {}
@@ -127,22 +127,18 @@ impl SourceView<'_> {
         at: u32,
         number: u32,
     ) -> Result<(), Refusal> {
-        notes.say(&[
-            Part::Text("command "),
-            Part::Number(i64::from(at)),
-            Part::Text(" of the batch"),
-        ])?;
+        notes.say_with("command {} of the batch", &[Part::Natural(at)])?;
         self.put_plan_of_batch(notes, plans, at)?;
-        notes.add(&[Part::Text(": "), Part::Text(meaning(number))])?;
+        notes.add_with(": {}", &[Part::Text(meaning(number))])?;
         match plans.first() {
             Some(plan) if at == 1 => self.tell_first(alloc, notes, plan, number),
             _ if number == 9 => {
                 let before = (at as usize).saturating_sub(1);
                 self.tell_halting(alloc, notes, plans.get(..before).unwrap_or(plans))
             }
-            _ => Ok(notes.say(&[Part::Text(
+            _ => Ok(notes.say(
                 "the commands before it were accepted, and are undone: of a batch all commands are made, or none",
-            )])?),
+            )?),
         }
     }
 }

@@ -1,7 +1,8 @@
 //! The present state of a session.
 
 use crate::events::EventNews;
-use crate::expressions::direction_text;
+use crate::expressions::count_form;
+use crate::values::put_value;
 use crate::view::SourceView;
 use dbg_base::{Choice, Direction, Name, Pid, Refusal};
 use std::alloc::{AllocError, Global};
@@ -38,9 +39,9 @@ impl SourceView<'_> {
             let choice = Choice(number);
             if scope.fires(alloc, self.session.world, choice)? {
                 any = true;
-                notes.say(&[scope.name(), Part::Text(": ")])?;
-                scope.put_command(notes, self.text, choice)?;
-                scope.put_text(alloc, notes, self.text, choice)?;
+                notes.say_with("{}: ", &[scope.name()])?;
+                scope.put_command(notes, choice)?;
+                scope.put_text(alloc, notes, choice)?;
             }
         }
         Ok(any)
@@ -51,18 +52,16 @@ impl SourceView<'_> {
         let Some(name) = self.session.book.halted() else {
             return Ok(());
         };
-        notes.say(&[
-            Part::Text("the breakpoint "),
-            Part::Name(name),
-            Part::Text(" halts the session: `pass` "),
-        ])?;
+        notes.say_with(
+            "the breakpoint {} halts the session: `pass` ",
+            &[Part::Name(name)],
+        )?;
         match self.next_halting(alloc, name)? {
-            Some(next) => notes.add(&[
-                Part::Text("disarms it, and then the breakpoint "),
-                Part::Name(next),
-                Part::Text(" does"),
-            ])?,
-            None => notes.add(&[Part::Text("lets it continue")])?,
+            Some(next) => notes.add_with(
+                "disarms it, and then the breakpoint {} does",
+                &[Part::Name(next)],
+            )?,
+            None => notes.add("lets it continue")?,
         }
         Ok(())
     }
@@ -78,13 +77,9 @@ impl SourceView<'_> {
             any = self.tell_firing(alloc, notes, Pid(p))? || any;
         }
         if !any && word.is_empty() {
-            notes.say(&[Part::Text("no command of any process can fire")])?;
+            notes.say("no command of any process can fire")?;
         } else if !any {
-            notes.say(&[
-                Part::Text("no command of "),
-                Part::Bytes(word),
-                Part::Text(" can fire"),
-            ])?;
+            notes.say_with("no command of {} can fire", &[Part::Bytes(word)])?;
         }
         self.tell_halted(alloc, notes)
     }
@@ -98,10 +93,10 @@ impl SourceView<'_> {
         choice: Choice,
     ) -> Result<(), Refusal> {
         let scope = self.scope(pid);
-        notes.say(&[scope.name(), Part::Text(": ")])?;
-        scope.put_command(notes, self.text, choice)?;
-        scope.put_text(alloc, notes, self.text, choice)?;
-        notes.say(&[Part::Text("  ")])?;
+        notes.say_with("{}: ", &[scope.name()])?;
+        scope.put_command(notes, choice)?;
+        scope.put_text(alloc, notes, choice)?;
+        notes.say("  ")?;
         scope.put_verdict(alloc, notes, self.session.world, choice)
     }
 
@@ -121,15 +116,9 @@ impl SourceView<'_> {
 
     fn tell_values(&self, notes: &mut Notes, pid: Pid) -> Result<(), AllocError> {
         let scope = self.scope(pid);
-        let place = Part::Number(i64::from(self.session.world.place(pid)));
-        let line = Part::Number(i64::from(self.session.world.line_len(pid)));
-        notes.say(&[
-            scope.name(),
-            Part::Text(", place "),
-            place,
-            Part::Text(" of "),
-            line,
-        ])?;
+        let place = Part::Natural(self.session.world.place(pid));
+        let line = Part::Natural(self.session.world.line_len(pid));
+        notes.say_with("{}, place {} of {}", &[scope.name(), place, line])?;
         let Some(env) = self.session.world.local_state(pid) else {
             return Ok(());
         };
@@ -159,15 +148,8 @@ impl SourceView<'_> {
                 .copied()
                 .unwrap_or(0);
             if count > 0 {
-                let open = Part::Text(direction_text(direction));
-                notes.add(&[
-                    Part::Text(word),
-                    open,
-                    scope.process(Pid(other)),
-                    Part::Text(") = "),
-                ])?;
-                notes.add(&[Part::Number(i64::from(count))])?;
-                word = ", ";
+                let (form, value) = (count_form(direction), i64::from(count));
+                put_value(notes, &mut word, form, &[scope.process(Pid(other))], value)?;
             }
         }
         Ok(())
@@ -185,14 +167,9 @@ impl SourceView<'_> {
             return Ok(());
         }
         let scope = self.scope(source);
-        notes.say(&[
-            scope.name(),
-            Part::Text(" -> "),
-            scope.process(target),
-            Part::Text(":"),
-        ])?;
+        notes.say_with("{} -> {}:", &[scope.name(), scope.process(target)])?;
         for message in messages.items() {
-            notes.add(&[Part::Text(" "), Part::Number(*message)])?;
+            notes.add_with(" {}", &[Part::Number(*message)])?;
         }
         Ok(())
     }
@@ -220,8 +197,8 @@ impl SourceView<'_> {
     fn tell_again(&self, notes: &mut Notes, pid: Pid, at: u32) -> Result<(), AllocError> {
         match self.session.world.choice(pid, at) {
             Some(choice) => {
-                notes.say(&[Part::Text("to redo: ")])?;
-                self.scope(pid).put_command(notes, self.text, choice)
+                notes.say("to redo: ")?;
+                self.scope(pid).put_command(notes, choice)
             }
             None => Ok(()),
         }
@@ -230,7 +207,7 @@ impl SourceView<'_> {
     /// Shows the events of the process of this name, and what it can make again.
     pub fn tell_line(&self, notes: &mut Notes, word: &[u8]) -> Result<(), AllocError> {
         if word.is_empty() {
-            return notes.say(&[Part::Text("`line P` shows the events of the process P")]);
+            return notes.say("`line P` shows the events of the process P");
         }
         let found = Name::new(word).and_then(|name| self.session.program.find_process(name));
         let Some(pid) = found else {
@@ -241,13 +218,14 @@ impl SourceView<'_> {
             let number = (at as usize).saturating_add(1);
             self.tell_event(notes, EventNews::Made, pid, number)?;
         }
-        notes.say(&[
-            self.scope(pid).name(),
-            Part::Text(" is here: place "),
-            Part::Number(i64::from(place)),
-            Part::Text(" of "),
-        ])?;
-        notes.add(&[Part::Number(i64::from(self.session.world.line_len(pid)))])?;
+        notes.say_with(
+            "{} is here: place {} of {}",
+            &[
+                self.scope(pid).name(),
+                Part::Natural(place),
+                Part::Natural(self.session.world.line_len(pid)),
+            ],
+        )?;
         for at in place..self.session.world.line_len(pid) {
             self.tell_again(notes, pid, at)?;
         }
@@ -256,17 +234,13 @@ impl SourceView<'_> {
 
     /// Says that no process has this name, and which names there are.
     pub fn tell_processes(&self, notes: &mut Notes, word: &[u8]) -> Result<(), AllocError> {
-        notes.say(&[
-            Part::Text("`"),
-            Part::Bytes(word),
-            Part::Text("` is not a process; "),
-        ])?;
+        notes.say_with("`{}` is not a process; ", &[Part::Bytes(word)])?;
         let mut between = match self.session.program.processes() {
             1 => "the only process is ",
             _ => "the processes are ",
         };
         for p in 0..self.session.program.processes() {
-            notes.add(&[Part::Text(between), self.scope(Pid(p)).name()])?;
+            notes.add_with("{}{}", &[Part::Text(between), self.scope(Pid(p)).name()])?;
             between = ", ";
         }
         Ok(())

@@ -1,6 +1,6 @@
 //! The values on which an expression depends.
 
-use crate::expressions::{ProcessView, direction_text};
+use crate::expressions::{ProcessView, count_form};
 use dbg_base::{Direction, Expr, Pid};
 use local_eval::Env;
 use std::alloc::AllocError;
@@ -29,17 +29,18 @@ pub fn names_variable(expr: &Expr, variable: u32) -> bool {
     names(expr, NamedValue::Variable(variable))
 }
 
-// Appends a name and its value to the last line: the first one after this word, and the others after a comma.
-fn put_value(
+/// Appends a name, in this form, and its value to the last line: the first one after this word, and the others after a comma.
+pub(crate) fn put_value(
     notes: &mut Notes,
     word: &mut &'static str,
+    form: &'static str,
     name: &[Part<'_>],
     value: i64,
 ) -> Result<(), AllocError> {
-    notes.add(&[Part::Text(*word)])?;
-    notes.add(name)?;
+    notes.add(*word)?;
     *word = ", ";
-    notes.add(&[Part::Text(" = "), Part::Number(value)])
+    notes.add_with(form, name)?;
+    notes.add_with(" = {}", &[Part::Number(value)])
 }
 
 impl ProcessView<'_> {
@@ -52,7 +53,7 @@ impl ProcessView<'_> {
     ) -> Result<(), AllocError> {
         for variable in 0..self.program.variables(self.pid) {
             if let Some(value) = env.values().get(variable as usize) {
-                put_value(notes, word, &[self.variable(variable)], *value)?;
+                put_value(notes, word, "{}", &[self.variable(variable)], *value)?;
             }
         }
         Ok(())
@@ -69,7 +70,7 @@ impl ProcessView<'_> {
         for variable in 0..self.program.variables(self.pid) {
             if let Some(value) = env.values().get(variable as usize) {
                 if names(expr, NamedValue::Variable(variable)) {
-                    put_value(notes, &mut word, &[self.variable(variable)], *value)?;
+                    put_value(notes, &mut word, "{}", &[self.variable(variable)], *value)?;
                 }
             }
         }
@@ -89,9 +90,8 @@ impl ProcessView<'_> {
             let pid = Pid(process);
             if let Some(count) = env.counts(direction).get(process as usize) {
                 if names(expr, NamedValue::Count(direction, pid)) {
-                    let open = Part::Text(direction_text(direction));
-                    let name = [open, self.process(pid), Part::Text(")")];
-                    put_value(notes, word, &name, i64::from(*count))?;
+                    let form = count_form(direction);
+                    put_value(notes, word, form, &[self.process(pid)], i64::from(*count))?;
                 }
             }
         }

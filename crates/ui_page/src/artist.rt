@@ -5,8 +5,8 @@ use dbg_command::SessionView;
 use std::alloc::{AllocError, Global};
 use ui_diagram::{Moment, Picture, PictureForm, draw_mermaid, draw_text, write_log};
 use ui_drawing::draw_drawing;
-use ui_explain::Told;
-use ui_text::Notes;
+use ui_explain::{SourceView, Told};
+use ui_text::{Notes, ProgramText};
 use ui_timeline::Selection;
 
 // Lines, each with a line end.
@@ -23,16 +23,18 @@ fn with_line_ends(alloc: Global, lines: &Notes) -> Result<Vec<u8>, AllocError> {
 fn picture_of(
     alloc: Global,
     wanted: Picture<'_>,
-    view: SessionView<'_>,
+    view: SourceView<'_>,
 ) -> Result<Vec<u8>, Refusal> {
     let mut notes = Notes::new(alloc);
-    let selection = Selection::of(alloc, view.program, wanted.only, wanted.last as usize)?;
+    let selection = Selection::of(alloc, view, wanted.only, wanted.last as usize)?;
     let width = wanted.width as usize;
     match wanted.form {
         PictureForm::Text => draw_text(alloc, &mut notes, view, &selection, width)?,
         PictureForm::Svg => draw_drawing(alloc, &mut notes, view, &selection, wanted.theme)?,
         PictureForm::Mermaid => draw_mermaid(alloc, &mut notes, view, &selection)?,
-        PictureForm::Shiviz | PictureForm::Html => return write_log(alloc, view),
+        PictureForm::Shiviz | PictureForm::Html => {
+            return write_log(alloc, view.session, view.text);
+        }
     }
     Ok(with_line_ends(alloc, &notes)?)
 }
@@ -48,33 +50,28 @@ fn is_halt(told: Told<'_>) -> bool {
 /// Draws one state of a session: the one at the first halt, if the picture shows that, or else the one at the end.
 pub struct Artist<'a> {
     wanted: Picture<'a>,
+    text: &'a ProgramText,
     picture: Option<Vec<u8>>,
-    is_out_of_memory: bool,
 }
 
 impl Drop for Artist<'_> {
     fn drop(self) {
         let Artist {
             wanted: _,
+            text: _,
             picture: _,
-            is_out_of_memory: _,
         } = self;
     }
 }
 
 impl<'a> Artist<'a> {
-    /// An artist for this picture.
-    pub(crate) fn new(wanted: Picture<'a>) -> Artist<'a> {
+    /// An artist for this picture of a session whose program has this text.
+    pub(crate) fn new(wanted: Picture<'a>, text: &'a ProgramText) -> Artist<'a> {
         Artist {
             wanted,
+            text,
             picture: None,
-            is_out_of_memory: false,
         }
-    }
-
-    /// Whether memory ran out.
-    pub fn is_out_of_memory(&self) -> bool {
-        self.is_out_of_memory
     }
 
     /// The picture, unless the session did not come to what it shows.
@@ -85,25 +82,32 @@ impl<'a> Artist<'a> {
         }
     }
 
-    fn draw(&mut self, alloc: Global, view: SessionView<'_>) {
-        match picture_of(alloc, self.wanted, view) {
-            Ok(picture) => self.picture = Some(picture),
-            Err(_) => self.is_out_of_memory = true,
-        }
+    fn draw(&mut self, alloc: Global, session: SessionView<'_>) -> Result<(), AllocError> {
+        let text = self.text;
+        // The only refusal is that memory ran out.
+        let picture = picture_of(alloc, self.wanted, SourceView { session, text });
+        self.picture = Some(picture.ok().ok_or(AllocError)?);
+        Ok(())
     }
 
     /// This was said to a line.
-    pub(crate) fn look(&mut self, alloc: Global, view: SessionView<'_>, told: Told<'_>) {
-        let is_first = self.picture.is_none() && !self.is_out_of_memory;
-        if self.wanted.moment == Moment::Halt && is_first && is_halt(told) {
-            self.draw(alloc, view);
+    pub(crate) fn look(
+        &mut self,
+        alloc: Global,
+        view: SessionView<'_>,
+        told: Told<'_>,
+    ) -> Result<(), AllocError> {
+        if self.wanted.moment == Moment::Halt && self.picture.is_none() && is_halt(told) {
+            return self.draw(alloc, view);
         }
+        Ok(())
     }
 
     /// The session is over.
-    pub(crate) fn end(&mut self, alloc: Global, view: SessionView<'_>) {
+    pub(crate) fn end(&mut self, alloc: Global, view: SessionView<'_>) -> Result<(), AllocError> {
         if self.wanted.moment != Moment::Halt {
-            self.draw(alloc, view);
+            return self.draw(alloc, view);
         }
+        Ok(())
     }
 }

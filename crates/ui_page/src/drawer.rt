@@ -6,7 +6,7 @@ use dbg_base::Call;
 use dbg_command::SessionView;
 use proc_lang::Program;
 use shell_io::GivenLine;
-use std::alloc::Global;
+use std::alloc::{AllocError, Global};
 use ui_diagram::{Picture, PictureForm};
 use ui_explain::{Echo, Explainer, Told};
 use ui_text::{Notes, ProgramText};
@@ -15,7 +15,7 @@ use ui_text::{Notes, ProgramText};
 #[derive(Drop)]
 pub enum Drawer<'a> {
     State(Artist<'a>),
-    Page(Recorder),
+    Page(Recorder<'a>),
 }
 
 impl<'a> Drawer<'a> {
@@ -24,11 +24,11 @@ impl<'a> Drawer<'a> {
         alloc: Global,
         wanted: Picture<'a>,
         program: &Program,
-        text: &ProgramText,
+        text: &'a ProgramText,
     ) -> Drawer<'a> {
         match wanted.form {
             PictureForm::Html => Drawer::Page(Recorder::new(alloc, program, text)),
-            _ => Drawer::State(Artist::new(wanted)),
+            _ => Drawer::State(Artist::new(wanted, text)),
         }
     }
 }
@@ -38,11 +38,11 @@ impl<N> Explainer<N> for Drawer<'_> {
         matches!(self, Drawer::Page(_))
     }
 
-    fn hear(&mut self, _alloc: Global, line: &GivenLine<'_, N>) -> Echo {
+    fn hear(&mut self, _alloc: Global, line: &GivenLine<'_, N>) -> Result<Echo, AllocError> {
         if let Drawer::Page(recorder) = self {
             recorder.begin_line(line.played.unwrap_or(line.written));
         }
-        Echo::Nothing
+        Ok(Echo::Nothing)
     }
 
     fn prepare(&mut self, _alloc: Global, view: SessionView<'_>, call: &Call, _notes: &mut Notes) {
@@ -59,16 +59,20 @@ impl<N> Explainer<N> for Drawer<'_> {
         told: Told<'_>,
         reply: &[u8],
         _notes: &mut Notes,
-    ) {
+    ) -> Result<(), AllocError> {
         match self {
             Drawer::State(artist) => artist.look(alloc, view, told),
-            Drawer::Page(recorder) => recorder.end_line(view, told, reply),
+            Drawer::Page(recorder) => {
+                recorder.end_line(view, told, reply);
+                Ok(())
+            }
         }
     }
 
-    fn end(&mut self, alloc: Global, view: SessionView<'_>) {
-        if let Drawer::State(artist) = self {
-            artist.end(alloc, view);
+    fn end(&mut self, alloc: Global, view: SessionView<'_>) -> Result<(), AllocError> {
+        match self {
+            Drawer::State(artist) => artist.end(alloc, view),
+            Drawer::Page(_) => Ok(()),
         }
     }
 }

@@ -18,7 +18,7 @@ use lines::RecordedLines;
 use proc_lang::Program;
 use serde_json::{Map, Value};
 use std::alloc::{AllocError, Global};
-use ui_explain::{BreakpointChange, CountedCommand, Told};
+use ui_explain::{BreakpointChange, CountedCommand, SourceView, Told};
 use ui_text::ProgramText;
 
 // The kind of a call, as far as a page needs it.
@@ -55,8 +55,9 @@ fn change_by(call: &Call, taken_back: Option<CountedCommand<'_>>) -> BreakpointC
 }
 
 /// Records what each line did.
-pub struct Recorder {
+pub struct Recorder<'a> {
     alloc: Global,
+    text: &'a ProgramText,
     lines: RecordedLines,
     breakpoints: Breakpoints,
     // The world before a batch.
@@ -65,10 +66,11 @@ pub struct Recorder {
     incomplete: Option<Incomplete>,
 }
 
-impl Drop for Recorder {
+impl Drop for Recorder<'_> {
     fn drop(self) {
         let Recorder {
             alloc: _,
+            text: _,
             lines: _,
             breakpoints: _,
             before: _,
@@ -83,7 +85,7 @@ impl List {
         let mut command = self.another();
         match text.place(pid, Choice(number)) {
             Some(place) => {
-                command.count(place.number)?;
+                command.count(place)?;
                 command.text(text.line(place))?;
             }
             None => {
@@ -158,17 +160,18 @@ fn program_value(
     Ok(Value::Object(members))
 }
 
-impl Recorder {
+impl<'a> Recorder<'a> {
     /// A recorder of a session of this program in which no line was answered. The page shows the commands as this text has them.
-    pub(crate) fn new(alloc: Global, program: &Program, text: &ProgramText) -> Recorder {
+    pub(crate) fn new(alloc: Global, program: &Program, text: &'a ProgramText) -> Recorder<'a> {
         let mut recorder = Recorder {
             alloc,
+            text,
             lines: RecordedLines::new(alloc),
             breakpoints: Breakpoints::new(alloc),
             before: None,
             incomplete: None,
         };
-        let put = recorder.put_program(program, text);
+        let put = recorder.put_program(program);
         recorder.note(put);
         recorder
     }
@@ -185,19 +188,17 @@ impl Recorder {
     }
 
     // Records the program.
-    fn put_program(&mut self, program: &Program, text: &ProgramText) -> Result<(), Incomplete> {
-        let value = program_value(self.alloc, program, text)?;
+    fn put_program(&mut self, program: &Program) -> Result<(), Incomplete> {
+        let value = program_value(self.alloc, program, self.text)?;
         self.lines.add(self.alloc, &value)
     }
 
-    fn put_batch(&mut self, view: SessionView<'_>) -> Result<(), AllocError> {
+    fn put_batch(&mut self, view: SourceView<'_>) -> Result<(), AllocError> {
         let Some(before) = &self.before else {
             return Ok(());
         };
-        for p in 0..view.program.processes() {
-            self.lines
-                .operations()
-                .changed_line(view.program, before, view.world, Pid(p))?;
+        for p in 0..view.session.program.processes() {
+            self.lines.operations().changed_line(view, before, Pid(p))?;
         }
         Ok(())
     }
@@ -205,15 +206,14 @@ impl Recorder {
     // What an accepted command did to the processes, as an operation.
     fn put_command(
         &mut self,
-        view: SessionView<'_>,
+        view: SourceView<'_>,
         call: &Call,
         reply: &Reply,
     ) -> Result<(), AllocError> {
-        let world = view.world;
         let operations = self.lines.operations();
         match kind_of(call) {
-            CallKind::Further(pid) => operations.made("e", view.program, world, pid),
-            CallKind::Again(pid) => operations.made("r", view.program, world, pid),
+            CallKind::Further(pid) => operations.made("e", view, pid),
+            CallKind::Again(pid) => operations.made("r", view, pid),
             CallKind::Undo(pid) => {
                 let mut undo = operations.another_of("u")?;
                 undo.number(i64::from(pid.0))?;
@@ -237,7 +237,7 @@ impl Recorder {
 
     fn put_all(
         &mut self,
-        view: SessionView<'_>,
+        view: SourceView<'_>,
         call: &Call,
         reply: &Reply,
         change: BreakpointChange,
@@ -264,7 +264,11 @@ impl Recorder {
     }
 
     /// This was said to the present line, and it has this reply.
-    pub(crate) fn end_line(&mut self, view: SessionView<'_>, told: Told<'_>, reply: &[u8]) {
+    pub(crate) fn end_line(&mut self, session: SessionView<'_>, told: Told<'_>, reply: &[u8]) {
+        let view = SourceView {
+            session,
+            text: self.text,
+        };
         if let Told::Said(call, Said::Accepted(accepted), taken_back) = told {
             let reported = self.put_all(view, call, accepted, change_by(call, taken_back));
             self.note(reported);

@@ -3,7 +3,6 @@
 ghost use Rattle.shell_input.specs.Spans.{EndsWith};
 
 use crate::expanding::{write_notes, write_text};
-use crate::naming::plain_names;
 use crate::opening::{OpenSession, Opening, PlayedSession, open};
 use crate::written_program::WrittenProgram;
 use shell_io::{Sink, Source};
@@ -41,10 +40,15 @@ pub fn draw_status(outcome: &Result<Drawn, ServeFault>) -> u8 {
 }
 
 // Reports why nothing is drawn.
-fn report<E: Sink>(alloc: Global, why: &[Part<'_>], errors: &mut E) -> Result<(), ServeFault> {
+fn report<E: Sink>(
+    alloc: Global,
+    why: &str,
+    parts: &[Part<'_>],
+    errors: &mut E,
+) -> Result<(), ServeFault> {
     let mut notes = Notes::new(alloc);
-    notes.say(&[Part::Text("error: ")])?;
-    notes.add(why)?;
+    notes.say("error: ")?;
+    notes.add_with(why, parts)?;
     write_notes(&notes, errors)
 }
 
@@ -69,10 +73,13 @@ fn report_line<R: Source, T, E: Sink>(
     if count >= number {
         return Ok(None);
     }
-    let before = Part::Text("there is no line ");
-    let last = Part::Text(": the last line of the input is line ");
-    let why = [before, Part::Count(number), last, Part::Count(count)];
-    report(alloc, &why, errors)?;
+    let why = "there is no line {}: the last line of the input is line {}";
+    report(
+        alloc,
+        why,
+        &[Part::Count(number), Part::Count(count)],
+        errors,
+    )?;
     Ok(Some(Drawn::NoLine))
 }
 
@@ -89,18 +96,15 @@ fn write_drawing<W: Sink, E: Sink>(
             Ok(page) => write_page(&page, writer)?,
             Err(Incomplete::Memory) => return Err(ServeFault::Memory),
             Err(Incomplete::TooLarge) => {
-                let before = Part::Text("the page has room for replies of ");
-                let why = [before, Part::Count(REPLY_BYTES), Part::Text(" bytes")];
-                report(alloc, &why, errors)?;
+                let why = "the page has room for replies of {} bytes";
+                report(alloc, why, &[Part::Count(REPLY_BYTES)], errors)?;
                 return Ok(Drawn::TooLarge);
             }
         },
         Drawer::State(artist) => match artist.picture() {
             Some(picture) => write_text(picture, writer)?,
-            None if artist.is_out_of_memory() => return Err(ServeFault::Memory),
             None => {
-                let why = [Part::Text("no breakpoint halts the session")];
-                report(alloc, &why, errors)?;
+                report(alloc, "no breakpoint halts the session", &[], errors)?;
                 return Ok(Drawn::NoHalt);
             }
         },
@@ -113,18 +117,23 @@ fn report_unknown<E: Sink>(
     alloc: Global,
     only: Option<&str>,
     wanted: Option<usize>,
+    written: &WrittenProgram,
     session: &OpenSession,
     errors: &mut E,
 ) -> Result<Option<Drawn>, ServeFault> {
     if let Some(number) = wanted.filter(|number| *number <= session.lines()) {
-        let before = Part::Text("line ");
-        let after = Part::Text(" is before the first command line, which follows the line `%%`");
-        report(alloc, &[before, Part::Count(number), after], errors)?;
+        let why = "line {} is before the first command line, which follows the line `%%`";
+        report(alloc, why, &[Part::Count(number)], errors)?;
         return Ok(Some(Drawn::NoLine));
     }
-    if let Some(name) = only.and_then(|list| unknown_name(&session.program, list)) {
-        let before = Part::Text("the program has no process `");
-        report(alloc, &[before, Part::Bytes(name), Part::Text("`")], errors)?;
+    let unknown = only.and_then(|list| unknown_name(&session.program, written.text(), list));
+    if let Some(name) = unknown {
+        report(
+            alloc,
+            "the program has no process `{}`",
+            &[Part::Bytes(name)],
+            errors,
+        )?;
         return Ok(Some(Drawn::NoProcess));
     }
     Ok(None)
@@ -146,13 +155,7 @@ fn draw_open<R: Source + Typed, W: Sink, E: Sink>(
         Moment::Line(number) => Some(number as usize),
         _ => None,
     };
-    let names = plain_names(alloc, &session.program, written, picture.only.unwrap_or(""))?;
-    let only = str::from_utf8(names.as_slice()).ok();
-    let picture = Picture {
-        only: only.filter(|_| picture.only.is_some()),
-        ..picture
-    };
-    if let Some(drawn) = report_unknown(alloc, picture.only, wanted, &session, errors)? {
+    if let Some(drawn) = report_unknown(alloc, picture.only, wanted, written, &session, errors)? {
         return Ok(drawn);
     }
     let drawer = Drawer::new(alloc, picture, &session.program, written.text());

@@ -5,7 +5,7 @@ ghost use Rattle.shell_input.specs.Spans.{EndsWith};
 use crate::opening::OpenSession;
 use crate::read_line::{ExpandedLine, LineFault};
 use crate::written_program::{ReadText, WrittenProgram, read_text};
-use notation::{Fault, line_and_column, message};
+use notation::{Fault, message};
 use shell_input::{Input, TextEnd, read_program_text, text_alone};
 use shell_io::{Sink, Source};
 use shell_print::{ServeFault, Served, hand_on, tell_too_long, write_whole};
@@ -29,21 +29,17 @@ pub(crate) fn write_notes<W: Sink>(notes: &Notes, writer: &mut W) -> Result<(), 
     hand_on(Ok(()), writer)
 }
 
-// What is wrong with a text that follows so many lines: the line and column, the text of the line with a mark under the place, and the
-// fault.
-fn fault_notes(
+/// What is wrong with a text that follows so many lines: the line and column, the text of the line with a mark under the place, and the
+/// fault.
+pub(crate) fn fault_notes(
     alloc: Global,
     before: usize,
     text: &[u8],
     fault: &Fault,
 ) -> Result<Notes, AllocError> {
-    let (line, column) = line_and_column(text, fault.at());
-    let line = Part::Count(line.saturating_add(before));
-    let column = Part::Count(column);
     let mut notes = Notes::new(alloc);
-    notes.say(&[Part::Text("line "), line, Part::Text(", column "), column])?;
-    for line in message(alloc, text, fault)?.iter().skip(1) {
-        notes.say(&[Part::Bytes(line.as_slice())])?;
+    for line in &message(alloc, before, text, fault)? {
+        notes.say_with("{}", &[Part::Bytes(line.as_slice())])?;
     }
     Ok(notes)
 }
@@ -67,7 +63,6 @@ struct Expander {
     // How many lines were read.
     count: usize,
     fault: Option<Notes>,
-    is_out_of_memory: bool,
 }
 
 impl Expander {
@@ -88,13 +83,12 @@ impl Expander {
 }
 
 impl Explainer<Option<LineFault>> for Expander {
-    fn hear(&mut self, alloc: Global, line: &ExpandedLine<'_>) -> Echo {
-        let put = self.put(alloc, line);
-        self.is_out_of_memory = self.is_out_of_memory || put.is_err();
+    fn hear(&mut self, alloc: Global, line: &ExpandedLine<'_>) -> Result<Echo, AllocError> {
+        self.put(alloc, line)?;
         if line.is_first {
             self.count = self.count.saturating_add(1);
         }
-        Echo::Nothing
+        Ok(Echo::Nothing)
     }
 }
 
@@ -128,12 +122,8 @@ fn expand_lines<R: Source + Typed, W: Sink, E: Sink>(
         is_model: written.expansion().is_some(),
         count: session.lines(),
         fault: None,
-        is_out_of_memory: false,
     };
     let mut played = session.play_unheard(alloc, written, None, expander, reader)?;
-    if played.explainer.is_out_of_memory {
-        return Err(ServeFault::Memory);
-    }
     if let Some(notes) = &played.explainer.fault {
         write_notes(notes, errors)?;
         return Ok(Served::Refused);

@@ -7,14 +7,15 @@ ghost use Rattle.shell_print.specs.declared.outcome.Served.TheVariants.{Refused}
 ghost use Rattle.shell_serve.specs.Sessions.{WritesForm};
 ghost use Rattle.ui_repl.specs.Talks.{IsFaultText, Talks};
 
+use crate::expanding::fault_notes;
 use dbg_base::{FaultKind, ProgFault};
-use notation::{Fault, Problem, likely, message};
+use notation::{Fault, Problem, likely};
 use shell_io::{Sink, Style};
 use shell_print::{ServeFault, Served, hand_on, set_style, tell_fault, tell_no_end_line};
 use std::alloc::{AllocError, Global};
 use ui_session::explain;
 use ui_text::{
-    DeclaredAs, Notes, Part, find_declaration, foreign_correction, tell_correction,
+    DeclaredAs, Notes, Part, find_declaration, foreign_correction, prefix_word, tell_correction,
     tell_no_end_line as explain_no_end_line,
 };
 
@@ -74,16 +75,6 @@ fn computed_name(text: &[u8], name: &[u8], at: usize) -> Option<(&'static str, &
     }
 }
 
-// The word at an offset.
-fn word_at(text: &[u8], at: usize) -> &[u8] {
-    let rest = text.get(at..).unwrap_or(&[]);
-    let length = rest
-        .iter()
-        .take_while(|byte| byte.is_ascii_alphanumeric() || **byte == b'_')
-        .count();
-    rest.get(..length).unwrap_or(rest)
-}
-
 /// A fault, and the texts that explain it.
 #[derive(Clone, Copy)]
 pub(crate) struct FaultPlace<'a> {
@@ -123,18 +114,17 @@ impl<'a> FaultPlace<'a> {
         let kept = count.saturating_sub(usize::from(general.is_some()));
         match problem {
             Problem::VariableComputed => {
-                let name = word_at(self.text, at);
+                let name = prefix_word(self.text.get(at..).unwrap_or(&[]));
                 if let Some((wrong, correction)) = computed_name(self.program, name, self.before) {
                     notes.truncate(count.saturating_sub(2));
-                    notes.say(&[Part::Text(wrong), Part::Text(": `"), Part::Bytes(name)])?;
-                    notes.add(&[Part::Text("`")])?;
-                    return notes.say(&[Part::Text(correction)]);
+                    notes.say_with("{}: `{}`", &[Part::Text(wrong), Part::Bytes(name)])?;
+                    return notes.say(correction);
                 }
             }
             Problem::Byte | Problem::Expected(_) | Problem::Plain(FaultKind::Grammar) => {
                 if let Some(correction) = foreign_correction(self.text, at) {
                     notes.truncate(kept);
-                    return notes.say(&[Part::Text(correction)]);
+                    return notes.say(correction);
                 }
             }
             _ => {}
@@ -146,18 +136,14 @@ impl<'a> FaultPlace<'a> {
         let kind = fault_kind(problem);
         tell_correction(notes, self.text, &ProgFault { kind, at })?;
         match general {
-            Some(general) if notes.count() == kept => notes.say(&[Part::Text(general)]),
+            Some(general) if notes.count() == kept => notes.say(general),
             _ => Ok(()),
         }
     }
 
     /// The line and the column, the text of the line with a mark under the place, what is wrong, and what was probably meant.
     pub(crate) fn explanation(&self, alloc: Global) -> Result<Notes, AllocError> {
-        let mut notes = Notes::new(alloc);
-        let lines = message(alloc, self.text, self.fault)?;
-        for line in &lines {
-            notes.say(&[Part::Bytes(line.as_slice())])?;
-        }
+        let mut notes = fault_notes(alloc, 0, self.text, self.fault)?;
         self.correct(&mut notes)?;
         Ok(notes)
     }

@@ -22,7 +22,6 @@ struct Filler {
     // The last reply to the present line, if it has one.
     reply: Vec<u8>,
     is_answered: bool,
-    is_out_of_memory: bool,
 }
 
 impl Filler {
@@ -53,12 +52,11 @@ impl Explainer<Option<LineFault>> for Filler {
         true
     }
 
-    fn hear(&mut self, _alloc: Global, line: &ExpandedLine<'_>) -> Echo {
+    fn hear(&mut self, _alloc: Global, line: &ExpandedLine<'_>) -> Result<Echo, AllocError> {
         if line.is_first {
-            let begun = self.begin(line.written);
-            self.is_out_of_memory = self.is_out_of_memory || begun.is_err();
+            self.begin(line.written)?;
         }
-        Echo::Nothing
+        Ok(Echo::Nothing)
     }
 
     fn explain(
@@ -69,11 +67,10 @@ impl Explainer<Option<LineFault>> for Filler {
         _told: Told<'_>,
         reply: &[u8],
         _notes: &mut Notes,
-    ) {
+    ) -> Result<(), AllocError> {
         self.reply.clear();
-        let kept = self.reply.extend_from_slice(reply);
-        self.is_out_of_memory = self.is_out_of_memory || kept.is_err();
         self.is_answered = true;
+        self.reply.extend_from_slice(reply)
     }
 }
 
@@ -92,7 +89,6 @@ fn fill_open<R: Source + Typed, W: Sink, E: Sink>(
         text: Vec::from_slice(alloc, session.text())?,
         reply: Vec::new(alloc),
         is_answered: false,
-        is_out_of_memory: false,
     };
     if filler.text.last() != Some(&b'\n') {
         filler.text.extend_from_slice(b"\n")?;
@@ -110,9 +106,6 @@ fn fill_open<R: Source + Typed, W: Sink, E: Sink>(
         filler.begin(lines.input().line(span))?;
     }
     filler.end()?;
-    if filler.is_out_of_memory {
-        return Err(ServeFault::Memory);
-    }
     write_text(filler.text.as_slice(), writer)?;
     Ok(Served::Done)
 }

@@ -2,101 +2,33 @@
 
 use crate::expanding::{write_fault, write_notes};
 use crate::written_program::{ReadText, WrittenProgram, read_text};
-use dbg_base::{Choice, Name, Pid};
+use dbg_base::{Choice, Pid};
 use proc_lang::Program;
 use shell_input::{Input, read_program_text, text_alone};
 use shell_io::{Sink, Source};
 use shell_print::{ServeFault, Served, tell_too_long};
 use std::alloc::{AllocError, Global};
-use ui_text::{Notes, Part};
-
-// The name of a process in the text of its author.
-fn written_name(
-    alloc: Global,
-    program: &Program,
-    written: &WrittenProgram,
-    pid: Pid,
-) -> Result<Vec<u8>, AllocError> {
-    let found = match written.expansion() {
-        Some(expansion) => expansion.process_name(alloc, pid)?,
-        None => None,
-    };
-    match (found, program.process_name(pid)) {
-        (Some(name), _) => Ok(name),
-        (None, Some(name)) => Vec::from_slice(alloc, name.bytes()),
-        (None, None) => Ok(Vec::new(alloc)),
-    }
-}
-
-// The plain name of the process that has this name in the text of the author, or this name if none has.
-fn put_plain_name(
-    alloc: Global,
-    program: &Program,
-    written: &WrittenProgram,
-    word: &[u8],
-    names: &mut Vec<u8>,
-) -> Result<(), AllocError> {
-    for p in 0..program.processes() {
-        if written_name(alloc, program, written, Pid(p))?.as_slice() == word {
-            if let Some(name) = program.process_name(Pid(p)) {
-                return names.extend_from_slice(name.bytes());
-            }
-        }
-    }
-    names.extend_from_slice(word)
-}
-
-/// A list of processes, separated by commas, with their plain names in place of those in the text of the author.
-pub(crate) fn plain_names(
-    alloc: Global,
-    program: &Program,
-    written: &WrittenProgram,
-    list: &str,
-) -> Result<Vec<u8>, AllocError> {
-    let mut names = Vec::new(alloc);
-    for (number, word) in list.as_bytes().split(|byte| *byte == b',').enumerate() {
-        if number > 0 {
-            names.push(b',')?;
-        }
-        put_plain_name(alloc, program, written, word.trim_ascii(), &mut names)?;
-    }
-    Ok(names)
-}
-
-// Appends the line of a command.
-fn put_command(
-    notes: &mut Notes,
-    plain: Name,
-    number: u32,
-    line: usize,
-    name: &[u8],
-    label: &[u8],
-) -> Result<(), AllocError> {
-    notes.say(&[Part::Name(plain), Part::Text("\t")])?;
-    notes.add(&[Part::Number(i64::from(number)), Part::Text("\t")])?;
-    notes.add(&[Part::Count(line), Part::Text("\t")])?;
-    notes.add(&[Part::Bytes(name), Part::Text("\t")])?;
-    notes.add(&[Part::Bytes(label)])
-}
+use ui_text::{Notes, Part, ProgramText};
 
 // Appends the lines of the commands of a process.
 fn put_process(
-    alloc: Global,
     notes: &mut Notes,
     program: &Program,
-    written: &WrittenProgram,
+    text: &ProgramText,
     pid: Pid,
 ) -> Result<(), AllocError> {
-    let Some(plain) = program.process_name(pid) else {
-        return Ok(());
-    };
-    let name = written_name(alloc, program, written, pid)?;
-    let text = written.text();
     for number in 0..program.commands(pid) {
         let choice = Choice(number);
-        let line = text.place(pid, choice).map_or(0, |place| place.number);
-        let label = text.label(pid, choice);
-        put_command(notes, plain, number, line, name.as_slice(), label)?;
+        notes.say_with(
+            "{}\t{}\t{}\t{}\t{}",
+            &[
+                Part::Bytes(text.process_name(pid)),
+                Part::Natural(number),
+                Part::Count(text.place(pid, choice).unwrap_or(0)),
+                Part::Bytes(text.written_name(pid)),
+                Part::Bytes(text.label(pid, choice)),
+            ],
+        )?;
     }
     Ok(())
 }
@@ -110,7 +42,7 @@ fn write_commands<W: Sink>(
 ) -> Result<Served, ServeFault> {
     let mut notes = Notes::new(alloc);
     for p in 0..program.processes() {
-        put_process(alloc, &mut notes, program, written, Pid(p))?;
+        put_process(&mut notes, program, written.text(), Pid(p))?;
     }
     write_notes(&notes, writer)?;
     Ok(Served::Done)
@@ -148,11 +80,10 @@ fn write_hint<E: Sink>(
         return Ok(());
     }
     let mut notes = Notes::new(alloc);
-    notes.say(&[Part::Text("hint: '")])?;
-    notes.add(&[Part::Text(name)])?;
-    notes.add(&[Part::Text(
-        "' is in the model notation, which `check --explain`, `talk`, `test` and `draw` read; `expand` makes it plain",
-    )])?;
+    notes.say_with(
+        "hint: '{}' is in the model notation, which `check --explain`, `talk`, `test` and `draw` read; `expand` makes it plain",
+        &[Part::Text(name)],
+    )?;
     write_notes(&notes, errors)
 }
 

@@ -82,7 +82,7 @@ impl OpenSession {
         )?;
         Ok(PlayedSession {
             served,
-            explainer: dialogue.into_explainer(),
+            explainer: dialogue.into_explainer()?,
             lines,
         })
     }

@@ -1,10 +1,10 @@
 //! A line of a session as its author wrote it, and the lines that are played for it.
 
-use crate::words::{LineWords, completed, is_plain, repeated, without_comment};
+use crate::words::{LineWords, completed, is_for, is_plain, repeated, without_comment};
 use crate::written_program::WrittenProgram;
 use dbg_base::Name;
 use dbg_base::limits::LINE_BYTES;
-use notation::{Fault, LineExpander, NotationError, PlainLines};
+use notation::{Fault, LineExpander, NotationError};
 use shell_input::Span;
 use shell_io::GivenLine;
 use shell_serve::Answer;
@@ -30,7 +30,7 @@ pub(crate) struct ReadLine<'a> {
     pub(crate) fault: Option<LineFault>,
     pub(crate) is_typed: bool,
     // Its plain lines, and how many of them were begun. There is none if the line is plain.
-    plain: PlainLines,
+    plain: Vec<Vec<u8>>,
     next: usize,
     // The line that is played, unless it is played as it is written, or memory ran out before it was made, and how often it is to be
     // played again.
@@ -62,7 +62,7 @@ impl<'a> ReadLine<'a> {
             span: Span { from: 0, to: 0 },
             fault: None,
             is_typed: false,
-            plain: PlainLines::new(alloc),
+            plain: Vec::new(alloc),
             next: 0,
             played: Vec::new(alloc),
             is_as_written: false,
@@ -74,29 +74,45 @@ impl<'a> ReadLine<'a> {
 
     // Makes the plain lines of a command line without its comment. If it cannot be expanded, it stays as it is.
     fn expand(&mut self, line: &[u8]) -> Result<(), AllocError> {
-        let whole = completed(self.alloc, line)?;
+        let head = match &self.expander {
+            Some(expander) if is_for(line) => expander.head(line)?,
+            _ => 0,
+        };
+        let whole = completed(self.alloc, line, head)?;
         let line = match &whole {
             Some(whole) => whole.as_slice(),
             None => line,
         };
         let Some(expander) = &mut self.expander else {
-            return self.plain.push(line);
+            return self.put_plain(line);
         };
-        match expander.expand(line, &mut self.plain) {
-            Ok(()) if self.plain.count() == 0 => self.plain.push(b""),
-            Ok(()) => Ok(()),
+        match expander.expand(line) {
+            Ok(lines) => self.plain = lines,
             Err(NotationError::Bad(fault)) => {
                 let process = expander.process();
                 self.fault = Some(LineFault { fault, process });
-                self.plain.push(line)
+                self.put_plain(line)?;
             }
-            Err(NotationError::Memory) => Err(AllocError),
+            Err(NotationError::Memory) => return Err(AllocError),
         }
+        if self.plain.is_empty() {
+            self.put_plain(&[])?;
+        }
+        Ok(())
+    }
+
+    // Appends a plain line.
+    fn put_plain(&mut self, line: &[u8]) -> Result<(), AllocError> {
+        self.plain.push(Vec::from_slice(self.alloc, line)?)?;
+        Ok(())
     }
 
     // Begins to play the next plain line.
     fn take(&mut self) -> Result<(), AllocError> {
-        let line = self.plain.line(self.next);
+        let line = match self.plain.get(self.next) {
+            Some(line) => line.as_slice(),
+            None => &[],
+        };
         self.next = self.next.saturating_add(1);
         self.played.clear();
         let (once, times) = match repeated(line, &LineWords::of(line)) {
@@ -134,7 +150,9 @@ impl<'a> ReadLine<'a> {
         if self.fault.is_some() {
             self.fault = None;
         }
-        self.plain.clear();
+        if !self.plain.is_empty() {
+            self.plain.clear();
+        }
         self.next = 0;
         self.is_first = true;
         self.is_as_written = self.expander.is_none() && is_plain(line);
@@ -150,7 +168,7 @@ impl<'a> ReadLine<'a> {
             return true;
         }
         self.again = 0;
-        if self.is_lost || self.next >= self.plain.count() {
+        if self.is_lost || self.next >= self.plain.len() {
             return false;
         }
         self.is_lost = self.take().is_err();
@@ -168,6 +186,6 @@ impl<'a> ReadLine<'a> {
 
     /// Whether nothing more is played for it, whatever the answer is.
     pub(crate) fn is_last(&self) -> bool {
-        self.again == 0 && (self.is_lost || self.next >= self.plain.count())
+        self.again == 0 && (self.is_lost || self.next >= self.plain.len())
     }
 }

@@ -1,7 +1,7 @@
 //! The explanations of an interactive session.
 
 use crate::read_line::{ExpandedLine, LineFault};
-use crate::words::without_seat;
+use crate::words::{is_for, without_seat};
 use crate::written_program::WrittenProgram;
 use dbg_base::{Call, Name, Pid, Refusal, Said};
 use dbg_command::SessionView;
@@ -54,11 +54,6 @@ impl LineKind {
     }
 }
 
-// Whether a line begins with `for`.
-fn is_for(line: &[u8]) -> bool {
-    next_word(without_seat(line)).0 == b"for".as_slice()
-}
-
 // How a typed line, or a plain line of one, is written.
 fn echo_of_typed(line: &ExpandedLine<'_>) -> Echo {
     let is_alone = !is_for(line.written) || is_for(line.played.unwrap_or(line.written));
@@ -80,7 +75,6 @@ fn view_of<'b>(program: &'b WrittenProgram, session: SessionView<'b>) -> SourceV
     SourceView {
         session,
         text: program.text(),
-        longest_name: program.longest_name(),
     }
 }
 
@@ -151,11 +145,10 @@ impl<'a> Sentences<'a> {
         taken_back: Option<CountedCommand<'_>>,
     ) -> Result<(), Refusal> {
         if let Some(command) = taken_back {
-            notes.say(&[
-                Part::Text("taken back: `"),
-                Part::Bytes(command.line.trim_ascii()),
-                Part::Text("`"),
-            ])?;
+            notes.say_with(
+                "taken back: `{}`",
+                &[Part::Bytes(command.line.trim_ascii())],
+            )?;
         }
         if !self.is_prepared {
             return Ok(());
@@ -176,14 +169,13 @@ impl<'a> Sentences<'a> {
 
     // Says that nothing is left, in place of an explanation.
     fn tell_end(notes: &mut Notes) {
-        let (most, after) = (Part::Count(EXPLAINED_BYTES), Part::Text(" bytes of them"));
-        let before = Part::Text("no explanation: a session has at most ");
-        let _ended = notes.say(&[before, most, after]);
+        let words = "no explanation: a session has at most {} bytes of them";
+        let _ended = notes.say_with(words, &[Part::Count(EXPLAINED_BYTES)]);
     }
 
     // Draws the whole session.
-    fn draw(&self, alloc: Global, notes: &mut Notes, view: SessionView<'_>) -> Result<(), Refusal> {
-        let selection = Selection::of(alloc, view.program, None, ALL_EVENTS as usize)?;
+    fn draw(&self, alloc: Global, notes: &mut Notes, view: SourceView<'_>) -> Result<(), Refusal> {
+        let selection = Selection::of(alloc, view, None, ALL_EVENTS as usize)?;
         draw_text(alloc, notes, view, &selection, self.width)
     }
 
@@ -205,7 +197,7 @@ impl<'a> Sentences<'a> {
             Directive::List(name) => view.tell_list(alloc, notes, name),
             Directive::State(name) => view.tell_state(alloc, notes, name),
             Directive::Line(name) => Ok(view.tell_line(notes, name)?),
-            Directive::Draw => self.draw(alloc, notes, view.session),
+            Directive::Draw => self.draw(alloc, notes, view),
             Directive::TooLong(word) => Ok(tell_too_long(notes, word)?),
             Directive::ToFile(word) => Ok(tell_to_file(notes, word)?),
         }
@@ -215,20 +207,20 @@ impl<'a> Sentences<'a> {
 impl Explainer<Option<LineFault>> for Sentences<'_> {
     // The terminal already shows what was typed, but not the plain lines of a `for`. Of other lines, those that belong together are together:
     // comments, a command, and the reply that is expected to it.
-    fn hear(&mut self, _alloc: Global, line: &ExpandedLine<'_>) -> Echo {
+    fn hear(&mut self, _alloc: Global, line: &ExpandedLine<'_>) -> Result<Echo, AllocError> {
         let before = self.last_kind;
         let kind = LineKind::of(line.played.unwrap_or(line.written));
         if before != LineKind::None || kind != LineKind::Blank {
             self.last_kind = kind;
         }
         if line.is_typed {
-            return echo_of_typed(line);
+            return Ok(echo_of_typed(line));
         }
-        match (before, kind) {
+        Ok(match (before, kind) {
             (_, LineKind::Blank) => Echo::Nothing,
             (LineKind::None | LineKind::Comment, _) | (_, LineKind::Expectation) => Echo::Line,
             (LineKind::Blank | LineKind::Command | LineKind::Expectation, _) => Echo::Separated,
-        }
+        })
     }
 
     fn prepare(
@@ -250,7 +242,7 @@ impl Explainer<Option<LineFault>> for Sentences<'_> {
         told: Told<'_>,
         _reply: &[u8],
         notes: &mut Notes,
-    ) {
+    ) -> Result<(), AllocError> {
         let is_accepted = matches!(told, Told::Said(_, Said::Accepted(_), _));
         self.before.settle(notes, self.is_prepared && is_accepted);
         match told {
@@ -265,6 +257,7 @@ impl Explainer<Option<LineFault>> for Sentences<'_> {
                 self.spend(notes, self.program.text().text().len());
             }
         }
+        Ok(())
     }
 
     fn answer_directive(

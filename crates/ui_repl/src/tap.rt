@@ -10,8 +10,8 @@ use ui_text::{Notes, Part};
 /// Writes how many results follow.
 pub fn write_plan<W: Sink>(alloc: Global, count: usize, writer: &mut W) -> Result<(), ServeFault> {
     let mut notes = Notes::new(alloc);
-    notes.say(&[Part::Text("TAP version 13")])?;
-    notes.say(&[Part::Text("1.."), Part::Count(count)])?;
+    notes.say("TAP version 13")?;
+    notes.say_with("1..{}", &[Part::Count(count)])?;
     write_notes(&notes, writer)
 }
 
@@ -30,20 +30,15 @@ pub fn write_result<W: Sink>(
     let is_ok = tested == Tested::Passed || is_skipped;
     let mut notes = Notes::new(alloc);
     let word = Part::Text(if is_ok { "ok " } else { "not ok " });
-    notes.say(&[
-        word,
-        Part::Count(number),
-        Part::Text(" - "),
-        Part::Text(name),
-    ])?;
+    notes.say_with("{}{} - {}", &[word, Part::Count(number), Part::Text(name)])?;
     if is_skipped {
-        notes.add(&[Part::Text(" # SKIP no expected reply")])?;
+        notes.add(" # SKIP no expected reply")?;
     }
     for line in report
         .split(|byte| *byte == b'\n')
         .filter(|line| !is_ok && !line.is_empty())
     {
-        notes.say(&[Part::Text("# "), Part::Bytes(line)])?;
+        notes.say_with("# {}", &[Part::Bytes(line)])?;
     }
     write_notes(&notes, writer)
 }

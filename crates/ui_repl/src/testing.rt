@@ -51,7 +51,6 @@ struct Tester<'a> {
     lines: Vec<PlayedLine>,
     // The report of the first expected reply that was not the reply.
     report: Option<Notes>,
-    is_out_of_memory: bool,
 }
 
 impl Drop for Tester<'_> {
@@ -64,21 +63,25 @@ impl Drop for Tester<'_> {
             asked: _,
             lines: _,
             report: _,
-            is_out_of_memory: _,
         } = self;
     }
 }
 
 // Begins a report with the name of the session, and a line with its number.
-fn begin_report(
+fn begin_report<'x>(
     notes: &mut Notes,
-    name: &str,
+    name: &'x str,
     number: usize,
-    line: &[u8],
+    line: &'x [u8],
 ) -> Result<(), AllocError> {
-    notes.say(&[Part::Text(name)])?;
-    notes.add(&[Part::Text(":"), Part::Count(number), Part::Text(": ")])?;
-    notes.add(&[Part::Bytes(without_return(line))])
+    notes.say_with(
+        "{}:{}: {}",
+        &[
+            Part::Text(name),
+            Part::Count(number),
+            Part::Bytes(without_return(line)),
+        ],
+    )
 }
 
 impl<'a> Tester<'a> {
@@ -97,7 +100,6 @@ impl<'a> Tester<'a> {
             },
             lines: Vec::new(alloc),
             report: None,
-            is_out_of_memory: false,
         }
     }
 
@@ -106,13 +108,11 @@ impl<'a> Tester<'a> {
         let mut notes = Notes::new(self.alloc);
         let (number, line) = (self.asked.number, self.asked.text.as_slice());
         begin_report(&mut notes, self.name, number, line)?;
-        notes.say(&[Part::Text("  expected: ")])?;
-        notes.add(&[Part::Bytes(wanted)])?;
-        notes.say(&[Part::Text("  reply:    ")])?;
-        notes.add(&[Part::Bytes(reply)])?;
+        notes.say_with("  expected: {}", &[Part::Bytes(wanted)])?;
+        notes.say_with("  reply:    {}", &[Part::Bytes(reply)])?;
         for number in 0..self.asked.notes.count() {
             let line = Part::Bytes(self.asked.notes.line(number).bytes);
-            notes.say(&[Part::Text("    "), line])?;
+            notes.say_with("    {}", &[line])?;
         }
         Ok(notes)
     }
@@ -121,9 +121,7 @@ impl<'a> Tester<'a> {
     fn tell_misplaced(&self, line: &[u8]) -> Result<Notes, AllocError> {
         let mut notes = Notes::new(self.alloc);
         begin_report(&mut notes, self.name, self.number, line)?;
-        notes.say(&[Part::Text(
-            "  an expected reply follows the command line that it is for, once",
-        )])?;
+        notes.say("  an expected reply follows the command line that it is for, once")?;
         Ok(notes)
     }
 
@@ -172,24 +170,17 @@ impl<'a> Tester<'a> {
     // The report, and the result.
     fn result(&mut self) -> Result<(Notes, Tested), ServeFault> {
         let compared = compare(self.lines.as_slice()).compared;
-        if self.is_out_of_memory {
-            return Err(ServeFault::Memory);
-        }
         if let Some(report) = self.report.take() {
             return Ok((report, Tested::Failed));
         }
         let mut notes = Notes::new(self.alloc);
-        notes.say(&[Part::Text(self.name)])?;
+        notes.say_with("{}: ", &[Part::Text(self.name)])?;
         if compared == 0 {
-            notes.add(&[Part::Text(": no line `> REPLY` gives an expected reply")])?;
+            notes.add("no line `> REPLY` gives an expected reply")?;
             return Ok((notes, Tested::Unchecked));
         }
-        let word = if compared == 1 { " reply" } else { " replies" };
-        notes.add(&[
-            Part::Text(": ok, "),
-            Part::Count(compared),
-            Part::Text(word),
-        ])?;
+        let replies = Part::Text(if compared == 1 { "reply" } else { "replies" });
+        notes.add_with("ok, {} {}", &[Part::Count(compared), replies])?;
         Ok((notes, Tested::Passed))
     }
 }
@@ -199,15 +190,14 @@ impl Explainer<Option<LineFault>> for Tester<'_> {
         true
     }
 
-    fn hear(&mut self, alloc: Global, line: &ExpandedLine<'_>) -> Echo {
-        let _echo = self.sentences.hear(alloc, line);
+    fn hear(&mut self, alloc: Global, line: &ExpandedLine<'_>) -> Result<Echo, AllocError> {
+        let _echo = self.sentences.hear(alloc, line)?;
         if line.is_first {
-            let begun = self.begin(line.written);
-            self.is_out_of_memory = self.is_out_of_memory || begun.is_err();
+            self.begin(line.written)?;
         } else {
             self.asked.notes.truncate(0);
         }
-        Echo::Nothing
+        Ok(Echo::Nothing)
     }
 
     fn prepare(&mut self, alloc: Global, view: SessionView<'_>, call: &Call, _notes: &mut Notes) {
@@ -223,13 +213,11 @@ impl Explainer<Option<LineFault>> for Tester<'_> {
         told: Told<'_>,
         reply: &[u8],
         _notes: &mut Notes,
-    ) {
-        let kept = Vec::from_slice(alloc, reply);
-        self.is_out_of_memory = self.is_out_of_memory || kept.is_err();
-        self.asked.reply = kept.ok();
+    ) -> Result<(), AllocError> {
+        self.asked.reply = Some(Vec::from_slice(alloc, reply)?);
         let notes = &mut self.asked.notes;
         self.sentences
-            .explain(alloc, view, line, told, reply, notes);
+            .explain(alloc, view, line, told, reply, notes)
     }
 }
 
@@ -255,7 +243,7 @@ fn test_open<'a, R: Source + Typed>(
     }
     if served == Served::TooLong {
         let mut notes = Notes::new(alloc);
-        notes.say(&[Part::Text(name), Part::Text(": input too long")])?;
+        notes.say_with("{}: input too long", &[Part::Text(name)])?;
         return Ok((notes, Tested::Failed));
     }
     tester.result()

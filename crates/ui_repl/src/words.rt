@@ -63,57 +63,15 @@ pub(crate) fn is_plain(line: &[u8]) -> bool {
     }
 }
 
+/// Whether a line begins with `for`, after a seat if it has one.
+pub(crate) fn is_for(line: &[u8]) -> bool {
+    next_word(without_seat(line)).0 == b"for".as_slice()
+}
+
 /// The line without its seat.
 pub(crate) fn without_seat(line: &[u8]) -> &[u8] {
     let (first, rest) = next_word(line);
     if is_number(first) { rest } else { line }
-}
-
-// What follows the head of a repetition that begins here: `for`, a name and a colon.
-fn past_name(bytes: &[u8]) -> Option<&[u8]> {
-    let rest = bytes.strip_prefix(b"for".as_slice())?;
-    let name = rest.trim_ascii_start();
-    let length = name.iter().take_while(|byte| is_word_byte(**byte)).count();
-    if name.len() == rest.len() || length == 0 {
-        return None;
-    }
-    name.get(length..)?
-        .trim_ascii_start()
-        .strip_prefix(b":".as_slice())
-}
-
-// What follows the ranges of a repetition, of which the first begins here: they end at the first colon outside brackets and parentheses that
-// belongs to no `for`.
-fn past_ranges(ranges: &[u8]) -> Option<&[u8]> {
-    let mut depth = 0usize;
-    let mut before = b' ';
-    // Where the colon of the last `for` ends.
-    let mut head = 0usize;
-    for (at, byte) in ranges.iter().enumerate() {
-        if at < head {
-            continue;
-        }
-        let rest = ranges.get(at..)?;
-        match byte {
-            b'(' | b'[' => depth = depth.saturating_add(1),
-            b')' | b']' => depth = depth.saturating_sub(1),
-            b':' if depth == 0 => return rest.get(1..),
-            b'f' if depth == 0 && !is_word_byte(before) => {
-                if let Some(next) = past_name(rest) {
-                    head = ranges.len().saturating_sub(next.len());
-                }
-            }
-            _ => {}
-        }
-        before = *byte;
-    }
-    None
-}
-
-// The command of a line, without the heads `for ..:` before it.
-fn after_heads(line: &[u8]) -> &[u8] {
-    let heads = past_name(without_seat(line).trim_ascii_start());
-    heads.and_then(past_ranges).unwrap_or(line)
 }
 
 // How many words there are. Blanks in brackets or parentheses separate no words.
@@ -157,11 +115,15 @@ pub(crate) fn wanted(line: &[u8]) -> Option<&[u8]> {
     Some(line.get(from.saturating_add(1)..)?.trim_ascii())
 }
 
-/// The line, which has no comment, with its command word completed, if that is the start of exactly one that fits. None if the line stays as
-/// it is.
-pub(crate) fn completed(alloc: Global, line: &[u8]) -> Result<Option<Vec<u8>>, AllocError> {
+/// The line, which has no comment, with its command word completed, if that is the start of exactly one that fits. The command follows so many
+/// bytes. None if the line stays as it is.
+pub(crate) fn completed(
+    alloc: Global,
+    line: &[u8],
+    head: usize,
+) -> Result<Option<Vec<u8>>, AllocError> {
     let code = without_return(line);
-    let words = LineWords::of(after_heads(code));
+    let words = LineWords::of(code.get(head..).unwrap_or(&[]));
     if words.are_whole() {
         return Ok(None);
     }

@@ -6,19 +6,17 @@ ghost use Rattle.shell_print.specs.declared.outcome.ServeFault.TheVariants.{Memo
 use crate::fault_places::FaultPlace;
 use crate::read_line::LineFault;
 use crate::words::without_seat;
-use dbg_base::{Choice, Pid};
+use dbg_base::{Choice, Name, Pid};
 use notation::{ExpandedProgram, Expansion, Fault, NotationError, Problem, expand_program};
 use proc_lang::{ProgError, Program, parse_program};
 use shell_parse::next_word;
 use shell_print::ServeFault;
 use std::alloc::{AllocError, Global};
-use ui_explain::longest_name;
-use ui_text::{DeclaredAs, Notes, Part, ProgramText, find_declaration};
+use ui_text::{DeclaredAs, Notes, Part, ProgramText, command_offsets, find_declaration};
 
 /// The text of a program as its author wrote it, and its expansion if it is in the notation.
 pub struct WrittenProgram {
     text: ProgramText,
-    longest_name: usize,
     expansion: Option<Expansion>,
 }
 
@@ -26,7 +24,6 @@ impl Drop for WrittenProgram {
     fn drop(self) {
         let WrittenProgram {
             text: _,
-            longest_name: _,
             expansion: _,
         } = self;
     }
@@ -41,23 +38,46 @@ pub(crate) enum ReadText {
     Wrong(Fault),
 }
 
-// The text of a model, with the place and the label of each command.
+// The bytes of a name, if there is one.
+fn name_bytes(name: &Option<Name>) -> &[u8] {
+    match name {
+        Some(name) => name.bytes(),
+        None => &[],
+    }
+}
+
+// A text of this program, with the names of processes and variables, and the place and the label of each command.
 fn text_of(
     alloc: Global,
     text: &[u8],
-    expansion: &Expansion,
+    expansion: Option<&Expansion>,
     program: &Program,
 ) -> Result<ProgramText, AllocError> {
-    let mut source = ProgramText::without_commands(alloc, text)?;
+    let mut written = ProgramText::new(alloc, text)?;
+    let offsets = command_offsets(alloc, text)?;
+    let mut plain = offsets.iter().copied();
     for p in 0..program.processes() {
-        source.add_process(alloc)?;
-        for number in 0..program.commands(Pid(p)) {
-            let (pid, choice) = (Pid(p), Choice(number));
-            let at = expansion.command_place(pid, choice).unwrap_or(0);
-            source.add_command(alloc, at, expansion.label(pid, choice))?;
+        let pid = Pid(p);
+        let plain_name = program.process_name(pid);
+        let name = match expansion {
+            Some(expansion) => expansion.process_name(alloc, pid)?,
+            None => None,
+        };
+        let name = name
+            .as_ref()
+            .map_or(name_bytes(&plain_name), |name| name.as_slice());
+        written.add_process(alloc, name_bytes(&plain_name), name)?;
+        for variable in 0..program.variables(pid) {
+            written.add_variable(alloc, name_bytes(&program.variable_name(pid, variable)))?;
+        }
+        for number in 0..program.commands(pid) {
+            let plain_at = plain.next().unwrap_or(0);
+            let found = expansion.and_then(|expansion| expansion.command(pid, Choice(number)));
+            let (at, label) = found.unwrap_or((plain_at, &[]));
+            written.add_command(alloc, at, label)?;
         }
     }
-    Ok(source)
+    Ok(written)
 }
 
 /// Reads a program text. A program of the process language is never expanded.
@@ -67,8 +87,7 @@ pub(crate) fn read_text(alloc: Global, text: &[u8]) -> Result<ReadText, ServeFau
     match parse_program(alloc, text) {
         Ok(program) => {
             let written = WrittenProgram {
-                text: ProgramText::new(alloc, text)?,
-                longest_name: longest_name(&program),
+                text: text_of(alloc, text, None, &program)?,
                 expansion: None,
             };
             return Ok(ReadText::Program(written, program));
@@ -79,8 +98,7 @@ pub(crate) fn read_text(alloc: Global, text: &[u8]) -> Result<ReadText, ServeFau
     match expand_program(alloc, text) {
         Ok(ExpandedProgram { expansion, program }) => {
             let written = WrittenProgram {
-                text: text_of(alloc, text, &expansion, &program)?,
-                longest_name: longest_name(&program),
+                text: text_of(alloc, text, Some(&expansion), &program)?,
                 expansion: Some(expansion),
             };
             Ok(ReadText::Program(written, program))
@@ -109,11 +127,6 @@ impl WrittenProgram {
         self.expansion.as_ref()
     }
 
-    /// How many bytes the longest name of a process has.
-    pub(crate) fn longest_name(&self) -> usize {
-        self.longest_name
-    }
-
     /// The text, with the places of the commands.
     pub(crate) fn text(&self) -> &ProgramText {
         &self.text
@@ -127,15 +140,10 @@ impl WrittenProgram {
                 found.is_family && found.kind == DeclaredAs::Process
             });
             if is_family {
-                notes.say(&[
-                    Part::Text("`"),
-                    Part::Bytes(word),
-                    Part::Text(
-                        "` is a family of processes: an index in brackets chooses one, as in `",
-                    ),
-                    Part::Bytes(word),
-                    Part::Text("[1]`"),
-                ])?;
+                notes.say_with(
+                    "`{}` is a family of processes: an index in brackets chooses one, as in `{}[1]`",
+                    &[Part::Bytes(word), Part::Bytes(word)],
+                )?;
                 return Ok(true);
             }
         }
@@ -155,10 +163,10 @@ impl WrittenProgram {
         // The number of the line in its text says nothing here.
         let explanation = place.explanation(alloc)?;
         for number in 1..explanation.count() {
-            notes.say(&[Part::Bytes(explanation.line(number).bytes)])?;
+            notes.say_with("{}", &[Part::Bytes(explanation.line(number).bytes)])?;
         }
         if let Some(words) = usual_for(line) {
-            notes.say(&[Part::Text(words)])?;
+            notes.say(words)?;
         }
         if fault.fault.problem() != Problem::NoLabel {
             return Ok(());
@@ -186,12 +194,12 @@ impl WrittenProgram {
                 continue;
             }
             if is_begun {
-                notes.add(&[Part::Text(", ")])?;
+                notes.add(", ")?;
             } else {
                 let name = Part::Name(name);
-                notes.say(&[Part::Text("the labels of "), name, Part::Text(" are ")])?;
+                notes.say_with("the labels of {} are ", &[name])?;
             }
-            notes.add(&[Part::Bytes(label)])?;
+            notes.add_with("{}", &[Part::Bytes(label)])?;
             is_begun = true;
         }
         Ok(())

@@ -13,7 +13,8 @@ use proc_lang::Program;
 use shell_io::{GivenLine, Noted, Sink};
 use shell_print::{ServeFault, print_refusal, print_reply};
 use shell_serve::{LineReply, LineSort, Observer};
-use std::alloc::Global;
+use std::alloc::{AllocError, Global};
+use std::mem;
 use ui_explain::{CountedCommands, Echo, Explainer, Told};
 use ui_text::Notes;
 
@@ -23,10 +24,11 @@ use ui_text::Notes;
 pub struct Dialogue<T> {
     explainer: T,
     commands: CountedCommands,
-    // The last reply, if the explainer keeps replies.
-    reply: Noted<Room>,
+    // The last reply without its line end, if the explainer keeps replies.
+    reply: Vec<u8>,
     // The last explanation.
     notes: Notes,
+    is_out_of_memory: bool,
 }
 
 impl<T> Dialogue<T> {
@@ -35,32 +37,38 @@ impl<T> Dialogue<T> {
         Dialogue {
             explainer,
             commands: CountedCommands::new(alloc),
-            reply: Noted::new(Room::Nothing),
+            reply: Vec::new(alloc),
             notes: Notes::new(alloc),
+            is_out_of_memory: false,
         }
     }
 
-    /// The explainer, after the session.
-    pub fn into_explainer(self) -> T {
-        self.explainer
+    /// The explainer, after the session. Error: memory ran out while it explained a line.
+    pub fn into_explainer(self) -> Result<T, AllocError>
+    where
+        T: Drop,
+    {
+        if self.is_out_of_memory {
+            return Err(AllocError);
+        }
+        Ok(self.explainer)
     }
 }
 
-// Keeps the reply to a line in place of the last one.
-fn keep_reply(alloc: Global, program: &Program, reply: LineReply<'_>, kept: &mut Noted<Room>)
+// Keeps the reply to a line, without its line end, in place of the last one.
+fn keep_reply(alloc: Global, program: &Program, reply: LineReply<'_>, kept: &mut Vec<u8>)
     requires { FitsReply (program_of program.now) reply }
 {
-    *kept = Noted::new(Room::Text(Vec::new(alloc)));
+    kept.clear();
+    let mut line = Noted::new(Room::Text(mem::replace(kept, Vec::new(alloc))));
     let _written = match reply {
-        LineReply::Said(call, said) => print_reply(program, call, said, kept),
-        LineReply::Refused(refusal) => print_refusal(program, refusal, kept),
+        LineReply::Said(call, said) => print_reply(program, call, said, &mut line),
+        LineReply::Refused(refusal) => print_refusal(program, refusal, &mut line),
     };
-}
-
-// The reply without its line end.
-fn reply_of(reply: &Noted<Room>) -> &[u8] {
-    let line = reply.device().text();
-    line.strip_suffix(b"\n".as_slice()).unwrap_or(line)
+    *kept = line.into_inner().into_text(alloc);
+    if kept.last() == Some(&b'\n') {
+        let _end = kept.pop();
+    }
 }
 
 // What was said to a line. An accepted `back` took back the last command.
@@ -86,12 +94,14 @@ fn count(commands: &mut CountedCommands, line: &[u8], reply: LineReply<'_>) {
 impl<T: Explainer<N>, N> Observer<N> for Dialogue<T> {
     ghost manner = { interactive };
 
+    #[inline(always)]
     fn sort(&self, line: &[u8]) -> LineSort {
         sort(line)
     }
 
+    // Only styles that are shown have to be set.
     fn marks_replies(&self) -> bool {
-        true
+        self.notes.has_styles()
     }
 
     fn before<W: Sink>(
@@ -101,7 +111,9 @@ impl<T: Explainer<N>, N> Observer<N> for Dialogue<T> {
         writer: &mut W,
     ) -> Result<(), ServeFault> {
         self.notes.begin(writer.shows_styles());
-        let echo = self.explainer.hear(alloc, line);
+        let heard = self.explainer.hear(alloc, line);
+        self.is_out_of_memory |= heard.is_err();
+        let echo = heard.unwrap_or(Echo::Nothing);
         let (echoes, gap) = (echo != Echo::Nothing, gap_before(echo));
         match line.played {
             Some(played) => write_echo(echoes, gap, played, writer),
@@ -137,14 +149,15 @@ impl<T: Explainer<N>, N> Observer<N> for Dialogue<T> {
         if self.explainer.keeps_replies() {
             keep_reply(alloc, view.program, reply, &mut self.reply);
         }
-        self.explainer.explain(
+        let explained = self.explainer.explain(
             alloc,
             view,
             line,
             told(&self.commands, reply),
-            reply_of(&self.reply),
+            self.reply.as_slice(),
             &mut self.notes,
         );
+        self.is_out_of_memory |= explained.is_err();
         count(
             &mut self.commands,
             line.played.unwrap_or(line.written),
@@ -154,6 +167,6 @@ impl<T: Explainer<N>, N> Observer<N> for Dialogue<T> {
     }
 
     fn end(&mut self, alloc: Global, view: SessionView<'_>) {
-        self.explainer.end(alloc, view);
+        self.is_out_of_memory |= self.explainer.end(alloc, view).is_err();
     }
 }

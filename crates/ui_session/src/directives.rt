@@ -56,26 +56,36 @@ fn verb_of(word: &[u8]) -> Option<Verb>
     }
 }
 
-/// What a line is to an interactive session.
-pub(crate) fn sort(line: &[u8]) -> LineSort
+// The same for a line of which it is not known whether it begins with a seat.
+#[inline(never)]
+fn sort_words(line: &[u8]) -> LineSort
     ensures directive { result.is_directive ≡ is_directive line.now }
     ensures ends { result.ends ≡ is_quit line.now }
     ensures seat { result.needs_seat ≡ needs_seat line.now }
 {
-    // Most lines begin with a seat, and no directive does.
-    if is_seat(line) {
-        return LineSort {
-            is_directive: false,
-            ends: false,
-            needs_seat: false,
-        };
-    }
     let (word, rest) = next_word(without_return(line));
     let verb = verb_of(word);
     LineSort {
         is_directive: is_remark(word) || verb.is_some(),
         ends: matches!(verb, Some(Verb::Quit)) && is_remark(next_word(rest).0),
         needs_seat: !is_seat(word),
+    }
+}
+
+/// What a line is to an interactive session. Most lines begin with a seat, and no directive does.
+#[inline(always)]
+pub(crate) fn sort(line: &[u8]) -> LineSort
+    ensures directive { result.is_directive ≡ is_directive line.now }
+    ensures ends { result.ends ≡ is_quit line.now }
+    ensures seat { result.needs_seat ≡ needs_seat line.now }
+{
+    if !is_seat(line) {
+        return sort_words(line);
+    }
+    LineSort {
+        is_directive: false,
+        ends: false,
+        needs_seat: false,
     }
 }
 

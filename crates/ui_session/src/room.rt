@@ -1,5 +1,6 @@
 //! A device for output that nobody sees.
 
+use std::alloc::Global;
 use std::io;
 use std::io::Write;
 
@@ -16,6 +17,14 @@ impl Room {
         match self {
             Room::Nothing => &[],
             Room::Text(text) => text.as_slice(),
+        }
+    }
+
+    /// The same.
+    pub fn into_text(self, alloc: Global) -> Vec<u8> {
+        match self {
+            Room::Nothing => Vec::new(alloc),
+            Room::Text(text) => text,
         }
     }
 }

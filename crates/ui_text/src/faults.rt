@@ -24,17 +24,17 @@ fn fault_text(kind: FaultKind) -> &'static str {
 
 /// Begins a line with a mark that is indented by the width of these bytes.
 pub fn say_mark(notes: &mut Notes, before: &[u8]) -> Result<(), AllocError> {
-    notes.say(&[])?;
+    notes.say("")?;
     for byte in before {
-        notes.add(&[Part::Text(if *byte == b'\t' { "\t" } else { " " })])?;
+        notes.add(if *byte == b'\t' { "\t" } else { " " })?;
     }
-    notes.add(&[Part::Text("^ ")])
+    notes.add("^ ")
 }
 
 /// Says what the fault of a predicate is, with a mark that is indented by the width of these bytes.
 pub fn tell_mark(notes: &mut Notes, before: &[u8], kind: FaultKind) -> Result<(), AllocError> {
     say_mark(notes, before)?;
-    notes.add(&[Part::Text(fault_text(kind))])
+    notes.add(fault_text(kind))
 }
 
 // Signs of other languages: what the text has up to the place of the fault, what it has there, and what to write.
@@ -209,30 +209,23 @@ impl<'a> UnknownName<'a> {
             return say_of_word(notes, self.name, misuse);
         }
         match self.near(notes.alloc())? {
-            Some(name) => notes.say(&[
-                Part::Text("did you mean `"),
-                Part::Bytes(name),
-                Part::Text("`?"),
-            ]),
-            None => notes.say(&[Part::Text(
+            Some(name) => notes.say_with("did you mean `{}`?", &[Part::Bytes(name)]),
+            None => notes.say(
                 "a process can name its own variables, after `var`, and other processes of the program",
-            )]),
+            ),
         }
     }
 }
 
 /// Says that no line of a text ends the program, and which line was probably meant to.
 pub fn tell_no_end_line(notes: &mut Notes, text: &[u8]) -> Result<(), AllocError> {
-    notes.say(&[Part::Text(
-        "no line is `%%`: this line ends the program, and command lines follow it",
-    )])?;
+    notes.say("no line is `%%`: this line ends the program, and command lines follow it")?;
     let mut lines = text.split(|byte| *byte == b'\n');
     match lines.position(|line| line.trim_ascii() == b"%%".as_slice()) {
-        Some(before) => notes.say(&[
-            Part::Text("line "),
-            Part::Count(before.saturating_add(1)),
-            Part::Text(" has blanks beside its `%%`"),
-        ]),
+        Some(before) => notes.say_with(
+            "line {} has blanks beside its `%%`",
+            &[Part::Count(before.saturating_add(1))],
+        ),
         None => Ok(()),
     }
 }
@@ -248,7 +241,7 @@ pub fn tell_correction(
     match fault.kind {
         FaultKind::Grammar | FaultKind::Byte => {
             match foreign_correction(text, fault.at).or(mend(before, at)) {
-                Some(correction) => notes.say(&[Part::Text(correction)]),
+                Some(correction) => notes.say(correction),
                 None => Ok(()),
             }
         }

@@ -41,22 +41,17 @@ static DIRECTIVES: [&str; 7] = [
     "`quit`: ends the session; so do `exit` and `q`",
 ];
 
-// What a word means in a line of a model that no line begins with alone.
-static PREFIXES: [&str; 1] = [
-    "`for I: LOW..HIGH : LINE`: gives LINE for each number I, as in `for i: 1..3 : next p[i]`; in a model",
-];
-
-// Other words for directives.
-static ALIASES: [(&str, &str); 3] = [("?", "help"), ("exit", "quit"), ("q", "quit")];
+// What `for` means before a line of a model.
+static FOR: &str =
+    "`for I: LOW..HIGH : LINE`: gives LINE for each number I, as in `for i: 1..3 : next p[i]`; in a model";
 
 // The word that this one is another word for, or the word itself.
 fn full_word(word: &[u8]) -> &[u8] {
-    for (alias, full) in &ALIASES {
-        if alias.as_bytes() == word {
-            return full.as_bytes();
-        }
+    match word {
+        b"?" => b"help",
+        b"exit" | b"q" => b"quit",
+        _ => word,
     }
-    word
 }
 
 // The form of this line of the help: what is between its first two backquotes.
@@ -86,11 +81,6 @@ fn is_about(line: &str, word: &[u8]) -> bool {
 fn line_about(word: &[u8]) -> Option<&'static str> {
     let mut lines = COMMANDS.iter().chain(&DIRECTIVES).copied();
     lines.find(|line| is_about(line, word))
-}
-
-// The line of the help about a word before a command.
-fn prefix_about(word: &[u8]) -> Option<&'static str> {
-    PREFIXES.iter().copied().find(|line| is_about(line, word))
 }
 
 // The same for a word that may be another word for it.
@@ -147,9 +137,9 @@ fn small_number(word: &[u8]) -> Option<u32> {
 
 /// Shows the form of the command that begins with this word. False if there is none.
 pub fn tell_word(notes: &mut Notes, word: &[u8]) -> Result<bool, AllocError> {
-    let found = help_line(word).or_else(|| prefix_about(word));
+    let found = help_line(word).or(is_about(FOR, word).then_some(FOR));
     if let Some(line) = found {
-        notes.say(&[Part::Text(line)])?;
+        notes.say(line)?;
     }
     Ok(found.is_some())
 }
@@ -169,7 +159,7 @@ pub(crate) fn say_of_word(
     word: &[u8],
     words: &'static str,
 ) -> Result<(), AllocError> {
-    notes.say(&[Part::Text("`"), Part::Bytes(word), Part::Text(words)])
+    notes.say_with("`{}{}", &[Part::Bytes(word), Part::Text(words)])
 }
 
 // Shows the commands that this word begins. False if there are none.
@@ -183,7 +173,7 @@ fn tell_begun(notes: &mut Notes, word: &[u8]) -> Result<bool, AllocError> {
             let words = "` is short for more than one command, or has the wrong words after it:";
             say_of_word(notes, word, words)?;
         }
-        notes.say(&[Part::Text(line)])?;
+        notes.say(line)?;
         is_begun = true;
     }
     Ok(is_begun)
@@ -197,7 +187,7 @@ pub fn tell_near_word(notes: &mut Notes, word: &[u8]) -> Result<(), AllocError> 
     for line in COMMANDS.iter().chain(&DIRECTIVES) {
         if are_near(notes.alloc(), word_of(line).as_bytes(), word)? {
             say_of_word(notes, word, "` is not a command; did you mean this one?")?;
-            return notes.say(&[Part::Text(line)]);
+            return notes.say(line);
         }
     }
     say_of_word(notes, word, "` is not a command; `help` lists the commands")
@@ -205,7 +195,7 @@ pub fn tell_near_word(notes: &mut Notes, word: &[u8]) -> Result<(), AllocError> 
 
 /// Says that a line which begins with this word has a word too many, and shows its form.
 pub fn tell_too_long(notes: &mut Notes, word: &[u8]) -> Result<(), AllocError> {
-    notes.say(&[Part::Text("the line has a word too many")])?;
+    notes.say("the line has a word too many")?;
     let _found = tell_word(notes, word)?;
     Ok(())
 }
@@ -218,22 +208,22 @@ pub fn tell_to_file(notes: &mut Notes, word: &[u8]) -> Result<(), AllocError> {
     } else {
         "`rdbg talk SESSION > FILE` writes a session with its answers into one"
     };
-    notes.say(&[Part::Text(words)])
+    notes.say(words)
 }
 
 /// Shows the lines that can be typed, or what a word or the number of a refusal means.
 pub fn tell_help(notes: &mut Notes, word: &[u8]) -> Result<(), AllocError> {
     if word.is_empty() {
-        notes.say(&[Part::Text(
+        notes.say(
             "a line is a seat, from 1 to 16, and a command; a line without a seat is one of seat 1",
-        )])?;
+        )?;
         for line in COMMANDS.iter().chain(&DIRECTIVES) {
-            notes.say(&[Part::Text(line)])?;
+            notes.say(line)?;
         }
-        return notes.say(&[Part::Text("`#` begins a comment")]);
+        return notes.say("`#` begins a comment");
     }
     if let Some(number) = small_number(word) {
-        return notes.say(&[Part::Text(meaning(number))]);
+        return notes.say(meaning(number));
     }
     if !tell_word(notes, word)? {
         tell_near_word(notes, word)?;

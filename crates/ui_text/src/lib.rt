@@ -19,4 +19,4 @@ pub use forms::{
 pub use names::{Declaration, DeclaredAs, find_declaration};
 pub use notes::{NoteLine, Notes, Part, StyleChange};
 pub use numbers::meaning;
-pub use source::{ProgramText, TextLine, is_word_byte};
+pub use source::{ProgramText, command_offsets, is_word_byte, prefix_word};

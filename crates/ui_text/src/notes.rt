@@ -8,21 +8,27 @@ use std::alloc::{AllocError, Global};
 // The fewest blanks between two columns.
 const GAP: usize = 2;
 
+// How many bytes the place of a part has in a text: `{}`.
+const HOLE: usize = 2;
+
 // How much more room is made than is needed, in bytes.
 const ROOM: usize = 256;
 
 // What is before a line in the text: the end of the line before it, and two blanks.
 const BEGIN: &[u8] = b"\n  ";
 
-/// A part of a line: words, bytes, a name or a number. The name of a process with its number, and a new value, have a style of their own.
+/// A part of a line: words, bytes, a name, a number, or how many events there are. The name of a process with its number, and a new value,
+/// have a style of their own.
 #[derive(Clone, Copy)]
 pub enum Part<'a> {
     Text(&'a str),
     Bytes(&'a [u8]),
     Name(Name),
     Number(i64),
+    Natural(u32),
     Count(usize),
-    Process(Name, u32),
+    Events(u32),
+    Process(&'a [u8], u32),
     Value(i64),
 }
 
@@ -100,7 +106,13 @@ impl Notes {
 
     /// Forgets all lines. The next ones have styles, or all are plain.
     pub fn begin(&mut self, has_styles: bool) {
-        self.truncate(0);
+        let end = self.length.saturating_add(1);
+        if let Some(used) = self.text.as_mut_slice().get_mut(..end) {
+            used.fill(b' ');
+        }
+        self.length = 0;
+        self.changes.clear();
+        self.starts.clear();
         self.has_styles = has_styles;
     }
 
@@ -217,6 +229,14 @@ impl Notes {
         }
     }
 
+    // Appends a number of events.
+    #[inline(never)]
+    fn put_events(&mut self, count: u32) -> Result<(), AllocError> {
+        self.put_number(i64::from(count))?;
+        let word = if count == 1 { " event" } else { " events" };
+        self.put_bytes(word.as_bytes())
+    }
+
     /// Appends a part to the last line.
     #[inline(always)]
     pub fn put(&mut self, part: &Part<'_>) -> Result<(), AllocError> {
@@ -225,11 +245,13 @@ impl Notes {
             Part::Bytes(bytes) => self.put_bytes(bytes),
             Part::Name(name) => self.put_bytes(name.bytes()),
             Part::Number(number) => self.put_number(*number),
+            Part::Natural(number) => self.put_number(i64::from(*number)),
+            Part::Events(count) => self.put_events(*count),
             Part::Count(count) => self.put_number(i64::try_from(*count).unwrap_or(i64::MAX)),
             Part::Process(name, number) if self.has_styles => {
-                self.put_styled(Style::Process(*number), name.bytes())
+                self.put_styled(Style::Process(*number), name)
             }
-            Part::Process(name, _) => self.put_bytes(name.bytes()),
+            Part::Process(name, _) => self.put_bytes(name),
             Part::Value(value) if self.has_styles => {
                 self.put_styled(Style::Value, Buffer::new().format(*value).as_bytes())
             }
@@ -237,12 +259,20 @@ impl Notes {
         }
     }
 
-    /// Begins a line with these parts.
-    pub fn say(&mut self, parts: &[Part<'_>]) -> Result<(), AllocError> {
-        self.say_in(Style::Plain, parts)
+    /// Begins a line with this text.
+    pub fn say(&mut self, text: &str) -> Result<(), AllocError> {
+        self.begin_line(Style::Plain)?;
+        self.add(text)
+    }
+
+    /// Begins a line with this text, in which each `{}` is replaced by the next of these parts.
+    pub fn say_with(&mut self, text: &str, parts: &[Part<'_>]) -> Result<(), AllocError> {
+        self.begin_line(Style::Plain)?;
+        self.add_with(text, parts)
     }
 
     /// Begins a line in this style.
+    #[inline(always)]
     pub fn begin_line(&mut self, style: Style) -> Result<(), AllocError> {
         self.style = style;
         self.last = self.length.saturating_add(BEGIN.len());
@@ -254,18 +284,21 @@ impl Notes {
         self.put_bytes(BEGIN)
     }
 
-    /// Begins a line in this style with these parts.
-    pub fn say_in(&mut self, style: Style, parts: &[Part<'_>]) -> Result<(), AllocError> {
-        self.begin_line(style)?;
-        self.add(parts)
+    /// Appends this text to the last line.
+    pub fn add(&mut self, text: &str) -> Result<(), AllocError> {
+        self.put_bytes(text.as_bytes())
     }
 
-    /// Appends these parts to the last line.
-    pub fn add(&mut self, parts: &[Part<'_>]) -> Result<(), AllocError> {
+    /// Appends this text to the last line, in which each `{}` is replaced by the next of these parts. The text has no other braces.
+    pub fn add_with(&mut self, text: &str, parts: &[Part<'_>]) -> Result<(), AllocError> {
+        let mut rest = text.as_bytes();
         for part in parts {
+            let length = rest.iter().take_while(|byte| **byte != b'{').count();
+            self.put_bytes(rest.get(..length).unwrap_or(rest))?;
             self.put(part)?;
+            rest = rest.get(length.saturating_add(HOLE)..).unwrap_or(&[]);
         }
-        Ok(())
+        self.put_bytes(rest)
     }
 
     /// Appends blanks to the last line, up to this width and at least two.

@@ -1,14 +1,8 @@
-//! The places of the commands of a program in its text.
+//! A program as it was written: its text, its names, and the places of its commands.
 
 use dbg_base::{Choice, Pid};
 use itoa::Buffer;
 use std::alloc::{AllocError, Global};
-
-/// A line of a text: its number, from 1.
-#[derive(Clone, Copy, Debug)]
-pub struct TextLine {
-    pub number: usize,
-}
 
 // The offset at which a command begins, and its label. A command without a label has an empty one.
 #[derive(Debug, Drop)]
@@ -19,17 +13,39 @@ struct CommandPlace {
     shown: Vec<u8>,
 }
 
+// The names of a process, in the plain program and as it was written, the names of its variables, and its commands, in order.
+#[derive(Debug, Drop)]
+struct ProcessWords {
+    name: Vec<u8>,
+    written: Vec<u8>,
+    variables: Vec<Vec<u8>>,
+    commands: Vec<CommandPlace>,
+}
+
 // The longest text of a command that is shown, in bytes.
 const SHOWN: usize = 160;
 
-/// A program's text, as it was written, with the place of each command.
+/// A program's text, as it was written, with the names of its processes and variables, and the place of each command.
 #[derive(Debug, Drop)]
 pub struct ProgramText {
     text: Vec<u8>,
     // The offset at which each line begins.
     starts: Vec<usize>,
-    // For each process its commands, in order.
-    commands: Vec<Vec<CommandPlace>>,
+    processes: Vec<ProcessWords>,
+    longest_name: usize,
+}
+
+/// The offsets of the commands in the text of a program of the process language, in order: each has one word `when`.
+pub fn command_offsets(alloc: Global, text: &[u8]) -> Result<Vec<usize>, AllocError> {
+    let mut offsets = Vec::new(alloc);
+    let mut at = 0usize;
+    for word in text.split(|byte| !is_word_byte(*byte)) {
+        if word == b"when".as_slice() {
+            offsets.push(at)?;
+        }
+        at = at.saturating_add(word.len()).saturating_add(1);
+    }
+    Ok(offsets)
 }
 
 /// Whether a word may have this byte.
@@ -38,7 +54,7 @@ pub fn is_word_byte(byte: u8) -> bool {
 }
 
 /// The word at the start.
-pub(crate) fn prefix_word(bytes: &[u8]) -> &[u8] {
+pub fn prefix_word(bytes: &[u8]) -> &[u8] {
     let mut words = bytes.split(|byte| !is_word_byte(*byte));
     words.next().unwrap_or(bytes)
 }
@@ -58,13 +74,13 @@ pub(crate) fn suffix_word(bytes: &[u8]) -> &[u8] {
 // The place of the command of this number, from 0, in a few words.
 fn shown_place(
     alloc: Global,
-    line: TextLine,
+    line: usize,
     label: &[u8],
     number: usize,
 ) -> Result<Vec<u8>, AllocError> {
     let mut buffer = Buffer::new();
     let mut shown = Vec::from_slice(alloc, b":")?;
-    shown.extend_from_slice(buffer.format(line.number).as_bytes())?;
+    shown.extend_from_slice(buffer.format(line).as_bytes())?;
     shown.push(b' ')?;
     if label.is_empty() {
         shown.extend_from_slice(b"command ")?;
@@ -103,23 +119,8 @@ fn one_line(alloc: Global, text: &[u8]) -> Result<Vec<u8>, AllocError> {
 }
 
 impl ProgramText {
-    /// The text of a program of the process language. Error: memory ran out.
+    /// A text whose processes, variables and commands are added in the order of the program. Error: memory ran out.
     pub fn new(alloc: Global, text: &[u8]) -> Result<ProgramText, AllocError> {
-        let mut program = ProgramText::without_commands(alloc, text)?;
-        let mut at = 0usize;
-        for word in text.split(|byte| !is_word_byte(*byte)) {
-            if word == b"process".as_slice() {
-                program.add_process(alloc)?;
-            } else if word == b"when".as_slice() {
-                program.add_command(alloc, at, None)?;
-            }
-            at = at.saturating_add(word.len()).saturating_add(1);
-        }
-        Ok(program)
-    }
-
-    /// A text whose processes and commands are added in the order of the program. Error: memory ran out.
-    pub fn without_commands(alloc: Global, text: &[u8]) -> Result<ProgramText, AllocError> {
         let mut starts = Vec::new(alloc);
         let mut from = 0usize;
         for line in text.split(|byte| *byte == b'\n') {
@@ -129,7 +130,8 @@ impl ProgramText {
         Ok(ProgramText {
             text: Vec::from_slice(alloc, text)?,
             starts,
-            commands: Vec::new(alloc),
+            processes: Vec::new(alloc),
+            longest_name: 0,
         })
     }
 
@@ -138,41 +140,97 @@ impl ProgramText {
         self.text.as_slice()
     }
 
-    /// Adds the next process. Error: memory ran out.
-    pub fn add_process(&mut self, alloc: Global) -> Result<(), AllocError> {
-        self.commands.push(Vec::new(alloc))?;
+    /// Adds the next process, with its name in the plain program, and as it was written. Error: memory ran out.
+    pub fn add_process(
+        &mut self,
+        alloc: Global,
+        name: &[u8],
+        written: &[u8],
+    ) -> Result<(), AllocError> {
+        self.longest_name = self.longest_name.max(name.len());
+        self.processes.push(ProcessWords {
+            name: Vec::from_slice(alloc, name)?,
+            written: Vec::from_slice(alloc, written)?,
+            variables: Vec::new(alloc),
+            commands: Vec::new(alloc),
+        })?;
         Ok(())
     }
 
-    /// Adds the next command of the last process: the offset in the text at which it begins, and its label or none. Error: memory ran out.
-    pub fn add_command(
-        &mut self,
-        alloc: Global,
-        at: usize,
-        label: Option<&[u8]>,
-    ) -> Result<(), AllocError> {
-        let label = Vec::from_slice(alloc, label.unwrap_or(&[]))?;
-        let line = self.line_at(at);
-        if let Some(process) = self.commands.last_mut() {
-            let shown = shown_place(alloc, line, label.as_slice(), process.len())?;
-            process.push(CommandPlace { at, label, shown })?;
+    /// Adds the next variable of the last process. Error: memory ran out.
+    pub fn add_variable(&mut self, alloc: Global, name: &[u8]) -> Result<(), AllocError> {
+        let name = Vec::from_slice(alloc, name)?;
+        if let Some(process) = self.processes.last_mut() {
+            process.variables.push(name)?;
         }
         Ok(())
     }
 
-    // The line in which this offset is.
-    fn line_at(&self, at: usize) -> TextLine {
-        let number = self.starts.partition_point(|start| *start <= at);
-        TextLine { number }
+    /// Adds the next command of the last process: the offset in the text at which it begins, and its label, which is empty if it has none.
+    /// Error: memory ran out.
+    pub fn add_command(
+        &mut self,
+        alloc: Global,
+        at: usize,
+        label: &[u8],
+    ) -> Result<(), AllocError> {
+        let label = Vec::from_slice(alloc, label)?;
+        let line = self.line_at(at);
+        if let Some(process) = self.processes.last_mut() {
+            let number = process.commands.len();
+            let shown = shown_place(alloc, line, label.as_slice(), number)?;
+            process.commands.push(CommandPlace { at, label, shown })?;
+        }
+        Ok(())
+    }
+
+    /// How many bytes the longest name of a process has.
+    pub fn longest_name(&self) -> usize {
+        self.longest_name
+    }
+
+    /// The name of a process. It is empty if there is no such process.
+    pub fn process_name(&self, pid: Pid) -> &[u8] {
+        match self.processes.get(pid.0 as usize) {
+            Some(process) => process.name.as_slice(),
+            None => &[],
+        }
+    }
+
+    /// The name of a process as it was written, as `server[3]`. It is empty if there is no such process.
+    pub fn written_name(&self, pid: Pid) -> &[u8] {
+        match self.processes.get(pid.0 as usize) {
+            Some(process) => process.written.as_slice(),
+            None => &[],
+        }
+    }
+
+    /// Whether a process has this name, in the plain program or as it was written.
+    pub fn is_named(&self, pid: Pid, word: &[u8]) -> bool {
+        self.process_name(pid) == word || self.written_name(pid) == word
+    }
+
+    /// The name of a variable of a process. It is empty if there is no such variable.
+    pub fn variable_name(&self, pid: Pid, variable: u32) -> &[u8] {
+        let process = self.processes.get(pid.0 as usize);
+        match process.and_then(|process| process.variables.get(variable as usize)) {
+            Some(name) => name.as_slice(),
+            None => &[],
+        }
+    }
+
+    // The number, from 1, of the line in which this offset is.
+    fn line_at(&self, at: usize) -> usize {
+        self.starts.partition_point(|start| *start <= at)
     }
 
     fn command(&self, pid: Pid, choice: Choice) -> Option<&CommandPlace> {
-        let process = self.commands.get(pid.0 as usize)?;
-        process.get(choice.0 as usize)
+        let process = self.processes.get(pid.0 as usize)?;
+        process.commands.get(choice.0 as usize)
     }
 
-    /// The line at which a command begins.
-    pub fn place(&self, pid: Pid, choice: Choice) -> Option<TextLine> {
+    /// The number, from 1, of the line at which a command begins.
+    pub fn place(&self, pid: Pid, choice: Choice) -> Option<usize> {
         Some(self.line_at(self.command(pid, choice)?.at))
     }
 
@@ -216,14 +274,11 @@ impl ProgramText {
         }
     }
 
-    /// The bytes of a line, without blanks at its ends.
-    pub fn line(&self, place: TextLine) -> &[u8] {
-        let starts = self.starts.as_slice();
-        let from = starts
-            .get(place.number.saturating_sub(1))
-            .copied()
-            .unwrap_or(0);
-        let to = starts.get(place.number).copied().unwrap_or(self.text.len());
+    /// The bytes of the line of this number, without blanks at its ends.
+    pub fn line(&self, number: usize) -> &[u8] {
+        let start = |at: usize| self.starts.get(at).copied();
+        let from = start(number.saturating_sub(1)).unwrap_or(0);
+        let to = start(number).unwrap_or(self.text.len());
         self.text.get(from..to).unwrap_or(&[]).trim_ascii()
     }
 }

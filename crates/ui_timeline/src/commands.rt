@@ -14,17 +14,13 @@ fn put_action(
     match action {
         Action::Local => Ok(()),
         Action::Send { target, value } => {
-            notes.add(&[
-                Part::Text(" send "),
-                scope.process(*target),
-                Part::Text(" "),
-            ])?;
+            notes.add_with(" send {} ", &[scope.process(*target)])?;
             scope.put_expression(notes, value)
         }
         Action::Receive { source, variable } => {
             let source = scope.process(*source);
             let variable = scope.variable(*variable);
-            notes.add(&[Part::Text(" recv "), source, Part::Text(" "), variable])
+            notes.add_with(" recv {} {}", &[source, variable])
         }
     }
 }
@@ -35,9 +31,9 @@ pub fn put_command(
     scope: ProcessView<'_>,
     command: &Guarded,
 ) -> Result<(), AllocError> {
-    notes.add(&[Part::Text("when ")])?;
+    notes.add("when ")?;
     scope.put_expression(notes, &command.guard)?;
-    notes.add(&[Part::Text(" :")])?;
+    notes.add(" :")?;
     put_action(notes, scope, &command.action)?;
     let mut word = match command.action {
         Action::Local => " ",
@@ -45,7 +41,7 @@ pub fn put_command(
     };
     for assignment in command.assignments.items() {
         let variable = scope.variable(assignment.variable);
-        notes.add(&[Part::Text(word), variable, Part::Text(" := ")])?;
+        notes.add_with("{}{} := ", &[Part::Text(word), variable])?;
         scope.put_expression(notes, &assignment.value)?;
         word = ", ";
     }

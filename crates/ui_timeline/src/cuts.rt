@@ -2,10 +2,8 @@
 
 use break_book::Breakpoint;
 use dbg_base::{Cut, Name, Pid, Refusal};
-use dbg_command::SessionView;
-use proc_lang::Program;
 use std::alloc::{AllocError, Global};
-use ui_explain::ProcessView;
+use ui_explain::SourceView;
 use ui_text::{Notes, Part};
 
 /// A cut that is shown, with its breakpoint.
@@ -47,28 +45,24 @@ pub fn bytes_of(words: &Notes) -> &[u8] {
 fn put_parts(
     pids: &mut Vec<Pid>,
     parts: &mut Notes,
-    program: &Program,
+    view: SourceView<'_>,
     breakpoint: &Breakpoint,
 ) -> Result<(), AllocError> {
-    for at in 0..program.processes() {
+    for at in 0..view.session.program.processes() {
         let Some((pid, expr)) = breakpoint.detector().conjunct(at as usize) else {
             break;
         };
-        let scope = ProcessView::new(program, pid);
+        let scope = view.scope(pid);
         pids.push(pid)?;
-        parts.say(&[scope.name(), Part::Text(" ")])?;
+        parts.say_with("{} ", &[scope.name()])?;
         scope.put_expression(parts, expr)?;
     }
     Ok(())
 }
 
 // The cut of the breakpoint of this name, if it has one.
-fn named_cut(
-    alloc: Global,
-    view: SessionView<'_>,
-    name: Name,
-) -> Result<Option<NamedCut>, Refusal> {
-    let Some((place, breakpoint)) = view.book.find(name) else {
+fn named_cut(alloc: Global, view: SourceView<'_>, name: Name) -> Result<Option<NamedCut>, Refusal> {
+    let Some((place, breakpoint)) = view.session.book.find(name) else {
         return Ok(None);
     };
     let Some(cut) = breakpoint.detector().cut() else {
@@ -76,12 +70,12 @@ fn named_cut(
     };
     let mut pids = Vec::new(alloc);
     let mut parts = Notes::new(alloc);
-    put_parts(&mut pids, &mut parts, view.program, breakpoint)?;
+    put_parts(&mut pids, &mut parts, view, breakpoint)?;
     Ok(Some(NamedCut {
         name,
         place,
         cut: cut.copy()?,
-        halts: view.book.halted() == Some(name),
+        halts: view.session.book.halted() == Some(name),
         is_prefix: false,
         pids,
         parts,
@@ -92,12 +86,12 @@ fn named_cut(
 fn put_cuts(
     alloc: Global,
     cuts: &mut Vec<NamedCut>,
-    view: SessionView<'_>,
+    view: SourceView<'_>,
     marks: &[(Name, bool)],
     halts: bool,
 ) -> Result<(), Refusal> {
     for (name, _) in marks {
-        if (view.book.halted() == Some(*name)) == halts {
+        if (view.session.book.halted() == Some(*name)) == halts {
             if let Some(cut) = named_cut(alloc, view, *name)? {
                 cuts.push(cut)?;
             }
@@ -107,8 +101,8 @@ fn put_cuts(
 }
 
 /// The cuts of the breakpoints, that of the one that halts the session first.
-pub fn named_cuts(alloc: Global, view: SessionView<'_>) -> Result<Vec<NamedCut>, Refusal> {
-    let marks = view.book.list(alloc)?;
+pub fn named_cuts(alloc: Global, view: SourceView<'_>) -> Result<Vec<NamedCut>, Refusal> {
+    let marks = view.session.book.list(alloc)?;
     let mut cuts = Vec::new(alloc);
     put_cuts(alloc, &mut cuts, view, marks.items(), true)?;
     put_cuts(alloc, &mut cuts, view, marks.items(), false)?;
@@ -137,7 +131,7 @@ impl NamedCut {
     pub fn title(&self, alloc: Global) -> Result<Notes, AllocError> {
         let mut title = Notes::new(alloc);
         let halts = Part::Text(if self.halts { " halts here" } else { "" });
-        title.say(&[Part::Name(self.name), halts])?;
+        title.say_with("{}{}", &[Part::Name(self.name), halts])?;
         Ok(title)
     }
 
@@ -145,7 +139,10 @@ impl NamedCut {
     pub fn put_predicate(&self, notes: &mut Notes) -> Result<(), AllocError> {
         let mut word = "";
         for number in 0..self.parts.count() {
-            notes.add(&[Part::Text(word), Part::Bytes(self.parts.line(number).bytes)])?;
+            notes.add_with(
+                "{}{}",
+                &[Part::Text(word), Part::Bytes(self.parts.line(number).bytes)],
+            )?;
             word = " and ";
         }
         Ok(())
@@ -154,7 +151,7 @@ impl NamedCut {
     /// The name of the breakpoint and what it asks for, in one line: `split: left (state = 2) and right (state = 3)`.
     pub fn heading(&self, alloc: Global) -> Result<Notes, AllocError> {
         let mut heading = Notes::new(alloc);
-        heading.say(&[Part::Name(self.name), Part::Text(": ")])?;
+        heading.say_with("{}: ", &[Part::Name(self.name)])?;
         self.put_predicate(&mut heading)?;
         Ok(heading)
     }
@@ -166,7 +163,7 @@ impl NamedCut {
         let mut between = ": ";
         for number in 0..self.parts.count() {
             let part = Part::Bytes(self.parts.line(number).bytes);
-            heading.say(&[word, Part::Text(between), part])?;
+            heading.say_with("{}{}{}", &[word, Part::Text(between), part])?;
             word = Part::Text("and");
             between = " ";
         }
@@ -174,14 +171,14 @@ impl NamedCut {
     }
 
     /// Appends how many events of each process the cut has to the last line.
-    pub fn put_counts(&self, notes: &mut Notes, program: &Program) -> Result<(), AllocError> {
+    pub fn put_counts(&self, notes: &mut Notes, view: SourceView<'_>) -> Result<(), AllocError> {
         let mut word = "";
-        for p in 0..program.processes() {
+        for p in 0..view.session.program.processes() {
             let count = self.cut.count(Pid(p));
             if count > 0 {
-                let count = Part::Number(i64::from(count));
-                let name = ProcessView::new(program, Pid(p)).name();
-                notes.add(&[Part::Text(word), count, Part::Text(" of "), name])?;
+                let count = Part::Natural(count);
+                let name = view.scope(Pid(p)).name();
+                notes.add_with("{}{} of {}", &[Part::Text(word), count, name])?;
                 word = ", ";
             }
         }

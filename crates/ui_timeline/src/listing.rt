@@ -223,11 +223,9 @@ pub fn event_of(world: &World, shown: ShownEvent) -> Option<&Event> {
 
 /// Appends how many events are left out to the last line.
 pub fn put_left_out(notes: &mut Notes, count: usize) -> Result<(), AllocError> {
-    notes.add(&[
-        Part::Count(count),
-        Part::Text(match count {
-            1 => " earlier event is left out",
-            _ => " earlier events are left out",
-        }),
-    ])
+    let words = match count {
+        1 => "{} earlier event is left out",
+        _ => "{} earlier events are left out",
+    };
+    notes.add_with(words, &[Part::Count(count)])
 }

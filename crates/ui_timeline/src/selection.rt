@@ -1,11 +1,11 @@
 //! The processes whose events a picture shows, and how many of these events.
 
 use crate::listing::ShownEvent;
-use dbg_base::{Name, Pid};
+use dbg_base::Pid;
 use proc_lang::Program;
 use std::alloc::{AllocError, Global};
-use ui_explain::ProcessView;
-use ui_text::{Notes, Part};
+use ui_explain::SourceView;
+use ui_text::{Notes, Part, ProgramText};
 
 /// What a picture shows: the last events of some processes.
 pub struct Selection {
@@ -26,22 +26,17 @@ impl Drop for Selection {
 }
 
 // Whether a list of names, separated by commas, has the name of this process.
-fn has_process(list: &str, program: &Program, pid: Pid) -> bool {
-    let Some(name) = program.process_name(pid) else {
-        return false;
-    };
+fn has_process(list: &str, text: &ProgramText, pid: Pid) -> bool {
     let mut words = list.as_bytes().split(|byte| *byte == b',');
-    words.any(|word| word.trim_ascii() == name.bytes())
+    words.any(|word| text.is_named(pid, word.trim_ascii()))
 }
 
 /// The first name of a list, separated by commas, that no process of the program has.
-pub fn unknown_name<'a>(program: &Program, list: &'a str) -> Option<&'a [u8]> {
+pub fn unknown_name<'a>(program: &Program, text: &ProgramText, list: &'a str) -> Option<&'a [u8]> {
     for word in list.as_bytes().split(|byte| *byte == b',') {
         let word = word.trim_ascii();
-        if Name::new(word)
-            .and_then(|name| program.find_process(name))
-            .is_none()
-        {
+        let mut pids = 0..program.processes();
+        if !pids.any(|p| text.is_named(Pid(p), word)) {
             return Some(word);
         }
     }
@@ -52,15 +47,15 @@ impl Selection {
     /// At most so many events, the last ones, of all processes, or of those that a list names, separated by commas.
     pub fn of(
         alloc: Global,
-        program: &Program,
+        view: SourceView<'_>,
         list: Option<&str>,
         last: usize,
     ) -> Result<Selection, AllocError> {
         let mut pids = Vec::new(alloc);
         let mut shown = Vec::new(alloc);
-        for p in 0..program.processes() {
+        for p in 0..view.session.program.processes() {
             let is_shown = match list {
-                Some(list) => has_process(list, program, Pid(p)),
+                Some(list) => has_process(list, view.text, Pid(p)),
                 None => true,
             };
             shown.push(is_shown)?;
@@ -105,12 +100,12 @@ impl Selection {
     }
 
     /// Appends which processes are not shown to the last line.
-    pub fn put_hidden(&self, notes: &mut Notes, program: &Program) -> Result<(), AllocError> {
+    pub fn put_hidden(&self, notes: &mut Notes, view: SourceView<'_>) -> Result<(), AllocError> {
         let mut word = "not shown: ";
-        for p in 0..program.processes() {
+        for p in 0..view.session.program.processes() {
             if !self.contains(Pid(p)) {
-                let name = ProcessView::new(program, Pid(p)).name();
-                notes.add(&[Part::Text(word), name])?;
+                let name = view.scope(Pid(p)).name();
+                notes.add_with("{}{}", &[Part::Text(word), name])?;
                 word = ", ";
             }
         }

@@ -12,9 +12,9 @@ pub fn put_setting(
     setting: &Setting,
 ) -> Result<(), AllocError> {
     let (old, new) = (Part::Number(setting.old), Part::Number(setting.new));
-    notes.add(&[scope.variable(setting.variable)])?;
+    notes.add_with("{}", &[scope.variable(setting.variable)])?;
     if setting.old == setting.new {
-        return notes.add(&[Part::Text(" stays "), new]);
+        return notes.add_with(" stays {}", &[new]);
     }
-    notes.add(&[Part::Text(" "), old, Part::Text(" -> "), new])
+    notes.add_with(" {} -> {}", &[old, new])
 }

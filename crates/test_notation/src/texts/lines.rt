@@ -2,7 +2,7 @@
 
 use super::reported;
 use crate::expecting::expect_same;
-use notation::{LineExpander, PlainLines, expand};
+use notation::{LineExpander, expand};
 use std::alloc::{AllocError, Global};
 use std::process::Abort;
 use test_programs::MEMORY;
@@ -74,6 +74,28 @@ const LABELS: &[LineCase] = &[
         "batch step bob hear[1] ; step server[1] win",
         "batch step bob 1 ; step server_1 2",
     ),
+];
+
+const NUMBERS: &[LineCase] = &[
+    ("rollback server[1] quorum", "rollback server_1 2"),
+    ("next bob 2 * quorum", "next bob 4"),
+    ("1 next bob (quorum)", "1 next bob 2"),
+    ("next bob 03", "next bob 03"),
+    ("next bob reads", "next bob reads"),
+    ("next bob 1 2", "next bob 1 2"),
+    ("rollback bob - 1", "BelowZero in 1:14"),
+    ("rollback bob reads + 1", "VariableComputed in 1:14"),
+    (
+        "for i: 1..2 : next server[i] i + 1",
+        "next server_1 2|next server_2 3",
+    ),
+    (
+        "batch rollback bob quorum ; next bob",
+        "batch rollback bob 2 ; next bob",
+    ),
+    ("step bob quorum - 1", "step bob 1"),
+    ("step bob quorum", "step bob 2"),
+    ("step bob high(3)", "NumberExpected in 1:10"),
 ];
 
 const BREAKPOINTS: &[LineCase] = &[
@@ -255,16 +277,16 @@ fn lines_of(
     expander: &mut LineExpander<'_>,
     line: &str,
 ) -> Result<String, AllocError> {
-    let mut plain = PlainLines::new(alloc);
-    if let Err(error) = expander.expand(line.as_bytes(), &mut plain) {
-        return reported(alloc, error, line.as_bytes());
-    }
+    let plain = match expander.expand(line.as_bytes()) {
+        Ok(plain) => plain,
+        Err(error) => return reported(alloc, error, line.as_bytes()),
+    };
     let mut all = Vec::new(alloc);
-    for number in 0..plain.count() {
+    for (number, line) in plain.iter().enumerate() {
         if number > 0 {
             all.push(b'|')?;
         }
-        all.extend_from_slice(plain.line(number))?;
+        all.extend_from_slice(line.as_slice())?;
     }
     String::from_utf8_lossy(alloc, all.as_slice())
 }
@@ -288,6 +310,7 @@ fn expect_all(rt: &impl Abort, alloc: Global, expander: &mut LineExpander<'_>) {
         PLAIN,
         NAMES,
         LABELS,
+        NUMBERS,
         FAULTS,
         BREAKPOINTS,
         REPEATED,
@@ -347,33 +370,4 @@ fn sessions_have_a_limit_of_work(rt: HostRuntime) {
     let expansion = expansion.ok().expect(&rt, "the model expands");
     let expander = LineExpander::new(rt.alloc(), &expansion);
     expect_lines(&rt, rt.alloc(), &mut expander.expect(&rt, MEMORY), LONG);
-}
-
-// Lines, and how many plain lines there are after each, where a fault adds none.
-const COUNTS: &[(&str, usize)] = &[
-    ("next bob", 1),
-    ("for k: 1..3 : next server[2 - k]", 1),
-    ("for k: 1..2 : next server[k]", 3),
-    ("for k: 1..0 : next server[k]", 3),
-    ("next server[1", 3),
-    ("", 4),
-];
-
-#[test]
-fn lines_are_appended(rt: HostRuntime) {
-    let expansion = expand(rt.alloc(), MODEL.as_bytes());
-    let expansion = expansion.ok().expect(&rt, "the model expands");
-    let expander = LineExpander::new(rt.alloc(), &expansion);
-    let mut expander = expander.expect(&rt, MEMORY);
-    let mut plain = PlainLines::new(rt.alloc());
-    for (line, want) in COUNTS {
-        let _ = expander.expand(line.as_bytes(), &mut plain);
-        expect_same(&rt, (*line, plain.count()), (*line, *want));
-    }
-    expect_same(&rt, plain.line(2), b"next server_2".as_slice());
-    expect_same(&rt, plain.line(4), b"".as_slice());
-    plain.clear();
-    plain.push(b"next bob").expect(&rt, MEMORY);
-    expect_same(&rt, plain.line(0), b"next bob".as_slice());
-    expect_same(&rt, plain.count(), 1);
 }

@@ -33,15 +33,15 @@ fn label_of(
     pid: u32,
     choice: u32,
 ) -> Result<String, AllocError> {
-    match expansion.label(Pid(pid), Choice(choice)) {
-        Some(label) => String::from_utf8_lossy(alloc, label),
-        None => format!(in alloc; "none"),
+    match expansion.command(Pid(pid), Choice(choice)) {
+        Some((_, label)) if !label.is_empty() => String::from_utf8_lossy(alloc, label),
+        _ => format!(in alloc; "none"),
     }
 }
 
 fn line_of(expansion: &Expansion, pid: u32, choice: u32) -> usize {
-    match expansion.command_place(Pid(pid), Choice(choice)) {
-        Some(at) => line_and_column(MODEL.as_bytes(), at).0,
+    match expansion.command(Pid(pid), Choice(choice)) {
+        Some((at, _)) => line_and_column(MODEL.as_bytes(), at).0,
         None => 0,
     }
 }
@@ -119,7 +119,7 @@ const MESSAGES: &[(&str, &str)] = &[
 fn message_of(alloc: Global, text: &[u8]) -> Result<String, AllocError> {
     let mut all = Vec::new(alloc);
     if let Err(NotationError::Bad(fault)) = expand_program(alloc, text) {
-        for line in &message(alloc, text, &fault)? {
+        for line in &message(alloc, 0, text, &fault)? {
             all.extend_from_slice(line.as_slice())?;
             all.push(b'|')?;
         }

@@ -2,7 +2,7 @@
 
 use super::{reported, reported_from};
 use crate::expecting::expect_same;
-use notation::{ExpandedProgram, LineExpander, PlainLines, expand_program};
+use notation::{ExpandedProgram, LineExpander, expand_program};
 use proc_lang::parse_program;
 use std::alloc::{AllocError, Global};
 use test_programs::MEMORY;
@@ -58,12 +58,12 @@ fn program_length(session: &[u8]) -> usize {
 }
 
 // Appends lines, with line ends between them.
-fn put_lines(text: &mut Vec<u8>, lines: &PlainLines) -> Result<(), AllocError> {
-    for number in 0..lines.count() {
+fn put_lines(text: &mut Vec<u8>, lines: &[Vec<u8>]) -> Result<(), AllocError> {
+    for (number, line) in lines.iter().enumerate() {
         if number > 0 {
             text.push(b'\n')?;
         }
-        text.extend_from_slice(lines.line(number))?;
+        text.extend_from_slice(line.as_slice())?;
     }
     Ok(())
 }
@@ -76,7 +76,6 @@ fn commands_of(
     from: usize,
 ) -> Result<String, AllocError> {
     let mut expander = LineExpander::new(alloc, &expanded.expansion)?;
-    let mut plain = PlainLines::new(alloc);
     let mut text = Vec::from_slice(alloc, expanded.expansion.plain())?;
     let mut at = from;
     let commands = session.get(from..).unwrap_or(&[]);
@@ -85,11 +84,10 @@ fn commands_of(
             text.extend_from_slice(line)?;
         } else {
             text.push(b'\n')?;
-            plain.clear();
-            if let Err(error) = expander.expand(line, &mut plain) {
-                return reported_from(alloc, error, session, at);
+            match expander.expand(line) {
+                Ok(plain) => put_lines(&mut text, plain.as_slice())?,
+                Err(error) => return reported_from(alloc, error, session, at),
             }
-            put_lines(&mut text, &plain)?;
         }
         at = at.saturating_add(line.len()).saturating_add(1);
     }

@@ -37,10 +37,7 @@ impl TextScene<'_> {
         if !self.selection.contains(pid) {
             return Ok(needs.columns.push(0)?);
         }
-        let name = match self.view.program.process_name(pid) {
-            Some(name) => name.bytes().len(),
-            None => 0,
-        };
+        let name = self.view.text.process_name(pid).len();
         needs.columns.push(name.saturating_add(1))?;
         if let Some(again) = self.again(pid)? {
             needs.add(pid, bytes_of(&again).len());
@@ -52,7 +49,7 @@ impl TextScene<'_> {
     fn measure_event(&self, needs: &mut Needs, shown: ShownEvent) -> Result<(), AllocError> {
         let words = self.event(shown, usize::MAX)?;
         needs.add(shown.pid, bytes_of(&words).len());
-        match self.timeline.received_by(self.view.world, shown) {
+        match self.timeline.received_by(self.view.session.world, shown) {
             Some(received) if self.has_arrow_to_neighbour(received.source, shown.pid) => {
                 let label = self.received(received)?;
                 needs.add_arrow(received.source, shown.pid, &label);

@@ -1,10 +1,9 @@
 //! The words of a diagram: at events and arrows, and at what can be redone.
 
 use dbg_base::{Pid, Refusal};
-use dbg_command::SessionView;
 use event_rows::Setting;
 use std::alloc::{AllocError, Global};
-use ui_explain::ProcessView;
+use ui_explain::{ProcessView, SourceView};
 use ui_text::{Notes, Part};
 use ui_timeline::{Received, Selection, ShownEvent, Timeline, bytes_of, event_of};
 
@@ -12,15 +11,15 @@ use ui_timeline::{Received, Selection, ShownEvent, Timeline, bytes_of, event_of}
 #[derive(Clone, Copy)]
 pub(super) struct TextScene<'a> {
     pub(super) alloc: Global,
-    pub(super) view: SessionView<'a>,
+    pub(super) view: SourceView<'a>,
     pub(super) selection: &'a Selection,
     pub(super) timeline: &'a Timeline,
 }
 
-/// The characters of a line that is made of parts.
-pub(super) fn words(alloc: Global, parts: &[Part<'_>]) -> Result<Notes, AllocError> {
+/// The characters of a line with this text, in which each `{}` is replaced by the next of these parts.
+pub(super) fn words(alloc: Global, text: &str, parts: &[Part<'_>]) -> Result<Notes, AllocError> {
     let mut words = Notes::new(alloc);
-    words.say(parts)?;
+    words.say_with(text, parts)?;
     Ok(words)
 }
 
@@ -29,17 +28,17 @@ pub(super) fn words(alloc: Global, parts: &[Part<'_>]) -> Result<Notes, AllocErr
 fn put_shortened(line: &mut Notes, name: &[u8], room: usize) -> Result<(), AllocError> {
     let dots = if name.len() > room && room >= 4 { 2 } else { 0 };
     let kept = room.saturating_sub(dots).max(1);
-    line.add(&[Part::Bytes(name.get(..kept).unwrap_or(name))])?;
-    line.add(&[Part::Text(if dots > 0 { ".." } else { "" })])
+    line.add_with("{}", &[Part::Bytes(name.get(..kept).unwrap_or(name))])?;
+    line.add(if dots > 0 { ".." } else { "" })
 }
 
 impl<'a> TextScene<'a> {
     pub(super) fn processes(&self) -> u32 {
-        self.view.program.processes()
+        self.view.session.program.processes()
     }
 
     pub(super) fn scope(&self, pid: Pid) -> ProcessView<'a> {
-        ProcessView::new(self.view.program, pid)
+        self.view.scope(pid)
     }
 
     // A variable that an event set, in so much room: its name is cut before its value is.
@@ -49,12 +48,16 @@ impl<'a> TextScene<'a> {
         setting: &Setting,
         room: usize,
     ) -> Result<Notes, AllocError> {
-        let mut line = words(self.alloc, &[Part::Text(" ")])?;
-        let name = words(self.alloc, &[scope.variable(setting.variable)])?;
-        let value = words(self.alloc, &[Part::Text("="), Part::Number(setting.new)])?;
+        let mut line = words(self.alloc, " ", &[])?;
+        let name = words(self.alloc, "{}", &[scope.variable(setting.variable)])?;
+        let value = words(
+            self.alloc,
+            "{}{}",
+            &[Part::Text("="), Part::Number(setting.new)],
+        )?;
         let used = bytes_of(&value).len().saturating_add(1);
         put_shortened(&mut line, bytes_of(&name), room.saturating_sub(used))?;
-        line.add(&[Part::Bytes(bytes_of(&value))])?;
+        line.add_with("{}", &[Part::Bytes(bytes_of(&value))])?;
         Ok(line)
     }
 
@@ -64,10 +67,10 @@ impl<'a> TextScene<'a> {
         scope: ProcessView<'_>,
         settings: &[Setting],
     ) -> Result<Notes, AllocError> {
-        let mut line = words(self.alloc, &[])?;
+        let mut line = words(self.alloc, "", &[])?;
         for setting in settings {
             let setting = self.setting(scope, setting, usize::MAX)?;
-            line.add(&[Part::Bytes(bytes_of(&setting))])?;
+            line.add_with("{}", &[Part::Bytes(bytes_of(&setting))])?;
         }
         Ok(line)
     }
@@ -86,12 +89,12 @@ impl<'a> TextScene<'a> {
         if let [first, others @ ..] = settings {
             let dots = if others.is_empty() { "" } else { " .." };
             let mut line = self.setting(scope, first, room.saturating_sub(dots.len()))?;
-            line.add(&[Part::Text(dots)])?;
+            line.add(dots)?;
             if bytes_of(&line).len() <= room {
                 return Ok(line);
             }
         }
-        words(self.alloc, &[Part::Text(if room < 3 { "" } else { " .." })])
+        words(self.alloc, if room < 3 { "" } else { " .." }, &[])
     }
 
     // A message to or from a process, in so much room: the name of the process is cut before the value is.
@@ -104,9 +107,10 @@ impl<'a> TextScene<'a> {
     ) -> Result<Notes, AllocError> {
         let mut line = words(
             self.alloc,
-            &[Part::Text(" "), Part::Number(value), Part::Text(sign)],
+            " {}{}",
+            &[Part::Number(value), Part::Text(sign)],
         )?;
-        let name = words(self.alloc, &[self.scope(partner).name()])?;
+        let name = words(self.alloc, "{}", &[self.scope(partner).name()])?;
         let used = bytes_of(&line).len();
         put_shortened(&mut line, bytes_of(&name), room.saturating_sub(used))?;
         Ok(line)
@@ -114,80 +118,69 @@ impl<'a> TextScene<'a> {
 
     // The message that an event sent, or that it received from a process that is not shown, so that no arrow shows it.
     fn exchanged(&self, shown: ShownEvent, room: usize) -> Result<Notes, AllocError> {
-        if let Some(sent) = self.timeline.sent_by(self.view.world, shown) {
+        if let Some(sent) = self.timeline.sent_by(self.view.session.world, shown) {
             return self.message(sent.value, ">", sent.target, room);
         }
-        match self.timeline.received_by(self.view.world, shown) {
+        match self.timeline.received_by(self.view.session.world, shown) {
             Some(received) if !self.selection.contains(received.source) => {
                 self.message(received.value, "<", received.source, room)
             }
-            _ => words(self.alloc, &[]),
+            _ => words(self.alloc, "", &[]),
         }
     }
 
     /// What an event did, in few words, within so much room. What it set is left out before the message.
     pub(super) fn event(&self, shown: ShownEvent, room: usize) -> Result<Notes, AllocError> {
-        let number = Part::Number(i64::from(shown.number));
-        let mut line = words(self.alloc, &[Part::Text("o "), number])?;
-        let Some(event) = event_of(self.view.world, shown) else {
+        let number = Part::Natural(shown.number);
+        let mut line = words(self.alloc, "{}{}", &[Part::Text("o "), number])?;
+        let Some(event) = event_of(self.view.session.world, shown) else {
             return Ok(line);
         };
-        let choice = Part::Number(i64::from(event.choice().0));
-        line.add(&[Part::Text(":"), choice])?;
+        let choice = Part::Natural(event.choice().0);
+        line.add_with("{}{}", &[Part::Text(":"), choice])?;
         let room = room.saturating_sub(bytes_of(&line).len());
         let message = self.exchanged(shown, room)?;
         let room = room.saturating_sub(bytes_of(&message).len());
         let settings = self.settings(self.scope(shown.pid), event.settings(), room)?;
-        line.add(&[Part::Bytes(bytes_of(&settings))])?;
-        line.add(&[Part::Bytes(bytes_of(&message))])?;
+        line.add_with("{}", &[Part::Bytes(bytes_of(&settings))])?;
+        line.add_with("{}", &[Part::Bytes(bytes_of(&message))])?;
         Ok(line)
     }
 
     /// The words at the arrow of a message that was received.
     pub(super) fn received(&self, received: Received) -> Result<Notes, AllocError> {
-        let value = Part::Number(received.value);
-        let sender = Part::Number(i64::from(received.sender));
-        words(
-            self.alloc,
-            &[
-                Part::Text(" "),
-                value,
-                Part::Text(" of "),
-                sender,
-                Part::Text(" "),
-            ],
-        )
+        let parts = [Part::Number(received.value), Part::Natural(received.sender)];
+        words(self.alloc, " {} of {} ", &parts)
     }
 
     /// The words at the arrow of the messages of a channel that are on their way, if there are some.
     pub(super) fn waiting(&self, from: Pid, to: Pid) -> Result<Option<Notes>, Refusal> {
-        let messages = self.view.world.channel(self.alloc, from, to)?;
+        let messages = self.view.session.world.channel(self.alloc, from, to)?;
         if messages.items().is_empty() {
             return Ok(None);
         }
-        let mut label = words(self.alloc, &[Part::Text(" ")])?;
+        let mut label = words(self.alloc, " ", &[])?;
         for message in messages.items() {
-            label.add(&[Part::Number(*message), Part::Text(" ")])?;
+            label.add_with("{} ", &[Part::Number(*message)])?;
         }
         Ok(Some(label))
     }
 
     /// The choices that a process can make again, in brackets, if there are some.
     pub(super) fn again(&self, pid: Pid) -> Result<Option<Notes>, AllocError> {
-        let world = self.view.world;
+        let world = self.view.session.world;
         if world.line_len(pid) <= world.place(pid) {
             return Ok(None);
         }
-        let mut line = words(self.alloc, &[Part::Text("[")])?;
+        let mut line = words(self.alloc, "[", &[])?;
         let mut between = "";
         for at in world.place(pid)..world.line_len(pid) {
             if let Some(choice) = world.choice(pid, at) {
-                let choice = Part::Number(i64::from(choice.0));
-                line.add(&[Part::Text(between), choice])?;
+                line.add_with("{}{}", &[Part::Text(between), Part::Natural(choice.0)])?;
                 between = " ";
             }
         }
-        line.add(&[Part::Text("]")])?;
+        line.add("]")?;
         Ok(Some(line))
     }
 }

@@ -5,10 +5,9 @@ use crate::recorder::trail::Trail;
 use break_book::{Book, Breakpoint};
 use causal_world::World;
 use dbg_base::{Cause, Elimination, Expr, Name, Pid, Refusal};
-use dbg_command::SessionView;
 use proc_lang::Program;
 use std::alloc::{AllocError, Global};
-use ui_explain::{BreakpointChange, ProcessView};
+use ui_explain::{BreakpointChange, ProcessView, SourceView};
 use ui_text::Notes;
 
 // What the page was last given about a breakpoint: its mark, the eliminations of its search that are still valid, and how many of them the
@@ -55,7 +54,7 @@ impl List {
         expr: &Expr,
     ) -> Result<(), AllocError> {
         let mut words = Notes::new(alloc);
-        words.say(&[])?;
+        words.say("")?;
         scope.put_expression(&mut words, expr)?;
         let mut conjunct = self.another();
         conjunct.number(i64::from(scope.pid.0))?;
@@ -67,13 +66,13 @@ impl List {
     fn conjuncts(
         &mut self,
         alloc: Global,
-        program: &Program,
+        view: SourceView<'_>,
         breakpoint: &Breakpoint,
     ) -> Result<(), AllocError> {
         let mut conjuncts = self.another();
-        for at in 0..program.processes() {
+        for at in 0..view.session.program.processes() {
             if let Some((pid, expr)) = breakpoint.detector().conjunct(at as usize) {
-                conjuncts.conjunct(alloc, ProcessView { program, pid }, expr)?;
+                conjuncts.conjunct(alloc, view.scope(pid), expr)?;
             }
         }
         self.list(conjuncts)
@@ -190,7 +189,7 @@ impl Breakpoints {
     fn put_mark(
         &mut self,
         marks: &mut List,
-        program: &Program,
+        view: SourceView<'_>,
         (name, is_armed): (Name, bool),
         breakpoint: &Breakpoint,
     ) -> Result<ShownBreakpoint, AllocError> {
@@ -203,11 +202,11 @@ impl Breakpoints {
                 ..reported
             },
             None => {
-                mark.conjuncts(self.alloc, program, breakpoint)?;
+                mark.conjuncts(self.alloc, view, breakpoint)?;
                 ShownBreakpoint {
                     name,
                     is_armed,
-                    trail: Trail::new(self.alloc, program.processes())?,
+                    trail: Trail::new(self.alloc, view.session.program.processes())?,
                     known: 0,
                 }
             }
@@ -220,15 +219,14 @@ impl Breakpoints {
     fn put_marks(
         &mut self,
         operations: &mut List,
-        program: &Program,
-        book: &Book,
+        view: SourceView<'_>,
         marks: &[(Name, bool)],
     ) -> Result<(), AllocError> {
         let mut reported = Vec::new(self.alloc);
         let mut list = operations.another();
         for mark in marks {
-            if let Some((_, breakpoint)) = book.find(mark.0) {
-                reported.push(self.put_mark(&mut list, program, *mark, breakpoint)?)?;
+            if let Some((_, breakpoint)) = view.session.book.find(mark.0) {
+                reported.push(self.put_mark(&mut list, view, *mark, breakpoint)?)?;
             }
         }
         self.reported = reported;
@@ -300,18 +298,18 @@ impl Breakpoints {
     pub(super) fn put_changes(
         &mut self,
         operations: &mut List,
-        view: SessionView<'_>,
+        view: SourceView<'_>,
         change: BreakpointChange,
     ) -> Result<(), Refusal> {
-        let book = view.book;
-        self.note_places(view.program, view.world)?;
+        let book = view.session.book;
+        self.note_places(view.session.program, view.session.world)?;
         let marks = book.list(self.alloc)?;
         let are_new = change == BreakpointChange::Replaced && !self.reported.is_empty();
         if are_new {
             self.reported.clear();
         }
         if are_new || !self.are_reported(marks.items()) {
-            self.put_marks(operations, view.program, book, marks.items())?;
+            self.put_marks(operations, view, marks.items())?;
         }
         self.put_searches(operations, book, change)?;
         Ok(self.put_halted(operations, book)?)

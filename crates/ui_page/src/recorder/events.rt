@@ -4,9 +4,8 @@ use crate::list::List;
 use causal_world::World;
 use dbg_base::Pid;
 use event_rows::{Event, Exchange};
-use proc_lang::Program;
 use std::alloc::AllocError;
-use ui_explain::ProcessView;
+use ui_explain::{ProcessView, SourceView};
 
 // Whether two events are equal.
 fn are_same(one: Option<&Event>, other: Option<&Event>) -> bool {
@@ -68,7 +67,7 @@ impl List {
         let mut settings = self.another();
         for setting in event.settings() {
             let mut one = self.another();
-            one.name(scope.program.variable_name(scope.pid, setting.variable))?;
+            one.text(scope.text.variable_name(scope.pid, setting.variable))?;
             one.value(setting.old)?;
             one.value(setting.new)?;
             settings.list(one)?;
@@ -87,16 +86,15 @@ impl List {
     pub(super) fn made(
         &mut self,
         word: &str,
-        program: &Program,
-        world: &World,
+        view: SourceView<'_>,
         pid: Pid,
     ) -> Result<(), AllocError> {
-        let Some(event) = world.rows().last(pid) else {
+        let Some(event) = view.session.world.rows().last(pid) else {
             return Ok(());
         };
         let mut operation = self.another_of(word)?;
         operation.number(i64::from(pid.0))?;
-        operation.event(ProcessView { program, pid }, event)?;
+        operation.event(view.scope(pid), event)?;
         self.list(operation)
     }
 
@@ -104,15 +102,15 @@ impl List {
     fn events_from(
         &mut self,
         first: u32,
-        program: &Program,
-        world: &World,
+        view: SourceView<'_>,
         pid: Pid,
     ) -> Result<(), AllocError> {
+        let world = view.session.world;
         let mut events = self.another();
         for at in first..world.place(pid) {
             if let Some(event) = world.rows().event(pid, at as usize) {
                 let mut one = self.another();
-                one.event(ProcessView { program, pid }, event)?;
+                one.event(view.scope(pid), event)?;
                 events.list(one)?;
             }
         }
@@ -134,11 +132,11 @@ impl List {
     /// line.
     pub(super) fn changed_line(
         &mut self,
-        program: &Program,
+        view: SourceView<'_>,
         before: &World,
-        world: &World,
         pid: Pid,
     ) -> Result<(), AllocError> {
+        let world = view.session.world;
         let same = same_events(before, world, pid);
         let place = world.place(pid);
         if same == place && before.place(pid) == place && has_same_rest(before, world, pid) {
@@ -147,7 +145,7 @@ impl List {
         let mut operation = self.another_of("l")?;
         operation.number(i64::from(pid.0))?;
         operation.number(i64::from(same))?;
-        operation.events_from(same, program, world, pid)?;
+        operation.events_from(same, view, pid)?;
         operation.choices(world, pid)?;
         self.list(operation)
     }
