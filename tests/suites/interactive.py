@@ -2,43 +2,16 @@
 
 The next line is sent only after the reply to the line before it has come.
 """
-import fcntl
-import os
-import pty
-import select
-import struct
 import subprocess
-import termios
 
-from harness import TOP, Fault, temporary_folder
+from harness import TOP, temporary_folder
+from harness.terminal import SECONDS, SIZE, Conversation, Terminal
 
 PROGRAM = "process a { var x = 0; when (x < 2) : x := (x + 1); }\n%%\n"
 MODEL = "process p[i: 1..2] { var x = 0; now: when x < 2 : x := x + 1; later: when x > 5 : x := 0; }\n%%\n"
 LINES = ["1 next a", "1 vars a", "1 next a", "1 next a", "1 undo a", "1 nonsense"]
 REPLIES = ["ok a 0", "vars a x=1", "ok a 0", "no 24", "ok a 0", "no 22"]
 PROMPT = "> "
-SIZE = 24, 80  # of a terminal: lines and columns
-SECONDS = 60  # to wait for output, at most
-
-
-class Conversation:
-    """A run of the program, of which the output is read as it comes."""
-
-    def __init__(self, started, output):
-        self.started, self.output, self.read = started, output, ""
-
-    def send(self, text, to):
-        os.write(to, text.encode())
-
-    def until(self, end):
-        """What is written up to this text, and the text."""
-        while end not in self.read:
-            more = os.read(self.output, 4096).decode() if select.select([self.output], [], [], SECONDS)[0] else ""
-            if not more:
-                raise Fault(f"the program wrote {self.read!r}, and then nothing, where {end!r} was due")
-            self.read += more.replace("\r\n", "\n")
-        found, _, self.read = self.read.partition(end)
-        return found + end
 
 
 def pipe_problem(suite, words):
@@ -57,36 +30,6 @@ def pipe_problem(suite, words):
     started.stdin = None
     _, errors = started.communicate(timeout=SECONDS)
     return "" if started.returncode == 0 and not errors else f"status {started.returncode}, errors {errors!r}"
-
-
-class Terminal(Conversation):
-    """A run of the program at a terminal, which shows what is typed."""
-
-    def __init__(self, *words, **environment):
-        master, terminal = pty.openpty()
-        fcntl.ioctl(terminal, termios.TIOCSWINSZ, struct.pack("HHHH", *SIZE, 0, 0))
-        named = {**os.environ, "NO_COLOR": "1", "TERM": "xterm", **environment}
-        # (the terminal is the one that controls the run, so that it sends Ctrl-C)
-        super().__init__(subprocess.Popen(words, stdin=terminal, stdout=terminal, stderr=terminal, env=named, start_new_session=True,
-                                          preexec_fn=lambda: fcntl.ioctl(0, termios.TIOCSCTTY, 0)), master)
-        os.close(terminal)
-
-    def type(self, text):
-        self.send(text, self.output)
-
-    def ended(self):
-        """What is written up to the end, and the status."""
-        try:
-            while select.select([self.output], [], [], SECONDS)[0]:
-                more = os.read(self.output, 4096).decode()
-                if not more:
-                    break
-                self.read += more.replace("\r\n", "\n")
-        except OSError:
-            pass  # (the terminal is closed)
-        status = self.started.wait(SECONDS)
-        os.close(self.output)
-        return self.read, status
 
 
 def terminal_problem(suite, file):
