@@ -30,7 +30,7 @@ _rdbg() {
         choices='--break --stuck --unless --from-start --engine --seconds --shortest --jobs --channel --memory --strategy --seed'
         choices+=' --schedules --length --weight --at-most --test --compare --help'
         ;;
-      talk) choices='--color --help' ;;
+      talk) choices='--color --log --no-rlwrap --help' ;;
       test) choices='--fill --tap --help' ;;
       draw) choices='--as --at --at-halt --last --only --width --theme --help' ;;
       *) choices='--help' ;;

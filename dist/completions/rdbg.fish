@@ -16,6 +16,8 @@ complete -c rdbg -n '__fish_seen_subcommand_from check' -l explain -d 'Print wha
 complete -c rdbg -n '__fish_seen_subcommand_from expand' -l names -d 'List the commands with their names in the text'
 complete -c rdbg -n '__fish_seen_subcommand_from crew' -l turns -x -d 'How often to give next for each process'
 complete -c rdbg -n '__fish_seen_subcommand_from talk' -l color -x -a 'auto always never' -d 'Whether output is coloured'
+complete -c rdbg -n '__fish_seen_subcommand_from talk' -l log -r -F -d 'Keep what is typed in this file'
+complete -c rdbg -n '__fish_seen_subcommand_from talk' -l no-rlwrap -d 'Read lines without rlwrap'
 complete -c rdbg -n '__fish_seen_subcommand_from test' -l fill -d 'Print the session with its replies'
 complete -c rdbg -n '__fish_seen_subcommand_from test' -l tap -d 'Print the results in the Test Anything Protocol'
 complete -c rdbg -n '__fish_seen_subcommand_from draw' -l as -x -a 'text svg html shiviz mermaid' -d 'The form of the picture'

@@ -7,6 +7,7 @@ import struct
 import subprocess
 import tempfile
 import termios
+from pathlib import Path
 
 from harness import Fault
 
@@ -50,6 +51,20 @@ class Terminal(Conversation):
 
     def type(self, text):
         self.send(text, self.output)
+
+    def logs(self):
+        """The files in the default folder that keep what is typed."""
+        return sorted(Path(self.room.name).glob("rdbg/*"))
+
+    def processes(self):
+        """The processes that run at the terminal, and what each was started with."""
+        for file in Path("/proc").glob("[0-9]*/cmdline"):
+            process = int(file.parent.name)
+            try:
+                if os.getsid(process) == self.started.pid:
+                    yield process, file.read_bytes().decode().split("\0")
+            except OSError:
+                pass  # (it has ended)
 
     def ended(self):
         """What is written up to the end, and the status."""

@@ -11,6 +11,7 @@ import subprocess
 import sys
 
 from harness import TOP, temporary_folder
+from harness.terminal import Terminal
 
 DIST = TOP / "dist"
 COMPLETIONS = DIST / "completions"
@@ -21,6 +22,7 @@ INSTALLED = {
     "dist/completions/_rdbg": "share/zsh/site-functions/_rdbg",
     "dist/completions/rdbg.fish": "share/fish/vendor_completions.d/rdbg.fish",
     "find/__main__.py": "share/rdbg/find/__main__.py",
+    "dist/keep.py": "share/rdbg/keep.py",
     "dist/editors/README.md": "share/rdbg/editors/README.md",
     "dist/editors/vim/syntax/rdbg.vim": "share/rdbg/editors/vim/syntax/rdbg.vim",
     "dist/editors/vim/ftdetect/rdbg.vim": "share/rdbg/editors/vim/ftdetect/rdbg.vim",
@@ -195,6 +197,17 @@ def check_archive(suite, room):
     ran = subprocess.run([folder / "bin/rdbg", "talk", folder / session], stdin=subprocess.DEVNULL, stdout=subprocess.PIPE, stderr=subprocess.STDOUT,
                          env={"PATH": SYSTEM_PATH}, cwd=place)
     suite.same("a session with the unpacked program", ran.stdout, suite.rdbg("talk", TOP / "examples/two_phase_commit.rdbg").output)
+    suite.attempt("a session with the unpacked program at a terminal", unpacked_problem, folder / "bin/rdbg", folder / session)
+
+
+def unpacked_problem(program, file):
+    """Types a line of a session, which is kept."""
+    terminal = Terminal(program, "talk", "--no-rlwrap", file)
+    terminal.until("\n> ")
+    terminal.type("quit\n")
+    shown, status = terminal.ended()
+    log, = terminal.logs()
+    return "" if (status, log.read_text()) == (0, f"{file.read_text()}quit\n") else f"status {status}, and the terminal shows {shown!r}"
 
 
 def is_reserved(suite, word):
@@ -289,7 +302,8 @@ def check_completions(suite, words):
     check_words(suite, "the commands in bash", complete_in_bash("rdbg", ""), [*words, "--help", "--version"])
     check_words(suite, "the commands in zsh", re.findall(r"^    '([a-z]+):", (COMPLETIONS / "_rdbg").read_text(), re.M), words)
     check_words(suite, "the commands in fish", re.search(r"^set -l words (.*)", (COMPLETIONS / "rdbg.fish").read_text(), re.M)[1].split(), words)
-    options = {word: OPTION.findall(suite.rdbg(word, "--help").output.decode()) for word in words if word not in ("help", "find")}
+    # (some options of `talk` are those of dist/start)
+    options = {word: OPTION.findall(output_of(DIST / "start", word, "--help", RDBG_PROGRAM=suite.program)[1]) for word in words if word not in ("help", "find")}
     options["find"] = OPTION.findall(output_of(sys.executable, TOP / "find", "--help")[1])
     for word, wanted in options.items():
         check_words(suite, f"the options of {word} in bash", complete_in_bash("rdbg", word, "--"), wanted)

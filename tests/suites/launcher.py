@@ -13,6 +13,7 @@ from harness import TOP, temporary_folder
 CRATES = "low:\nhigh: low\nrdbg: high low\n"
 BUILDING = "rdbg: building rdbg without a proof, once; this takes one to three minutes\nrdbg: built in "
 NOT_PROVED = "rdbg: this program is not proved yet; ./rdbg --prove proves it\n"
+FIRST, LAST = "rdbg: what you type is kept in LOG\n", "rdbg: what you typed is in LOG\n"  # of a session at a terminal
 NOBODY = 65534  # the user and the group that own nothing
 SYSTEM_PATH = "/usr/bin:/bin"
 
@@ -26,7 +27,7 @@ class Repository:
         self.program, self.proved = self.top / "out/rdbg-unproved/rdbg", self.top / "crates/rdbg/out/rdbg"
         for folder in (self.top / "dist", self.kept, self.bin):
             folder.mkdir(parents=True)
-        for file in ("rdbg", "dist/toolchain.py", "dist/build.py", "dist/prove.py", "dist/start", "HANDLES"):
+        for file in ("rdbg", "dist/toolchain.py", "dist/build.py", "dist/prove.py", "dist/start", "dist/keep.py", "HANDLES"):
             shutil.copy(TOP / file, self.top / file)
         (self.top / "crates.txt").write_text(CRATES)
         for name in ("low", "high", "rdbg"):
@@ -36,8 +37,8 @@ class Repository:
         shutil.copy(Path(__file__).with_name("fake_rt.py"), self.bin / "rt")
 
     def environment(self, **variables):
-        cache = str(self.room / "cache")
-        return {**os.environ, "PATH": f"{self.bin}:{self.path}", "FAKE_KEPT": str(self.kept), "XDG_CACHE_HOME": cache, **variables}
+        kept = {"FAKE_KEPT": str(self.kept), "XDG_CACHE_HOME": str(self.room / "cache"), "XDG_STATE_HOME": str(self.room / "state")}
+        return {**os.environ, "PATH": f"{self.bin}:{self.path}", **kept, **variables}
 
     def start(self, *words, given=subprocess.DEVNULL, begin=lambda: None, **variables):
         def prepare():
@@ -72,6 +73,14 @@ class Repository:
             shown += more
         os.close(master)
         return started.wait(60), shown.decode().replace("\r\n", "\n")
+
+    def session(self):
+        """The status of a session at a terminal, what the terminal shows, and what is kept of it."""
+        status, shown = self.at_terminal("talk")
+        log, = (self.room / "state/rdbg").iterdir()
+        kept = log.read_text()
+        log.unlink()
+        return status, shown.replace(str(log), "LOG"), kept
 
     def builds(self):
         """How often a program was built without a proof."""
@@ -110,7 +119,7 @@ def try_unproved(suite, repository):
     suite.same("--where prints the program", repr(repository.rdbg("--where")), repr((0, f"{repository.program}\n", "")))
     suite.same("--version says that it is not proved", repository.rdbg("--version")[1], "rdbg 1.0, not proved: ./rdbg --prove proves it\n")
     suite.case("--help has the words of the launcher, too", "" if "\n  --prove " in repository.rdbg("--help")[1] else repository.rdbg("--help")[1])
-    suite.same("a session at a terminal", repr(repository.at_terminal("talk")), repr((3, f"typed\n{NOT_PROVED}unproved: talk\ntyped\n")))
+    suite.same("a session at a terminal", repr(repository.session()), repr((3, f"typed\n{NOT_PROVED}{FIRST}unproved: talk\ntyped\n{LAST}", "typed\n")))
     status, _, errors = repository.rdbg("abort")
     suite.case("a failed check is explained", "" if status == 134 and "please report it" in errors else f"status {status}\n{errors}")
     left = [file.name for file in repository.program.parent.iterdir()]
@@ -205,7 +214,7 @@ def try_proving(suite, repository):
     problem = "" if proving.returncode == 0 and "low: an earlier run has proved it" in errors and "high: 7 functions are proved" in errors else f"status {status}\n{errors}"
     suite.case("--prove continues where an earlier run has stopped", problem + output)
     check_answer(suite, "the proved program runs", repository, 1, state="proved")
-    suite.same("the proved program runs at a terminal", repr(repository.at_terminal("talk")), repr((3, "typed\nproved: talk\ntyped\n")))
+    suite.same("the proved program runs at a terminal", repr(repository.session()), repr((3, f"typed\n{FIRST}proved: talk\ntyped\n{LAST}", "typed\n")))
     suite.same("--version of the proved program", repository.rdbg("--version")[1], "rdbg 1.0\n")
     suite.same("--where prints the proved program", repr(repository.rdbg("--where")), repr((0, f"{repository.proved}\n", "")))
     status, _, errors = repository.rdbg("--prove")
