@@ -84,11 +84,7 @@ fn test_all<W: Sink>(
         write_plan(rt.alloc(), files.len(), writer)?;
     }
     for (before, file) in files.iter().enumerate() {
-        let number = if is_tap {
-            Some(before.saturating_add(1))
-        } else {
-            None
-        };
+        let number = is_tap.then_some(before.saturating_add(1));
         worst = worst.max(test_file(rt, file, number, writer)?);
     }
     Ok(worst)
