@@ -9,8 +9,8 @@ use Rattle.std.proofs.lemmas.List.Elements.{filter-append, All-nil, All-push}
 use Rattle.dbg_base.specs.Trees.{Program}
 use Rattle.dbg_base.specs.Histories.{History}
 use Rattle.dbg_base.specs.Replies.{name_of}
-use Rattle.event_log.specs.declared.timed.TimedEvent.{TimedEvent}
-use Rattle.event_log.specs.TimedEvents.{AreTimedEvents}
+use Rattle.ui_timeline.specs.declared.timed.TimedEvent.{TimedEvent}
+use Rattle.ui_timeline.specs.TimedEvents.{AreTimedEvents}
 use Rattle.ui_diagram.specs.Logs.{Entry, entry_text, IsOneLine, IsLog}
 
 -- a process that is not in the program has no name

@@ -6,8 +6,8 @@ use Rattle.dbg_base.specs.Trees.{Program}
 use Rattle.dbg_base.specs.Histories.{History}
 use Rattle.dbg_base.specs.Replies.{name_of}
 use Rattle.dbg_base.specs.Shell.{as_line}
-use Rattle.event_log.specs.declared.timed.TimedEvent.{TimedEvent}
-use Rattle.event_log.specs.TimedEvents.{AreTimedEvents}
+use Rattle.ui_timeline.specs.declared.timed.TimedEvent.{TimedEvent}
+use Rattle.ui_timeline.specs.TimedEvents.{AreTimedEvents}
 
 -- texts, each with a comma before it
 abbrev pub after_commas : List (List ℕ) → List ℕ

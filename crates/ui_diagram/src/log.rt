@@ -10,13 +10,12 @@ ghost use Rattle.ui_diagram.specs.Logs.{after_commas, listed, counted, count_tex
 
 use dbg_base::{Cut, Pid, Refusal};
 use dbg_command::SessionView;
-use event_log::{TimedEvent, timed_events};
 use itoa::Buffer;
 use proc_lang::Program;
 use std::alloc::{AllocError, Global};
 use ui_explain::ProcessView;
 use ui_text::{Notes, Part, ProgramText};
-use ui_timeline::{ShownEvent, event_of};
+use ui_timeline::{ShownEvent, TimedEvent, event_of, timed_events};
 
 // The processes of which a clock counts at least one event, in order.
 fn counted(alloc: Global, program: &Program, clock: &Cut) -> Result<Vec<Pid>, AllocError>

@@ -4,14 +4,14 @@ ghost use Rattle.std.specs.Prelude.{◌≡◌, ◌-◌, length, map, drop, IfOk}
 ghost use Rattle.dbg_base.specs.Trees as tree;
 ghost use Rattle.dbg_base.specs.SystemStates.{history_of};
 ghost use Rattle.causal_world.specs.Scenes.{IsWorldOf};
-ghost use Rattle.event_log.specs.EventOrders.{IsEventOrder};
+ghost use Rattle.ui_timeline.specs.EventOrders.{IsEventOrder};
 
 use crate::cuts::{NamedCut, size};
 use crate::messages::{Messages, Received, Sent};
+use crate::order::event_order;
 use crate::selection::Selection;
 use causal_world::World;
 use dbg_base::{Cut, Pid, Refusal};
-use event_log::event_order;
 use event_rows::Event;
 use std::alloc::{AllocError, Global};
 use ui_text::{Notes, Part};

@@ -1,5 +1,0 @@
-pub mod UndoneOrderLemmas
-pub mod TimesLemmas
-pub mod FirstCutLemmas
-pub mod EventNumberLemmas
-pub mod EventClockLemmas

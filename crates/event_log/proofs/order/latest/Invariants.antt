@@ -1,6 +1,0 @@
-use Rattle.std.proofs.Common.{map}
-use Rattle.event_log.proofs.UndoneOrderLemmas.{IsBest}
-use Rattle.event_log.proofs.order.latest.Given as goal
-
-abbrev pub invariant-loop-p : goal.invariant-loop-p
-invariant-loop-p l = IsBest (map (λ c. c.now) l.cuts) l.world l.p l.best

@@ -1,6 +1,0 @@
-use Rattle.std.proofs.Common.{map}
-use Rattle.event_log.proofs.EventClockLemmas.{AreTimed}
-use Rattle.event_log.proofs.timed.timed_events.Given as goal
-
-abbrev pub invariant-loop-pid : goal.invariant-loop-pid
-invariant-loop-pid l = AreTimed l.world (map (λ pid. pid.0) l.pid-items) l.reported l.pid-index l.events.items

@@ -1,0 +1,5 @@
+mod UndoneOrderLemmas
+mod TimesLemmas
+mod FirstCutLemmas
+mod EventNumberLemmas
+mod EventClockLemmas
