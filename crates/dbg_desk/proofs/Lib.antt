@@ -10,3 +10,6 @@ mod ScanLemmas
 mod SameAnswerLemmas
 mod SingleCommandLemmas
 pub mod SendableEntryLemmas
+mod Turns
+mod BarredWorkerLemmas
+mod SendableWorkerLemmas

@@ -1,3 +1,4 @@
+pub mod Crews
 pub mod Desks
 pub mod Finding
 pub mod Flat

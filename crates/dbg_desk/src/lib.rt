@@ -4,10 +4,14 @@
 //! enters each call of a `Seat` in its journal, and appends it to the seat's own record. It shows on the board the journal's length and the
 //! breakpoint that halts the session. Its journal is one that a single caller could have made: the answer to each call is the one due in
 //! the state to which the calls before it lead.
+//!
+//! A `Worker` has a seat and the commands that it gives for it. In a `crew` each worker gives its commands one after the other, in its own
+//! thread, and calls a gate before each.
 #![tactic(auto)]
 
 mod begin;
 mod copies;
+mod crews;
 mod desk;
 mod entry;
 mod flat_call;
@@ -22,7 +26,9 @@ mod seat;
 mod settling;
 mod small_call;
 mod small_said;
+mod worker;
 
+pub use crews::{CrewFault, crew};
 pub use desk::Desk;
 pub use entry::{Entry, RecordedCall};
 pub use locked::Locked;
@@ -30,3 +36,4 @@ pub use opening::Opening;
 pub use run::Run;
 pub use seat::Seat;
 pub use settling::{Closing, Mismatch};
+pub use worker::Worker;

@@ -9,7 +9,7 @@ use Rattle.dbg_base.specs.Trees.{Program}
 use Rattle.dbg_base.specs.Calls.{Order, One, Next}
 use Rattle.dbg_base.specs.Checks.{Reads, program_tree}
 use Rattle.dbg_base.specs.Grammar.{DerivesProgram, WrittenProcess}
-use Rattle.dbg_crew.specs.Crews.{WorkerState, Works, NoneBarred, Gives, worker_number}
+use Rattle.dbg_desk.specs.Crews.{WorkerState, Works, NoneBarred, Gives, worker_number}
 use Rattle.dbg_desk.specs.Desks.{SeatState, new_seat}
 use Rattle.shell_crew.specs.Crewing.{round_of, rounds_of, new_workers, AreCrew}
 use Rattle.shell_input.proofs.Lists.{so_many, made_at}

@@ -12,7 +12,7 @@ use Rattle.dbg_base.specs.Shell.{fault_text, too_long_text}
 use Rattle.dbg_desk.specs.declared.settling.Closing.{Closing}
 use Rattle.dbg_desk.specs.declared.settling.Mismatch.{Mismatch}
 use Rattle.dbg_desk.specs.Desks.{SeatState, new_seat}
-use Rattle.dbg_crew.specs.Crews.{WorkerState, Gives}
+use Rattle.dbg_desk.specs.Crews.{WorkerState, Gives}
 use Rattle.dbg_desk.specs.Settling.{Settles, Differs}
 use Rattle.shell_print.specs.declared.outcome.ServeFault.{ServeFault}
 use Rattle.shell_print.specs.Outcomes.{status_of}

@@ -10,8 +10,7 @@ ghost use Rattle.shell_crew.specs.Crewing.{IsNextMaker, round_of, rounds_of, new
 use dbg_base::limits::SEATS;
 use dbg_base::{Pid, Refusal};
 use dbg_command::Command;
-use dbg_crew::Worker;
-use dbg_desk::{Run, Seat};
+use dbg_desk::{Run, Seat, Worker};
 use std::alloc::Global;
 use std::collections::VecDeque;
 

@@ -1,6 +1,6 @@
 use Rattle.std.proofs.Common.{◌≡◌, List, length, map, ap, ◌∙◌, arith, rules}
 use Rattle.std.proofs.lemmas.Result.{IfOk-weaker}
-use Rattle.dbg_crew.specs.Crews.{WorkerState}
+use Rattle.dbg_desk.specs.Crews.{WorkerState}
 use Rattle.shell_crew.proofs.CrewLemmas.{is_crew}
 use Rattle.shell_input.proofs.Lists.{lent_back}
 use Rattle.shell_crew.proofs.crewing.give_rounds.Goals as goal

@@ -1,7 +1,7 @@
 use Rattle.std.proofs.Common.{◌≡◌, suc, ◌+◌, ◌<◌, List, [], ◌∷◌, ◌++◌, length, rules, sym, ap, ◌∙◌, arith}
 use Rattle.std.proofs.lemmas.List.{length-map}
 use Rattle.dbg_desk.specs.Desks.{SeatState, new_seats}
-use Rattle.dbg_crew.specs.Crews.{WorkerState}
+use Rattle.dbg_desk.specs.Crews.{WorkerState}
 use Rattle.shell_crew.specs.Crewing.{new_workers}
 use Rattle.shell_crew.proofs.CrewLemmas.{rounds_short, worker_is}
 use Rattle.shell_crew.proofs.SeatLemmas.{next_seat, seats_go_on, last_seat}

@@ -7,8 +7,8 @@ use Rattle.std.specs.declared.sync.ledger.Ledger as ledger
 use Rattle.dbg_command.specs.declared.command.Command as command
 use Rattle.dbg_desk.specs.declared.run.Run as run
 use Rattle.dbg_desk.proofs.SendableEntryLemmas.{seat_send}
-use Rattle.dbg_crew.specs.contracts.worker.Worker as worker
-use Rattle.dbg_crew.specs.contracts.worker.Worker.TheInside as worker_inside
+use Rattle.dbg_desk.specs.contracts.worker.Worker as worker
+use Rattle.dbg_desk.specs.contracts.worker.Worker.TheInside as worker_inside
 
 module _ (L C : RattleType) (r : run.Ghosts L.Denot) (g : ledger.Ghosts L.Denot) (c : command.Ghosts C.Denot) (sent : IsSend C) where
   worker_fields : IsSend (worker_inside.the_row L C r g c)

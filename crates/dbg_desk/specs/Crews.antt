@@ -3,8 +3,8 @@ use Rattle.std.specs.Prelude.{◌≡◌, ℕ, ◌<◌, ◌≤◌, List, [], ◌�
 use Rattle.std.specs.List.{AllByRecursion}
 use Rattle.dbg_base.specs.declared.said.Said.{Said}
 use Rattle.dbg_base.specs.Calls.{Order, Give}
-use Rattle.dbg_crew.specs.declared.crews.CrewFault.{CrewFault}
-use Rattle.dbg_crew.specs.declared.crews.CrewFault.TheVariants.{Gate}
+use Rattle.dbg_desk.specs.declared.crews.CrewFault.{CrewFault}
+use Rattle.dbg_desk.specs.declared.crews.CrewFault.TheVariants.{Gate}
 use Rattle.dbg_desk.specs.Desks.{SeatState, Records}
 
 -- a worker's seat, the orders that it has to give, and the turn from which a gate barred it, if one did

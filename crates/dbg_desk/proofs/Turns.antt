@@ -6,7 +6,7 @@ use Rattle.std.proofs.lemmas.List.{take_more, drop-drop, get_or-drop, length-dro
 use Rattle.dbg_base.specs.declared.said.Said.{Said}
 use Rattle.dbg_base.specs.Calls.{Order, Give}
 use Rattle.dbg_desk.specs.Desks.{SeatState, Records}
-use Rattle.dbg_crew.specs.Crews.{WorkerState, Gives, Works, AreOrders}
+use Rattle.dbg_desk.specs.Crews.{WorkerState, Gives, Works, AreOrders}
 
 -- one more order
 pub gives_more : (seat between after : SeatState) (orders : List Order) (order : Order) → Gives seat orders between

@@ -2,9 +2,9 @@
 use Rattle.std.proofs.Common.{◌≡◌, ℕ, ◌<◌, List, length, get_or, Option, Some, None, Result, Ok, Err, sym, ap, ◌∙◌, subst, arith}
 use Rattle.std.specs.Prelude.{IfErr, MatchOption, slice_get}
 use Rattle.std.proofs.lemmas.Option.{slice_get_within, get_or_from_slice_get}
-use Rattle.dbg_crew.specs.declared.crews.CrewFault.{CrewFault}
-use Rattle.dbg_crew.specs.declared.crews.CrewFault.TheVariants.{Gate}
-use Rattle.dbg_crew.specs.Crews.{WorkerState, Works, worker_number, IsFirstBarred, MayBarAt}
+use Rattle.dbg_desk.specs.declared.crews.CrewFault.{CrewFault}
+use Rattle.dbg_desk.specs.declared.crews.CrewFault.TheVariants.{Gate}
+use Rattle.dbg_desk.specs.Crews.{WorkerState, Works, worker_number, IsFirstBarred, MayBarAt}
 
 barred_by : (MayBar : ℕ → Type 0) (old new : WorkerState) (turn : ℕ) → Works MayBar old new → new.barred ≡ Some turn → MayBar turn
 barred_by MayBar old new turn works is =

@@ -1,12 +1,13 @@
 //! Workers that give their commands at once, each in its own thread.
 
 ghost use Rattle.std.specs.Prelude.{◌≡◌, ℕ, ◌<◌, length, slice_index_or, OnOk, IfErr};
-ghost use Rattle.dbg_crew.specs.Crews.{WorkerState, Works, worker_number, NoneBarred, IsFirstBarred, MayBarAt};
+ghost use Rattle.dbg_desk.specs.Crews.{WorkerState, Works, worker_number, NoneBarred, IsFirstBarred, MayBarAt};
 
+use crate::desk::Desk;
+use crate::run::Run;
 use crate::worker::Worker;
 use dbg_base::Gate;
 use dbg_command::Command;
-use dbg_desk::{Desk, Run};
 use std::alloc::Global;
 use std::sync::Wait;
 use std::thread;

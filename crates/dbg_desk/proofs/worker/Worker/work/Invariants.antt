@@ -1,7 +1,7 @@
 use Rattle.std.proofs.Common.{map}
-use Rattle.dbg_crew.specs.Crews.{AreOrders}
-use Rattle.dbg_crew.proofs.Turns.{HasGiven}
-use Rattle.dbg_crew.proofs.worker.Worker.work.Given as goal
+use Rattle.dbg_desk.specs.Crews.{AreOrders}
+use Rattle.dbg_desk.proofs.Turns.{HasGiven}
+use Rattle.dbg_desk.proofs.worker.Worker.work.Given as goal
 
 abbrev pub invariant-loop-turn : goal.invariant-loop-turn
 invariant-loop-turn g l =

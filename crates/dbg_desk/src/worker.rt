@@ -2,11 +2,13 @@
 
 ghost use Rattle.std.specs.Prelude.{◌≡◌, ◌<◌, ◌≤◌, None, length, map, take, drop};
 ghost use Rattle.std.specs.List.{AllByRecursion};
-ghost use Rattle.dbg_crew.specs.Crews.{Gives, Works};
+ghost use Rattle.dbg_desk.specs.Crews.{Gives, Works};
 
+use crate::desk::Desk;
+use crate::run::Run;
+use crate::seat::Seat;
 use dbg_base::{Gate, OpenGate};
 use dbg_command::Command;
-use dbg_desk::{Desk, Run, Seat};
 use std::alloc::Global;
 use std::collections::VecDeque;
 use std::marker::Model;
@@ -27,7 +29,7 @@ impl<L: Run, C: Command> Model for Worker<L, C> {
     ghost use Rattle.std.specs.Coded.{codes};
     ghost use Rattle.least_cut.specs.TreeCodes.{coded_tree};
     ghost use Rattle.dbg_board.specs.contracts.glance.Glance as glance_row;
-    ghost use Rattle.dbg_crew.specs.Crews.{WorkerState, AreOrders};
+    ghost use Rattle.dbg_desk.specs.Crews.{WorkerState, AreOrders};
 
     ghost Value = { WorkerState };
 

@@ -1,5 +1,5 @@
-use Rattle.dbg_crew.proofs.BarredWorkerLemmas.{bars}
-use Rattle.dbg_crew.proofs.crews.crew.Goals as goal
+use Rattle.dbg_desk.proofs.BarredWorkerLemmas.{bars}
+use Rattle.dbg_desk.proofs.crews.crew.Goals as goal
 
 pub returns-clause-bars : goal.returns-clause-bars
 returns-clause-bars g c =

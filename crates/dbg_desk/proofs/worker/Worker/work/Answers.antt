@@ -1,8 +1,8 @@
 use Rattle.std.proofs.Common.{◌<◌, length, ap, arith}
 use Rattle.std.proofs.lemmas.List.{length-map}
-use Rattle.dbg_crew.specs.Crews.{WorkerState}
-use Rattle.dbg_crew.proofs.Turns.{turn_more, fewer_orders}
-use Rattle.dbg_crew.proofs.worker.Worker.work.Goals as goal
+use Rattle.dbg_desk.specs.Crews.{WorkerState}
+use Rattle.dbg_desk.proofs.Turns.{turn_more, fewer_orders}
+use Rattle.dbg_desk.proofs.worker.Worker.work.Goals as goal
 
 pub loop-turn-preserved : goal.loop-turn-preserved
 loop-turn-preserved g c =

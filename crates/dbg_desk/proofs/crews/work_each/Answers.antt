@@ -10,9 +10,9 @@ use Rattle.std.proofs.Crossing.{sync}
 use Rattle.std.specs.contracts.alloc.Global as global
 use Rattle.dbg_desk.proofs.SendableEntryLemmas.{desk_sync}
 use Rattle.dbg_desk.specs.contracts.desk.Desk as desk
-use Rattle.dbg_crew.proofs.SendableWorkerLemmas.{worker_send}
-use Rattle.dbg_crew.specs.contracts.worker.Worker as worker
-use Rattle.dbg_crew.proofs.crews.work_each.Goals as goal
+use Rattle.dbg_desk.proofs.SendableWorkerLemmas.{worker_send}
+use Rattle.dbg_desk.specs.contracts.worker.Worker as worker
+use Rattle.dbg_desk.proofs.crews.work_each.Goals as goal
 
 pub for_each_mut-requires-send-T : goal.for_each_mut-requires-send-T
 for_each_mut-requires-send-T g c κs within =

@@ -1,3 +1,0 @@
-mod Turns
-mod BarredWorkerLemmas
-mod SendableWorkerLemmas
