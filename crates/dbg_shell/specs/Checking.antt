@@ -7,7 +7,7 @@ use Rattle.dbg_base.specs.Shell.{too_long_text, fault_text}
 use Rattle.shell_print.specs.Closings.{program_size_text}
 use Rattle.shell_print.specs.declared.outcome.Served.{Served}
 use Rattle.shell_print.specs.declared.outcome.Served.TheVariants.{Done, Refused, TooLong}
-use Rattle.shell_input.specs.ProgramTexts.{alone_text}
+use Rattle.shell_serve.specs.ProgramTexts.{alone_text}
 
 -- the text is a program, and its size was written
 abbrev pub TellsSize : List ℕ → Served → List ℕ → Type 0

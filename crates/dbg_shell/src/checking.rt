@@ -6,14 +6,14 @@ ghost use Rattle.shell_io.specs.Seen.{Appended};
 ghost use Rattle.shell_print.specs.Outcomes.{source_after, sink_after};
 ghost use Rattle.shell_print.specs.declared.outcome.ServeFault.TheVariants.{Write};
 ghost use Rattle.shell_print.specs.declared.outcome.Served.{Served};
-ghost use Rattle.shell_input.specs.Written.{WritesSome, WritesPrefix};
-ghost use Rattle.shell_input.specs.ProgramTexts.{ReadsFew, ReadsProgram};
+ghost use Rattle.shell_serve.specs.Written.{WritesSome, WritesPrefix};
+ghost use Rattle.shell_serve.specs.ProgramTexts.{ReadsFew, ReadsProgram};
 ghost use Rattle.dbg_shell.specs.Checking.{ChecksText, ChecksInput};
 
 use proc_lang::{ProgError, parse_program};
-use shell_input::{Input, read_program_text, text_alone};
 use shell_io::{Sink, Source};
 use shell_print::{ServeFault, Served, tell_fault, tell_size, tell_too_long};
+use shell_serve::{Input, read_program_text, text_alone};
 use std::alloc::Global;
 
 fn check_text<W: Sink>(alloc: Global, text: &[u8], writer: &mut W) -> Result<Served, ServeFault>

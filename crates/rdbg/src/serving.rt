@@ -5,7 +5,7 @@ ghost use Rattle.shell_io.specs.declared.health.Health.TheVariants.{Fine};
 ghost use Rattle.shell_print.specs.declared.outcome.Served.{Served};
 ghost use Rattle.shell_print.specs.declared.outcome.ServeFault.{ServeFault};
 ghost use Rattle.shell_print.specs.Outcomes.{status_of, source_after, sink_after};
-ghost use Rattle.shell_input.specs.Written.{WritesSome};
+ghost use Rattle.shell_serve.specs.Written.{WritesSome};
 ghost use Rattle.shell_serve.specs.Serving.{ServesInput};
 
 use dbg_shell::{serve, status};

@@ -1,7 +1,7 @@
 //! The readers of the program: standard input and files.
 
-use shell_input::is_end_line;
 use shell_io::{ClosedLines, FixedBuffer};
+use shell_serve::is_end_line;
 use std::fs::{File, OpenFile};
 use std::io;
 use std::io::{Chain, Error, ErrorKind, Read, Stdin};

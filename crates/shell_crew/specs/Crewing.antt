@@ -17,8 +17,8 @@ use Rattle.dbg_desk.specs.Settling.{Settles, Differs}
 use Rattle.shell_print.specs.declared.outcome.ServeFault.{ServeFault}
 use Rattle.shell_print.specs.Outcomes.{status_of}
 use Rattle.shell_print.specs.Closings.{too_many_turns_text, settled_text, differs_text}
-use Rattle.shell_input.specs.ProgramTexts.{alone_text}
-use Rattle.shell_input.specs.Making.{IsMade}
+use Rattle.shell_serve.specs.ProgramTexts.{alone_text}
+use Rattle.shell_serve.specs.Making.{IsMade}
 use Rattle.shell_crew.specs.declared.crewed.Crewed.{Crewed}
 use Rattle.shell_crew.specs.declared.crewed.Crewed.TheVariants as crewed
 

@@ -10,20 +10,20 @@ use Rattle.dbg_base.specs.Trees.{Program}
 use Rattle.dbg_base.specs.Checks.{Reads, IsFault}
 use Rattle.dbg_base.specs.Shell.{Parts, lines_of, parts_of, is_too_long, fault_text, too_long_text, no_end_line_text, no_end_text}
 use Rattle.dbg_base.specs.Shell.{AnswersAll, AnswersParts, TextOfParts}
-use Rattle.shell_input.specs.declared.framing.Span.{Span}
+use Rattle.shell_serve.specs.declared.framing.Span.{Span}
 use Rattle.shell_print.specs.declared.outcome.Served.{Served}
 use Rattle.shell_print.specs.declared.outcome.ServeFault.{ServeFault}
 use Rattle.shell_print.specs.declared.outcome.ServeFault.TheVariants.{Read, Write}
 use Rattle.shell_print.specs.declared.outcome.Served.TheVariants as outcomes
-use Rattle.shell_input.specs.declared.program_text.TextEnd.{TextEnd}
-use Rattle.shell_input.specs.declared.program_text.TextEnd.TheVariants as ends
-use Rattle.shell_input.specs.Spans.{lines_from, KeepsInput, MayBe, Narrows}
+use Rattle.shell_serve.specs.declared.program_text.TextEnd.{TextEnd}
+use Rattle.shell_serve.specs.declared.program_text.TextEnd.TheVariants as ends
+use Rattle.shell_serve.specs.Spans.{lines_from, KeepsInput, MayBe, Narrows}
 use Rattle.shell_serve.specs.Serving.{EndsParts, ServesInput, BreaksInput, end_of}
 use Rattle.shell_serve.proofs.RunLemmas.{RunsOn, StopsOn, BreaksOn}
-use Rattle.shell_input.specs.ProgramTexts.{Splits, SplitsAny, ReadsFew, ReadsText, ReadsProgram}
-use Rattle.shell_input.proofs.ProgramTextLemmas.{all_from_start, text_from_start, split_here, nothing_read}
-use Rattle.shell_input.proofs.UnfinishedInputLemmas.{goes_on}
-use Rattle.shell_input.proofs.KnownInputLemmas.{Done, Cut, DoneKnown, CutKnown, done_known, cut_known, whole_is}
+use Rattle.shell_serve.specs.ProgramTexts.{Splits, SplitsAny, ReadsFew, ReadsText, ReadsProgram}
+use Rattle.shell_serve.proofs.ProgramTextLemmas.{all_from_start, text_from_start, split_here, nothing_read}
+use Rattle.shell_serve.proofs.UnfinishedInputLemmas.{goes_on}
+use Rattle.shell_serve.proofs.KnownInputLemmas.{Done, Cut, DoneKnown, CutKnown, done_known, cut_known, whole_is}
 
 -- it has this form if the reader failed
 abbrev pub BreaksKnown : Option (List ℕ) → Option (List ℕ) → Result Served ServeFault → Seen → Seen → Type 0

@@ -3,13 +3,13 @@ use Rattle.std.proofs.Common.{◌≡◌, ◌≤◌, ℕ, Bool, List, [], ◌∷�
 use Rattle.std.specs.Prelude.{◌<◌, map, slice_range, length, nat_le, IfOk, OnErr, Result, Ok, Err}
 use Rattle.dbg_base.specs.declared.limits.TheConstants.{INPUT_BYTES}
 use Rattle.shell_print.specs.declared.outcome.ServeFault.{ServeFault}
-use Rattle.shell_input.specs.declared.framing.Span.{Span}
-use Rattle.shell_input.specs.declared.framing.Next.{Next}
-use Rattle.shell_input.specs.declared.framing.Next.TheVariants.{Line, End, TooLong}
-use Rattle.shell_input.specs.declared.framing.Input.{Input}
-use Rattle.shell_input.specs.Spans.{lines_from, MayBe, EndsWith, ReadsOn, AdvancesAt, Tells, TellsAny, IsUnderWay}
+use Rattle.shell_serve.specs.declared.framing.Span.{Span}
+use Rattle.shell_serve.specs.declared.framing.Next.{Next}
+use Rattle.shell_serve.specs.declared.framing.Next.TheVariants.{Line, End, TooLong}
+use Rattle.shell_serve.specs.declared.framing.Input.{Input}
+use Rattle.shell_serve.specs.Spans.{lines_from, MayBe, EndsWith, ReadsOn, AdvancesAt, Tells, TellsAny, IsUnderWay}
 use Rattle.std.proofs.lemmas.List.{append-nil}
-use Rattle.shell_input.proofs.ReadStepLemmas.{reads_nothing, reads_then}
+use Rattle.shell_serve.proofs.ReadStepLemmas.{reads_nothing, reads_then}
 use Rattle.shell_serve.specs.Sources.{Given, Advances, GivesAll}
 use Rattle.shell_serve.specs.InputSteps.{InputGives, InputStops, InputHolds, input_left}
 

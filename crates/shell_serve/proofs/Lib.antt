@@ -1,7 +1,17 @@
+mod ReadStepLemmas
+mod LineEnds
+mod UnfinishedInputLemmas
+mod TextSplitLemmas
+pub mod ProgramTextLemmas
+pub mod KnownInputLemmas
 mod CommandReplyLemmas
-pub mod AnswerStepLemmas
+mod AnswerStepLemmas
 pub mod SessionLemmas
 mod InputSessionLemmas
 mod RunLemmas
-pub mod SeatLemmas
-pub mod InputSourceLemmas
+mod SeatLemmas
+mod InputSourceLemmas
+mod AskedOnce
+mod OutputLineLemmas
+mod OneOutput
+mod TranscriptOutput

@@ -14,13 +14,13 @@ use Rattle.shell_print.specs.declared.outcome.ServeFault.{ServeFault}
 use Rattle.shell_print.specs.declared.outcome.ServeFault.TheVariants.{Memory, Read, Write}
 use Rattle.shell_print.specs.Writing.{AppendsPrefix}
 use Rattle.shell_print.proofs.WriteLemmas.{prefix_longer}
-use Rattle.shell_input.specs.declared.framing.Input.{Input}
-use Rattle.shell_input.specs.declared.framing.Next.{Next}
-use Rattle.shell_input.specs.declared.framing.Next.TheVariants.{End, TooLong}
-use Rattle.shell_input.specs.Spans.{lines_from, MayBe, EndsWith, ReadsOn, IsUnderWay}
-use Rattle.shell_input.specs.Written.{WritesSome, WritesPrefix}
-use Rattle.shell_input.proofs.ReadStepLemmas.{reads_then}
-use Rattle.shell_input.proofs.UnfinishedInputLemmas.{goes_on, none_left}
+use Rattle.shell_serve.specs.declared.framing.Input.{Input}
+use Rattle.shell_serve.specs.declared.framing.Next.{Next}
+use Rattle.shell_serve.specs.declared.framing.Next.TheVariants.{End, TooLong}
+use Rattle.shell_serve.specs.Spans.{lines_from, MayBe, EndsWith, ReadsOn, IsUnderWay}
+use Rattle.shell_serve.specs.Written.{WritesSome, WritesPrefix}
+use Rattle.shell_serve.proofs.ReadStepLemmas.{reads_then}
+use Rattle.shell_serve.proofs.UnfinishedInputLemmas.{goes_on, none_left}
 use Rattle.shell_serve.specs.Sources.{Given, GivesAll}
 use Rattle.shell_serve.specs.InputSteps.{InputGives, InputStops, NoneLeft}
 use Rattle.shell_serve.specs.Sessions.{Says, SaysLines, SaysAll, LastEnds, ends_session, Plays}

@@ -12,9 +12,9 @@ use Rattle.dbg_base.specs.declared.refusal.Refusal.TheVariants as refusals
 use Rattle.dbg_base.specs.Journals.{Journal, IsLegal}
 use Rattle.dbg_base.specs.Replies.{refusal_text}
 use Rattle.dbg_base.specs.Shell.{AnswersLine, as_line, too_long_text}
-use Rattle.shell_input.specs.declared.framing.Span.{Span}
-use Rattle.shell_input.specs.declared.framing.Next.{Next}
-use Rattle.shell_input.specs.declared.framing.Next.TheVariants as nexts
+use Rattle.shell_serve.specs.declared.framing.Span.{Span}
+use Rattle.shell_serve.specs.declared.framing.Next.{Next}
+use Rattle.shell_serve.specs.declared.framing.Next.TheVariants as nexts
 use Rattle.shell_print.specs.declared.outcome.Served.{Served}
 use Rattle.shell_print.specs.declared.outcome.ServeFault.{ServeFault}
 use Rattle.shell_print.specs.declared.outcome.ServeFault.TheVariants.{Memory, Read, Write}

@@ -9,7 +9,7 @@ use Rattle.dbg_base.specs.Calls.{Order, order_of}
 use Rattle.dbg_base.specs.Journals.{Entry, Journal}
 use Rattle.dbg_base.specs.Fits.{FitsCall}
 use Rattle.dbg_desk.specs.Desks.{SeatState}
-use Rattle.shell_input.specs.Making.{IsMade}
+use Rattle.shell_serve.specs.Making.{IsMade}
 use Rattle.dbg_command.specs.declared.givable.Givable.{Givable}
 use Rattle.shell_serve.specs.declared.source.Answer.{Answer}
 use Rattle.shell_serve.specs.declared.source.Answer.TheVariants.{Nothing, Refused, Accepted, Halted, Ended}

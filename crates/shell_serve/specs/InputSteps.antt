@@ -3,11 +3,11 @@ use Rattle.std.specs.Prelude.{◌≡◌, ◌≤◌, ◌-◌, ℕ, List, [], ◌�
 use Rattle.dbg_base.specs.declared.limits.TheConstants.{INPUT_BYTES}
 use Rattle.dbg_base.specs.Shell.{is_too_long}
 use Rattle.shell_print.specs.declared.outcome.ServeFault.{ServeFault}
-use Rattle.shell_input.specs.declared.framing.Span.{Span}
-use Rattle.shell_input.specs.declared.framing.Next.{Next}
-use Rattle.shell_input.specs.declared.framing.Next.TheVariants.{Line, End, TooLong}
-use Rattle.shell_input.specs.declared.framing.Input.{Input}
-use Rattle.shell_input.specs.Spans.{lines_from, MayBe, ReadsOn, IsUnderWay}
+use Rattle.shell_serve.specs.declared.framing.Span.{Span}
+use Rattle.shell_serve.specs.declared.framing.Next.{Next}
+use Rattle.shell_serve.specs.declared.framing.Next.TheVariants.{Line, End, TooLong}
+use Rattle.shell_serve.specs.declared.framing.Input.{Input}
+use Rattle.shell_serve.specs.Spans.{lines_from, MayBe, ReadsOn, IsUnderWay}
 use Rattle.shell_serve.specs.Sources.{Given}
 
 -- the line at these positions

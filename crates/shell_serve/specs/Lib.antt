@@ -1,3 +1,7 @@
+pub mod Spans
+pub mod ProgramTexts
+pub mod Written
+pub mod Making
 pub mod Sources
 pub mod InputSteps
 pub mod Sessions
@@ -5,3 +9,5 @@ pub mod Plain
 pub mod Serving
 pub mod Answering
 pub mod Replying
+pub mod Ample
+pub mod Outputs

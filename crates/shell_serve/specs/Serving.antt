@@ -8,7 +8,7 @@ use Rattle.dbg_base.specs.declared.fault.ProgFault.{ProgFault}
 use Rattle.shell_io.specs.Seen.{Seen}
 use Rattle.shell_print.specs.declared.outcome.Served.{Served}
 use Rattle.shell_print.specs.declared.outcome.Served.TheVariants.{Done, Refused, TooLong}
-use Rattle.shell_input.specs.Written.{WritesSome}
+use Rattle.shell_serve.specs.Written.{WritesSome}
 
 -- the result of a run whose program was read
 abbrev pub end_of : List ℕ → Served

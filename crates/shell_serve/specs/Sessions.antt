@@ -13,9 +13,9 @@ use Rattle.shell_print.specs.declared.outcome.Served.TheVariants as outcomes
 use Rattle.shell_print.specs.declared.outcome.ServeFault.{ServeFault}
 use Rattle.shell_print.specs.declared.outcome.ServeFault.TheVariants.{Memory, Read, Write}
 use Rattle.shell_print.specs.Writing.{Writes}
-use Rattle.shell_input.specs.declared.framing.Next.{Next}
-use Rattle.shell_input.specs.declared.framing.Next.TheVariants.{End, TooLong}
-use Rattle.shell_input.specs.Written.{WritesSome, WritesPrefix}
+use Rattle.shell_serve.specs.declared.framing.Next.{Next}
+use Rattle.shell_serve.specs.declared.framing.Next.TheVariants.{End, TooLong}
+use Rattle.shell_serve.specs.Written.{WritesSome, WritesPrefix}
 use Rattle.shell_serve.specs.Sources.{Given, GivesAll}
 
 -- The manner in which a session answers its lines.

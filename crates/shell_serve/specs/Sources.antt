@@ -1,8 +1,8 @@
 -- Sources of lines.
 use Rattle.std.specs.Prelude.{◌≡◌, ◌<◌, ℕ, List, [], ◌∷◌, Option, Result, Ok, Err}
-use Rattle.shell_input.specs.declared.framing.Span.{Span}
-use Rattle.shell_input.specs.declared.framing.Next.{Next}
-use Rattle.shell_input.specs.declared.framing.Next.TheVariants.{Line, End, TooLong}
+use Rattle.shell_serve.specs.declared.framing.Span.{Span}
+use Rattle.shell_serve.specs.declared.framing.Next.{Next}
+use Rattle.shell_serve.specs.declared.framing.Next.TheVariants.{Line, End, TooLong}
 use Rattle.shell_print.specs.declared.outcome.ServeFault.{ServeFault}
 
 -- the bytes of a line, or none if memory ran out before it was made

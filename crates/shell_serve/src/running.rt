@@ -11,6 +11,7 @@ ghost use Rattle.shell_print.specs.Outcomes.{source_after, sink_after};
 ghost use Rattle.shell_serve.specs.Sessions.{MayBeQuiet, Plays};
 ghost use Rattle.shell_serve.specs.Answering.{IsMaker, AreAllSeats};
 
+use crate::framing::Next;
 use crate::line::answer_line;
 use crate::observer::Observer;
 use crate::source::{Answer, LineSource};
@@ -22,7 +23,6 @@ use dbg_command::{
 };
 use dbg_desk::{Locked, Opening, Run, Seat};
 use proc_lang::Program;
-use shell_input::Next;
 use shell_io::{Sink, Source};
 use shell_print::{ServeFault, Served, tell_too_long};
 use std::alloc::Global;

@@ -7,14 +7,15 @@ ghost use Rattle.shell_print.specs.Outcomes.{source_after, sink_after};
 ghost use Rattle.shell_print.specs.declared.outcome.ServeFault.TheVariants.{Memory, Read, Write};
 ghost use Rattle.shell_print.specs.declared.outcome.Served.{Served};
 ghost use Rattle.shell_print.specs.declared.outcome.Served.TheVariants.{Refused};
-ghost use Rattle.shell_input.specs.ProgramTexts.{ReadsFew, ReadsProgram};
-ghost use Rattle.shell_input.specs.Written.{WritesSome, WritesPrefix};
+ghost use Rattle.shell_serve.specs.ProgramTexts.{ReadsFew, ReadsProgram};
+ghost use Rattle.shell_serve.specs.Written.{WritesSome, WritesPrefix};
 ghost use Rattle.shell_serve.specs.Serving.{ServesInput, BreaksInput};
 
+use crate::framing::Input;
+use crate::program_text::{TextEnd, read_program_text};
 use crate::running::play;
 use crate::silent::Silent;
 use proc_lang::{ProgError, parse_program};
-use shell_input::{Input, TextEnd, read_program_text};
 use shell_io::{Sink, Source};
 use shell_print::{ServeFault, Served, tell_fault, tell_no_end_line, tell_too_long};
 use std::alloc::Global;

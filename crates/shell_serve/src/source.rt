@@ -3,17 +3,17 @@
 ghost use Rattle.std.specs.Prelude.{◌≡◌, ℕ, List, Option, Result, IfErr};
 ghost use Rattle.std.specs.Option.{option_map};
 ghost use Rattle.shell_io.specs.declared.health.Health.TheVariants.{Fine};
-ghost use Rattle.shell_input.specs.Spans.{EndsWith};
-ghost use Rattle.shell_input.specs.declared.framing.Span.{Span};
-ghost use Rattle.shell_input.specs.declared.framing.Next.{Next};
 ghost use Rattle.shell_print.specs.Outcomes.{source_after};
 ghost use Rattle.shell_print.specs.declared.outcome.ServeFault.{ServeFault};
 ghost use Rattle.shell_print.specs.declared.outcome.ServeFault.TheVariants.{Read};
+ghost use Rattle.shell_serve.specs.declared.framing.Span.{Span};
+ghost use Rattle.shell_serve.specs.declared.framing.Next.{Next};
+ghost use Rattle.shell_serve.specs.Spans.{EndsWith};
 ghost use Rattle.shell_serve.specs.Answering.{is_end};
 ghost use Rattle.shell_serve.specs.Sources.{Advances};
 ghost use Rattle.shell_serve.specs.InputSteps.{InputGives, InputStops, InputHolds, input_left};
 
-use shell_input::{Input, Next, Span};
+use crate::framing::{Input, Next, Span};
 use shell_io::{GivenLine, Source};
 use shell_print::ServeFault;
 

@@ -13,8 +13,8 @@ use Rattle.shell_print.specs.declared.outcome.ServeFault.TheVariants.{Read, Writ
 use Rattle.shell_print.specs.Outcomes.{source_after, sink_after}
 use Rattle.shell_print.specs.Writing.{AppendsPrefix, Writes}
 use Rattle.shell_print.proofs.WriteLemmas.{stopped, writes_then}
-use Rattle.shell_input.specs.declared.framing.Next.{Next}
-use Rattle.shell_input.specs.declared.framing.Next.TheVariants.{TooLong}
+use Rattle.shell_serve.specs.declared.framing.Next.{Next}
+use Rattle.shell_serve.specs.declared.framing.Next.TheVariants.{TooLong}
 use Rattle.shell_serve.specs.Sources.{Given}
 use Rattle.shell_serve.specs.Sessions.{SaysAll, WritesForm, Plays}
 use Rattle.ui_session.specs.Dialogues.{interactive, IsExplanation}

@@ -1,9 +1,9 @@
 -- The lines of a session as its author writes them, as a source.
 use Rattle.std.specs.Prelude.{◌≡◌, ◌<◌, ◌-◌, ◌&&◌, ℕ, nat_le, List, [], length, slice_range, Some, None, if◌then◌else◌}
 use Rattle.dbg_base.specs.declared.limits.TheConstants.{INPUT_BYTES}
-use Rattle.shell_input.specs.declared.framing.Span.{Span}
-use Rattle.shell_input.specs.declared.framing.Next.{Next}
-use Rattle.shell_input.specs.declared.framing.Next.TheVariants.{Line, End, TooLong}
+use Rattle.shell_serve.specs.declared.framing.Span.{Span}
+use Rattle.shell_serve.specs.declared.framing.Next.{Next}
+use Rattle.shell_serve.specs.declared.framing.Next.TheVariants.{Line, End, TooLong}
 use Rattle.shell_serve.specs.Sources.{Given}
 use Rattle.ui_repl.specs.declared.session_lines.SessionLines.{SessionLines}
 

@@ -10,7 +10,7 @@ use Rattle.shell_print.specs.declared.outcome.Served.{Served}
 use Rattle.shell_print.specs.declared.outcome.Served.TheVariants as outcomes
 use Rattle.shell_print.specs.declared.outcome.ServeFault.{ServeFault}
 use Rattle.shell_print.specs.declared.outcome.ServeFault.TheVariants.{Read, Write, Memory}
-use Rattle.shell_input.specs.declared.framing.Input.{Input}
+use Rattle.shell_serve.specs.declared.framing.Input.{Input}
 use Rattle.shell_serve.specs.Sources.{Given}
 use Rattle.shell_serve.specs.Sessions.{SaysAll, WritesBy}
 use Rattle.ui_session.specs.Dialogues.{interactive, IsExplanation}

@@ -1,6 +1,6 @@
 //! Plays a session and draws it.
 
-ghost use Rattle.shell_input.specs.Spans.{EndsWith};
+ghost use Rattle.shell_serve.specs.Spans.{EndsWith};
 
 use crate::expanding::{write_notes, write_text};
 use crate::opening::{OpenSession, Opening, PlayedSession, open};

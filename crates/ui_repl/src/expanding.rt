@@ -1,14 +1,14 @@
 //! Sessions in the model notation become plain sessions.
 
-ghost use Rattle.shell_input.specs.Spans.{EndsWith};
+ghost use Rattle.shell_serve.specs.Spans.{EndsWith};
 
 use crate::opening::OpenSession;
 use crate::read_line::{ExpandedLine, LineFault};
 use crate::written_program::{ReadText, WrittenProgram, read_text};
 use notation::{Fault, message};
-use shell_input::{Input, TextEnd, read_program_text, text_alone};
 use shell_io::{Sink, Source};
 use shell_print::{ServeFault, Served, hand_on, tell_too_long, write_whole};
+use shell_serve::{Input, TextEnd, read_program_text, text_alone};
 use std::alloc::{AllocError, Global};
 use ui_explain::{Echo, Explainer};
 use ui_session::Typed;

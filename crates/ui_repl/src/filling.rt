@@ -1,6 +1,6 @@
 //! A session is written with the replies that it has.
 
-ghost use Rattle.shell_input.specs.Spans.{EndsWith};
+ghost use Rattle.shell_serve.specs.Spans.{EndsWith};
 
 use crate::expanding::write_text;
 use crate::opening::{OpenSession, Opening, PlayedSession, open};

@@ -4,9 +4,9 @@ use crate::expanding::{write_fault, write_notes};
 use crate::written_program::{ReadText, WrittenProgram, read_text};
 use dbg_base::{Choice, Pid};
 use proc_lang::Program;
-use shell_input::{Input, read_program_text, text_alone};
 use shell_io::{Sink, Source};
 use shell_print::{ServeFault, Served, tell_too_long};
+use shell_serve::{Input, read_program_text, text_alone};
 use std::alloc::{AllocError, Global};
 use ui_text::{Notes, Part, ProgramText};
 

@@ -5,9 +5,8 @@ use crate::written_program::WrittenProgram;
 use dbg_base::Name;
 use dbg_base::limits::LINE_BYTES;
 use notation::{Fault, LineExpander, NotationError};
-use shell_input::Span;
 use shell_io::GivenLine;
-use shell_serve::Answer;
+use shell_serve::{Answer, Span};
 use std::alloc::{AllocError, Global};
 
 /// Why a line cannot be expanded, and the plain name of the process that it named before its fault.

@@ -3,7 +3,7 @@
 ghost use Rattle.std.specs.Prelude.{◌≡◌};
 ghost use Rattle.shell_io.specs.declared.health.Health.TheVariants.{Fine};
 ghost use Rattle.shell_print.specs.Outcomes.{source_after, sink_after};
-ghost use Rattle.shell_input.specs.Spans.{EndsWith};
+ghost use Rattle.shell_serve.specs.Spans.{EndsWith};
 ghost use Rattle.ui_repl.specs.Talks.{Talks};
 
 use crate::fault_places::refuse;
@@ -12,10 +12,9 @@ use crate::sentences::Sentences;
 use crate::session_lines::SessionLines;
 use crate::written_program::{ReadText, WrittenProgram, read_text};
 use proc_lang::Program;
-use shell_input::{Input, read_program_text, text_alone};
 use shell_io::{Sink, Source};
 use shell_print::{ServeFault, Served, tell_size, tell_too_long};
-use shell_serve::play;
+use shell_serve::{Input, play, read_program_text, text_alone};
 use std::alloc::Global;
 use ui_session::{Dialogue, Typed};
 

@@ -1,16 +1,15 @@
 //! The lines of a session as its author writes them, as the source of the lines that are played.
 
 ghost use Rattle.std.specs.Prelude.{◌≡◌, ◌<◌, IfOk, IfSome};
-ghost use Rattle.shell_input.specs.Spans.{EndsWith};
+ghost use Rattle.shell_serve.specs.Spans.{EndsWith};
 ghost use Rattle.ui_repl.specs.LineSources.{HoldsLine, written_line, lines_left, FewerIfLine};
 
 use crate::read_line::{ExpandedLine, LineFault, ReadLine};
 use crate::written_program::WrittenProgram;
 use dbg_base::limits::INPUT_BYTES;
-use shell_input::{Input, Next, Span};
 use shell_io::{GivenLine, Source};
 use shell_print::ServeFault;
-use shell_serve::{Answer, LineSource};
+use shell_serve::{Answer, Input, LineSource, Next, Span};
 use std::alloc::{AllocError, Global};
 use ui_session::Typed;
 

@@ -1,6 +1,6 @@
 //! Sessions with expectations.
 
-ghost use Rattle.shell_input.specs.Spans.{EndsWith};
+ghost use Rattle.shell_serve.specs.Spans.{EndsWith};
 
 use crate::comparing::{PlayedLine, compare};
 use crate::expanding::{write_notes, write_text};

@@ -10,7 +10,7 @@ use Rattle.dbg_base.specs.Shell.{as_line}
 use Rattle.shell_print.specs.declared.outcome.ServeFault.{ServeFault}
 use Rattle.shell_print.specs.Writing.{Writes}
 use Rattle.shell_print.proofs.WriteLemmas.{prefix_then, stopped, writes_then}
-use Rattle.shell_input.specs.Spans.{is_unended}
+use Rattle.shell_serve.specs.Spans.{is_unended}
 use Rattle.shell_serve.specs.Sources.{Given}
 use Rattle.shell_serve.specs.Sessions.{MayBeQuiet, WritesForm}
 use Rattle.ui_session.specs.Dialogues.{explanation_line, explanation_text, IsExplanation, IsEcho, IsEchoOf, IsGap, interactive}

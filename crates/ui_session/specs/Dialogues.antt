@@ -5,7 +5,7 @@ use Rattle.std.specs.Str.{bytes_eq}
 use Rattle.dbg_base.specs.Tokens.{is_digit}
 use Rattle.dbg_base.specs.CommandLines.{next_word, after_word, without_return}
 use Rattle.dbg_base.specs.Shell.{as_line}
-use Rattle.shell_input.specs.Spans.{is_unended}
+use Rattle.shell_serve.specs.Spans.{is_unended}
 use Rattle.shell_serve.specs.Sources.{Given}
 use Rattle.shell_serve.specs.Sessions.{Manner}
 

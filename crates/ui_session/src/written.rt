@@ -2,7 +2,7 @@
 
 ghost use Rattle.std.specs.Prelude.{◌≡◌, true, IfSome};
 ghost use Rattle.shell_print.specs.Writing.{Writes};
-ghost use Rattle.shell_input.specs.Spans.{is_unended};
+ghost use Rattle.shell_serve.specs.Spans.{is_unended};
 ghost use Rattle.shell_serve.specs.Sessions.{WritesForm};
 ghost use Rattle.ui_session.specs.Dialogues.{IsExplanation, IsEcho, IsGap, explanation_line};
 

@@ -3,8 +3,8 @@ use Rattle.std.specs.Option.{option_map}
 use Rattle.dbg_base.specs.Shell.{too_long_text}
 use Rattle.shell_print.specs.declared.outcome.Served.TheVariants as outcomes
 use Rattle.dbg_shell.specs.Checking.{ChecksText, ChecksAlone, ChecksInput}
-use Rattle.shell_input.proofs.KnownInputLemmas.{known_may, reported_done, reported_cut, leads_done, leads_cut}
-use Rattle.shell_input.proofs.ProgramTextLemmas.{nothing_read, reported_alone}
+use Rattle.shell_serve.proofs.KnownInputLemmas.{known_may, reported_done, reported_cut, leads_done, leads_cut}
+use Rattle.shell_serve.proofs.ProgramTextLemmas.{nothing_read, reported_alone}
 use Rattle.dbg_shell.proofs.checking.check.Goals as goal
 
 pub returns-in_err-input-clause-program : goal.returns-in_err-input-clause-program

@@ -8,7 +8,7 @@ use Rattle.shell_print.specs.declared.outcome.Served.TheVariants as outcomes
 use Rattle.proc_lang.specs.Programs.{program_of}
 use Rattle.shell_print.specs.Closings.{program_size_text}
 use Rattle.dbg_shell.specs.Checking.{ChecksText}
-use Rattle.shell_input.proofs.KnownInputLemmas.{line_done, line_cut}
+use Rattle.shell_serve.proofs.KnownInputLemmas.{line_done, line_cut}
 use Rattle.dbg_shell.proofs.CheckTextLemmas.{size_here, fault_here}
 use Rattle.dbg_shell.proofs.checking.check_text.Goals as goal
 

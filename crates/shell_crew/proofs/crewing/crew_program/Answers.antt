@@ -4,7 +4,7 @@ use Rattle.proc_lang.specs.Programs.{program_of}
 use Rattle.shell_print.specs.Closings.{too_many_turns_text}
 use Rattle.shell_crew.specs.declared.crewed.Crewed.TheVariants as crewed
 use Rattle.shell_crew.specs.Crewing.{CrewsProgram, closing_text, closing_end}
-use Rattle.shell_input.proofs.KnownInputLemmas.{line_cut}
+use Rattle.shell_serve.proofs.KnownInputLemmas.{line_cut}
 use Rattle.shell_crew.proofs.crewing.crew_program.Goals as goal
 
 pub returns-then-not-fits_turns-clause-stopped : goal.returns-then-not-fits_turns-clause-stopped

@@ -9,7 +9,7 @@ use Rattle.proc_lang.specs.Programs.{program_of}
 use Rattle.proc_lang.specs.Answering.{IfBad}
 use Rattle.shell_crew.specs.declared.crewed.Crewed.TheVariants as crewed
 use Rattle.shell_crew.specs.Crewing.{CrewsProgram, CrewsText}
-use Rattle.shell_input.proofs.KnownInputLemmas.{line_cut, done_leads, cut_leads}
+use Rattle.shell_serve.proofs.KnownInputLemmas.{line_cut, done_leads, cut_leads}
 use Rattle.shell_crew.proofs.CrewLemmas.{some_process}
 use Rattle.shell_crew.proofs.crewing.crew_text.Goals as goal
 

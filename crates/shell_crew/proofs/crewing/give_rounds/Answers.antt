@@ -2,7 +2,7 @@ use Rattle.std.proofs.Common.{◌≡◌, List, length, map, ap, ◌∙◌, arith
 use Rattle.std.proofs.lemmas.Result.{IfOk-weaker}
 use Rattle.dbg_desk.specs.Crews.{WorkerState}
 use Rattle.shell_crew.proofs.CrewLemmas.{is_crew}
-use Rattle.shell_input.proofs.Lists.{lent_back}
+use Rattle.shell_crew.proofs.Lists.{lent_back}
 use Rattle.shell_crew.proofs.crewing.give_rounds.Goals as goal
 
 pub returns-clause-crew : goal.returns-clause-crew

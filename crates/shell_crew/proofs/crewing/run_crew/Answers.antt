@@ -3,8 +3,8 @@ use Rattle.std.specs.Option.{option_map}
 use Rattle.dbg_base.specs.Shell.{too_long_text}
 use Rattle.shell_crew.specs.declared.crewed.Crewed.TheVariants as outcomes
 use Rattle.shell_crew.specs.Crewing.{CrewsText, CrewsAlone, CrewsInput}
-use Rattle.shell_input.proofs.KnownInputLemmas.{known_may, reported_done, reported_cut, leads_done, leads_cut}
-use Rattle.shell_input.proofs.ProgramTextLemmas.{nothing_read, reported_alone}
+use Rattle.shell_serve.proofs.KnownInputLemmas.{known_may, reported_done, reported_cut, leads_done, leads_cut}
+use Rattle.shell_serve.proofs.ProgramTextLemmas.{nothing_read, reported_alone}
 use Rattle.shell_crew.proofs.crewing.run_crew.Goals as goal
 
 pub returns-in_err-input-clause-program : goal.returns-in_err-input-clause-program

@@ -1,5 +1,5 @@
 use Rattle.std.proofs.Common.{sym, ◌∙◌}
-use Rattle.shell_input.specs.declared.framing.Next.TheVariants.{Line, End, TooLong}
+use Rattle.shell_serve.specs.declared.framing.Next.TheVariants.{Line, End, TooLong}
 use Rattle.shell_serve.proofs.SessionLemmas.{returned, none_answered, line_answered, line_ends, line_stops, source_ends, source_fails, source_is_too_long}
 use Rattle.shell_serve.proofs.running.answer_lines.Goals as goal
 

@@ -9,11 +9,11 @@ use Rattle.proc_lang.specs.declared.program.Program.{Program}
 use Rattle.proc_lang.specs.Answering.{IfBad}
 use Rattle.shell_print.specs.declared.outcome.Served.TheVariants as outcomes
 use Rattle.shell_print.specs.Writing.{Writes}
-use Rattle.shell_input.specs.ProgramTexts.{ReadsProgram}
-use Rattle.shell_input.proofs.UnfinishedInputLemmas.{where_fault}
-use Rattle.shell_input.proofs.ReadStepLemmas.{reads_then}
-use Rattle.shell_input.proofs.KnownInputLemmas.{known_may, reported_done, reported_cut}
-use Rattle.shell_input.proofs.ProgramTextLemmas.{nothing_read}
+use Rattle.shell_serve.specs.ProgramTexts.{ReadsProgram}
+use Rattle.shell_serve.proofs.UnfinishedInputLemmas.{where_fault}
+use Rattle.shell_serve.proofs.ReadStepLemmas.{reads_then}
+use Rattle.shell_serve.proofs.KnownInputLemmas.{known_may, reported_done, reported_cut}
+use Rattle.shell_serve.proofs.ProgramTextLemmas.{nothing_read}
 use Rattle.shell_serve.specs.Serving.{ServesInput}
 use Rattle.shell_serve.proofs.InputSessionLemmas.{says_program, stops_program, breaks_program, fault_here, end_here, too_long_here, breaks_before}
 use Rattle.shell_serve.proofs.InputSessionLemmas.{few_read, text_read}

@@ -1,6 +1,6 @@
 use Rattle.std.proofs.Common.{◌-◌}
 use Rattle.dbg_base.specs.declared.limits.TheConstants.{INPUT_BYTES}
-use Rattle.shell_input.specs.Spans.{EndsWith}
+use Rattle.shell_serve.specs.Spans.{EndsWith}
 use Rattle.ui_repl.proofs.testing.test_open.Given as goal
 
 abbrev pub invariant-loop-lines : goal.invariant-loop-lines

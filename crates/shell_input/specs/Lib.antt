@@ -1,4 +1,0 @@
-pub mod Spans
-pub mod ProgramTexts
-pub mod Written
-pub mod Making

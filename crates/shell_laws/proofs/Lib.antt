@@ -1,4 +1,0 @@
-pub mod AskedOnce
-pub mod LineLemmas
-pub mod OneOutput
-pub mod TranscriptOutput

@@ -1,6 +1,0 @@
-use Rattle.dbg_base.specs.Shell.{parts_of, read_lines}
-use Rattle.shell_laws.proofs.OneOutput.{text_once}
-use Rattle.shell_laws.proofs.laws.one_output.Goals as goal
-
-pub returns : goal.returns
-returns c input out other = text_once input (parts_of (read_lines input)) out other

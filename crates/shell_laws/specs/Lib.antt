@@ -1,2 +1,0 @@
-pub mod Ample
-pub mod Outputs
