@@ -1,1 +1,4 @@
 mod CheckTextLemmas
+mod Lists
+mod SeatLemmas
+mod CrewLemmas

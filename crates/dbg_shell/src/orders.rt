@@ -5,7 +5,7 @@ ghost use Rattle.std.specs.List.{AllByRecursion};
 ghost use Rattle.dbg_base.specs.declared.refusal.Refusal.TheVariants.{Memory};
 ghost use Rattle.dbg_base.specs.declared.limits.TheConstants.{CALLS, SEATS};
 ghost use Rattle.dbg_desk.specs.Desks.{new_seats};
-ghost use Rattle.shell_crew.specs.Crewing.{IsNextMaker, round_of, rounds_of, new_workers};
+ghost use Rattle.dbg_shell.specs.Crewing.{IsNextMaker, round_of, rounds_of, new_workers};
 
 use dbg_base::limits::SEATS;
 use dbg_base::{Pid, Refusal};

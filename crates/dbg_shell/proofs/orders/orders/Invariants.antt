@@ -1,7 +1,7 @@
 use Rattle.std.proofs.Common.{◌≡◌, map}
 use Rattle.std.specs.List.{AllByRecursion}
-use Rattle.shell_crew.specs.Crewing.{rounds_of}
-use Rattle.shell_crew.proofs.orders.orders.Given as goal
+use Rattle.dbg_shell.specs.Crewing.{rounds_of}
+use Rattle.dbg_shell.proofs.orders.orders.Given as goal
 
 abbrev pub invariant-loop : goal.invariant-loop
 invariant-loop g l = record {

@@ -1,9 +1,9 @@
 use Rattle.std.proofs.Common.{◌≡◌, List, length, map, ap, ◌∙◌, arith, rules}
 use Rattle.std.proofs.lemmas.Result.{IfOk-weaker}
 use Rattle.dbg_desk.specs.Crews.{WorkerState}
-use Rattle.shell_crew.proofs.CrewLemmas.{is_crew}
-use Rattle.shell_crew.proofs.Lists.{lent_back}
-use Rattle.shell_crew.proofs.crewing.give_rounds.Goals as goal
+use Rattle.dbg_shell.proofs.CrewLemmas.{is_crew}
+use Rattle.dbg_shell.proofs.Lists.{lent_back}
+use Rattle.dbg_shell.proofs.crewing.give_rounds.Goals as goal
 
 pub returns-clause-crew : goal.returns-clause-crew
 returns-clause-crew g c =

@@ -1,11 +1,11 @@
 use Rattle.std.proofs.Common.{Some, None, ap, refl}
 use Rattle.std.specs.Option.{option_map}
 use Rattle.dbg_base.specs.Shell.{too_long_text}
-use Rattle.shell_crew.specs.declared.crewed.Crewed.TheVariants as outcomes
-use Rattle.shell_crew.specs.Crewing.{CrewsText, CrewsAlone, CrewsInput}
+use Rattle.dbg_shell.specs.declared.crewed.Crewed.TheVariants as outcomes
+use Rattle.dbg_shell.specs.Crewing.{CrewsText, CrewsAlone, CrewsInput}
 use Rattle.shell_serve.proofs.KnownInputLemmas.{known_may, reported_done, reported_cut, leads_done, leads_cut}
 use Rattle.shell_serve.proofs.ProgramTextLemmas.{nothing_read, reported_alone}
-use Rattle.shell_crew.proofs.crewing.run_crew.Goals as goal
+use Rattle.dbg_shell.proofs.crewing.run_crew.Goals as goal
 
 pub returns-in_err-input-clause-program : goal.returns-in_err-input-clause-program
 returns-in_err-input-clause-program g c = nothing_read (g.I.Source.remaining c.args.reader.now)

@@ -1,7 +1,7 @@
 use Rattle.std.specs.Prelude.{length, min}
 use Rattle.proc_lang.specs.Programs.{program_of}
 use Rattle.dbg_base.specs.declared.limits.TheConstants.{SEATS}
-use Rattle.shell_crew.proofs.crewing.run_program.Given as goal
+use Rattle.dbg_shell.proofs.crewing.run_program.Given as goal
 
 abbrev pub ghosts-settle_run-L-Ledger : goal.ghosts-settle_run-L-Ledger
 ghosts-settle_run-L-Ledger g a = record { name = a.opening.blank.name; parts = a.opening.blank.parts }

@@ -3,7 +3,7 @@ use Rattle.std.proofs.Common.{append_assoc, ◌+◌, ◌≡◌, ℕ, suc, ◌<�
 use Rattle.std.proofs.lemmas.List.{length-append}
 use Rattle.std.proofs.Math.Seq.{get_or-append_seam}
 use Rattle.dbg_desk.specs.Desks.{SeatState, new_seat, new_seats}
-use Rattle.shell_crew.proofs.Lists.{so_many, made_at}
+use Rattle.dbg_shell.proofs.Lists.{so_many, made_at}
 
 pub so_many_seats : (n : ℕ) → length (new_seats n) ≡ n
 so_many_seats = so_many (λ n. new_seat (suc n)) new_seats refl (λ n. refl)

@@ -2,10 +2,10 @@ use Rattle.std.proofs.Common.{◌*◌, ◌<◌, ◌≤◌, length, inl, inr, ref
 use Rattle.dbg_base.specs.declared.limits.TheConstants.{CALLS}
 use Rattle.proc_lang.specs.Programs.{program_of}
 use Rattle.shell_print.specs.Closings.{too_many_turns_text}
-use Rattle.shell_crew.specs.declared.crewed.Crewed.TheVariants as crewed
-use Rattle.shell_crew.specs.Crewing.{CrewsProgram, closing_text, closing_end}
+use Rattle.dbg_shell.specs.declared.crewed.Crewed.TheVariants as crewed
+use Rattle.dbg_shell.specs.Crewing.{CrewsProgram, closing_text, closing_end}
 use Rattle.shell_serve.proofs.KnownInputLemmas.{line_cut}
-use Rattle.shell_crew.proofs.crewing.crew_program.Goals as goal
+use Rattle.dbg_shell.proofs.crewing.crew_program.Goals as goal
 
 pub returns-then-not-fits_turns-clause-stopped : goal.returns-then-not-fits_turns-clause-stopped
 returns-then-not-fits_turns-clause-stopped g c =

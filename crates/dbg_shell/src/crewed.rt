@@ -4,7 +4,7 @@ ghost use Rattle.std.specs.Prelude.{◌≡◌, ◌↔◌, ◌*◌, ◌≤◌, �
 ghost use Rattle.dbg_base.specs.declared.limits.TheConstants.{CALLS};
 ghost use Rattle.shell_io.specs.Seen.{Seen};
 ghost use Rattle.shell_print.specs.Writing.{Writes};
-ghost use Rattle.shell_crew.specs.Crewing.{crew_status_of, closing_text, closing_end};
+ghost use Rattle.dbg_shell.specs.Crewing.{crew_status_of, closing_text, closing_end};
 
 use dbg_base::limits::CALLS;
 use dbg_desk::{Closing, Mismatch};

@@ -11,8 +11,8 @@ use Rattle.dbg_base.specs.Checks.{Reads, program_tree}
 use Rattle.dbg_base.specs.Grammar.{DerivesProgram, WrittenProcess}
 use Rattle.dbg_desk.specs.Crews.{WorkerState, Works, NoneBarred, Gives, worker_number}
 use Rattle.dbg_desk.specs.Desks.{SeatState, new_seat}
-use Rattle.shell_crew.specs.Crewing.{round_of, rounds_of, new_workers, AreCrew}
-use Rattle.shell_crew.proofs.Lists.{so_many, made_at}
+use Rattle.dbg_shell.specs.Crewing.{round_of, rounds_of, new_workers, AreCrew}
+use Rattle.dbg_shell.proofs.Lists.{so_many, made_at}
 
 -- a text that is a program has a process
 pub some_process : (text : List ℕ) (P : Program) → Reads text P → 0 < length P

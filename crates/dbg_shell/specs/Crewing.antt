@@ -19,8 +19,8 @@ use Rattle.shell_print.specs.Outcomes.{status_of}
 use Rattle.shell_print.specs.Closings.{too_many_turns_text, settled_text, differs_text}
 use Rattle.shell_serve.specs.ProgramTexts.{alone_text}
 use Rattle.shell_serve.specs.Making.{IsMade}
-use Rattle.shell_crew.specs.declared.crewed.Crewed.{Crewed}
-use Rattle.shell_crew.specs.declared.crewed.Crewed.TheVariants as crewed
+use Rattle.dbg_shell.specs.declared.crewed.Crewed.{Crewed}
+use Rattle.dbg_shell.specs.declared.crewed.Crewed.TheVariants as crewed
 
 -- the exit status
 abbrev pub crew_status_of : Result Crewed ServeFault → ℕ

@@ -2,10 +2,10 @@ use Rattle.std.proofs.Common.{◌≡◌, suc, ◌+◌, ◌<◌, List, [], ◌∷
 use Rattle.std.proofs.lemmas.List.{length-map}
 use Rattle.dbg_desk.specs.Desks.{SeatState, new_seats}
 use Rattle.dbg_desk.specs.Crews.{WorkerState}
-use Rattle.shell_crew.specs.Crewing.{new_workers}
-use Rattle.shell_crew.proofs.CrewLemmas.{rounds_short, worker_is}
-use Rattle.shell_crew.proofs.SeatLemmas.{next_seat, seats_go_on, last_seat}
-use Rattle.shell_crew.proofs.orders.workers.Goals as goal
+use Rattle.dbg_shell.specs.Crewing.{new_workers}
+use Rattle.dbg_shell.proofs.CrewLemmas.{rounds_short, worker_is}
+use Rattle.dbg_shell.proofs.SeatLemmas.{next_seat, seats_go_on, last_seat}
+use Rattle.dbg_shell.proofs.orders.workers.Goals as goal
 
 pub new-requires-clause-few : goal.new-requires-clause-few
 new-requires-clause-few g c =

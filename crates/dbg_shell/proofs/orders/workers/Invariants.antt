@@ -1,7 +1,7 @@
 use Rattle.std.proofs.Common.{◌≡◌, ◌++◌}
 use Rattle.dbg_desk.specs.Desks.{new_seats}
-use Rattle.shell_crew.specs.Crewing.{new_workers}
-use Rattle.shell_crew.proofs.orders.workers.Given as goal
+use Rattle.dbg_shell.specs.Crewing.{new_workers}
+use Rattle.dbg_shell.proofs.orders.workers.Given as goal
 
 abbrev pub invariant-loop-seat : goal.invariant-loop-seat
 invariant-loop-seat g l = record {

@@ -7,11 +7,11 @@ use Rattle.proc_lang.specs.declared.fault.ProgError.{ProgError}
 use Rattle.proc_lang.specs.declared.program.Program.{Program}
 use Rattle.proc_lang.specs.Programs.{program_of}
 use Rattle.proc_lang.specs.Answering.{IfBad}
-use Rattle.shell_crew.specs.declared.crewed.Crewed.TheVariants as crewed
-use Rattle.shell_crew.specs.Crewing.{CrewsProgram, CrewsText}
+use Rattle.dbg_shell.specs.declared.crewed.Crewed.TheVariants as crewed
+use Rattle.dbg_shell.specs.Crewing.{CrewsProgram, CrewsText}
 use Rattle.shell_serve.proofs.KnownInputLemmas.{line_cut, done_leads, cut_leads}
-use Rattle.shell_crew.proofs.CrewLemmas.{some_process}
-use Rattle.shell_crew.proofs.crewing.crew_text.Goals as goal
+use Rattle.dbg_shell.proofs.CrewLemmas.{some_process}
+use Rattle.dbg_shell.proofs.crewing.crew_text.Goals as goal
 
 pub crew_program-requires-clause-some : goal.crew_program-requires-clause-some
 crew_program-requires-clause-some g c = λ κs outlives. some_process _ _ c.in-Ok.ensures.accepted

@@ -11,10 +11,10 @@ ghost use Rattle.dbg_desk.specs.Desks.{new_seats};
 ghost use Rattle.dbg_desk.specs.Openings.{IsOpeningOf};
 ghost use Rattle.shell_print.specs.Outcomes.{source_after, sink_after};
 ghost use Rattle.shell_print.specs.declared.outcome.ServeFault.TheVariants.{Write};
-ghost use Rattle.shell_crew.specs.declared.crewed.Crewed.{Crewed};
+ghost use Rattle.dbg_shell.specs.declared.crewed.Crewed.{Crewed};
 ghost use Rattle.shell_serve.specs.ProgramTexts.{ReadsFew, ReadsProgram};
 ghost use Rattle.shell_serve.specs.Written.{WritesSome, WritesPrefix};
-ghost use Rattle.shell_crew.specs.Crewing.{IsNextMaker, AreCrew, IsClosing, CrewsProgram, CrewsText, CrewsInput};
+ghost use Rattle.dbg_shell.specs.Crewing.{IsNextMaker, AreCrew, IsClosing, CrewsProgram, CrewsText, CrewsInput};
 
 use crate::crewed::{Crewed, closing_end, ends, fits_turns, print_closing};
 use crate::orders::{seats_of, workers};

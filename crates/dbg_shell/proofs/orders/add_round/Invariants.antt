@@ -1,7 +1,7 @@
 use Rattle.std.proofs.Common.{◌≡◌, ◌++◌, map}
 use Rattle.std.specs.List.{AllByRecursion}
-use Rattle.shell_crew.specs.Crewing.{round_of}
-use Rattle.shell_crew.proofs.orders.add_round.Given as goal
+use Rattle.dbg_shell.specs.Crewing.{round_of}
+use Rattle.dbg_shell.proofs.orders.add_round.Given as goal
 
 abbrev pub invariant-loop-p : goal.invariant-loop-p
 invariant-loop-p g l = record {
