@@ -6,9 +6,9 @@ _rdbg() {
   if [ "$current" = = ]; then current=; elif [ "$before" = = ]; then before=${COMP_WORDS[COMP_CWORD - 2]}; fi
   COMPREPLY=()
   if [ "$COMP_CWORD" -eq 1 ]; then
-    choices='talk expand run check crew test draw find help --help --version'
+    choices='talk expand run check crew test replay draw find help --help --version'
   elif [ "$word" = help ]; then
-    choices='talk expand run check crew test draw help'
+    choices='talk expand run check crew test replay draw help'
   elif [ "$before" = --as ]; then
     choices='text svg html shiviz mermaid'
   elif [ "$before" = --color ]; then

@@ -1,5 +1,5 @@
 # Completion of rdbg for fish.
-set -l words talk expand run check crew test draw find help
+set -l words talk expand run check crew test replay draw find help
 complete -c rdbg -f
 complete -c rdbg -s h -l help -d 'Print help'
 complete -c rdbg -n "not __fish_seen_subcommand_from $words" -a talk -d 'Interactive session, explains each reply'
@@ -8,10 +8,11 @@ complete -c rdbg -n "not __fish_seen_subcommand_from $words" -a run -d 'Answers 
 complete -c rdbg -n "not __fish_seen_subcommand_from $words" -a check -d 'Checks a program'
 complete -c rdbg -n "not __fish_seen_subcommand_from $words" -a crew -d 'Gives next for each process from threads'
 complete -c rdbg -n "not __fish_seen_subcommand_from $words" -a test -d 'Compares the replies with the expected ones'
+complete -c rdbg -n "not __fish_seen_subcommand_from $words" -a replay -d 'Plays a session again on an edited program'
 complete -c rdbg -n "not __fish_seen_subcommand_from $words" -a draw -d 'Draws a picture of a session'
 complete -c rdbg -n "not __fish_seen_subcommand_from $words" -a find -d 'Searches for a schedule that halts'
 complete -c rdbg -n "not __fish_seen_subcommand_from $words" -a help -d 'Prints the help'
-complete -c rdbg -n '__fish_seen_subcommand_from help' -a 'talk expand run check crew test draw help'
+complete -c rdbg -n '__fish_seen_subcommand_from help' -a 'talk expand run check crew test replay draw help'
 complete -c rdbg -n '__fish_seen_subcommand_from check' -l explain -d 'Print what is wrong, and where'
 complete -c rdbg -n '__fish_seen_subcommand_from expand' -l names -d 'List the commands with their names in the text'
 complete -c rdbg -n '__fish_seen_subcommand_from crew' -l turns -x -d 'How often to give next for each process'
@@ -45,4 +46,4 @@ complete -c rdbg -n '__fish_seen_subcommand_from find' -l from-start -d 'Search 
 complete -c rdbg -n '__fish_seen_subcommand_from find' -l shortest -d 'Use all seconds to look for a shorter schedule'
 complete -c rdbg -n '__fish_seen_subcommand_from find' -l test -d 'Print the replies, too'
 complete -c rdbg -n '__fish_seen_subcommand_from find' -l compare -d 'Compare the order played with all orders'
-complete -c rdbg -n '__fish_seen_subcommand_from talk expand run check crew test draw find' -k -a '(__fish_complete_suffix .rdbg)'
+complete -c rdbg -n '__fish_seen_subcommand_from talk expand run check crew test replay draw find' -k -a '(__fish_complete_suffix .rdbg)'

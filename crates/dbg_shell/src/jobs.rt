@@ -49,6 +49,8 @@ pub enum Request<'a> {
     Test(Vec<&'a str>, bool),
     /// Print the session of this file with the replies that it has now.
     Fill(&'a str),
+    /// Play the session of the first file, and its lines on the edited program of the second.
+    Replay(&'a str, &'a str),
     /// Print the version.
     Version,
 }

@@ -22,10 +22,10 @@ const _: () = prove!(TURNS as usize == CALLS);
 
 static GUIDE: &str =
     "The input is a program, a line `%%`, and for `talk`, `run` and `draw` command lines after it. For `check` and `crew`, all of it is
-the program if no line is `%%`. rdbg reads FILE, and then standard input; without FILE, standard input alone. `check`, `crew` and
-`test` read FILE alone. `draw` and `expand` do not wait for a terminal. An interactive session answers `help`, too.
+the program if no line is `%%`. rdbg reads FILE, and then standard input; without FILE, standard input alone. `check`, `crew`,
+`test` and `replay` read their files alone. `draw` and `expand` do not wait for a terminal. An interactive session answers `help`, too.
 `rdbg --version` prints the version.
-`talk`, `draw`, `test` and `check --explain` also read the model notation, and `expand` prints the plain session of one in it.
+`talk`, `draw`, `test`, `replay` and `check --explain` also read the model notation, and `expand` prints the plain session of one in it.
 
 Command lines, each after a seat from 1 to 16:
   step P K, next P, redo P       make an event of the process P
@@ -204,6 +204,33 @@ fn test<'a>(alloc: Global) -> Result<Command<'a>, AllocError> {
         )
 }
 
+// A file that has to be named.
+fn named_file<'a>(alloc: Global, id: &'a str, name: &'a str, help: &'a str) -> Arg<'a> {
+    Arg::new(alloc, id)
+        .value_name(name)
+        .required(true)
+        .help(help)
+}
+
+fn replay<'a>(alloc: Global) -> Result<Command<'a>, AllocError> {
+    Command::new(alloc, "replay")
+        .about(
+            "Plays a session again on an edited program, and prints the first line that goes another way",
+        )
+        .arg(named_file(
+            alloc,
+            "session",
+            "SESSION",
+            "The session: a program, and command lines after it",
+        ))?
+        .arg(named_file(
+            alloc,
+            "program",
+            "PROGRAM",
+            "The edited program; lines after it are not played",
+        ))
+}
+
 fn command<'a>(alloc: Global) -> Result<Command<'a>, AllocError> {
     Command::new(alloc, "rdbg")
         .about(ABOUT)
@@ -215,6 +242,7 @@ fn command<'a>(alloc: Global) -> Result<Command<'a>, AllocError> {
         .subcommand(check(alloc)?)?
         .subcommand(crew(alloc)?)?
         .subcommand(test(alloc)?)?
+        .subcommand(replay(alloc)?)?
         .subcommand(draw(alloc)?)
 }
 
@@ -274,6 +302,23 @@ fn named_test<'a>(
     }
 }
 
+// The request of `replay`.
+fn named_replay<'a>(
+    command: &mut Command<'_>,
+    matches: &ArgMatches<'a>,
+) -> Result<Request<'a>, Error>
+    ensures { IfOk result IsRequest }
+{
+    match (matches.get_str("session"), matches.get_str("program")) {
+        (Some(session), Some(program)) => Ok(Request::Replay(session, program)),
+        // The parser has required both.
+        _ => Err(command.error(
+            ErrorKind::MissingRequiredArgument,
+            "'replay' takes a session and a program",
+        )?),
+    }
+}
+
 // Whether the arguments ask for the version.
 fn is_version<S: AsStr>(words: &[S]) -> bool {
     match words {
@@ -294,6 +339,7 @@ pub fn asked<'a, S: AsStr>(alloc: Global, words: &'a [S]) -> Result<Request<'a>,
     let matches = command.try_get_matches_from_mut(words)?;
     match matches.subcommand() {
         Some(("test", own)) => named_test(alloc, &mut command, own),
+        Some(("replay", own)) => named_replay(&mut command, own),
         Some((name, own)) => {
             let work = named_work(&mut command, name, own)?;
             Ok(Request::Work(work, own.get_str("file")))

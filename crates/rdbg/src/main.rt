@@ -3,6 +3,7 @@
 
 mod output;
 mod paint;
+mod replaying;
 mod serving;
 mod sessions;
 mod testing;
@@ -15,6 +16,7 @@ use clap::error::ErrorKind;
 use dbg_shell::{Coloring, Job, Request, Work, asked, check, crew_status, run_crew, status};
 use output::Output;
 use paint::{Look, Painted, Stream};
+use replaying::replay_files;
 use serving::run;
 use shell_io::{Noted, Sink, one_after_the_other};
 use std::io::{Error, IsTerminal};
@@ -26,7 +28,8 @@ use testing::test;
 use typing::{Device, FileInput, Typing, open};
 use ui_diagram::{PictureForm, WIDTH};
 use ui_repl::{
-    draw, draw_status, expand, explain, fill_session, name_commands, talk, tell_notation,
+    ReplayNames, draw, draw_status, expand, explain, fill_session, name_commands, talk,
+    tell_notation,
 };
 use words::{WordsFault, words};
 
@@ -141,7 +144,9 @@ fn look_of(rt: &HostRuntime, request: &Request<'_>) -> Look {
     match request {
         Request::Work(Work::Talk(Coloring::Auto), _) if shows_colours(rt) => Look::Coloured,
         Request::Work(Work::Talk(Coloring::Always), _) => Look::Coloured,
-        Request::Work(Work::Talk(_) | Work::Explain, _) | Request::Test(_, _) => Look::Visible,
+        Request::Work(Work::Talk(_) | Work::Explain, _)
+        | Request::Test(_, _)
+        | Request::Replay(_, _) => Look::Visible,
         Request::Work(Work::Draw(picture), _) if picture.form == PictureForm::Text => Look::Visible,
         Request::Work(Work::Job(_) | Work::Expand | Work::NameCommands | Work::Draw(_), _)
         | Request::Fill(_)
@@ -175,6 +180,9 @@ fn do_request<R: Threads + Wait + Sync>(
         }
         Request::Test(names, is_tap) => test(rt, names.as_slice(), *is_tap, &mut writer),
         Request::Fill(file) => fill(rt, file, &mut writer, &mut errors),
+        Request::Replay(session, program) => {
+            replay_files(rt, ReplayNames { session, program }, &mut writer)
+        }
         Request::Version => match println!(rt; "{VERSION}") {
             Ok(()) => 0,
             Err(_) => FAILED,

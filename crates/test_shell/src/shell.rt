@@ -11,7 +11,6 @@ mod faults;
 mod files;
 mod fits;
 mod full_journal;
-mod help;
 mod jobs;
 mod lines;
 mod pictures;

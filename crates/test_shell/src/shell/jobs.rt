@@ -100,7 +100,10 @@ const REFUSED: [Row; 9] = [
     ),
     (ErrorKind::MissingSubcommand, &[""]),
     (ErrorKind::InvalidSubcommand, &["jump"]),
-    (ErrorKind::MissingRequiredArgument, &["test", "crew"]),
+    (
+        ErrorKind::MissingRequiredArgument,
+        &["test", "crew", "replay one"],
+    ),
     (ErrorKind::TooManyValues, &["test --fill one two"]),
     (ErrorKind::ArgumentConflict, &["test --fill --tap one"]),
 ];
@@ -119,12 +122,13 @@ fn request_of(alloc: Global, words: ArgumentList) -> (&'static str, Option<&'sta
         Ok(Request::Work(_, file)) => ("work", file),
         Ok(Request::Test(files, _)) => ("test", files.first().copied()),
         Ok(Request::Fill(file)) => ("fill", Some(file)),
+        Ok(Request::Replay(session, _)) => ("replay", Some(session)),
         Ok(Request::Version) => ("version", None),
         Err(_) => ("error", None),
     }
 }
 
-const FILES: [(ArgumentList, &str, Option<&str>); 11] = [
+const FILES: [(ArgumentList, &str, Option<&str>); 12] = [
     (&["rdbg", "run", "one"], "work", Some("one")),
     (&["rdbg", "check", "a b"], "work", Some("a b")),
     (
@@ -138,6 +142,7 @@ const FILES: [(ArgumentList, &str, Option<&str>); 11] = [
     (&["rdbg", "test", "--tap", "one"], "test", Some("one")),
     (&["rdbg", "test", "--fill", "one"], "fill", Some("one")),
     (&["rdbg", "test", "one", "--fill"], "fill", Some("one")),
+    (&["rdbg", "replay", "one", "two"], "replay", Some("one")),
     (&["rdbg", "run"], "work", None),
     (&["rdbg", "--version"], "version", None),
 ];

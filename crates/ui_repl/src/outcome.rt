@@ -1,0 +1,116 @@
+//! What was said to a line, as a replay compares it.
+
+use dbg_base::{Choice, Done, Name, Pid, Said};
+use dbg_command::SessionView;
+use event_rows::{Event, Exchange};
+use std::alloc::{AllocError, Global};
+use ui_explain::Told;
+use ui_text::ProgramText;
+
+/// What was said to a line that was played.
+#[derive(Drop)]
+pub(crate) struct Outcome {
+    /// The number of the line in the input, and the line as it was written.
+    pub(crate) number: usize,
+    pub(crate) line: Vec<u8>,
+    /// The reply. A command that has a label is named by it.
+    pub(crate) reply: Vec<u8>,
+    /// The message that the event received, if it received one.
+    pub(crate) message: Option<i64>,
+    halted: Option<Name>,
+    is_refused: bool,
+}
+
+// The event that an accepted command made or undid.
+fn event_of(done: &Done) -> Option<(Pid, Choice)> {
+    match done {
+        Done::Played(pid, choice) | Done::Undone(pid, choice) => Some((*pid, *choice)),
+        Done::Places(_) | Done::Plain => None,
+    }
+}
+
+// The message that was received by the event that an accepted command made.
+fn message_of(view: SessionView<'_>, done: &Done) -> Option<i64> {
+    let Done::Played(pid, _) = done else {
+        return None;
+    };
+    match view.world.rows().last(*pid).map(Event::exchange) {
+        Some(Exchange::Took { message, .. }) => Some(message),
+        _ => None,
+    }
+}
+
+// The reply to a command that made or undid this event, with its label.
+fn labelled(
+    alloc: Global,
+    text: &ProgramText,
+    pid: Pid,
+    label: &[u8],
+    halted: Option<Name>,
+) -> Result<Vec<u8>, AllocError> {
+    let mut reply = Vec::from_slice(alloc, b"ok ")?;
+    reply.extend_from_slice(text.written_name(pid))?;
+    reply.push(b' ')?;
+    reply.extend_from_slice(label)?;
+    if let Some(name) = halted {
+        reply.extend_from_slice(b" halted ")?;
+        reply.extend_from_slice(name.bytes())?;
+    }
+    Ok(reply)
+}
+
+impl Outcome {
+    /// What was said to this line of a session of this program.
+    pub(crate) fn new(
+        alloc: Global,
+        number: usize,
+        line: &[u8],
+        text: &ProgramText,
+        view: SessionView<'_>,
+        told: Told<'_>,
+        reply: &[u8],
+    ) -> Result<Outcome, AllocError> {
+        let mut outcome = Outcome {
+            number,
+            line: Vec::from_slice(alloc, line)?,
+            reply: Vec::new(alloc),
+            message: None,
+            halted: None,
+            is_refused: matches!(told, Told::Refused(_) | Told::Said(_, Said::Refused(_), _)),
+        };
+        if let Told::Said(_, Said::Accepted(accepted), _) = told {
+            outcome.message = message_of(view, &accepted.done);
+            outcome.halted = accepted.halted;
+            if let Some((pid, choice)) = event_of(&accepted.done) {
+                let label = text.label(pid, choice);
+                if !label.is_empty() {
+                    outcome.reply = labelled(alloc, text, pid, label, accepted.halted)?;
+                    return Ok(outcome);
+                }
+            }
+        }
+        outcome.reply.extend_from_slice(reply)?;
+        Ok(outcome)
+    }
+
+    /// How this outcome differs from an earlier one of the same line, if it does.
+    pub(crate) fn difference(&self, before: &Outcome) -> Option<&'static str> {
+        match (before.is_refused, self.is_refused) {
+            (false, true) => return Some("it is refused now"),
+            (true, false) => return Some("it was refused, and now it is not"),
+            (false, false) | (true, true) => {}
+        }
+        match (before.halted, self.halted) {
+            (None, Some(_)) => return Some("the session halts here now"),
+            (Some(_), None) => return Some("the session halted here, and now it does not"),
+            (None, None) | (Some(_), Some(_)) => {}
+        }
+        if self.reply.as_slice() != before.reply.as_slice() {
+            return Some("the reply is another one");
+        }
+        if self.message != before.message {
+            return Some("another message is received");
+        }
+        None
+    }
+}
