@@ -31,6 +31,11 @@ def program():
     return asked.stdout.strip() if asked.returncode == 0 else stop("build the program first: ./rdbg --version, or ./rdbg --prove to prove it, too")
 
 
+def is_proved(path):
+    """Whether this program is proved. `./rdbg` keeps one that is not in a folder of its own."""
+    return Path(path).parent.name != "rdbg-unproved"
+
+
 class Fault(Exception):
     """What is wrong in a test that cannot continue."""
 
