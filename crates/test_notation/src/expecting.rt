@@ -1,9 +1,0 @@
-//! What a test expects. Each is a function of its own, so a test's own proof has no text to make for a failure.
-
-use std::fmt::Debug;
-use std::process::Abort;
-
-/// Expects the wanted value.
-pub fn expect_same<T: Debug + PartialEq + Drop>(rt: &impl Abort, reported: T, want: T) {
-    assert_eq!(rt; reported, want);
-}
