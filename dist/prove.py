@@ -10,7 +10,7 @@ import tempfile
 import time
 from pathlib import Path
 
-from toolchain import FAILED, TOP, check_toolchain, clear_line, need_toolchain, say, show_line
+from toolchain import FAILED, TOP, LoggedRun, check_toolchain, clear_line, need_toolchain, say, show_line
 
 PROGRAM = TOP / "crates/rdbg/out/rdbg"
 MEMORY = 3_000_000_000  # in bytes, that the proof of a crate may take
@@ -61,32 +61,19 @@ def copy_crates(crates, room):
         shutil.copytree(TOP / "crates" / crate.name, room / "crates" / crate.name, ignore=unneeded)
 
 
-class Proof:
+class Proof(LoggedRun):
     """A run of `rt ci` over these crates, in a copy. What earlier runs on this machine have proved, `rt ci` takes over from them."""
 
     def __init__(self, crates, targets, room, is_urgent):
-        self.targets, self.room = targets, room
         copy_crates(crates, room)
-        self.log = open(room / "log", "w+", errors="replace")
+        super().__init__(room)
+        self.targets = targets
 
         def prepare():
             os.setpgrp()  # (so that Ctrl-C reaches this script alone, which then ends the run)
             os.nice(0 if is_urgent else 15)
 
         self.process = subprocess.Popen(["rt", "ci"], cwd=room, stdin=subprocess.DEVNULL, stdout=self.log, stderr=subprocess.STDOUT, preexec_fn=prepare)
-
-    def has_ended(self):
-        return self.process.poll() is not None
-
-    def said(self):
-        self.log.seek(0)
-        return self.log.read()
-
-    def close(self):
-        if not self.has_ended():
-            self.process.kill()  # (`rt` ends what it has started)
-        self.process.wait()
-        self.log.close()
 
 
 class Progress:
@@ -164,7 +151,7 @@ class Prover:
             if proof.process.returncode != 0:
                 raise NotProved(said)
             self.running.remove(proof)
-            proof.close()
+            proof.close(signal.SIGKILL)
             if self.waiting and re.search(r"(?m)^rt: note: .* (nothing|not) (is )?kept", said):
                 return self.prove_whole()
             for crate in proof.targets:
@@ -185,7 +172,7 @@ class Prover:
     def close(self):
         clear_line()
         for proof in self.running:
-            proof.close()
+            proof.close(signal.SIGKILL)
 
 
 def errors_in(log):

@@ -9,6 +9,28 @@ LOGIC = "logic dac8208d650f15bf"  # of the toolchain that proves these sources (
 FAILED = 2  # the status if there is no program
 
 
+class LoggedRun:
+    """A run of the toolchain, with a folder of its own, in which a file has what the run says. A class below it starts `process`."""
+
+    def __init__(self, room):
+        self.room = room
+        self.log = open(room / "log", "w+", errors="replace")
+
+    def has_ended(self):
+        return self.process.poll() is not None
+
+    def said(self):
+        self.log.seek(0)
+        return self.log.read()
+
+    def close(self, signal_number):
+        """Ends the run by this signal if it has not ended. (`rt` ends what it has started.)"""
+        if not self.has_ended():
+            self.process.send_signal(signal_number)
+        self.process.wait()
+        self.log.close()
+
+
 def say(text):
     print(f"rdbg: {text}", file=sys.stderr, flush=True)
 
