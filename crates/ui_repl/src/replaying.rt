@@ -92,7 +92,7 @@ impl Drop for Replayer<'_> {
     }
 }
 
-// Begins a report about a line of this session.
+// Begins a report about a line of a session of this name.
 fn begin_report<'x>(
     alloc: Global,
     session: &'x str,
