@@ -13,9 +13,9 @@ use dbg_command::SessionView;
 use itoa::Buffer;
 use proc_lang::Program;
 use std::alloc::{AllocError, Global};
-use ui_explain::ProcessView;
 use ui_text::{Notes, Part, ProgramText};
 use ui_timeline::{ShownEvent, TimedEvent, event_of, timed_events};
+use ui_view::ProcessView;
 
 // The processes of which a clock counts at least one event, in order.
 fn counted(alloc: Global, program: &Program, clock: &Cut) -> Result<Vec<Pid>, AllocError>

@@ -2,12 +2,12 @@
 
 use dbg_base::{Pid, Refusal};
 use std::alloc::{AllocError, Global};
-use ui_explain::{ProcessView, SourceView};
 use ui_text::{Notes, Part};
 use ui_timeline::{
     NamedCut, Selection, ShownEvent, Timeline, bytes_of, event_of, halting, named_cuts,
     put_left_out, put_setting, size,
 };
+use ui_view::{ProcessView, SourceView};
 
 // The most events that are shown. Issue trackers draw no diagram of more than 50,000 characters.
 const SHOWN: usize = 400;

@@ -6,11 +6,11 @@ mod words;
 use crate::canvas::{Canvas, CanvasRow};
 use dbg_base::{Pid, Refusal};
 use std::alloc::{AllocError, Global};
-use ui_explain::SourceView;
 use ui_text::{Notes, Part};
 use ui_timeline::{
     NamedCut, Selection, ShownEvent, Timeline, bytes_of, halting, named_cuts, put_left_out, size,
 };
+use ui_view::SourceView;
 use words::{TextScene, words};
 
 // The most events that are shown.

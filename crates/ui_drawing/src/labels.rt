@@ -5,11 +5,11 @@ use crate::svg::shortened;
 use dbg_base::Pid;
 use event_rows::Event;
 use std::alloc::AllocError;
-use ui_explain::{ProcessView, names_variable};
 use ui_text::{Notes, Part};
 use ui_timeline::{
     NamedCut, Received, Sent, ShownEvent, bytes_of, event_of, halting, put_left_out, size,
 };
+use ui_view::{ProcessView, names_variable};
 
 // The most variables that are shown at an event, unless the predicate names more.
 const WORDS: usize = 2;

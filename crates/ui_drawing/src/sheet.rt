@@ -6,9 +6,9 @@ use crate::layout::Layout;
 use crate::places::WordPlaces;
 use dbg_base::Refusal;
 use std::alloc::{AllocError, Global};
-use ui_explain::SourceView;
 use ui_text::{Notes, Part};
 use ui_timeline::{NamedCut, Selection, ShownEvent, Theme, Timeline, event_of, named_cuts, size};
+use ui_view::SourceView;
 
 /// What a drawing shows.
 #[derive(Clone, Copy)]

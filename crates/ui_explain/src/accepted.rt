@@ -1,11 +1,11 @@
 //! What an accepted command did.
 
 use crate::batches::made_from;
-use crate::events::EventNews;
-use crate::view::SourceView;
+use crate::explained::ExplainedSession;
 use dbg_base::{Call, Done, Pid, Plan, Refusal, Reply};
 use std::alloc::{AllocError, Global};
 use ui_text::{Notes, Part};
+use ui_view::EventNews;
 
 /// What has to be known of a session before a call: how many events each process had, and how long its line was.
 #[derive(Debug)]
@@ -42,17 +42,18 @@ impl Before {
     }
 }
 
-impl SourceView<'_> {
+impl ExplainedSession<'_> {
     fn place_of(&self, pid: Pid) -> (u32, u32) {
         (
-            self.session.world.place(pid),
-            self.session.world.line_len(pid),
+            self.view.session.world.place(pid),
+            self.view.session.world.line_len(pid),
         )
     }
 
     // Says what the last event of a process did, if it has one.
     fn tell_last(&self, notes: &mut Notes, news: EventNews, pid: Pid) -> Result<(), AllocError> {
-        self.tell_event(notes, news, pid, self.session.world.rows().len(pid))
+        self.view
+            .tell_event(notes, news, pid, self.view.session.world.rows().len(pid))
     }
 
     /// Notes what has to be known of a session before a call, to explain afterwards what the call did. Before an undo, says what the last
@@ -71,7 +72,7 @@ impl SourceView<'_> {
             }
             Call::Give(Plan::Rollback(_, _) | Plan::Goto(_) | Plan::Batch(_)) | Call::Back => {
                 before.places.clear();
-                for p in 0..self.session.program.processes() {
+                for p in 0..self.view.session.program.processes() {
                     before.places.push(self.place_of(Pid(p)))?;
                 }
             }
@@ -83,7 +84,7 @@ impl SourceView<'_> {
     // Says how many events a process has now, and how many it can make again.
     fn tell_place(&self, notes: &mut Notes, pid: Pid, old_place: u32) -> Result<(), AllocError> {
         let (place, line) = self.place_of(pid);
-        let scope = self.scope(pid);
+        let scope = self.view.scope(pid);
         if place == old_place {
             notes.say_with("{}: {}", &[scope.name(), Part::Events(place)])?;
         } else {
@@ -121,7 +122,8 @@ impl SourceView<'_> {
         self.tell_place(notes, pid, before.0)?;
         for at in first..place {
             let number = (at as usize).saturating_add(1);
-            self.tell_event(notes, EventNews::MadeByBatch, pid, number)?;
+            self.view
+                .tell_event(notes, EventNews::MadeByBatch, pid, number)?;
         }
         Ok(())
     }
@@ -132,7 +134,7 @@ impl SourceView<'_> {
         before: &Before,
         call: &Call,
     ) -> Result<(), AllocError> {
-        for p in 0..self.session.program.processes() {
+        for p in 0..self.view.session.program.processes() {
             if let Some(place) = before.places.get(p as usize) {
                 self.tell_move(notes, Pid(p), *place, call)?;
             }

@@ -1,7 +1,7 @@
 //! Explanations of the answers to queries.
 
 use crate::breakpoints::part_of;
-use crate::view::SourceView;
+use crate::explained::ExplainedSession;
 use dbg_base::{Call, Cause, Choice, Elimination, Name, Pid, Query, Refusal};
 use least_cut::Detector;
 use std::alloc::{AllocError, Global};
@@ -65,7 +65,7 @@ fn ruled_out(
     Ok(rows)
 }
 
-impl SourceView<'_> {
+impl ExplainedSession<'_> {
     // Says in which states of a process its part is false.
     fn tell_false(
         &self,
@@ -74,7 +74,7 @@ impl SourceView<'_> {
         states: usize,
         last: u32,
     ) -> Result<(), AllocError> {
-        let scope = self.scope(pid);
+        let scope = self.view.scope(pid);
         if states == 1 {
             let parts = [scope.name(), Part::Events(last)];
             return notes.say_with("{}: its part is false after {}", &parts);
@@ -87,7 +87,7 @@ impl SourceView<'_> {
 
     // Says how many events of a process are needed, and for which event of another one.
     fn tell_needed(&self, notes: &mut Notes, pid: Pid, needed: Needed) -> Result<(), AllocError> {
-        let scope = self.scope(pid);
+        let scope = self.view.scope(pid);
         notes.say_with(
             "{}: at least {}, since event {} of {} depends on its event {}",
             &[
@@ -102,7 +102,7 @@ impl SourceView<'_> {
 
     // Says what was ruled out of the states of all processes.
     fn tell_ruled_out(&self, notes: &mut Notes, rows: &[RuledOut]) -> Result<(), AllocError> {
-        for p in 0..self.session.program.processes() {
+        for p in 0..self.view.session.program.processes() {
             let Some(row) = rows.get(p as usize) else {
                 break;
             };
@@ -124,11 +124,11 @@ impl SourceView<'_> {
         detector: &Detector,
         pid: Pid,
     ) -> Result<(), Refusal> {
-        let scope = self.scope(pid);
+        let scope = self.view.scope(pid);
         let mut fires = false;
         self.tell_not_yet(notes, detector, pid)?;
-        for number in 0..self.session.program.commands(pid) {
-            if scope.fires(alloc, self.session.world, Choice(number))? {
+        for number in 0..self.view.session.program.commands(pid) {
+            if scope.fires(alloc, self.view.session.world, Choice(number))? {
                 let word = if fires { ", " } else { "; it can now fire " };
                 notes.add(word)?;
                 scope.put_command(notes, Choice(number))?;
@@ -150,7 +150,7 @@ impl SourceView<'_> {
         row: Option<&RuledOut>,
     ) -> Result<(), AllocError> {
         let (Some(part), Some(needed)) = (
-            part_of(detector, self.session.program, pid),
+            part_of(detector, self.view.session.program, pid),
             row.and_then(|row| row.needed),
         ) else {
             return Ok(());
@@ -158,7 +158,7 @@ impl SourceView<'_> {
         let Some(held) = self.last_held(pid, part, needed.events)? else {
             return Ok(());
         };
-        let scope = self.scope(pid);
+        let scope = self.view.scope(pid);
         notes.say_with(
             "the part of {} held last after {}, but event {} of {} depends on event {} of {}",
             &[
@@ -185,8 +185,8 @@ impl SourceView<'_> {
             Call::Ask(Query::Why(name)) => self.tell_search(alloc, notes, *name),
             Call::Ask(Query::CutOf(name)) => Ok(self.tell_cut_of(notes, *name)?),
             Call::Ask(Query::Breaks) => self.tell_all_breakpoints(alloc, notes),
-            Call::Ask(Query::Can(pid)) if pid.0 < self.session.program.processes() => {
-                match self.session.world.can_undo(*pid) {
+            Call::Ask(Query::Can(pid)) if pid.0 < self.view.session.program.processes() => {
+                match self.view.session.world.can_undo(*pid) {
                     Err(Refusal::Consequence(receiver)) => {
                         Ok(self.tell_consequence(notes, *pid, receiver)?)
                     }
@@ -199,11 +199,11 @@ impl SourceView<'_> {
 
     // Says how the search for a breakpoint's cut went.
     fn tell_search(&self, alloc: Global, notes: &mut Notes, name: Name) -> Result<(), Refusal> {
-        let Some((_, breakpoint)) = self.session.book.find(name) else {
+        let Some((_, breakpoint)) = self.view.session.book.find(name) else {
             return Ok(());
         };
         let detector = breakpoint.detector();
-        let rows = ruled_out(alloc, detector.why(), self.session.program.processes())?;
+        let rows = ruled_out(alloc, detector.why(), self.view.session.program.processes())?;
         self.tell_ruled_out(notes, rows.as_slice())?;
         if let Some(cut) = detector.cut() {
             notes.say("what is left is the earliest state:")?;

@@ -1,6 +1,6 @@
 //! The predicate of a breakpoint, and its cut.
 
-use crate::view::SourceView;
+use crate::explained::ExplainedSession;
 use dbg_base::{Cut, Expr, Head, Name, Pid, Refusal};
 use least_cut::Detector;
 use proc_lang::Program;
@@ -19,15 +19,15 @@ pub(crate) fn part_of<'a>(detector: &'a Detector, program: &Program, pid: Pid) -
     None
 }
 
-impl SourceView<'_> {
+impl ExplainedSession<'_> {
     // Appends the conjuncts of a breakpoint to the last line.
     fn put_conjuncts(&self, notes: &mut Notes, detector: &Detector) -> Result<(), AllocError> {
         let mut word = "";
-        for at in 0..self.session.program.processes() {
+        for at in 0..self.view.session.program.processes() {
             let Some((pid, expr)) = detector.conjunct(at as usize) else {
                 break;
             };
-            let scope = self.scope(pid);
+            let scope = self.view.scope(pid);
             notes.add_with("{}{} ", &[Part::Text(word), scope.name()])?;
             scope.put_expression(notes, expr)?;
             word = " and ";
@@ -39,9 +39,9 @@ impl SourceView<'_> {
     fn tell_cut(&self, notes: &mut Notes, cut: &Cut) -> Result<(), AllocError> {
         notes.say("it holds first after these events:")?;
         let mut word = " ";
-        for p in 0..self.session.program.processes() {
+        for p in 0..self.view.session.program.processes() {
             let count = Part::Natural(cut.count(Pid(p)));
-            let name = self.scope(Pid(p)).name();
+            let name = self.view.scope(Pid(p)).name();
             notes.add_with("{}{} of {}", &[Part::Text(word), count, name])?;
             word = ", ";
         }
@@ -56,12 +56,12 @@ impl SourceView<'_> {
         detector: &Detector,
         pid: Pid,
     ) -> Result<(), AllocError> {
-        let program = self.session.program;
-        let scope = self.scope(pid);
+        let program = self.view.session.program;
+        let scope = self.view.scope(pid);
         notes.say_with("not yet in {}", &[scope.name()])?;
         match (
             part_of(detector, program, pid),
-            self.session.world.local_state(pid),
+            self.view.session.world.local_state(pid),
         ) {
             (Some(part), Some(env)) => {
                 notes.add(": ")?;
@@ -79,7 +79,7 @@ impl SourceView<'_> {
     ) -> Result<Vec<Pid>, Refusal> {
         let heads = detector.frontier(alloc)?;
         let mut pids = Vec::new(alloc);
-        for p in 0..self.session.program.processes() {
+        for p in 0..self.view.session.program.processes() {
             if let Some(Head::Past) = heads.items().get(p as usize) {
                 pids.push(Pid(p))?;
             }
@@ -94,7 +94,7 @@ impl SourceView<'_> {
         notes: &mut Notes,
         name: Name,
     ) -> Result<(), Refusal> {
-        let Some((_, breakpoint)) = self.session.book.find(name) else {
+        let Some((_, breakpoint)) = self.view.session.book.find(name) else {
             return Ok(());
         };
         let detector = breakpoint.detector();
@@ -112,16 +112,16 @@ impl SourceView<'_> {
     // Whether a process has events that are not in a cut.
     fn is_beyond(&self, cut: &Cut) -> bool {
         let mut is_beyond = false;
-        for p in 0..self.session.program.processes() {
+        for p in 0..self.view.session.program.processes() {
             let pid = Pid(p);
-            is_beyond = is_beyond || cut.count(pid) < self.session.world.place(pid);
+            is_beyond = is_beyond || cut.count(pid) < self.view.session.world.place(pid);
         }
         is_beyond
     }
 
     /// Whether a breakpoint has a cut, and there are events that are not in it.
     pub(crate) fn is_beyond_cut(&self, name: Name) -> bool {
-        match self.session.book.find(name) {
+        match self.view.session.book.find(name) {
             Some((_, breakpoint)) => match breakpoint.detector().cut() {
                 Some(cut) => self.is_beyond(cut),
                 None => false,
@@ -132,7 +132,7 @@ impl SourceView<'_> {
 
     /// Shows the state of the cut of a breakpoint, if it has one.
     pub(crate) fn tell_cut_of(&self, notes: &mut Notes, name: Name) -> Result<(), AllocError> {
-        let Some((_, breakpoint)) = self.session.book.find(name) else {
+        let Some((_, breakpoint)) = self.view.session.book.find(name) else {
             return Ok(());
         };
         let detector = breakpoint.detector();
@@ -150,7 +150,7 @@ impl SourceView<'_> {
         notes: &mut Notes,
         name: Name,
     ) -> Result<(), AllocError> {
-        let Some((_, breakpoint)) = self.session.book.find(name) else {
+        let Some((_, breakpoint)) = self.view.session.book.find(name) else {
             return Ok(());
         };
         let detector = breakpoint.detector();
@@ -174,7 +174,7 @@ impl SourceView<'_> {
         name: Name,
         is_armed: bool,
     ) -> Result<(), AllocError> {
-        let Some((_, breakpoint)) = self.session.book.find(name) else {
+        let Some((_, breakpoint)) = self.view.session.book.find(name) else {
             return Ok(());
         };
         let detector = breakpoint.detector();
@@ -199,7 +199,7 @@ impl SourceView<'_> {
         alloc: Global,
         notes: &mut Notes,
     ) -> Result<(), Refusal> {
-        let marks = self.session.book.list(alloc)?;
+        let marks = self.view.session.book.list(alloc)?;
         for (name, is_armed) in marks.items() {
             self.tell_predicate_of(notes, *name, *is_armed)?;
         }

@@ -1,14 +1,14 @@
 //! The state of a cut: what each process had done in it, and the messages on their way.
 
 use crate::breakpoints::part_of;
-use crate::events::sending;
-use crate::view::SourceView;
+use crate::explained::ExplainedSession;
 use dbg_base::{Cut, Expr, Pid};
 use event_rows::{Event, Exchange};
 use least_cut::Detector;
 use local_eval::{Env, guard};
 use std::alloc::AllocError;
 use ui_text::{Notes, Part};
+use ui_view::sending;
 
 // At most this many events before a cut are searched for the one since which a part holds.
 const SEARCHED: u32 = 1_000;
@@ -53,10 +53,10 @@ fn put_share(notes: &mut Notes, count: u32, place: u32) -> Result<(), AllocError
     notes.add_with("{} of {}", &[Part::Natural(count), Part::Events(place)])
 }
 
-impl SourceView<'_> {
+impl ExplainedSession<'_> {
     // The local state of a process after its first events, so many. It is found from the nearer end of the events.
     fn state_after(&self, pid: Pid, count: u32) -> Result<Env, AllocError> {
-        let world = self.session.world;
+        let world = self.view.session.world;
         let place = world.place(pid);
         match world.local_state(pid) {
             Some(env) if place.saturating_sub(count) < count => {
@@ -81,7 +81,8 @@ impl SourceView<'_> {
         let mut env = env.copy()?;
         let mut event = count;
         for at in (count.saturating_sub(SEARCHED)..count).rev() {
-            self.session
+            self.view
+                .session
                 .world
                 .rows()
                 .retreat(pid, at as usize, &mut env);
@@ -114,7 +115,8 @@ impl SourceView<'_> {
             return Ok(Some(last));
         }
         for at in (last.saturating_sub(SEARCHED)..last).rev() {
-            self.session
+            self.view
+                .session
                 .world
                 .rows()
                 .retreat(pid, at as usize, &mut env);
@@ -134,7 +136,7 @@ impl SourceView<'_> {
         env: &Env,
         count: u32,
     ) -> Result<(), AllocError> {
-        let Some(part) = part_of(detector, self.session.program, pid) else {
+        let Some(part) = part_of(detector, self.view.session.program, pid) else {
             return Ok(());
         };
         let since = self.held_since(pid, part, env, count)?;
@@ -155,11 +157,11 @@ impl SourceView<'_> {
         pid: Pid,
         count: u32,
     ) -> Result<(), AllocError> {
-        let scope = self.scope(pid);
+        let scope = self.view.scope(pid);
         let env = self.state_after(pid, count)?;
         notes.say_with("{}", &[scope.head()])?;
         notes.tab(columns.events)?;
-        put_share(notes, count, self.session.world.place(pid))?;
+        put_share(notes, count, self.view.session.world.place(pid))?;
         notes.tab(columns.since)?;
         self.put_since(notes, detector, pid, &env, count)?;
         notes.tab(columns.values)?;
@@ -168,7 +170,7 @@ impl SourceView<'_> {
 
     // The value of the message of this count from one process to another.
     fn message(&self, source: Pid, target: Pid, count: u32) -> Option<i64> {
-        let world = self.session.world;
+        let world = self.view.session.world;
         let sender = sending(world, source, target, count).checked_sub(1)?;
         match world
             .rows()
@@ -189,13 +191,13 @@ impl SourceView<'_> {
         source: Pid,
         target: Pid,
     ) -> Result<(), AllocError> {
-        let tally = self.session.world.tally();
+        let tally = self.view.session.world.tally();
         let got = tally.got(target, source, cut.count(target));
         let sent = tally.sent(source, target, cut.count(source));
         if sent <= got {
             return Ok(());
         }
-        let scope = self.scope(source);
+        let scope = self.view.scope(source);
         notes.say("on the way")?;
         notes.tab(columns.events)?;
         notes.add_with("from {} to {}", &[scope.name(), scope.process(target)])?;
@@ -222,8 +224,8 @@ impl SourceView<'_> {
         detector: &Detector,
         cut: &Cut,
     ) -> Result<(), AllocError> {
-        let processes = self.session.program.processes();
-        let columns = CutColumns::after(self.text.longest_name());
+        let processes = self.view.session.program.processes();
+        let columns = CutColumns::after(self.view.text.longest_name());
         for p in 0..processes {
             self.tell_process_of_cut(notes, detector, columns, Pid(p), cut.count(Pid(p)))?;
         }

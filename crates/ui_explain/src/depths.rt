@@ -1,13 +1,13 @@
 //! The events below a halt, in columns by causal depth.
 
-use crate::events::sending;
-use crate::view::SourceView;
+use crate::explained::ExplainedSession;
 use causal_world::World;
 use dbg_base::{Cut, Pid};
 use event_rows::{Event, Exchange};
 use least_cut::Detector;
 use std::alloc::{AllocError, Global};
 use ui_text::{Notes, Part};
+use ui_view::sending;
 
 // At most this many events are put into columns, and at most so many columns are shown.
 const EVENTS: u32 = 2_000;
@@ -127,7 +127,7 @@ impl DepthColumns {
     }
 }
 
-impl SourceView<'_> {
+impl ExplainedSession<'_> {
     // Shows the events of a process in the cut, in columns: the last one of a part with a star, and a bar after the last one of the cut.
     fn tell_row(
         &self,
@@ -138,8 +138,8 @@ impl SourceView<'_> {
         pid: Pid,
         count: usize,
     ) -> Result<(), AllocError> {
-        let stars = has_part(detector, self.session.program.processes(), pid);
-        notes.say_with("{}", &[self.scope(pid).head()])?;
+        let stars = has_part(detector, self.view.session.program.processes(), pid);
+        notes.say_with("{}", &[self.view.scope(pid).head()])?;
         notes.tab(columns.begin)?;
         if depths.last_of(pid) < columns.first {
             return notes.add("|");
@@ -168,7 +168,7 @@ impl SourceView<'_> {
         detector: &Detector,
         cut: &Cut,
     ) -> Result<(), AllocError> {
-        let program = self.session.program;
+        let program = self.view.session.program;
         let processes = program.processes();
         let mut events = 0u32;
         for p in 0..processes {
@@ -177,10 +177,10 @@ impl SourceView<'_> {
         if events == 0 || events > EVENTS || processes < 2 {
             return Ok(());
         }
-        let depths = Depths::of(alloc, self.session.world, cut, processes)?;
+        let depths = Depths::of(alloc, self.view.session.world, cut, processes)?;
         let last = depths.last();
         let columns = DepthColumns {
-            begin: self.text.longest_name().saturating_add(2),
+            begin: self.view.text.longest_name().saturating_add(2),
             width: if events < 10 { 4 } else { 6 },
             first: last.saturating_sub(COLUMNS).saturating_add(1),
             last,

@@ -1,6 +1,6 @@
 //! Commands as text.
 
-use crate::view::SourceView;
+use crate::explained::ExplainedSession;
 use dbg_base::{Name, Pid, Plan};
 use std::alloc::AllocError;
 use ui_text::{Notes, Part};
@@ -10,7 +10,7 @@ fn put_of_breakpoint(notes: &mut Notes, word: &'static str, name: Name) -> Resul
     notes.add_with("{} {}", &[Part::Text(word), Part::Name(name)])
 }
 
-impl SourceView<'_> {
+impl ExplainedSession<'_> {
     // Appends a command that names a process to the last line.
     fn put_of_process(
         &self,
@@ -19,7 +19,7 @@ impl SourceView<'_> {
         pid: Pid,
         number: Option<u32>,
     ) -> Result<(), AllocError> {
-        notes.add_with("{} {}", &[Part::Text(word), self.scope(pid).name()])?;
+        notes.add_with("{} {}", &[Part::Text(word), self.view.scope(pid).name()])?;
         match number {
             Some(number) => notes.add_with(" {}", &[Part::Natural(number)]),
             None => Ok(()),

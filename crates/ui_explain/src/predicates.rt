@@ -1,7 +1,7 @@
 //! What is wrong with the predicates of a line that sets a breakpoint.
 
+use crate::explained::ExplainedSession;
 use crate::lines::{next_expression, next_word, process_named};
-use crate::view::SourceView;
 use dbg_base::limits::{NAME_BYTES, PROCESSES};
 use dbg_base::{FaultKind, Pid, Refusal};
 use proc_lang::{ProgError, ProgFault, Program, parse_predicate};
@@ -118,11 +118,11 @@ fn wrong_end(rest: &[u8]) -> Option<&'static str> {
     }
 }
 
-impl SourceView<'_> {
+impl ExplainedSession<'_> {
     // Shows the variables of a process.
     fn tell_variables(&self, notes: &mut Notes, pid: Pid) -> Result<(), AllocError> {
-        let scope = self.scope(pid);
-        let count = self.session.program.variables(pid);
+        let scope = self.view.scope(pid);
+        let count = self.view.session.program.variables(pid);
         notes.say_with("{}", &[scope.name()])?;
         let mut word = match count {
             0 => return notes.add(" has no variable"),
@@ -140,7 +140,7 @@ impl SourceView<'_> {
     fn put_owner(&self, notes: &mut Notes, owner: Pid) -> Result<(), AllocError> {
         notes.add_with(
             "{}: what it must be is in a part of its own, `{} (..)`",
-            &[self.scope(owner).name(), self.scope(owner).name()],
+            &[self.view.scope(owner).name(), self.view.scope(owner).name()],
         )
     }
 
@@ -151,7 +151,7 @@ impl SourceView<'_> {
         pid: Pid,
         word: &[u8],
     ) -> Result<(), AllocError> {
-        if let Some(owner) = owner_of(self.session.program, word) {
+        if let Some(owner) = owner_of(self.view.session.program, word) {
             notes.say_with("`{}` is a variable of ", &[Part::Bytes(word)])?;
             return self.put_owner(notes, owner);
         }
@@ -170,7 +170,7 @@ impl SourceView<'_> {
         tell_mark(notes, text.get(..fault.at).unwrap_or(text), fault.kind)?;
         match fault.kind {
             FaultKind::Grammar | FaultKind::Byte => {
-                match grammar_correction(self.session.program, text, fault.at) {
+                match grammar_correction(self.view.session.program, text, fault.at) {
                     Some(correction) => notes.say(correction),
                     None => Ok(()),
                 }
@@ -191,10 +191,10 @@ impl SourceView<'_> {
         pid: Pid,
         text: &[u8],
     ) -> Result<bool, Refusal> {
-        if pid.0 >= self.session.program.processes() {
+        if pid.0 >= self.view.session.program.processes() {
             return Ok(false);
         }
-        match parse_predicate(alloc, self.session.program, pid, text) {
+        match parse_predicate(alloc, self.view.session.program, pid, text) {
             Ok(_) => Ok(false),
             Err(ProgError::Bad(fault)) => {
                 self.tell_fault(notes, pid, text, &fault)?;
@@ -216,7 +216,7 @@ impl SourceView<'_> {
         for _ in 0..PARTS {
             let (word, begun) = next_word(rest);
             let (text, others) = next_expression(begun);
-            let Some(pid) = process_named(self.session.program, word) else {
+            let Some(pid) = process_named(self.view.session.program, word) else {
                 return Ok(());
             };
             if self.tell_predicate(alloc, notes, pid, text)? {
@@ -238,10 +238,10 @@ impl SourceView<'_> {
 
     // Shows a line that sets a breakpoint, for a process of the program that has a variable.
     fn tell_example(&self, notes: &mut Notes) -> Result<(), AllocError> {
-        let program = self.session.program;
+        let program = self.view.session.program;
         for p in 0..program.processes() {
             if program.variables(Pid(p)) > 0 {
-                let scope = self.scope(Pid(p));
+                let scope = self.view.scope(Pid(p));
                 notes.say_with(
                     "for example `break b {} ({}",
                     &[scope.name(), scope.variable(0)],
@@ -265,7 +265,7 @@ impl SourceView<'_> {
                 let why = "a process and its predicate are missing after the name";
                 return Some(WrongBreak::at(why, rest));
             }
-            if is_bare && process_named(self.session.program, word).is_none() {
+            if is_bare && process_named(self.view.session.program, word).is_none() {
                 let why = "a predicate of more than one word is in parentheses";
                 return Some(WrongBreak::at(why, rest));
             }
@@ -290,7 +290,7 @@ impl SourceView<'_> {
     // What is wrong with the words after `break`.
     fn wrong_break(&self, arguments: &[u8]) -> Option<WrongBreak> {
         let (name, parts) = next_word(arguments);
-        let is_process = process_named(self.session.program, name).is_some();
+        let is_process = process_named(self.view.session.program, name).is_some();
         if name.is_empty() {
             let why = "a name for the breakpoint is missing";
             return Some(WrongBreak::at(why, arguments));

@@ -1,11 +1,11 @@
 //! Why a call is refused, and what the person can do.
 
-use crate::events::receiving;
-use crate::view::SourceView;
+use crate::explained::ExplainedSession;
 use dbg_base::{Call, Choice, Name, Pid, Plan, Query, Refusal};
 use event_rows::{Event, Exchange};
 use std::alloc::{AllocError, Global};
 use ui_text::{Notes, Part, meaning};
+use ui_view::receiving;
 
 // The process that a command names.
 fn process_of(plan: &Plan) -> Option<Pid> {
@@ -31,22 +31,23 @@ fn breakpoint_of(plan: &Plan) -> Option<Name> {
     }
 }
 
-impl SourceView<'_> {
+impl ExplainedSession<'_> {
     // The command of the program that would be made.
     fn choice_of(&self, plan: &Plan) -> Option<Choice> {
         match plan {
             Plan::Step(_, choice) => Some(*choice),
             Plan::Redo(pid) => self
+                .view
                 .session
                 .world
-                .choice(*pid, self.session.world.place(*pid)),
+                .choice(*pid, self.view.session.world.place(*pid)),
             _ => None,
         }
     }
 
     fn tell_commands(&self, notes: &mut Notes, pid: Pid) -> Result<(), AllocError> {
-        let count = self.session.program.commands(pid);
-        let name = self.scope(pid).name();
+        let count = self.view.session.program.commands(pid);
+        let name = self.view.scope(pid).name();
         match count.checked_sub(1) {
             None => notes.say_with("{} has no command", &[name]),
             Some(0) => notes.say_with("{} has only command 0", &[name]),
@@ -59,7 +60,7 @@ impl SourceView<'_> {
 
     // The number, from 1, of the event of the receiver by which it received the message of the process's last event.
     fn received(&self, pid: Pid, receiver: Pid) -> Option<u32> {
-        let world = self.session.world;
+        let world = self.view.session.world;
         match world.rows().last(pid).map(Event::exchange) {
             Some(Exchange::Sent { count, .. }) => Some(receiving(world, receiver, pid, count)),
             _ => None,
@@ -76,8 +77,8 @@ impl SourceView<'_> {
         let Some(received) = self.received(pid, receiver) else {
             return Ok(());
         };
-        let events = self.session.world.rows().len(pid);
-        let scope = self.scope(pid);
+        let events = self.view.session.world.rows().len(pid);
+        let scope = self.view.scope(pid);
         notes.say_with(
             "{} received the message of event {} of {} by its event {}",
             &[
@@ -99,7 +100,7 @@ impl SourceView<'_> {
         alloc: Global,
         halting: Name,
     ) -> Result<Option<Name>, Refusal> {
-        for (name, is_armed) in self.session.book.list(alloc)?.items() {
+        for (name, is_armed) in self.view.session.book.list(alloc)?.items() {
             if *is_armed && *name != halting && self.has_cut(*name) {
                 return Ok(Some(*name));
             }
@@ -109,7 +110,7 @@ impl SourceView<'_> {
 
     /// Whether a breakpoint has a cut.
     pub(crate) fn has_cut(&self, name: Name) -> bool {
-        match self.session.book.find(name) {
+        match self.view.session.book.find(name) {
             Some((_, breakpoint)) => breakpoint.detector().cut().is_some(),
             None => false,
         }
@@ -143,7 +144,7 @@ impl SourceView<'_> {
 
     // Says which breakpoints exist.
     fn tell_breakpoints(&self, alloc: Global, notes: &mut Notes) -> Result<(), Refusal> {
-        let marks = self.session.book.list(alloc)?;
+        let marks = self.view.session.book.list(alloc)?;
         if marks.items().is_empty() {
             return Ok(notes.say("no breakpoint is set")?);
         }
@@ -167,15 +168,15 @@ impl SourceView<'_> {
         pid: Pid,
         refusal: &Refusal,
     ) -> Result<(), Refusal> {
-        let scope = self.scope(pid);
+        let scope = self.view.scope(pid);
         match refusal {
             Refusal::UnknownChoice => self.tell_commands(notes, pid)?,
             Refusal::GuardFalse | Refusal::Fault | Refusal::ChannelEmpty => {
                 if let Some(choice) = self.choice_of(plan) {
-                    scope.tell_hindrance(alloc, notes, self.session.world, choice)?;
+                    scope.tell_hindrance(alloc, notes, self.view.session.world, choice)?;
                 }
             }
-            Refusal::NoneEnabled => scope.tell_hindrances(alloc, notes, self.session.world)?,
+            Refusal::NoneEnabled => scope.tell_hindrances(alloc, notes, self.view.session.world)?,
             Refusal::NothingToUndo => notes.say_with("{} is at its start", &[scope.name()])?,
             Refusal::Consequence(receiver) => self.tell_consequence(notes, pid, *receiver)?,
             Refusal::NothingToRedo => notes.say_with(
@@ -185,7 +186,10 @@ impl SourceView<'_> {
             Refusal::BadPlace => {
                 notes.say_with(
                     "{} has {}",
-                    &[scope.name(), Part::Events(self.session.world.place(pid))],
+                    &[
+                        scope.name(),
+                        Part::Events(self.view.session.world.place(pid)),
+                    ],
                 )?;
             }
             _ => {}

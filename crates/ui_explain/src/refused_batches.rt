@@ -1,6 +1,6 @@
 //! Why a command of a batch is refused.
 
-use crate::view::SourceView;
+use crate::explained::ExplainedSession;
 use dbg_base::{Name, Plan, Refusal};
 use std::alloc::{AllocError, Global};
 use ui_text::{Notes, Part, meaning};
@@ -38,13 +38,13 @@ fn is_armed_after(plans: &[Plan], name: Name, is_armed: bool) -> bool {
     is_armed
 }
 
-impl SourceView<'_> {
+impl ExplainedSession<'_> {
     // Says which event prevents an undo.
     fn tell_prevented(&self, notes: &mut Notes, plan: &Plan) -> Result<(), AllocError> {
         let Plan::Undo(pid) = plan else {
             return Ok(());
         };
-        match self.session.world.can_undo(*pid) {
+        match self.view.session.world.can_undo(*pid) {
             Err(Refusal::Consequence(receiver)) => self.tell_consequence(notes, *pid, receiver),
             _ => Ok(()),
         }
@@ -52,7 +52,7 @@ impl SourceView<'_> {
 
     // Says which breakpoint halts the session.
     fn tell_halted_batch(&self, alloc: Global, notes: &mut Notes) -> Result<(), Refusal> {
-        match self.session.book.halted() {
+        match self.view.session.book.halted() {
             Some(name) => {
                 self.tell_breakpoint(alloc, notes, name)?;
                 self.tell_continuing(alloc, notes, name)
@@ -86,7 +86,9 @@ impl SourceView<'_> {
         let is_set_again = later
             .iter()
             .any(|plan| matches!(plan, Plan::Break(own, _) if *own == name));
-        self.session.book.find(name).is_none() && !is_set_again && is_armed_after(later, name, true)
+        self.view.session.book.find(name).is_none()
+            && !is_set_again
+            && is_armed_after(later, name, true)
     }
 
     // Says which breakpoints may halt the session after these commands of a batch: those that are armed then.
@@ -96,7 +98,7 @@ impl SourceView<'_> {
         notes: &mut Notes,
         plans: &[Plan],
     ) -> Result<(), Refusal> {
-        let marks = self.session.book.list(alloc)?;
+        let marks = self.view.session.book.list(alloc)?;
         let mut word = "after the commands before it, a breakpoint halts the session: ";
         notes.say("")?;
         for (name, is_armed) in marks.items() {

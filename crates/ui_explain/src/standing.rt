@@ -1,24 +1,22 @@
 //! The present state of a session.
 
-use crate::events::EventNews;
-use crate::expressions::count_form;
-use crate::values::put_value;
-use crate::view::SourceView;
+use crate::explained::ExplainedSession;
 use dbg_base::{Choice, Direction, Name, Pid, Refusal};
 use std::alloc::{AllocError, Global};
 use ui_text::{Notes, Part};
+use ui_view::{EventNews, count_form, put_value};
 
 // Processes, from the first of these numbers up to the second, without it.
 type Processes = (u32, u32);
 
-impl SourceView<'_> {
+impl ExplainedSession<'_> {
     // The process of this name, or all processes if the name is empty. If no process has the name, says so.
     fn processes_named(
         &self,
         notes: &mut Notes,
         word: &[u8],
     ) -> Result<Option<Processes>, AllocError> {
-        let program = self.session.program;
+        let program = self.view.session.program;
         if word.is_empty() {
             return Ok(Some((0, program.processes())));
         }
@@ -33,11 +31,11 @@ impl SourceView<'_> {
 
     // Says which commands of a process can fire, and returns whether there is one.
     fn tell_firing(&self, alloc: Global, notes: &mut Notes, pid: Pid) -> Result<bool, Refusal> {
-        let scope = self.scope(pid);
+        let scope = self.view.scope(pid);
         let mut any = false;
-        for number in 0..self.session.program.commands(pid) {
+        for number in 0..self.view.session.program.commands(pid) {
             let choice = Choice(number);
-            if scope.fires(alloc, self.session.world, choice)? {
+            if scope.fires(alloc, self.view.session.world, choice)? {
                 any = true;
                 notes.say_with("{}: ", &[scope.name()])?;
                 scope.put_command(notes, choice)?;
@@ -49,7 +47,7 @@ impl SourceView<'_> {
 
     // Says that a breakpoint halts the session, if one does, and what `pass` would do.
     fn tell_halted(&self, alloc: Global, notes: &mut Notes) -> Result<(), Refusal> {
-        let Some(name) = self.session.book.halted() else {
+        let Some(name) = self.view.session.book.halted() else {
             return Ok(());
         };
         notes.say_with(
@@ -92,12 +90,12 @@ impl SourceView<'_> {
         pid: Pid,
         choice: Choice,
     ) -> Result<(), Refusal> {
-        let scope = self.scope(pid);
+        let scope = self.view.scope(pid);
         notes.say_with("{}: ", &[scope.name()])?;
         scope.put_command(notes, choice)?;
         scope.put_text(alloc, notes, choice)?;
         notes.say("  ")?;
-        scope.put_verdict(alloc, notes, self.session.world, choice)
+        scope.put_verdict(alloc, notes, self.view.session.world, choice)
     }
 
     /// Shows the commands of the process of this name, or of all processes if the name is empty, and says of each what prevents it from
@@ -107,7 +105,7 @@ impl SourceView<'_> {
             return Ok(());
         };
         for p in from..to {
-            for number in 0..self.session.program.commands(Pid(p)) {
+            for number in 0..self.view.session.program.commands(Pid(p)) {
                 self.tell_command(alloc, notes, Pid(p), Choice(number))?;
             }
         }
@@ -115,11 +113,11 @@ impl SourceView<'_> {
     }
 
     fn tell_values(&self, notes: &mut Notes, pid: Pid) -> Result<(), AllocError> {
-        let scope = self.scope(pid);
-        let place = Part::Natural(self.session.world.place(pid));
-        let line = Part::Natural(self.session.world.line_len(pid));
+        let scope = self.view.scope(pid);
+        let place = Part::Natural(self.view.session.world.place(pid));
+        let line = Part::Natural(self.view.session.world.line_len(pid));
         notes.say_with("{}, place {} of {}", &[scope.name(), place, line])?;
-        let Some(env) = self.session.world.local_state(pid) else {
+        let Some(env) = self.view.session.world.local_state(pid) else {
             return Ok(());
         };
         let mut word = ": ";
@@ -136,12 +134,12 @@ impl SourceView<'_> {
         first: &'static str,
         direction: Direction,
     ) -> Result<(), AllocError> {
-        let Some(env) = self.session.world.local_state(pid) else {
+        let Some(env) = self.view.session.world.local_state(pid) else {
             return Ok(());
         };
-        let scope = self.scope(pid);
+        let scope = self.view.scope(pid);
         let mut word = first;
-        for other in 0..self.session.program.processes() {
+        for other in 0..self.view.session.program.processes() {
             let count = env
                 .counts(direction)
                 .get(other as usize)
@@ -162,11 +160,11 @@ impl SourceView<'_> {
         source: Pid,
         target: Pid,
     ) -> Result<(), Refusal> {
-        let messages = self.session.world.channel(alloc, source, target)?;
+        let messages = self.view.session.world.channel(alloc, source, target)?;
         if messages.items().is_empty() {
             return Ok(());
         }
-        let scope = self.scope(source);
+        let scope = self.view.scope(source);
         notes.say_with("{} -> {}:", &[scope.name(), scope.process(target)])?;
         for message in messages.items() {
             notes.add_with(" {}", &[Part::Number(*message)])?;
@@ -184,8 +182,8 @@ impl SourceView<'_> {
             self.tell_values(notes, Pid(p))?;
         }
         let is_shown = |p: u32| from <= p && p < to;
-        for p in 0..self.session.program.processes() {
-            for q in 0..self.session.program.processes() {
+        for p in 0..self.view.session.program.processes() {
+            for q in 0..self.view.session.program.processes() {
                 if is_shown(p) || is_shown(q) {
                     self.tell_channel(alloc, notes, Pid(p), Pid(q))?;
                 }
@@ -195,10 +193,10 @@ impl SourceView<'_> {
     }
 
     fn tell_again(&self, notes: &mut Notes, pid: Pid, at: u32) -> Result<(), AllocError> {
-        match self.session.world.choice(pid, at) {
+        match self.view.session.world.choice(pid, at) {
             Some(choice) => {
                 notes.say("to redo: ")?;
-                self.scope(pid).put_command(notes, choice)
+                self.view.scope(pid).put_command(notes, choice)
             }
             None => Ok(()),
         }
@@ -209,24 +207,24 @@ impl SourceView<'_> {
         if word.is_empty() {
             return notes.say("`line P` shows the events of the process P");
         }
-        let found = Name::new(word).and_then(|name| self.session.program.find_process(name));
+        let found = Name::new(word).and_then(|name| self.view.session.program.find_process(name));
         let Some(pid) = found else {
             return self.tell_processes(notes, word);
         };
-        let place = self.session.world.place(pid);
+        let place = self.view.session.world.place(pid);
         for at in 0..place {
             let number = (at as usize).saturating_add(1);
-            self.tell_event(notes, EventNews::Made, pid, number)?;
+            self.view.tell_event(notes, EventNews::Made, pid, number)?;
         }
         notes.say_with(
             "{} is here: place {} of {}",
             &[
-                self.scope(pid).name(),
+                self.view.scope(pid).name(),
                 Part::Natural(place),
-                Part::Natural(self.session.world.line_len(pid)),
+                Part::Natural(self.view.session.world.line_len(pid)),
             ],
         )?;
-        for at in place..self.session.world.line_len(pid) {
+        for at in place..self.view.session.world.line_len(pid) {
             self.tell_again(notes, pid, at)?;
         }
         Ok(())
@@ -235,12 +233,15 @@ impl SourceView<'_> {
     /// Says that no process has this name, and which names there are.
     pub fn tell_processes(&self, notes: &mut Notes, word: &[u8]) -> Result<(), AllocError> {
         notes.say_with("`{}` is not a process; ", &[Part::Bytes(word)])?;
-        let mut between = match self.session.program.processes() {
+        let mut between = match self.view.session.program.processes() {
             1 => "the only process is ",
             _ => "the processes are ",
         };
-        for p in 0..self.session.program.processes() {
-            notes.add_with("{}{}", &[Part::Text(between), self.scope(Pid(p)).name()])?;
+        for p in 0..self.view.session.program.processes() {
+            notes.add_with(
+                "{}{}",
+                &[Part::Text(between), self.view.scope(Pid(p)).name()],
+            )?;
             between = ", ";
         }
         Ok(())

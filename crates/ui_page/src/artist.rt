@@ -5,9 +5,9 @@ use dbg_command::SessionView;
 use std::alloc::{AllocError, Global};
 use ui_diagram::{Moment, Picture, PictureForm, draw_mermaid, draw_text, write_log};
 use ui_drawing::draw_drawing;
-use ui_explain::{SourceView, Told};
 use ui_text::{Notes, ProgramText};
 use ui_timeline::Selection;
+use ui_view::{SourceView, Told};
 
 // Lines, each with a line end.
 fn with_line_ends(alloc: Global, lines: &Notes) -> Result<Vec<u8>, AllocError> {

@@ -8,8 +8,8 @@ use proc_lang::Program;
 use shell_io::GivenLine;
 use std::alloc::{AllocError, Global};
 use ui_diagram::{Picture, PictureForm};
-use ui_explain::{Echo, Explainer, Told};
 use ui_text::{Notes, ProgramText};
+use ui_view::{Echo, Explainer, Told};
 
 /// An explainer that draws a session.
 #[derive(Drop)]

@@ -18,8 +18,8 @@ use lines::RecordedLines;
 use proc_lang::Program;
 use serde_json::{Map, Value};
 use std::alloc::{AllocError, Global};
-use ui_explain::{BreakpointChange, CountedCommand, SourceView, Told};
 use ui_text::ProgramText;
+use ui_view::{BreakpointChange, CountedCommand, SourceView, Told};
 
 // The kind of a call, as far as a page needs it.
 #[derive(Clone, Copy)]

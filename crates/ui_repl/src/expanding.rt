@@ -10,9 +10,9 @@ use shell_io::{Sink, Source};
 use shell_print::{ServeFault, Served, hand_on, tell_too_long, write_whole};
 use shell_serve::{Input, TextEnd, read_program_text, text_alone};
 use std::alloc::{AllocError, Global};
-use ui_explain::{Echo, Explainer};
 use ui_session::Typed;
 use ui_text::{Notes, Part};
+use ui_view::{Echo, Explainer};
 
 /// Writes a text, and flushes it.
 pub(crate) fn write_text<W: Sink>(text: &[u8], writer: &mut W) -> Result<(), ServeFault> {

@@ -11,9 +11,9 @@ use dbg_command::SessionView;
 use shell_io::{Sink, Source};
 use shell_print::{ServeFault, Served, tell_too_long};
 use std::alloc::{AllocError, Global};
-use ui_explain::{Echo, Explainer, Told};
 use ui_session::Typed;
 use ui_text::Notes;
+use ui_view::{Echo, Explainer, Told};
 
 // A session with its replies, as far as it was played.
 #[derive(Drop)]

@@ -16,8 +16,8 @@ use shell_io::{Noted, Sink, Source};
 use shell_print::{ServeFault, Served, tell_too_long};
 use shell_serve::{Input, TextEnd, play, read_program_text};
 use std::alloc::Global;
-use ui_explain::Explainer;
 use ui_session::{Dialogue, Room, Typed};
+use ui_view::Explainer;
 
 /// A session whose program was read, and no line after it.
 #[derive(Drop)]

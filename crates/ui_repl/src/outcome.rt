@@ -4,8 +4,8 @@ use dbg_base::{Choice, Done, Name, Pid, Said};
 use dbg_command::SessionView;
 use event_rows::{Event, Exchange};
 use std::alloc::{AllocError, Global};
-use ui_explain::Told;
 use ui_text::ProgramText;
+use ui_view::Told;
 
 /// What was said to a line that was played.
 #[derive(Drop)]

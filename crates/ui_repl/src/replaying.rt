@@ -20,9 +20,9 @@ use std::alloc::{AllocError, Global};
 use std::io::Read;
 use std::{io, mem};
 use ui_diagram::WIDTH;
-use ui_explain::{Echo, Explainer, Told};
 use ui_session::{Room, Typed};
 use ui_text::{Notes, Part};
+use ui_view::{Echo, Explainer, Told};
 
 /// How a session went on an edited program.
 #[derive(Clone, Copy, Debug, PartialEq, Eq)]

@@ -8,9 +8,10 @@ use dbg_command::SessionView;
 use shell_parse::next_word;
 use std::alloc::{AllocError, Global};
 use ui_diagram::{ALL_EVENTS, draw_text};
-use ui_explain::{Before, CountedCommand, Directive, Echo, Explainer, SourceView, Told};
+use ui_explain::{Before, ExplainedSession};
 use ui_text::{Notes, Part, tell_help, tell_to_file, tell_too_long};
 use ui_timeline::Selection;
+use ui_view::{CountedCommand, Directive, Echo, Explainer, SourceView, Told};
 
 /// The most bytes of explanations of a session. A line that is answered without a call counts more, by the work that its answer takes.
 pub const EXPLAINED_BYTES: usize = 268_435_456;
@@ -71,10 +72,10 @@ fn events_of(view: SessionView<'_>) -> usize {
 }
 
 // A session of this program, with its text.
-fn view_of<'b>(program: &'b WrittenProgram, session: SessionView<'b>) -> SourceView<'b> {
-    SourceView {
-        session,
-        text: program.text(),
+fn view_of<'b>(program: &'b WrittenProgram, session: SessionView<'b>) -> ExplainedSession<'b> {
+    let text = program.text();
+    ExplainedSession {
+        view: SourceView { session, text },
     }
 }
 
@@ -197,7 +198,7 @@ impl<'a> Sentences<'a> {
             Directive::List(name) => view.tell_list(alloc, notes, name),
             Directive::State(name) => view.tell_state(alloc, notes, name),
             Directive::Line(name) => Ok(view.tell_line(notes, name)?),
-            Directive::Draw => self.draw(alloc, notes, view),
+            Directive::Draw => self.draw(alloc, notes, view.view),
             Directive::TooLong(word) => Ok(tell_too_long(notes, word)?),
             Directive::ToFile(word) => Ok(tell_to_file(notes, word)?),
         }

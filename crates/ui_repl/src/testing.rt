@@ -16,9 +16,9 @@ use shell_parse::without_return;
 use shell_print::{ServeFault, Served, write_whole};
 use std::alloc::{AllocError, Global};
 use ui_diagram::WIDTH;
-use ui_explain::{Echo, Explainer, Told};
 use ui_session::{Room, Typed};
 use ui_text::{Notes, Part};
+use ui_view::{Echo, Explainer, Told};
 
 /// The result of a session in which a line `> REPLY` gives the expected reply to the command line before it.
 #[derive(Clone, Copy, Debug, PartialEq, Eq)]

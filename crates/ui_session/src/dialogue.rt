@@ -15,8 +15,8 @@ use shell_print::{ServeFault, print_refusal, print_reply};
 use shell_serve::{LineReply, LineSort, Observer};
 use std::alloc::{AllocError, Global};
 use std::mem;
-use ui_explain::{CountedCommands, Echo, Explainer, Told};
 use ui_text::Notes;
+use ui_view::{CountedCommands, Echo, Explainer, Told};
 
 /// The observer of an interactive session. It writes each line that was not typed, and an explanation after the reply. A directive has only
 /// an explanation. A command line without a seat is one of seat 1.

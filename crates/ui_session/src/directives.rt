@@ -8,7 +8,7 @@ ghost use Rattle.ui_session.specs.Verbs.{is_quit_verb};
 
 use shell_parse::{next_word, without_return};
 use shell_serve::LineSort;
-use ui_explain::Directive;
+use ui_view::Directive;
 
 // The first word of each directive that is answered.
 #[derive(Clone, Copy, Debug, PartialEq, Eq)]

@@ -8,8 +8,8 @@ ghost use Rattle.ui_session.specs.Dialogues.{IsExplanation, IsEcho, IsGap, expla
 
 use shell_io::{Sink, Style};
 use shell_print::{ServeFault, set_style, write_whole};
-use ui_explain::Echo;
 use ui_text::{Notes, StyleChange};
+use ui_view::Echo;
 
 fn is_unended(line: &[u8]) -> bool
     ensures { result ≡ is_unended line.now }

@@ -2,8 +2,8 @@
 
 use proc_lang::{Action, Guarded};
 use std::alloc::AllocError;
-use ui_explain::ProcessView;
 use ui_text::{Notes, Part};
+use ui_view::ProcessView;
 
 // Appends what a command sends or receives to the last line.
 fn put_action(

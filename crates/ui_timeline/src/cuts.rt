@@ -3,8 +3,8 @@
 use break_book::Breakpoint;
 use dbg_base::{Cut, Name, Pid, Refusal};
 use std::alloc::{AllocError, Global};
-use ui_explain::SourceView;
 use ui_text::{Notes, Part};
+use ui_view::SourceView;
 
 /// A cut that is shown, with its breakpoint.
 pub struct NamedCut {

@@ -4,8 +4,8 @@ use crate::listing::ShownEvent;
 use dbg_base::Pid;
 use proc_lang::Program;
 use std::alloc::{AllocError, Global};
-use ui_explain::SourceView;
 use ui_text::{Notes, Part, ProgramText};
+use ui_view::SourceView;
 
 /// What a picture shows: the last events of some processes.
 pub struct Selection {

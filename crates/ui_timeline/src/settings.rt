@@ -2,8 +2,8 @@
 
 use event_rows::Setting;
 use std::alloc::AllocError;
-use ui_explain::ProcessView;
 use ui_text::{Notes, Part};
+use ui_view::ProcessView;
 
 /// Appends a variable with its value before and after an event to the last line.
 pub fn put_setting(

@@ -3,9 +3,9 @@
 use dbg_base::{Pid, Refusal};
 use event_rows::Setting;
 use std::alloc::{AllocError, Global};
-use ui_explain::{ProcessView, SourceView};
 use ui_text::{Notes, Part};
 use ui_timeline::{Received, Selection, ShownEvent, Timeline, bytes_of, event_of};
+use ui_view::{ProcessView, SourceView};
 
 /// What a diagram shows.
 #[derive(Clone, Copy)]

@@ -7,8 +7,8 @@ use causal_world::World;
 use dbg_base::{Cause, Elimination, Expr, Name, Pid, Refusal};
 use proc_lang::Program;
 use std::alloc::{AllocError, Global};
-use ui_explain::{BreakpointChange, ProcessView, SourceView};
 use ui_text::Notes;
+use ui_view::{BreakpointChange, ProcessView, SourceView};
 
 // What the page was last given about a breakpoint: its mark, the eliminations of its search that are still valid, and how many of them the
 // page has.

@@ -5,7 +5,7 @@ use causal_world::World;
 use dbg_base::Pid;
 use event_rows::{Event, Exchange};
 use std::alloc::AllocError;
-use ui_explain::{ProcessView, SourceView};
+use ui_view::{ProcessView, SourceView};
 
 // Whether two events are equal.
 fn are_same(one: Option<&Event>, other: Option<&Event>) -> bool {

@@ -7,7 +7,7 @@ use ui_text::{Notes, Part};
 
 impl ProcessView<'_> {
     /// Appends a command to the last line: its label, its number, and the line of the text at which it begins.
-    pub(crate) fn put_command(&self, notes: &mut Notes, choice: Choice) -> Result<(), AllocError> {
+    pub fn put_command(&self, notes: &mut Notes, choice: Choice) -> Result<(), AllocError> {
         let label = self.text.label(self.pid, choice);
         if label.is_empty() {
             notes.add_with("command {}", &[Part::Natural(choice.0)])?;
@@ -22,7 +22,7 @@ impl ProcessView<'_> {
     }
 
     /// Appends the text of a command to the last line.
-    pub(crate) fn put_text(
+    pub fn put_text(
         &self,
         alloc: Global,
         notes: &mut Notes,

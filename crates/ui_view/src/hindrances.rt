@@ -1,13 +1,14 @@
 //! Why a command does not fire in the present state of its process.
 
 use crate::expressions::ProcessView;
+use crate::finding::find_hindrance;
+use crate::hindrance::Hindrance;
 use causal_world::World;
 use dbg_base::limits::OPEN_PARENTHESES;
 use dbg_base::{Choice, Expr, Operator, Refusal};
 use local_eval::{Env, eval, guard};
 use proc_lang::{Action, Guarded};
 use std::alloc::{AllocError, Global};
-use ui_firing::{Hindrance, find_hindrance};
 use ui_text::{Notes, Part, meaning};
 
 // At most this many bytes of an expression are shown.
@@ -83,12 +84,7 @@ impl ProcessView<'_> {
 
     /// Appends an expression that does not hold, since it is false or faults, and the values of the names in it to the last line. Of a
     /// conjunction it is the first part that is false.
-    pub(crate) fn put_false(
-        &self,
-        notes: &mut Notes,
-        env: &Env,
-        expr: &Expr,
-    ) -> Result<(), AllocError> {
+    pub fn put_false(&self, notes: &mut Notes, env: &Env, expr: &Expr) -> Result<(), AllocError> {
         if eval(expr, env).is_err() {
             return self.put_fault(notes, env, expr);
         }
@@ -161,7 +157,7 @@ impl ProcessView<'_> {
     }
 
     /// Appends why a command does not fire in the present state, or that it can fire, to the last line.
-    pub(crate) fn put_verdict(
+    pub fn put_verdict(
         &self,
         alloc: Global,
         notes: &mut Notes,
@@ -183,7 +179,7 @@ impl ProcessView<'_> {
     }
 
     /// Says why this command does not fire, or that it can fire.
-    pub(crate) fn tell_hindrance(
+    pub fn tell_hindrance(
         &self,
         alloc: Global,
         notes: &mut Notes,
@@ -197,7 +193,7 @@ impl ProcessView<'_> {
     }
 
     /// Says for each command of the process why it does not fire, or that it can fire.
-    pub(crate) fn tell_hindrances(
+    pub fn tell_hindrances(
         &self,
         alloc: Global,
         notes: &mut Notes,
@@ -210,12 +206,7 @@ impl ProcessView<'_> {
     }
 
     /// Whether a command of the process can fire in the present state, and the process has room for an event.
-    pub(crate) fn fires(
-        &self,
-        alloc: Global,
-        world: &World,
-        choice: Choice,
-    ) -> Result<bool, Refusal> {
+    pub fn fires(&self, alloc: Global, world: &World, choice: Choice) -> Result<bool, Refusal> {
         Ok(find_hindrance(alloc, self.program, world, self.pid, choice)?.is_none())
     }
 }

@@ -30,7 +30,7 @@ pub fn names_variable(expr: &Expr, variable: u32) -> bool {
 }
 
 /// Appends a name, in this form, and its value to the last line: the first one after this word, and the others after a comma.
-pub(crate) fn put_value(
+pub fn put_value(
     notes: &mut Notes,
     word: &mut &'static str,
     form: &'static str,
@@ -45,7 +45,7 @@ pub(crate) fn put_value(
 
 impl ProcessView<'_> {
     /// Appends all variables of the process and their values to the last line: the first one after this word, and the others after a comma.
-    pub(crate) fn put_variables(
+    pub fn put_variables(
         &self,
         notes: &mut Notes,
         word: &mut &'static str,
@@ -60,12 +60,7 @@ impl ProcessView<'_> {
     }
 
     /// Appends the values of the variables and counts that an expression names to the last line.
-    pub(crate) fn put_values(
-        &self,
-        notes: &mut Notes,
-        env: &Env,
-        expr: &Expr,
-    ) -> Result<(), AllocError> {
+    pub fn put_values(&self, notes: &mut Notes, env: &Env, expr: &Expr) -> Result<(), AllocError> {
         let mut word = ": ";
         for variable in 0..self.program.variables(self.pid) {
             if let Some(value) = env.values().get(variable as usize) {

@@ -10,8 +10,8 @@ use Rattle.dbg_base.specs.SystemStates.{SystemState, place_at, configuration_of}
 use Rattle.dbg_base.specs.declared.limits.TheConstants.{EVENTS}
 use Rattle.dbg_base.specs.declared.refusal.Refusal.{Refusal}
 use Rattle.dbg_base.specs.declared.refusal.Refusal.TheVariants.{Fault, UnknownChoice, ProcessFull}
-use Rattle.ui_firing.specs.Hindrances.{refusal_of, FindsFault, Prevents, IsVerdict}
-use Rattle.ui_firing.specs.declared.hindrance.Hindrance.{Hindrance}
+use Rattle.ui_view.specs.Hindrances.{refusal_of, FindsFault, Prevents, IsVerdict}
+use Rattle.ui_view.specs.declared.hindrance.Hindrance.{Hindrance}
 
 -- an effect is made, or faults
 pub completes : (c : Configuration) (p : ℕ) (action : Action) (found : Option Hindrance) (effect : Option Effect)

@@ -1,7 +1,7 @@
 //! What prevents a command from firing.
 
 ghost use Rattle.std.specs.Prelude.{◌≡◌};
-ghost use Rattle.ui_firing.specs.Hindrances.{refusal_of};
+ghost use Rattle.ui_view.specs.Hindrances.{refusal_of};
 
 use dbg_base::{Pid, Refusal};
 

@@ -4,8 +4,8 @@ use Rattle.dbg_base.specs.declared.refusal.Refusal.{Refusal}
 use Rattle.dbg_base.specs.declared.refusal.Refusal.TheVariants.{UnknownChoice, ProcessFull, GuardFalse, Fault, ChannelEmpty}
 use Rattle.dbg_base.specs.Configurations.{Configuration}
 use Rattle.dbg_base.specs.Firing.{Effect}
-use Rattle.ui_firing.specs.declared.hindrance.Hindrance.{Hindrance}
-use Rattle.ui_firing.specs.declared.hindrance.Hindrance.TheVariants as hindrance
+use Rattle.ui_view.specs.declared.hindrance.Hindrance.{Hindrance}
+use Rattle.ui_view.specs.declared.hindrance.Hindrance.TheVariants as hindrance
 
 -- the refusal of a command that this prevents
 abbrev pub refusal_of : Hindrance → Refusal

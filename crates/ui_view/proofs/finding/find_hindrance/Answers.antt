@@ -3,9 +3,9 @@ use Rattle.dbg_base.specs.Trees.{process_of}
 use Rattle.dbg_base.specs.LocalStates.{no_state}
 use Rattle.proc_lang.specs.Programs.{program_of}
 use Rattle.causal_world.proofs.LastEventLemmas.{states_there}
-use Rattle.ui_firing.proofs.FiringLemmas.{there, missing}
-use Rattle.ui_firing.proofs.finding.find_hindrance.Goals.{in_default-via-in-Some+in_default, in_default-via-in_default}
-use Rattle.ui_firing.proofs.finding.find_hindrance.Goals as goal
+use Rattle.ui_view.proofs.FiringLemmas.{there, missing}
+use Rattle.ui_view.proofs.finding.find_hindrance.Goals.{in_default-via-in-Some+in_default, in_default-via-in_default}
+use Rattle.ui_view.proofs.finding.find_hindrance.Goals as goal
 
 pub returns-in_default-clause-verdict : goal.returns-in_default-clause-verdict
 returns-in_default-clause-verdict c = λ of here. elim c.in_default.branch [

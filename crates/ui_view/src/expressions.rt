@@ -33,7 +33,7 @@ fn operator_text(operator: Operator) -> &'static str {
 }
 
 /// How a count of messages is written.
-pub(crate) fn count_form(direction: Direction) -> &'static str {
+pub fn count_form(direction: Direction) -> &'static str {
     match direction {
         Direction::Sent => "sent({})",
         Direction::Got => "got({})",
@@ -52,7 +52,7 @@ impl<'a> ProcessView<'a> {
     }
 
     /// The name of the process, at the beginning of a line about it.
-    pub(crate) fn head(&self) -> Part<'a> {
+    pub fn head(&self) -> Part<'a> {
         Part::Process(self.text.process_name(self.pid), self.pid.0)
     }
 

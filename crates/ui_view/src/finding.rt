@@ -9,7 +9,7 @@ ghost use Rattle.dbg_base.specs.Choices.{step_choice};
 ghost use Rattle.proc_lang.specs.Programs.{program_of};
 ghost use Rattle.proc_lang.specs.ProcessTrees.{action_tree, command_tree};
 ghost use Rattle.causal_world.specs.Scenes.{IsWorldOf};
-ghost use Rattle.ui_firing.specs.Hindrances.{FindsFault, Prevents, IsVerdict};
+ghost use Rattle.ui_view.specs.Hindrances.{FindsFault, Prevents, IsVerdict};
 
 use crate::hindrance::Hindrance;
 use causal_world::World;

@@ -44,12 +44,12 @@ fn event_of(world: &World, direction: Direction, pid: Pid, other: Pid, count: u3
 }
 
 /// The number, from 1, of the event by which one process sent the message of this count to another.
-pub(crate) fn sending(world: &World, source: Pid, target: Pid, count: u32) -> u32 {
+pub fn sending(world: &World, source: Pid, target: Pid, count: u32) -> u32 {
     event_of(world, Direction::Sent, source, target, count)
 }
 
 /// The number, from 1, of the event by which one process received the message of this count from another.
-pub(crate) fn receiving(world: &World, target: Pid, source: Pid, count: u32) -> u32 {
+pub fn receiving(world: &World, target: Pid, source: Pid, count: u32) -> u32 {
     event_of(world, Direction::Got, target, source, count)
 }
 
@@ -200,7 +200,7 @@ impl ProcessView<'_> {
 
 /// Why a line is about an event.
 #[derive(Clone, Copy, PartialEq, Eq)]
-pub(crate) enum EventNews {
+pub enum EventNews {
     /// A command made it.
     Made,
     /// A command of a batch made it.
@@ -212,7 +212,7 @@ pub(crate) enum EventNews {
 impl SourceView<'_> {
     /// Says what the n-th event of a process did, from 1: its process and number, the message, the variables that it set, and its command.
     /// All lines about events of a session have the same columns.
-    pub(crate) fn tell_event(
+    pub fn tell_event(
         &self,
         notes: &mut Notes,
         news: EventNews,

@@ -1,0 +1,24 @@
+//! What explanations and pictures have in common: what they read of a session, and how they write expressions, commands and events.
+#![tactic(auto)]
+
+mod commands;
+mod counted;
+mod directive;
+mod events;
+mod explainer;
+mod expressions;
+mod finding;
+mod hindrance;
+mod hindrances;
+mod values;
+mod view;
+
+pub use counted::{BreakpointChange, CountedCommand, CountedCommands};
+pub use directive::Directive;
+pub use events::{EventNews, receiving, sending};
+pub use explainer::{Echo, Explainer, Told};
+pub use expressions::{ProcessView, count_form};
+pub use finding::find_hindrance;
+pub use hindrance::Hindrance;
+pub use values::{names_variable, put_value};
+pub use view::SourceView;
