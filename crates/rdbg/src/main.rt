@@ -27,10 +27,9 @@ use std::{env, io};
 use testing::test;
 use typing::{Device, FileInput, Typing, open};
 use ui_diagram::{PictureForm, WIDTH};
-use ui_repl::{
-    ReplayNames, draw, draw_status, expand, explain, fill_session, name_commands, talk,
-    tell_notation,
-};
+use ui_expect::{ReplayNames, fill_session};
+use ui_picture::{draw, draw_status};
+use ui_repl::{expand, explain, name_commands, talk, tell_notation};
 use words::{WordsFault, words};
 
 static VERSION: &str = "rdbg 1.0";

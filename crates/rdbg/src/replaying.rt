@@ -3,7 +3,7 @@
 use crate::{FAILED, device_of, tell_unreadable};
 use shell_io::{Noted, Sink};
 use shell_print::status;
-use ui_repl::{ReplayNames, Replayed, replay};
+use ui_expect::{ReplayNames, Replayed, replay};
 
 /// Plays the session of the first file, and its lines on the program of the second. Returns the exit status.
 pub(crate) fn replay_files<W: Sink>(

@@ -5,7 +5,7 @@ use crate::{FAILED, device_of, tell_unreadable};
 use shell_io::{Noted, Sink};
 use shell_print::ServeFault;
 use std::alloc::AllocError;
-use ui_repl::{Tested, test_session, write_plan, write_result};
+use ui_expect::{Tested, test_session, write_plan, write_result};
 use ui_session::Room;
 
 // The files of these names, and the sessions below those that are folders. What cannot be read is reported, and the status is then that of a

@@ -162,7 +162,7 @@ fn program_value(
 
 impl<'a> Recorder<'a> {
     /// A recorder of a session of this program in which no line was answered. The page shows the commands as this text has them.
-    pub(crate) fn new(alloc: Global, program: &Program, text: &'a ProgramText) -> Recorder<'a> {
+    pub fn new(alloc: Global, program: &Program, text: &'a ProgramText) -> Recorder<'a> {
         let mut recorder = Recorder {
             alloc,
             text,
@@ -248,13 +248,13 @@ impl<'a> Recorder<'a> {
     }
 
     /// A line begins.
-    pub(crate) fn begin_line(&mut self, line: &[u8]) {
+    pub fn begin_line(&mut self, line: &[u8]) {
         let begun = self.lines.begin(self.alloc, line);
         self.note(begun);
     }
 
     /// A call is about to be made.
-    pub(crate) fn prepare(&mut self, view: SessionView<'_>, call: &Call) {
+    pub fn prepare(&mut self, view: SessionView<'_>, call: &Call) {
         if let CallKind::Batch = kind_of(call) {
             match view.world.copy() {
                 Ok(before) => self.before = Some(before),
@@ -264,7 +264,7 @@ impl<'a> Recorder<'a> {
     }
 
     /// This was said to the present line, and it has this reply.
-    pub(crate) fn end_line(&mut self, session: SessionView<'_>, told: Told<'_>, reply: &[u8]) {
+    pub fn end_line(&mut self, session: SessionView<'_>, told: Told<'_>, reply: &[u8]) {
         let view = SourceView {
             session,
             text: self.text,

@@ -1,3 +1,2 @@
 pub mod LineSources
 pub mod Talks
-pub mod Tests

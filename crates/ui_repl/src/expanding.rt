@@ -15,13 +15,13 @@ use ui_text::{Notes, Part};
 use ui_view::{Echo, Explainer};
 
 /// Writes a text, and flushes it.
-pub(crate) fn write_text<W: Sink>(text: &[u8], writer: &mut W) -> Result<(), ServeFault> {
+pub fn write_text<W: Sink>(text: &[u8], writer: &mut W) -> Result<(), ServeFault> {
     let written = write_whole(writer, text);
     hand_on(written, writer)
 }
 
 /// Writes lines, and flushes them.
-pub(crate) fn write_notes<W: Sink>(notes: &Notes, writer: &mut W) -> Result<(), ServeFault> {
+pub fn write_notes<W: Sink>(notes: &Notes, writer: &mut W) -> Result<(), ServeFault> {
     for number in 0..notes.count() {
         write_whole(writer, notes.line(number).bytes)?;
         write_whole(writer, b"\n")?;
@@ -132,7 +132,7 @@ fn expand_lines<R: Source + Typed, W: Sink, E: Sink>(
         return tell_too_long(errors);
     }
     // The text ends with a line end only if the input does.
-    if played.lines.input().bytes().last() != Some(&b'\n') {
+    if played.lines.input.bytes().last() != Some(&b'\n') {
         let _end = played.explainer.text.pop();
     }
     write_text(played.explainer.text.as_slice(), writer)?;

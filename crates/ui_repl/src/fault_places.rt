@@ -196,7 +196,7 @@ pub(crate) fn refuse_unended<W: Sink>(
 /// Reports that a program text is refused, and explains why: the line and the column, the text of the line with a mark under the place,
 /// what is wrong, and what was probably meant.
 #[tactic(auto, using(crate::proofs::TalkLemmas::memory_talks))]
-pub(crate) fn refuse<W: Sink>(
+pub fn refuse<W: Sink>(
     alloc: Global,
     text: &[u8],
     fault: &Fault,

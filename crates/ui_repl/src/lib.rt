@@ -1,30 +1,24 @@
-//! Interactive sessions and sessions with expectations.
+//! Sessions in the model notation or plain, as their authors write them: interactive ones, and what they become.
 #![tactic(auto)]
 
-mod comparing;
-mod drawing;
 mod expanding;
 mod fault_places;
-mod filling;
 mod naming;
 mod opening;
-mod outcome;
 mod read_line;
-mod replaying;
 mod running;
 mod sentences;
 mod session_lines;
-mod tap;
-mod testing;
 mod words;
 mod written_program;
 
-pub use comparing::{Comparison, PlayedLine, compare};
-pub use drawing::{Drawn, draw, draw_status};
-pub use expanding::expand;
-pub use filling::fill_session;
+pub use expanding::{expand, write_notes, write_text};
+pub use fault_places::refuse;
 pub use naming::{name_commands, tell_notation};
-pub use replaying::{ReplayNames, Replayed, replay};
+pub use opening::{OpenSession, Opening, PlayedSession, open};
+pub use read_line::{ExpandedLine, LineFault};
 pub use running::{explain, talk};
-pub use tap::{write_plan, write_result};
-pub use testing::{Tested, test_session};
+pub use sentences::Sentences;
+pub use session_lines::SessionLines;
+pub use words::{LineWords, wanted};
+pub use written_program::{ReadText, WrittenProgram, read_text};

@@ -21,22 +21,22 @@ use ui_view::Explainer;
 
 /// A session whose program was read, and no line after it.
 #[derive(Drop)]
-pub(crate) struct OpenSession {
-    pub(crate) program: Program,
-    pub(crate) input: Input,
+pub struct OpenSession {
+    pub program: Program,
+    pub input: Input,
 }
 
 /// A session that was played: how it ended, what explained it, and its lines.
 #[derive(Drop)]
-pub(crate) struct PlayedSession<'a, T> {
-    pub(crate) served: Served,
-    pub(crate) explainer: T,
-    pub(crate) lines: SessionLines<'a>,
+pub struct PlayedSession<'a, T> {
+    pub served: Served,
+    pub explainer: T,
+    pub lines: SessionLines<'a>,
 }
 
 /// What a session begins with.
 #[derive(Drop)]
-pub(crate) enum Opening {
+pub enum Opening {
     Session(WrittenProgram, OpenSession),
     /// The text was refused. This says whether that was reported.
     Refused(Result<Served, ServeFault>),
@@ -44,18 +44,18 @@ pub(crate) enum Opening {
 
 impl OpenSession {
     /// What was read of the program text, with the line that ends it.
-    pub(crate) fn text(&self) -> &[u8] {
+    pub fn text(&self) -> &[u8] {
         self.input.bytes().get(..self.input.at).unwrap_or(&[])
     }
 
     /// How many lines were read.
-    pub(crate) fn lines(&self) -> usize {
+    pub fn lines(&self) -> usize {
         let is_end = |byte: &&u8| **byte == b'\n';
         self.text().iter().filter(is_end).count()
     }
 
     /// Plays the session with this explainer, up to the line of this number in the input. What the session writes is dropped.
-    pub(crate) fn play_unheard<'a, R: Source + Typed, T: Explainer<Option<LineFault>> + Drop>(
+    pub fn play_unheard<'a, R: Source + Typed, T: Explainer<Option<LineFault>> + Drop>(
         self,
         alloc: Global,
         written: &'a WrittenProgram,
@@ -110,7 +110,7 @@ fn open_text<W: Sink>(
 /// Reads the program text up to a line `%%`. It may be in the model notation. If it is refused, that is reported to this writer: after the
 /// refusal the line and the column, the text of the line with a mark under the place, and the likely correction.
 #[tactic(auto, using(crate::proofs::TalkLemmas::too_long_talks))]
-pub(crate) fn open<R: Source, W: Sink>(
+pub fn open<R: Source, W: Sink>(
     alloc: Global,
     reader: &mut R,
     writer: &mut W,

@@ -11,13 +11,13 @@ use std::alloc::{AllocError, Global};
 
 /// Why a line cannot be expanded, and the plain name of the process that it named before its fault.
 #[derive(Drop)]
-pub(crate) struct LineFault {
-    pub(crate) fault: Fault,
-    pub(crate) process: Option<Name>,
+pub struct LineFault {
+    pub fault: Fault,
+    pub process: Option<Name>,
 }
 
 /// A line that is played, with why it cannot be expanded, if it cannot.
-pub(crate) type ExpandedLine<'a> = GivenLine<'a, Option<LineFault>>;
+pub type ExpandedLine<'a> = GivenLine<'a, Option<LineFault>>;
 
 /// The line that was read last. It may be short, and that of a model may be in the notation.
 #[derive(Drop)]

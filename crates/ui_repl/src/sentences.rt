@@ -21,7 +21,7 @@ const EVENT_WEIGHT: usize = 16;
 
 /// Explains in words what happened, or what prevents it. If memory runs out, the explanations end.
 #[derive(Drop)]
-pub(crate) struct Sentences<'a> {
+pub struct Sentences<'a> {
     program: &'a WrittenProgram,
     // What was known before the call that is made, and whether that is all. If memory ran out it is not, and nothing is explained.
     before: Before,
@@ -81,7 +81,7 @@ fn view_of<'b>(program: &'b WrittenProgram, session: SessionView<'b>) -> Explain
 
 impl<'a> Sentences<'a> {
     /// Explanations of a session of this program.
-    pub(crate) fn new(alloc: Global, program: &'a WrittenProgram, width: usize) -> Sentences<'a> {
+    pub fn new(alloc: Global, program: &'a WrittenProgram, width: usize) -> Sentences<'a> {
         Sentences {
             program,
             before: Before::new(alloc),

@@ -15,8 +15,9 @@ use ui_session::Typed;
 
 /// The lines of a session as its author writes them.
 #[derive(Drop)]
-pub(crate) struct SessionLines<'a> {
-    input: Input,
+pub struct SessionLines<'a> {
+    /// What was read.
+    pub input: Input,
     // How many lines are read at most, and how many were read.
     wanted: Option<usize>,
     count: usize,
@@ -49,13 +50,8 @@ impl<'a> SessionLines<'a> {
         })
     }
 
-    /// What was read.
-    pub(crate) fn input(&self) -> &Input {
-        &self.input
-    }
-
     /// How many lines were read, with those of the program text.
-    pub(crate) fn count(&self) -> usize {
+    pub fn count(&self) -> usize {
         self.count
     }
 
@@ -78,7 +74,7 @@ impl<'a> SessionLines<'a> {
     }
 
     /// Where the next line is that is not played, after a line that ended the session.
-    pub(crate) fn unplayed<R: Source>(&mut self, reader: &mut R) -> Result<Option<Span>, ServeFault>
+    pub fn unplayed<R: Source>(&mut self, reader: &mut R) -> Result<Option<Span>, ServeFault>
         requires { EndsWith self.old.input.ended (R.remaining reader.old) }
         ensures ready { EndsWith self.new.input.ended (R.remaining reader.new) }
         ensures advances { IfOk result (λ next. IfSome next (λ span. self.old.input.at < self.new.input.at)) }

@@ -15,7 +15,7 @@ fn is_number(word: &[u8]) -> bool {
 
 /// The words of a line.
 #[derive(Clone, Copy)]
-pub(crate) struct LineWords<'a> {
+pub struct LineWords<'a> {
     first: &'a [u8],
     // That of the command, after the seat if the line has one, and what follows it.
     command: &'a [u8],
@@ -24,7 +24,7 @@ pub(crate) struct LineWords<'a> {
 
 impl<'a> LineWords<'a> {
     /// Those of this line.
-    pub(crate) fn of(line: &'a [u8]) -> LineWords<'a> {
+    pub fn of(line: &'a [u8]) -> LineWords<'a> {
         let (first, rest) = next_word(without_return(line));
         let (command, arguments) = if is_number(first) {
             next_word(rest)
@@ -39,7 +39,7 @@ impl<'a> LineWords<'a> {
     }
 
     /// Whether the line is blank, a comment or an expected reply.
-    pub(crate) fn are_remark(&self) -> bool {
+    pub fn are_remark(&self) -> bool {
         matches!(self.first.first(), None | Some(b'#' | b'>'))
     }
 
@@ -107,7 +107,7 @@ pub(crate) fn without_comment(line: &[u8]) -> &[u8] {
 }
 
 /// The expected reply that this line gives, if it gives one.
-pub(crate) fn wanted(line: &[u8]) -> Option<&[u8]> {
+pub fn wanted(line: &[u8]) -> Option<&[u8]> {
     if next_word(without_return(line)).0.first() != Some(&b'>') {
         return None;
     }

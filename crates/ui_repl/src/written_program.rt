@@ -31,7 +31,7 @@ impl Drop for WrittenProgram {
 
 /// What a text is.
 #[derive(Drop)]
-pub(crate) enum ReadText {
+pub enum ReadText {
     /// A program, in the process language or in the notation.
     Program(WrittenProgram, Program),
     /// Neither.
@@ -81,7 +81,7 @@ fn text_of(
 }
 
 /// Reads a program text. A program of the process language is never expanded.
-pub(crate) fn read_text(alloc: Global, text: &[u8]) -> Result<ReadText, ServeFault>
+pub fn read_text(alloc: Global, text: &[u8]) -> Result<ReadText, ServeFault>
     ensures { IfErr result (λ fault. fault ≡ Memory) }
 {
     match parse_program(alloc, text) {
@@ -128,7 +128,7 @@ impl WrittenProgram {
     }
 
     /// The text, with the places of the commands.
-    pub(crate) fn text(&self) -> &ProgramText {
+    pub fn text(&self) -> &ProgramText {
         &self.text
     }
 

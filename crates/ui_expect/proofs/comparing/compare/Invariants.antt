@@ -1,7 +1,7 @@
 use Rattle.std.proofs.Common.{◌≡◌, ◌+◌, ◌≤◌, drop}
-use Rattle.ui_repl.specs.Tests.{are_met, expected_count}
-use Rattle.ui_repl.specs.declared.comparing.PlayedLine.TheVariants.{Unanswered}
-use Rattle.ui_repl.proofs.comparing.compare.Given as goal
+use Rattle.ui_expect.specs.Tests.{are_met, expected_count}
+use Rattle.ui_expect.specs.declared.comparing.PlayedLine.TheVariants.{Unanswered}
+use Rattle.ui_expect.proofs.comparing.compare.Given as goal
 
 abbrev pub invariant-loop-place : goal.invariant-loop-place
 invariant-loop-place l = record {

@@ -2,24 +2,22 @@
 
 ghost use Rattle.shell_serve.specs.Spans.{EndsWith};
 
-use crate::expanding::{write_notes, write_text};
-use crate::fault_places::refuse;
-use crate::opening::{OpenSession, Opening, PlayedSession, open};
 use crate::outcome::Outcome;
-use crate::read_line::{ExpandedLine, LineFault};
-use crate::sentences::Sentences;
-use crate::written_program::{ReadText, WrittenProgram, read_text};
+use crate::reports::{begin_report, put_explanation};
 use dbg_base::Call;
 use dbg_command::SessionView;
 use proc_lang::Program;
 use shell_io::{Noted, Sink, Source};
-use shell_parse::without_return;
 use shell_print::{ServeFault, Served, tell_too_long, write_whole};
 use shell_serve::{Input, read_program_text, text_alone};
 use std::alloc::{AllocError, Global};
 use std::io::Read;
 use std::{io, mem};
 use ui_diagram::WIDTH;
+use ui_repl::{
+    ExpandedLine, LineFault, OpenSession, Opening, PlayedSession, ReadText, Sentences,
+    WrittenProgram, open, read_text, refuse, write_notes, write_text,
+};
 use ui_session::{Room, Typed};
 use ui_text::{Notes, Part};
 use ui_view::{Echo, Explainer, Told};
@@ -93,21 +91,14 @@ impl Drop for Replayer<'_> {
 }
 
 // Begins a report about a line of a session of this name.
-fn begin_report<'x>(
+fn report_of<'x>(
     alloc: Global,
     session: &'x str,
     outcome: &'x Outcome,
     how: &'x str,
 ) -> Result<Notes, AllocError> {
     let mut notes = Notes::new(alloc);
-    notes.say_with(
-        "{}:{}: {}",
-        &[
-            Part::Text(session),
-            Part::Count(outcome.number),
-            Part::Bytes(without_return(outcome.line.as_slice())),
-        ],
-    )?;
+    begin_report(&mut notes, session, outcome.number, outcome.line.as_slice())?;
     notes.say_with("  {}", &[Part::Text(how)])?;
     Ok(notes)
 }
@@ -155,19 +146,16 @@ impl<'a> Replayer<'a> {
         before: &Outcome,
         now: &Outcome,
     ) -> Result<Notes, AllocError> {
-        let mut notes = begin_report(self.alloc, self.names.session, now, how)?;
+        let mut notes = report_of(self.alloc, self.names.session, now, how)?;
         put_outcome(&mut notes, "before: ", before)?;
         put_outcome(&mut notes, "now:    ", now)?;
-        for number in 0..self.notes.count() {
-            let line = Part::Bytes(self.notes.line(number).bytes);
-            notes.say_with("    {}", &[line])?;
-        }
+        put_explanation(&mut notes, &self.notes)?;
         Ok(notes)
     }
 
     // Reports that a line gives one command more than before.
     fn tell_another(&self, now: &Outcome) -> Result<Notes, AllocError> {
-        let mut notes = begin_report(
+        let mut notes = report_of(
             self.alloc,
             self.names.session,
             now,
@@ -179,7 +167,7 @@ impl<'a> Replayer<'a> {
 
     // Reports that a line gives one command less than before.
     fn tell_missing(&self, before: &Outcome) -> Result<Notes, AllocError> {
-        let mut notes = begin_report(
+        let mut notes = report_of(
             self.alloc,
             self.names.session,
             before,
@@ -292,7 +280,7 @@ fn replay_open<'a, R: Source + Typed>(
     let (mut first, lines) = (explainer, lines);
     let outcomes = mem::replace(&mut first.outcomes, Vec::new(alloc));
     let second = Replayer::new(alloc, names, edited, number, Some(outcomes));
-    let rest = lines.input().bytes().get(from..).unwrap_or(&[]);
+    let rest = lines.input.bytes().get(from..).unwrap_or(&[]);
     let mut again = Noted::new(KeptLines { rest });
     let input = Input::new(alloc)?;
     let session = OpenSession { program, input };

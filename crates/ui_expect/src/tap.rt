@@ -1,10 +1,10 @@
 //! Results in the Test Anything Protocol (https://testanything.org).
 
-use crate::expanding::write_notes;
 use crate::testing::Tested;
 use shell_io::Sink;
 use shell_print::ServeFault;
 use std::alloc::Global;
+use ui_repl::write_notes;
 use ui_text::{Notes, Part};
 
 /// Writes how many results follow.

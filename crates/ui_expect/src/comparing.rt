@@ -1,8 +1,8 @@
 //! Expected replies, and the replies that a session has.
 
 ghost use Rattle.std.specs.Prelude.{◌≡◌, None, is_none};
-ghost use Rattle.ui_repl.specs.Tests.{has_reply, are_met, expected_count};
-ghost use Rattle.ui_repl.specs.declared.comparing.PlayedLine.TheVariants.{Unanswered};
+ghost use Rattle.ui_expect.specs.Tests.{has_reply, are_met, expected_count};
+ghost use Rattle.ui_expect.specs.declared.comparing.PlayedLine.TheVariants.{Unanswered};
 
 /// A line of a session that was played.
 #[derive(Drop)]

@@ -1,8 +1,8 @@
 -- Sessions with expected replies.
 use Rattle.std.specs.Prelude.{ℕ, Bool, true, false, ◌+◌, ◌&&◌, List, [], ◌∷◌}
 use Rattle.std.specs.Str.{bytes_eq}
-use Rattle.ui_repl.specs.declared.comparing.PlayedLine.{PlayedLine}
-use Rattle.ui_repl.specs.declared.comparing.PlayedLine.TheVariants as line
+use Rattle.ui_expect.specs.declared.comparing.PlayedLine.{PlayedLine}
+use Rattle.ui_expect.specs.declared.comparing.PlayedLine.TheVariants as line
 
 -- the last reply to the line
 abbrev pub has_reply : PlayedLine → List ℕ → Bool

@@ -2,14 +2,13 @@
 
 ghost use Rattle.shell_serve.specs.Spans.{EndsWith};
 
-use crate::expanding::{write_notes, write_text};
-use crate::opening::{OpenSession, Opening, PlayedSession, open};
-use crate::written_program::WrittenProgram;
+use crate::drawer::Drawer;
 use shell_io::{Sink, Source};
 use shell_print::{ServeFault, Served, status, tell_too_long};
 use std::alloc::Global;
 use ui_diagram::{Moment, Picture};
-use ui_page::{Drawer, Incomplete, REPLY_BYTES, write_page};
+use ui_page::{Incomplete, REPLY_BYTES, write_page};
+use ui_repl::{OpenSession, Opening, PlayedSession, WrittenProgram, open, write_notes, write_text};
 use ui_session::Typed;
 use ui_text::{Notes, Part};
 use ui_timeline::unknown_name;

@@ -48,7 +48,7 @@ fn is_halt(told: Told<'_>) -> bool {
 }
 
 /// Draws one state of a session: the one at the first halt, if the picture shows that, or else the one at the end.
-pub struct Artist<'a> {
+pub(crate) struct Artist<'a> {
     wanted: Picture<'a>,
     text: &'a ProgramText,
     picture: Option<Vec<u8>>,
@@ -75,7 +75,7 @@ impl<'a> Artist<'a> {
     }
 
     /// The picture, unless the session did not come to what it shows.
-    pub fn picture(&self) -> Option<&[u8]> {
+    pub(crate) fn picture(&self) -> Option<&[u8]> {
         match &self.picture {
             Some(picture) => Some(picture.as_slice()),
             None => None,

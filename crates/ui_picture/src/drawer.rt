@@ -1,26 +1,26 @@
 //! Draws a session: one state of it, or a page to go through it.
 
 use crate::artist::Artist;
-use crate::recorder::Recorder;
 use dbg_base::Call;
 use dbg_command::SessionView;
 use proc_lang::Program;
 use shell_io::GivenLine;
 use std::alloc::{AllocError, Global};
 use ui_diagram::{Picture, PictureForm};
+use ui_page::Recorder;
 use ui_text::{Notes, ProgramText};
 use ui_view::{Echo, Explainer, Told};
 
 /// An explainer that draws a session.
 #[derive(Drop)]
-pub enum Drawer<'a> {
+pub(crate) enum Drawer<'a> {
     State(Artist<'a>),
     Page(Recorder<'a>),
 }
 
 impl<'a> Drawer<'a> {
     /// A drawer of this picture of a session in which no line was answered. A page shows the commands of the program as this text has them.
-    pub fn new(
+    pub(crate) fn new(
         alloc: Global,
         wanted: Picture<'a>,
         program: &Program,

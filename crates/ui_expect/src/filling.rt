@@ -2,15 +2,14 @@
 
 ghost use Rattle.shell_serve.specs.Spans.{EndsWith};
 
-use crate::expanding::write_text;
-use crate::opening::{OpenSession, Opening, PlayedSession, open};
-use crate::read_line::{ExpandedLine, LineFault};
-use crate::words::wanted;
-use crate::written_program::WrittenProgram;
 use dbg_command::SessionView;
 use shell_io::{Sink, Source};
 use shell_print::{ServeFault, Served, tell_too_long};
 use std::alloc::{AllocError, Global};
+use ui_repl::{
+    ExpandedLine, LineFault, OpenSession, Opening, PlayedSession, WrittenProgram, open, wanted,
+    write_text,
+};
 use ui_session::Typed;
 use ui_text::Notes;
 use ui_view::{Echo, Explainer, Told};
@@ -103,7 +102,7 @@ fn fill_open<R: Source + Typed, W: Sink, E: Sink>(
     }
     let (mut filler, mut lines) = (explainer, lines);
     while let Some(span) = lines.unplayed(reader)? {
-        filler.begin(lines.input().line(span))?;
+        filler.begin(lines.input.line(span))?;
     }
     filler.end()?;
     write_text(filler.text.as_slice(), writer)?;

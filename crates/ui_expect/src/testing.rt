@@ -3,19 +3,17 @@
 ghost use Rattle.shell_serve.specs.Spans.{EndsWith};
 
 use crate::comparing::{PlayedLine, compare};
-use crate::expanding::{write_notes, write_text};
-use crate::opening::{OpenSession, Opening, PlayedSession, open};
-use crate::read_line::{ExpandedLine, LineFault};
-use crate::sentences::Sentences;
-use crate::words::{LineWords, wanted};
-use crate::written_program::WrittenProgram;
+use crate::reports::{begin_report, put_explanation};
 use dbg_base::Call;
 use dbg_command::SessionView;
 use shell_io::{Noted, Sink, Source};
-use shell_parse::without_return;
 use shell_print::{ServeFault, Served, write_whole};
 use std::alloc::{AllocError, Global};
 use ui_diagram::WIDTH;
+use ui_repl::{
+    ExpandedLine, LineFault, LineWords, OpenSession, Opening, PlayedSession, Sentences,
+    WrittenProgram, open, wanted, write_notes, write_text,
+};
 use ui_session::{Room, Typed};
 use ui_text::{Notes, Part};
 use ui_view::{Echo, Explainer, Told};
@@ -67,23 +65,6 @@ impl Drop for Tester<'_> {
     }
 }
 
-// Begins a report with the name of the session, and a line with its number.
-fn begin_report<'x>(
-    notes: &mut Notes,
-    name: &'x str,
-    number: usize,
-    line: &'x [u8],
-) -> Result<(), AllocError> {
-    notes.say_with(
-        "{}:{}: {}",
-        &[
-            Part::Text(name),
-            Part::Count(number),
-            Part::Bytes(without_return(line)),
-        ],
-    )
-}
-
 impl<'a> Tester<'a> {
     // Nothing was compared yet, and so many lines were read.
     fn new(alloc: Global, name: &'a str, written: &'a WrittenProgram, number: usize) -> Tester<'a> {
@@ -110,10 +91,7 @@ impl<'a> Tester<'a> {
         begin_report(&mut notes, self.name, number, line)?;
         notes.say_with("  expected: {}", &[Part::Bytes(wanted)])?;
         notes.say_with("  reply:    {}", &[Part::Bytes(reply)])?;
-        for number in 0..self.asked.notes.count() {
-            let line = Part::Bytes(self.asked.notes.line(number).bytes);
-            notes.say_with("    {}", &[line])?;
-        }
+        put_explanation(&mut notes, &self.asked.notes)?;
         Ok(notes)
     }
 
@@ -239,7 +217,7 @@ fn test_open<'a, R: Source + Typed>(
     } = session.play_unheard(alloc, written, None, tester, reader)?;
     let (mut tester, mut lines) = (explainer, lines);
     while let Some(span) = lines.unplayed(reader)? {
-        tester.begin(lines.input().line(span))?;
+        tester.begin(lines.input.line(span))?;
     }
     if served == Served::TooLong {
         let mut notes = Notes::new(alloc);

@@ -1,0 +1,8 @@
+//! Plays a session and draws it: one state of it, or a page to go through it.
+#![tactic(auto)]
+
+mod artist;
+mod drawer;
+mod drawing;
+
+pub use drawing::{Drawn, draw, draw_status};
