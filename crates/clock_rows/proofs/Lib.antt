@@ -1,4 +1,4 @@
 pub mod Pieces
 pub mod Joins
-pub mod Lines
+pub mod Histories
 pub mod Widths

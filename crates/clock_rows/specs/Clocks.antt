@@ -8,7 +8,7 @@ pub record ClocksState : Type 0 where
   pub room : List ℕ
 
 -- the same for one process, and how many counts a row has
-pub record LineState : Type 0 where
+pub record HistoryState : Type 0 where
   pub width : ℕ
   pub rows : List (List ℕ)
   pub room : ℕ

@@ -4,7 +4,7 @@ ghost use Rattle.std.specs.Prelude.{◌≡◌, ℕ, ◌-◌, ◌<◌, ◌≤◌,
 ghost use Rattle.std.specs.Prelude.{IfOk, OnOk, IsTrue};
 ghost use Rattle.clock_rows.specs.Clocks.{join, next_row, last_row};
 
-use crate::line::{ClockLine, join_rows};
+use crate::history::{ClockHistory, join_rows};
 use dbg_base::Pid;
 use std::alloc::{AllocError, Global};
 use std::marker::Model;
@@ -13,14 +13,17 @@ use std::marker::Model;
 /// each process: how many more rows it can take without allocation.
 #[derive(Debug)]
 pub struct Clocks {
-    lines: Vec<ClockLine>,
+    histories: Vec<ClockHistory>,
     // A buffer for the next row, with one count for each process.
     next: Vec<u32>,
 }
 
 impl Drop for Clocks {
     fn drop(self) {
-        let Clocks { lines: _, next: _ } = self;
+        let Clocks {
+            histories: _,
+            next: _,
+        } = self;
     }
 }
 
@@ -32,52 +35,60 @@ impl Model for Clocks {
     ghost Value = { ClocksState };
 
     ghost view = { λ clocks. record {
-      rows = map (λ line. line.rows) clocks.lines.items;
-      room = map (λ line. line.room) clocks.lines.items;
+      rows = map (λ history. history.rows) clocks.histories.items;
+      room = map (λ history. history.room) clocks.histories.items;
     } };
 
-    ghost invariant = { λ clocks. (map (λ line. line.width) clocks.lines.items
-        ≡ replicate (length clocks.lines.items) (length clocks.lines.items)) × (vec_len clocks.next ≡ length clocks.lines.items) };
+    ghost invariant = { λ clocks. (map (λ history. history.width) clocks.histories.items
+        ≡ replicate (length clocks.histories.items) (length clocks.histories.items))
+        × (vec_len clocks.next ≡ length clocks.histories.items) };
 }
 
 // One row of zeros for each of so many processes.
-fn first_lines(alloc: Global, processes: u32) -> Result<Vec<ClockLine>, AllocError>
-    ensures widths { IfOk result (λ lines. map (λ line. line.width) lines.items ≡ replicate processes processes) }
-    ensures rows { IfOk result (λ lines. map (λ line. line.rows) lines.items ≡ replicate processes (replicate processes 0 ∷ [])) }
+fn first_histories(alloc: Global, processes: u32) -> Result<Vec<ClockHistory>, AllocError>
+    ensures widths { IfOk result (λ histories. map (λ history. history.width) histories.items ≡ replicate processes processes) }
+    ensures rows { IfOk result (λ histories. map (λ history. history.rows) histories.items
+        ≡ replicate processes (replicate processes 0 ∷ [])) }
 {
-    let mut lines = Vec::new(alloc);
+    let mut histories = Vec::new(alloc);
     for _ in 0..processes {
-        lines.push(ClockLine::new(alloc, processes as usize)?)?;
+        histories.push(ClockHistory::new(alloc, processes as usize)?)?;
     }
-    Ok(lines)
+    Ok(histories)
 }
 
 // Copies the rows of all processes.
-fn copy_lines(lines: &Vec<ClockLine>) -> Result<Vec<ClockLine>, AllocError>
-    ensures len { IfOk result (λ made. length made.items ≡ length lines.now.items) }
-    ensures widths { IfOk result (λ made. map (λ line. line.width) made.items ≡ map (λ line. line.width) lines.now.items) }
-    ensures rows { IfOk result (λ made. map (λ line. line.rows) made.items ≡ map (λ line. line.rows) lines.now.items) }
+fn copy_histories(histories: &Vec<ClockHistory>) -> Result<Vec<ClockHistory>, AllocError>
+    ensures len { IfOk result (λ made. length made.items ≡ length histories.now.items) }
+    ensures widths { IfOk result (λ made. map (λ history. history.width) made.items ≡ map (λ history. history.width) histories.now.items) }
+    ensures rows { IfOk result (λ made. map (λ history. history.rows) made.items ≡ map (λ history. history.rows) histories.now.items) }
 {
-    let mut made = Vec::new(*lines.allocator());
-    for line in lines {
-        made.push(line.copy()?)?;
+    let mut made = Vec::new(*histories.allocator());
+    for history in histories {
+        made.push(history.copy()?)?;
     }
     Ok(made)
 }
 
 // Writes the join of the last row of a process with the n-th row of the given one, which may be the process's own.
-fn join_with(joined: &mut [u32], line: &ClockLine, given: &ClockLine, n: usize, is_own: bool)
-    requires width { line.now.width ≡ length joined.old }
+fn join_with(
+    joined: &mut [u32],
+    history: &ClockHistory,
+    given: &ClockHistory,
+    n: usize,
+    is_own: bool,
+)
+    requires width { history.now.width ≡ length joined.old }
     requires given { given.now.width ≡ length joined.old }
     requires row { n < length given.now.rows }
-    requires own { IsTrue is_own → given.now ≡ line.now }
-    ensures { joined.new ≡ join (last_row line.now.rows) (slice_index_or given.now.rows n []) }
+    requires own { IsTrue is_own → given.now ≡ history.now }
+    ensures { joined.new ≡ join (last_row history.now.rows) (slice_index_or given.now.rows n []) }
 {
-    if is_own && line.is_last(n) {
+    if is_own && history.is_last(n) {
         // The join of a row with itself is that row.
-        joined.copy_from_slice(line.last());
+        joined.copy_from_slice(history.last());
     } else {
-        join_rows(joined, line.last(), given.row(n));
+        join_rows(joined, history.last(), given.row(n));
     }
 }
 
@@ -87,7 +98,7 @@ impl Clocks {
         ensures { IfOk result (λ clocks. clocks.rows ≡ replicate processes (replicate processes 0 ∷ [])) }
     {
         Ok(Clocks {
-            lines: first_lines(alloc, processes)?,
+            histories: first_histories(alloc, processes)?,
             next: vec![in alloc; 0u32; processes as usize]?,
         })
     }
@@ -97,7 +108,7 @@ impl Clocks {
         ensures { IfOk result (λ clocks. clocks.rows ≡ self.now.rows) }
     {
         Ok(Clocks {
-            lines: copy_lines(&self.lines)?,
+            histories: copy_histories(&self.histories)?,
             next: self.next.clone()?,
         })
     }
@@ -106,43 +117,43 @@ impl Clocks {
     pub fn len(&self, pid: Pid) -> usize
         ensures { result ≡ length (slice_index_or self.now.rows pid.0 []) }
     {
-        match self.lines.get(pid.0 as usize) {
-            Some(line) => line.len(),
+        match self.histories.get(pid.0 as usize) {
+            Some(history) => history.len(),
             None => 0,
         }
     }
 
     /// The n-th row of the process, from 0; both must exist. It does not allocate.
-    #[tactic(auto, using(crate::proofs::Widths::one_line))]
+    #[tactic(auto, using(crate::proofs::Widths::one_history))]
     pub fn row(&self, pid: Pid, n: u32) -> &[u32]
         requires there { pid.0 < length self.now.rows }
         requires row { n < length (slice_index_or self.now.rows pid.0 []) }
         ensures row { result.now ≡ slice_index_or (slice_index_or self.now.rows pid.0 []) n [] }
         ensures len { length result.now ≡ length self.now.rows }
     {
-        let line = &self.lines[pid.0 as usize];
-        line.row(n as usize)
+        let history = &self.histories[pid.0 as usize];
+        history.row(n as usize)
     }
 
     /// Makes room for so many more rows of the process. It does nothing if the process does not exist. No row changes, and no room is lost,
     /// also on an error. Error: out of memory.
-    #[tactic(auto, using(crate::proofs::Widths::one_line))]
+    #[tactic(auto, using(crate::proofs::Widths::one_history))]
     pub fn reserve(&mut self, pid: Pid, more: usize) -> Result<(), AllocError>
         ensures rows { self.new.rows ≡ self.old.rows }
         ensures grows { (a : ℕ) → slice_index_or self.old.room a 0 ≤ slice_index_or self.new.room a 0 }
         ensures ok { OnOk result (pid.0 < length self.old.rows → more ≤ slice_index_or self.new.room pid.0 0) }
     {
-        if pid.0 as usize >= self.lines.len() {
+        if pid.0 as usize >= self.histories.len() {
             return Ok(());
         }
-        let line = &mut self.lines[pid.0 as usize];
-        line.reserve(more)
+        let history = &mut self.histories[pid.0 as usize];
+        history.reserve(more)
     }
 
     /// Appends the row of the process's next event, for which there must be room. The row joins the last row of the process with the given
     /// row, which has one count for each process, and has the process's own count one more. The join takes the larger of each two counts.
     /// It does not allocate.
-    #[tactic(auto, using(crate::proofs::Widths::one_line))]
+    #[tactic(auto, using(crate::proofs::Widths::one_history))]
     pub fn push(&mut self, pid: Pid, joined: &[u32])
         requires room { 0 < slice_index_or self.old.room pid.0 0 }
         requires len { length joined.now ≡ length self.old.rows }
@@ -151,13 +162,17 @@ impl Clocks {
             ++ next_row pid.0 (last_row (slice_index_or self.old.rows pid.0 [])) joined.now ∷ []) }
         ensures room { self.new.room ≡ slice_set self.old.room pid.0 (slice_index_or self.old.room pid.0 0 - 1) }
     {
-        join_rows(&mut self.next, self.lines[pid.0 as usize].last(), joined);
-        let line = &mut self.lines[pid.0 as usize];
-        line.push(pid.0 as usize, &mut self.next);
+        join_rows(
+            &mut self.next,
+            self.histories[pid.0 as usize].last(),
+            joined,
+        );
+        let history = &mut self.histories[pid.0 as usize];
+        history.push(pid.0 as usize, &mut self.next);
     }
 
     /// Like `push`, with the n-th row of the source, which may be the process itself.
-    #[tactic(auto, using(crate::proofs::Widths::one_line))]
+    #[tactic(auto, using(crate::proofs::Widths::one_history))]
     pub fn push_joined(&mut self, pid: Pid, source: Pid, n: u32)
         requires room { 0 < slice_index_or self.old.room pid.0 0 }
         requires there { source.0 < length self.old.rows }
@@ -169,22 +184,22 @@ impl Clocks {
             (slice_index_or (slice_index_or self.old.rows source.0 []) n []) ∷ []) }
         ensures room { self.new.room ≡ slice_set self.old.room pid.0 (slice_index_or self.old.room pid.0 0 - 1) }
     {
-        let own = &self.lines[pid.0 as usize];
-        let given = &self.lines[source.0 as usize];
+        let own = &self.histories[pid.0 as usize];
+        let given = &self.histories[source.0 as usize];
         join_with(&mut self.next, own, given, n as usize, source.0 == pid.0);
-        let line = &mut self.lines[pid.0 as usize];
-        line.push(pid.0 as usize, &mut self.next);
+        let history = &mut self.histories[pid.0 as usize];
+        history.push(pid.0 as usize, &mut self.next);
     }
 
     /// Removes the last row of the process, which must have more than its first. No room is lost. It does not allocate.
-    #[tactic(auto, using(crate::proofs::Widths::one_line))]
+    #[tactic(auto, using(crate::proofs::Widths::one_history))]
     pub fn pop(&mut self, pid: Pid)
         requires { 1 < length (slice_index_or self.old.rows pid.0 []) }
         ensures rows { self.new.rows ≡ slice_set self.old.rows pid.0
             (take (length (slice_index_or self.old.rows pid.0 []) - 1) (slice_index_or self.old.rows pid.0 [])) }
         ensures grows { (a : ℕ) → slice_index_or self.old.room a 0 ≤ slice_index_or self.new.room a 0 }
     {
-        let line = &mut self.lines[pid.0 as usize];
-        line.pop();
+        let history = &mut self.histories[pid.0 as usize];
+        history.pop();
     }
 }

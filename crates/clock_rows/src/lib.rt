@@ -4,6 +4,6 @@
 #![tactic(auto)]
 
 mod clocks;
-mod line;
+mod history;
 
 pub use clocks::Clocks;

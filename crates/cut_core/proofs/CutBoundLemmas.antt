@@ -15,11 +15,11 @@ use Rattle.cut_core.proofs.CountLemmas.{count_below, count_none}
 -- a process that does not exist sent nothing and received nothing
 pub none_sent : (kinds : List (List Kind)) (i j n : ℕ) → length kinds ≤ i → sent_by kinds i j n ≡ 0
 none_sent kinds i j n le =
-    ap (λ (line : List Kind). count_by (sends_to j) (take n line)) (get_or_past kinds i [] le) ∙ count_none (sends_to j) n
+    ap (λ (history : List Kind). count_by (sends_to j) (take n history)) (get_or_past kinds i [] le) ∙ count_none (sends_to j) n
 
 pub none_got : (kinds : List (List Kind)) (j i n : ℕ) → length kinds ≤ j → got_by kinds j i n ≡ 0
 none_got kinds j i n le =
-    ap (λ (line : List Kind). count_by (gets_from i) (take n line)) (get_or_past kinds j [] le) ∙ count_none (gets_from i) n
+    ap (λ (history : List Kind). count_by (gets_from i) (take n history)) (get_or_past kinds j [] le) ∙ count_none (gets_from i) n
 
 module _ (kinds : List (List Kind)) (counts : List ℕ) where
   -- a process that received a message exists

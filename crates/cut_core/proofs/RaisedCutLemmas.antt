@@ -16,20 +16,20 @@ use Rattle.cut_core.proofs.CutBoundLemmas.{none_sent, raised_keeps, raised_more,
 -- the cut of all events, at one process
 pub place_at : (kinds : List (List Kind)) (p : ℕ) → get_or (places kinds) p 0 ≡ length (get_or kinds p [])
 place_at [] p = refl
-place_at (line ∷ kinds) zero = refl
-place_at (line ∷ kinds) (suc p) = place_at kinds p
+place_at (history ∷ kinds) zero = refl
+place_at (history ∷ kinds) (suc p) = place_at kinds p
 
 -- no cut has more events than there are
 pub sum_within : (kinds : List (List Kind)) (counts : List ℕ) → length counts ≡ length kinds
     → ((p : ℕ) → get_or counts p 0 ≤ length (get_or kinds p [])) → sum counts ≤ sum (places kinds)
 sum_within kinds [] sizes within = omega arith
 sum_within [] (n ∷ counts) sizes within = absurd (omega (arith, sizes))
-sum_within (line ∷ kinds) (n ∷ counts) sizes within =
-    let head : n ≤ length line = within 0 in
+sum_within (history ∷ kinds) (n ∷ counts) sizes within =
+    let head : n ≤ length history = within 0 in
     let rest : sum counts ≤ sum (places kinds) = sum_within kinds counts (omega (arith, sizes)) (λ p. within (suc p)) in
     let counted : sum (n ∷ counts) ≡ n + sum counts = sum_by-cons (λ x. x) n counts in
-    let placed : sum (places (line ∷ kinds)) ≡ length line + sum (places kinds) =
-    sum_by-cons (λ x. x) (length line) (places kinds) in
+    let placed : sum (places (history ∷ kinds)) ≡ length history + sum (places kinds) =
+    sum_by-cons (λ x. x) (length history) (places kinds) in
     omega arith
 
 module _ (kinds : List (List Kind)) (counts : List ℕ) (i j : ℕ) (orphan : HasOrphan kinds counts i j)

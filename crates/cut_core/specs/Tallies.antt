@@ -5,7 +5,7 @@ use Rattle.cut_core.specs.declared.kind.Kind.{Kind}
 use Rattle.cut_core.specs.Kinds.{sends_to, gets_from}
 
 -- what the events of one process did, in order, and how many more fit without allocation
-pub record LineState : Type 0 where
+pub record HistoryState : Type 0 where
   pub kinds : List Kind
   pub room : ℕ
 

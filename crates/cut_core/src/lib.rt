@@ -2,8 +2,8 @@
 #![tactic(auto)]
 
 mod cuts;
+mod history;
 mod kind;
-mod line;
 mod places;
 mod tally;
 

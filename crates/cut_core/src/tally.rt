@@ -7,8 +7,8 @@ ghost use Rattle.cut_core.specs.Kinds.{is_like, gets_from};
 ghost use Rattle.cut_core.specs.declared.kind.Kind.TheVariants.{Sent};
 ghost use Rattle.cut_core.specs.Tallies.{sent_by, got_by};
 
+use crate::history::CountHistory;
 use crate::kind::Kind;
-use crate::line::CountLine;
 use dbg_base::Pid;
 use std::alloc::{AllocError, Global};
 use std::marker::Model;
@@ -17,12 +17,12 @@ use std::marker::Model;
 /// without allocation.
 #[derive(Debug)]
 pub struct Tally {
-    lines: Vec<CountLine>,
+    histories: Vec<CountHistory>,
 }
 
 impl Drop for Tally {
     fn drop(self) {
-        let Tally { lines: _ } = self;
+        let Tally { histories: _ } = self;
     }
 }
 
@@ -34,33 +34,33 @@ impl Model for Tally {
     ghost Value = { TallyState };
 
     ghost view = { λ tally. record {
-      kinds = map (λ line. line.kinds) tally.lines.items;
-      room = map (λ line. line.room) tally.lines.items;
+      kinds = map (λ history. history.kinds) tally.histories.items;
+      room = map (λ history. history.room) tally.histories.items;
     } };
 
-    ghost invariant = { λ tally. length tally.lines.items < 2 ^ 32 };
+    ghost invariant = { λ tally. length tally.histories.items < 2 ^ 32 };
 }
 
 // No events of each of so many processes.
-fn empty_lines(alloc: Global, processes: u32) -> Result<Vec<CountLine>, AllocError>
-    ensures kinds { IfOk result (λ lines. map (λ line. line.kinds) lines.items ≡ replicate processes []) }
-    ensures len { IfOk result (λ lines. length lines.items ≡ processes) }
+fn empty_histories(alloc: Global, processes: u32) -> Result<Vec<CountHistory>, AllocError>
+    ensures kinds { IfOk result (λ histories. map (λ history. history.kinds) histories.items ≡ replicate processes []) }
+    ensures len { IfOk result (λ histories. length histories.items ≡ processes) }
 {
-    let mut lines = Vec::new(alloc);
+    let mut histories = Vec::new(alloc);
     for _ in 0..processes {
-        lines.push(CountLine::new(alloc, processes)?)?;
+        histories.push(CountHistory::new(alloc, processes)?)?;
     }
-    Ok(lines)
+    Ok(histories)
 }
 
 // Copies the events of all processes.
-fn copy_lines(lines: &Vec<CountLine>) -> Result<Vec<CountLine>, AllocError>
-    ensures kinds { IfOk result (λ made. map (λ line. line.kinds) made.items ≡ map (λ line. line.kinds) lines.now.items) }
-    ensures len { IfOk result (λ made. length made.items ≡ length lines.now.items) }
+fn copy_histories(histories: &Vec<CountHistory>) -> Result<Vec<CountHistory>, AllocError>
+    ensures kinds { IfOk result (λ made. map (λ history. history.kinds) made.items ≡ map (λ history. history.kinds) histories.now.items) }
+    ensures len { IfOk result (λ made. length made.items ≡ length histories.now.items) }
 {
-    let mut made = Vec::new(*lines.allocator());
-    for line in lines {
-        made.push(line.copy()?)?;
+    let mut made = Vec::new(*histories.allocator());
+    for history in histories {
+        made.push(history.copy()?)?;
     }
     Ok(made)
 }
@@ -71,7 +71,7 @@ impl Tally {
         ensures { IfOk result (λ tally. tally.kinds ≡ replicate processes []) }
     {
         Ok(Tally {
-            lines: empty_lines(alloc, processes)?,
+            histories: empty_histories(alloc, processes)?,
         })
     }
 
@@ -80,7 +80,7 @@ impl Tally {
         ensures { IfOk result (λ tally. tally.kinds ≡ self.now.kinds) }
     {
         Ok(Tally {
-            lines: copy_lines(&self.lines)?,
+            histories: copy_histories(&self.histories)?,
         })
     }
 
@@ -88,15 +88,15 @@ impl Tally {
     pub fn processes(&self) -> u32
         ensures { result ≡ length self.now.kinds }
     {
-        self.lines.len() as u32
+        self.histories.len() as u32
     }
 
     /// How many events the process has, 0 if it does not exist. Like all methods that only read, it does not allocate.
     pub fn len(&self, pid: Pid) -> u32
         ensures { result ≡ length (slice_index_or self.now.kinds pid.0 []) }
     {
-        match self.lines.get(pid.0 as usize) {
-            Some(line) => line.len(),
+        match self.histories.get(pid.0 as usize) {
+            Some(history) => history.len(),
             None => 0,
         }
     }
@@ -105,8 +105,8 @@ impl Tally {
     fn count(&self, pid: Pid, wanted: Kind, n: u32) -> u32
         ensures { result ≡ count_by (is_like wanted) (take n (slice_index_or self.now.kinds pid.0 [])) }
     {
-        match self.lines.get(pid.0 as usize) {
-            Some(line) => line.count(wanted, n),
+        match self.histories.get(pid.0 as usize) {
+            Some(history) => history.count(wanted, n),
             None => 0,
         }
     }
@@ -133,11 +133,11 @@ impl Tally {
         ensures grows { (a : ℕ) → slice_index_or self.old.room a 0 ≤ slice_index_or self.new.room a 0 }
         ensures ok { OnOk result (pid.0 < length self.old.kinds → more ≤ slice_index_or self.new.room pid.0 0) }
     {
-        if pid.0 as usize >= self.lines.len() {
+        if pid.0 as usize >= self.histories.len() {
             return Ok(());
         }
-        let line = &mut self.lines[pid.0 as usize];
-        line.reserve(more)
+        let history = &mut self.histories[pid.0 as usize];
+        history.reserve(more)
     }
 
     /// Appends an event of the process, for which there must be room. It does not allocate.
@@ -147,8 +147,8 @@ impl Tally {
         ensures kinds { self.new.kinds ≡ slice_set self.old.kinds pid.0 (slice_index_or self.old.kinds pid.0 [] ++ kind ∷ []) }
         ensures room { self.new.room ≡ slice_set self.old.room pid.0 (slice_index_or self.old.room pid.0 0 - 1) }
     {
-        let line = &mut self.lines[pid.0 as usize];
-        line.note(kind);
+        let history = &mut self.histories[pid.0 as usize];
+        history.note(kind);
     }
 
     /// Removes the last event of the process. If there is none, it changes nothing. It does not allocate.
@@ -158,11 +158,11 @@ impl Tally {
             (take (length (slice_index_or self.old.kinds pid.0 []) - 1) (slice_index_or self.old.kinds pid.0 [])) }
         ensures grows { (a : ℕ) → slice_index_or self.old.room a 0 ≤ slice_index_or self.new.room a 0 }
     {
-        if pid.0 as usize >= self.lines.len() {
+        if pid.0 as usize >= self.histories.len() {
             return;
         }
-        let line = &mut self.lines[pid.0 as usize];
-        line.unnote();
+        let history = &mut self.histories[pid.0 as usize];
+        history.unnote();
     }
 
     // The number, from 1, of the process's k-th event that equals the wanted kind.
@@ -174,8 +174,8 @@ impl Tally {
         ensures like { is_like wanted (slice_index_or (slice_index_or self.now.kinds pid.0 []) (result - 1) wanted) ≡ true }
         ensures count { count_by (is_like wanted) (take result (slice_index_or self.now.kinds pid.0 [])) ≡ k }
     {
-        match self.lines.get(pid.0 as usize) {
-            Some(line) => line.nth(wanted, k),
+        match self.histories.get(pid.0 as usize) {
+            Some(history) => history.nth(wanted, k),
             None => k,
         }
     }
@@ -197,8 +197,8 @@ impl Tally {
             (λ from. (length self.now.kinds ≤ from.0)
             × (0 < count_by (gets_from from.0) (take n (slice_index_or self.now.kinds pid.0 [])))) }
     {
-        match self.lines.get(pid.0 as usize) {
-            Some(line) => line.stranger(self.processes(), n),
+        match self.histories.get(pid.0 as usize) {
+            Some(history) => history.stranger(self.processes(), n),
             None => None,
         }
     }

@@ -11,7 +11,7 @@ pub record EventValue : Type 0 where
   pub exchange : Exchange
 
 -- the events of one process, and how many more fit without allocation
-pub record LineState : Type 0 where
+pub record HistoryState : Type 0 where
   pub events : List EventValue
   pub room : ℕ
 

@@ -6,7 +6,7 @@
 
 mod event;
 mod exchange;
-mod line;
+mod history;
 mod rows;
 mod setting;
 mod wide;

@@ -11,7 +11,7 @@ ghost use Rattle.event_rows.specs.Truths as model;
 ghost use Rattle.dbg_base.specs.Predicates.{holds};
 
 use crate::event::Event;
-use crate::line::EventLine;
+use crate::history::EventHistory;
 use dbg_base::{Expr, Pid, Sequence};
 use local_eval::{Env, guard};
 use proc_lang::Program;
@@ -23,14 +23,14 @@ use std::marker::Model;
 #[derive(Debug)]
 pub struct Rows {
     starts: Vec<Env>,
-    lines: Vec<EventLine>,
+    histories: Vec<EventHistory>,
 }
 
 impl Drop for Rows {
     fn drop(self) {
         let Rows {
             starts: _,
-            lines: _,
+            histories: _,
         } = self;
     }
 }
@@ -43,29 +43,29 @@ impl Model for Rows {
 
     ghost view = { λ rows. record {
       starts = rows.starts.items;
-      events = map (λ line. line.events) rows.lines.items;
-      room = map (λ line. line.room) rows.lines.items;
+      events = map (λ history. history.events) rows.histories.items;
+      room = map (λ history. history.room) rows.histories.items;
     } };
 }
 
 // No events of each of so many processes.
-fn empty_lines(alloc: Global, processes: u32) -> Result<Vec<EventLine>, AllocError>
-    ensures { IfOk result (λ lines. map (λ line. line.events) lines.items ≡ replicate processes []) }
+fn empty_histories(alloc: Global, processes: u32) -> Result<Vec<EventHistory>, AllocError>
+    ensures { IfOk result (λ histories. map (λ history. history.events) histories.items ≡ replicate processes []) }
 {
-    let mut lines = Vec::new(alloc);
+    let mut histories = Vec::new(alloc);
     for _ in 0..processes {
-        lines.push(EventLine::new(alloc))?;
+        histories.push(EventHistory::new(alloc))?;
     }
-    Ok(lines)
+    Ok(histories)
 }
 
 // Copies the events of all processes.
-fn copy_lines(lines: &Vec<EventLine>) -> Result<Vec<EventLine>, AllocError>
-    ensures { IfOk result (λ made. map (λ line. line.events) made.items ≡ map (λ line. line.events) lines.now.items) }
+fn copy_histories(histories: &Vec<EventHistory>) -> Result<Vec<EventHistory>, AllocError>
+    ensures { IfOk result (λ made. map (λ history. history.events) made.items ≡ map (λ history. history.events) histories.now.items) }
 {
-    let mut made = Vec::new(*lines.allocator());
-    for line in lines {
-        made.push(line.copy()?)?;
+    let mut made = Vec::new(*histories.allocator());
+    for history in histories {
+        made.push(history.copy()?)?;
     }
     Ok(made)
 }
@@ -112,7 +112,7 @@ impl Rows {
     {
         Ok(Rows {
             starts: Env::starts(alloc, program)?,
-            lines: empty_lines(alloc, program.processes())?,
+            histories: empty_histories(alloc, program.processes())?,
         })
     }
 
@@ -123,7 +123,7 @@ impl Rows {
     {
         Ok(Rows {
             starts: Env::copy_all(&self.starts)?,
-            lines: copy_lines(&self.lines)?,
+            histories: copy_histories(&self.histories)?,
         })
     }
 
@@ -131,15 +131,15 @@ impl Rows {
     pub fn has(&self, pid: Pid) -> bool
         ensures { IsTrue result ↔ (pid.0 < length self.now.events) }
     {
-        (pid.0 as usize) < self.lines.len()
+        (pid.0 as usize) < self.histories.len()
     }
 
     /// How many events the process has, 0 if it does not exist.
     pub fn len(&self, pid: Pid) -> usize
         ensures { result ≡ length (slice_index_or self.now.events pid.0 []) }
     {
-        match self.lines.get(pid.0 as usize) {
-            Some(line) => line.len(),
+        match self.histories.get(pid.0 as usize) {
+            Some(history) => history.len(),
             None => 0,
         }
     }
@@ -148,8 +148,8 @@ impl Rows {
     pub fn event(&self, pid: Pid, n: usize) -> Option<&Event>
         ensures { option_map (λ event. event.now) result ≡ slice_get (slice_index_or self.now.events pid.0 []) n }
     {
-        match self.lines.get(pid.0 as usize) {
-            Some(line) => line.event(n),
+        match self.histories.get(pid.0 as usize) {
+            Some(history) => history.event(n),
             None => None,
         }
     }
@@ -159,8 +159,8 @@ impl Rows {
         ensures { option_map (λ event. event.now) result
             ≡ slice_get (slice_index_or self.now.events pid.0 []) (length (slice_index_or self.now.events pid.0 []) - 1) }
     {
-        match self.lines.get(pid.0 as usize) {
-            Some(line) => line.last(),
+        match self.histories.get(pid.0 as usize) {
+            Some(history) => history.last(),
             None => None,
         }
     }
@@ -174,11 +174,11 @@ impl Rows {
         ensures grows { (a : ℕ) → slice_index_or self.old.room a 0 ≤ slice_index_or self.new.room a 0 }
         ensures ok { OnOk result (pid.0 < length self.old.events → more ≤ slice_index_or self.new.room pid.0 0) }
     {
-        if pid.0 as usize >= self.lines.len() {
+        if pid.0 as usize >= self.histories.len() {
             return Ok(());
         }
-        let line = &mut self.lines[pid.0 as usize];
-        line.reserve(more)
+        let history = &mut self.histories[pid.0 as usize];
+        history.reserve(more)
     }
 
     /// Appends the event to those of the process, for which there must be room. It does not allocate.
@@ -189,8 +189,8 @@ impl Rows {
         ensures events { self.new.events ≡ slice_set self.old.events pid.0 (slice_index_or self.old.events pid.0 [] ++ event ∷ []) }
         ensures room { self.new.room ≡ slice_set self.old.room pid.0 (slice_index_or self.old.room pid.0 0 - 1) }
     {
-        let line = &mut self.lines[pid.0 as usize];
-        line.push(event);
+        let history = &mut self.histories[pid.0 as usize];
+        history.push(event);
     }
 
     /// Removes and returns the last event of the process. If there is none, it changes nothing. It does not allocate.
@@ -203,11 +203,11 @@ impl Rows {
         ensures some { IsSome result ↔ (0 < length (slice_index_or self.old.events pid.0 [])) }
         ensures grows { (a : ℕ) → slice_index_or self.old.room a 0 ≤ slice_index_or self.new.room a 0 }
     {
-        if pid.0 as usize >= self.lines.len() {
+        if pid.0 as usize >= self.histories.len() {
             return None;
         }
-        let line = &mut self.lines[pid.0 as usize];
-        line.pop()
+        let history = &mut self.histories[pid.0 as usize];
+        history.pop()
     }
 
     // Copies the start of the process, or a local state without variables if the process does not exist.
@@ -224,8 +224,8 @@ impl Rows {
     fn events(&self, pid: Pid) -> &[Event]
         ensures { result.now ≡ slice_index_or self.now.events pid.0 [] }
     {
-        match self.lines.get(pid.0 as usize) {
-            Some(line) => line.events(),
+        match self.histories.get(pid.0 as usize) {
+            Some(history) => history.events(),
             None => &[],
         }
     }

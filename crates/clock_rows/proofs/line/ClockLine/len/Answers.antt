@@ -1,7 +1,0 @@
-use Rattle.std.proofs.Common.{arith}
-use Rattle.std.proofs.lemmas.Grind.{common_steps}
-use Rattle.clock_rows.proofs.Pieces.{length_pieces}
-use Rattle.clock_rows.proofs.line.ClockLine.len.Goals as goal
-
-pub returns : goal.returns
-returns c = grind (arith, common_steps, length_pieces)
