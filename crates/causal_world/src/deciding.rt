@@ -4,8 +4,8 @@ ghost use Rattle.std.specs.Prelude.{◌≡◌, ◌+◌, ◌<◌, length, IfOk, S
 ghost use Rattle.dbg_base.specs.declared.limits.TheConstants.{EVENTS};
 ghost use Rattle.dbg_base.specs.Configurations.{Configuration, state_in};
 ghost use Rattle.dbg_base.specs.Firing.{fire, fire_command, proceed};
-ghost use Rattle.proc_lang.specs.Programs.{program_of};
-ghost use Rattle.proc_lang.specs.ProcessTrees.{action_tree, command_tree};
+ghost use Rattle.proc_tree.specs.Programs.{program_of};
+ghost use Rattle.proc_tree.specs.ProcessTrees.{action_tree, command_tree};
 ghost use Rattle.causal_world.specs.Scenes.{exchange_for, event_if, event_at};
 ghost use Rattle.causal_world.specs.Deciding.{CanCount, Takes, MakesEvent, Decides, Finds};
 
@@ -13,7 +13,7 @@ use dbg_base::{Choice, Direction, Pid, Refusal, count_of};
 use event_rows::{Event, Exchange};
 use fifo_grid::Grid;
 use local_eval::{Env, EvalError, effect, guard};
-use proc_lang::{Action, Guarded, Program};
+use proc_tree::{Action, Guarded, Program};
 use std::alloc::{AllocError, Global};
 
 // The message that the action receives, if it receives one.

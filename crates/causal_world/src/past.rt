@@ -5,7 +5,7 @@ ghost use Rattle.std.specs.Prelude.{slice_get, slice_index_or};
 ghost use Rattle.std.specs.Option.{option_map, option_to_list};
 ghost use Rattle.dbg_base.specs.declared.limits.TheConstants.{EVENTS};
 ghost use Rattle.dbg_base.specs.LocalStates.{start_among};
-ghost use Rattle.proc_lang.specs.Programs.{program_of};
+ghost use Rattle.proc_tree.specs.Programs.{program_of};
 ghost use Rattle.causal_world.specs.Scenes.{with_event, without_event};
 ghost use Rattle.causal_world.specs.Pasts.{kind_done, with_kind, without_kind, without_row, row_at};
 ghost use Rattle.causal_world.specs.Pasts.{IsWhole, AreClocksOf, IsSamePast, HasRoomFor, IsCause};
@@ -15,7 +15,7 @@ use clock_rows::Clocks;
 use cut_core::{Kind, Tally};
 use dbg_base::Pid;
 use event_rows::{Event, Exchange, Rows};
-use proc_lang::Program;
+use proc_tree::Program;
 use std::alloc::{AllocError, Global};
 use std::marker::Model;
 

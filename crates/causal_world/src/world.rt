@@ -14,7 +14,7 @@ ghost use Rattle.dbg_base.specs.Clocks.{IsClock};
 ghost use Rattle.dbg_base.specs.Choices.{step_choice, next_choice, redo_choice};
 ghost use Rattle.dbg_base.specs.Reversal.{IsRollback};
 ghost use Rattle.cut_core.specs.ConsistentCuts.{IsConsistentCut};
-ghost use Rattle.proc_lang.specs.Programs.{program_of};
+ghost use Rattle.proc_tree.specs.Programs.{program_of};
 ghost use Rattle.causal_world.specs.Pasts.{AreClocksOf, row_at};
 ghost use Rattle.causal_world.specs.Scenes.{IsWorldOf, made};
 ghost use Rattle.causal_world.specs.Worlds.{CanMake, IsSomeWorld};
@@ -35,7 +35,7 @@ use dbg_base::{Choice, Cut, Pid, Refusal, Sequence, count_of};
 use event_rows::{Event, Rows};
 use fifo_grid::Grid;
 use local_eval::Env;
-use proc_lang::Program;
+use proc_tree::Program;
 use std::alloc::Global;
 use std::marker::Model;
 

@@ -3,12 +3,12 @@
 ghost use Rattle.std.specs.Prelude.{◌≢◌, IfErr};
 ghost use Rattle.dbg_base.specs.declared.refusal.Refusal.TheVariants.{Memory};
 ghost use Rattle.dbg_base.specs.Calls as model;
-ghost use Rattle.proc_lang.specs.Programs.{program_of};
+ghost use Rattle.proc_tree.specs.Programs.{program_of};
 ghost use Rattle.dbg_command.specs.Tables.{IsTableOf, AnswersOrRefuses, state_of};
 
 use crate::table::{Table, known};
 use dbg_base::{Answer, Name, Pid, Refusal};
-use proc_lang::Program;
+use proc_tree::Program;
 use std::alloc::Global;
 
 impl Table {

@@ -3,12 +3,12 @@
 ghost use Rattle.std.specs.Prelude.{◌≡◌, ◌<◌, Ok, Err, IfOk, IfErr, OnErr};
 ghost use Rattle.dbg_base.specs.declared.limits.TheConstants.{BATCH};
 ghost use Rattle.dbg_base.specs.Calls.{Batch, IsOne, order_of, plans_in, AreCommands};
-ghost use Rattle.proc_lang.specs.Programs.{program_of};
+ghost use Rattle.proc_tree.specs.Programs.{program_of};
 ghost use Rattle.dbg_command.specs.Tables.{IsTableOf, FollowsOrRefuses, GivesEach, TellsWithin, shown, state_of};
 
 use crate::table::Table;
 use dbg_base::{Done, Plan, Refusal, Reply};
-use proc_lang::Program;
+use proc_tree::Program;
 use std::alloc::Global;
 
 // The refusal of a batch whose command at this position, from 0, was refused like this.

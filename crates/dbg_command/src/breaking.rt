@@ -8,7 +8,7 @@ ghost use Rattle.break_book.specs.Books.{breakpoints_of};
 ghost use Rattle.dbg_base.specs.Trees as tree;
 ghost use Rattle.dbg_base.specs.Calls as model;
 ghost use Rattle.dbg_base.specs.Calls.{conjunct_of};
-ghost use Rattle.proc_lang.specs.Programs.{program_of};
+ghost use Rattle.proc_tree.specs.Programs.{program_of};
 ghost use Rattle.least_cut.specs.Watches.{scan_of};
 ghost use Rattle.dbg_command.specs.Tables.{IsTableOf, ActsOrRefuses, Adds, shown, state_of};
 ghost use Rattle.dbg_command.specs.Boxes.{LeadsBack, LeadsBackBy, HasNamed, HasUnarmed, HasCleared, unset, marked, uncleared, IsScanFor};
@@ -18,7 +18,7 @@ use crate::table::Table;
 use break_book::Breakpoint;
 use dbg_base::{Conjunct, Done, Name, Refusal, Reply, Sequence, copy_conjuncts};
 use least_cut::Scan;
-use proc_lang::Program;
+use proc_tree::Program;
 use std::alloc::Global;
 
 impl Table {

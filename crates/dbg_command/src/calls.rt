@@ -3,12 +3,12 @@
 ghost use Rattle.std.specs.Prelude.{◌≡◌, true, IfErr};
 ghost use Rattle.dbg_base.specs.declared.refusal.Refusal.TheVariants.{Memory};
 ghost use Rattle.dbg_base.specs.Calls.{query_of};
-ghost use Rattle.proc_lang.specs.Programs.{program_of};
+ghost use Rattle.proc_tree.specs.Programs.{program_of};
 ghost use Rattle.dbg_command.specs.Tables.{IsTableOf, AnswersOrRefuses, asks_memory, state_of};
 
 use crate::table::Table;
 use dbg_base::{Answer, Query, Refusal};
-use proc_lang::Program;
+use proc_tree::Program;
 use std::alloc::Global;
 
 impl Table {

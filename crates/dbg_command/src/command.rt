@@ -5,14 +5,14 @@ ghost use Rattle.dbg_base.specs.declared.refusal.Refusal.TheVariants.{Memory};
 ghost use Rattle.dbg_base.specs.Trees as tree;
 ghost use Rattle.dbg_base.specs.Calls.{Order, order_of};
 ghost use Rattle.dbg_base.specs.ModelStates.{ModelState};
-ghost use Rattle.proc_lang.specs.Programs.{program_of};
+ghost use Rattle.proc_tree.specs.Programs.{program_of};
 ghost use Rattle.dbg_command.specs.Tables.{IsTableOf, FollowsOrRefuses, shown, state_of};
 ghost use Rattle.dbg_command.specs.Boxes.{LeadsBack, IsScanFor, takes_memory, takes_memory_back};
 
 use crate::table::Table;
 use dbg_base::{Plan, Refusal, Reply};
 use least_cut::Scan;
-use proc_lang::Program;
+use proc_tree::Program;
 use std::alloc::Global;
 
 /// A command that is applied to a table at most once, and then keeps what is needed to undo it. Other crates use commands only through this

@@ -4,10 +4,10 @@ ghost use Rattle.std.specs.Prelude.{◌≡◌, ◌==◌, ◌<◌, [], map, None,
 ghost use Rattle.std.specs.List.{list_any};
 ghost use Rattle.dbg_base.specs.Calls.{conjunct_of};
 ghost use Rattle.dbg_base.specs.Acts.{conjuncts_refusal};
-ghost use Rattle.proc_lang.specs.Programs.{program_of};
+ghost use Rattle.proc_tree.specs.Programs.{program_of};
 
 use dbg_base::{Conjunct, Pid, Refusal};
-use proc_lang::{Program, fits};
+use proc_tree::{Program, fits};
 
 // Whether one of them is of this process.
 fn is_named(conjuncts: &[Conjunct], pid: Pid) -> bool

@@ -4,7 +4,7 @@ ghost use Rattle.std.specs.Prelude.{◌≡◌, OnOk, OnErr};
 ghost use Rattle.dbg_base.specs.declared.said.Done.TheVariants.{Played};
 ghost use Rattle.dbg_base.specs.Trees as tree;
 ghost use Rattle.dbg_base.specs.Calls as model;
-ghost use Rattle.proc_lang.specs.Programs.{program_of};
+ghost use Rattle.proc_tree.specs.Programs.{program_of};
 ghost use Rattle.causal_world.specs.Scenes.{IsWorldOf};
 ghost use Rattle.break_book.specs.Books.{AreGrown, HaveRoomUpTo};
 ghost use Rattle.dbg_command.specs.Tables.{IsTableOf, ActsOrRefuses, Replies, shown, state_of};
@@ -13,7 +13,7 @@ ghost use Rattle.dbg_command.specs.Boxes.{LeadsBack, LeadsBackBy, HasStepped, Ha
 use crate::table::Table;
 use causal_world::Cutoff;
 use dbg_base::{Choice, Done, Pid, Refusal, Reply};
-use proc_lang::Program;
+use proc_tree::Program;
 use std::alloc::Global;
 
 impl Table {

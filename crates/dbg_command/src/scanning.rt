@@ -4,7 +4,7 @@ ghost use Rattle.std.specs.Prelude.{◌≡◌, map, IfOk, IfErr};
 ghost use Rattle.dbg_base.specs.declared.refusal.Refusal.TheVariants.{Memory};
 ghost use Rattle.dbg_base.specs.Calls as model;
 ghost use Rattle.dbg_base.specs.Calls.{conjunct_of, order_of};
-ghost use Rattle.proc_lang.specs.Programs.{program_of};
+ghost use Rattle.proc_tree.specs.Programs.{program_of};
 ghost use Rattle.dbg_command.specs.Boxes.{ScansFor};
 ghost use Rattle.dbg_command.specs.Tables.{IsTableOf, state_of};
 
@@ -12,7 +12,7 @@ use crate::conjuncts::fitting;
 use crate::table::Table;
 use dbg_base::{Conjunct, Gate, Plan, Refusal};
 use least_cut::Scan;
-use proc_lang::Program;
+use proc_tree::Program;
 use std::alloc::Global;
 use std::sync::Wait;
 use std::thread::Threads;

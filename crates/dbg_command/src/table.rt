@@ -6,14 +6,14 @@ ghost use Rattle.dbg_base.specs.Trees as tree;
 ghost use Rattle.dbg_base.specs.Copies.{IsCopy};
 ghost use Rattle.dbg_base.specs.declared.limits.TheConstants.{BREAKPOINTS};
 ghost use Rattle.dbg_base.specs.ModelStates.{opening, IsHalted, IsHaltPlace};
-ghost use Rattle.proc_lang.specs.Programs.{program_of};
+ghost use Rattle.proc_tree.specs.Programs.{program_of};
 ghost use Rattle.break_book.specs.Books.{breakpoints_of, shown_of};
 ghost use Rattle.dbg_command.specs.Tables.{IsTableOf, IsReady, Unready, UnknownIn, HaltedAt, Replies, shown, state_of, IsCutOf};
 
 use break_book::Book;
 use causal_world::World;
 use dbg_base::{Cut, Done, Name, Pid, Refusal, Reply};
-use proc_lang::Program;
+use proc_tree::Program;
 use std::alloc::Global;
 use std::marker::Model;
 

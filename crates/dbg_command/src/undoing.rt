@@ -3,7 +3,7 @@
 ghost use Rattle.std.specs.Prelude.{◌≡◌, OnOk, OnErr};
 ghost use Rattle.dbg_base.specs.Trees as tree;
 ghost use Rattle.dbg_base.specs.Calls as model;
-ghost use Rattle.proc_lang.specs.Programs.{program_of};
+ghost use Rattle.proc_tree.specs.Programs.{program_of};
 ghost use Rattle.cut_core.specs.ConsistentCuts.{IsConsistentCut};
 ghost use Rattle.dbg_command.specs.Tables.{IsTableOf, ActsOrRefuses, GoesBack, shown, state_of};
 ghost use Rattle.dbg_command.specs.Boxes.{LeadsBackBy, HasRolled, HasUndone, unrolled, remade};
@@ -11,7 +11,7 @@ ghost use Rattle.dbg_command.specs.Boxes.{LeadsBackBy, HasRolled, HasUndone, unr
 use crate::table::{Table, known};
 use causal_world::Rolled;
 use dbg_base::{Cut, Done, Name, Pid, Refusal, Reply};
-use proc_lang::Program;
+use proc_tree::Program;
 use std::alloc::Global;
 
 // Events that were undone, and the places before that.

@@ -1,13 +1,13 @@
 //! A session, as it can be looked at.
 
 ghost use Rattle.std.specs.Prelude.{◌≡◌};
-ghost use Rattle.proc_lang.specs.Programs.{program_of};
+ghost use Rattle.proc_tree.specs.Programs.{program_of};
 ghost use Rattle.dbg_command.specs.Tables.{IsTableOf};
 
 use crate::table::Table;
 use break_book::Book;
 use causal_world::World;
-use proc_lang::Program;
+use proc_tree::Program;
 
 /// A session as its calls leave it, by reference. The world is one of the program, and the detectors of the breakpoints follow the world.
 #[derive(Clone, Copy)]

@@ -15,12 +15,12 @@ use Rattle.dbg_base.proofs.call.Query.TheSendSync as query_sent
 use Rattle.dbg_base.proofs.said.Said.TheSendSync as said_sent
 use Rattle.dbg_base.specs.contracts.call.Call as call
 use Rattle.dbg_base.specs.contracts.expr.Expr as expr
-use Rattle.proc_lang.proofs.process.Variable.TheSendSync as variable_sent
-use Rattle.proc_lang.specs.contracts.process.Action as action
-use Rattle.proc_lang.specs.contracts.process.Assignment as assignment
-use Rattle.proc_lang.specs.contracts.process.Guarded as guarded
-use Rattle.proc_lang.specs.contracts.process.Process as process
-use Rattle.proc_lang.specs.contracts.program.Program as program
+use Rattle.proc_tree.proofs.process.Variable.TheSendSync as variable_sent
+use Rattle.proc_tree.specs.contracts.process.Action as action
+use Rattle.proc_tree.specs.contracts.process.Assignment as assignment
+use Rattle.proc_tree.specs.contracts.process.Guarded as guarded
+use Rattle.proc_tree.specs.contracts.process.Process as process
+use Rattle.proc_tree.specs.contracts.program.Program as program
 use Rattle.dbg_command.specs.declared.command.Command as command
 use Rattle.dbg_command.proofs.SendableCommandLemmas.{plan_send, table_send}
 use Rattle.dbg_session.proofs.session.Stacked.TheSendSync as stacked_sent

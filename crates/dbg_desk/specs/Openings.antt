@@ -2,7 +2,7 @@
 use Rattle.std.specs.Prelude.{◌≡◌, ℕ}
 use Rattle.dbg_base.specs.Trees.{Program}
 use Rattle.dbg_board.specs.Boards.{BoardId}
-use Rattle.proc_lang.specs.Programs.{program_of}
+use Rattle.proc_tree.specs.Programs.{program_of}
 use Rattle.dbg_desk.specs.declared.opening.Opening.{Opening}
 
 -- A run of this program, board and ledger, with so many seats, is opened from these parts.

@@ -14,7 +14,7 @@ use crate::seat::Seat;
 use dbg_base::Refusal;
 use dbg_board::Board;
 use dbg_command::Command;
-use proc_lang::Program;
+use proc_tree::Program;
 use std::alloc::Global;
 use std::sync::ledger::Blank;
 

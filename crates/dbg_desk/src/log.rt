@@ -7,7 +7,7 @@ ghost use Rattle.dbg_base.specs.declared.refusal.Refusal.TheVariants.{Memory};
 ghost use Rattle.std.specs.Option.{option_map};
 ghost use Rattle.dbg_base.specs.Calls.{Call};
 ghost use Rattle.dbg_base.specs.Copies.{counts_in};
-ghost use Rattle.proc_lang.specs.Programs.{program_of};
+ghost use Rattle.proc_tree.specs.Programs.{program_of};
 ghost use Rattle.dbg_command.specs.Tables.{said_of};
 ghost use Rattle.dbg_desk.specs.Small.{small_call_of, IsGiven};
 ghost use Rattle.dbg_board.specs.Pairs.{Begins};
@@ -23,7 +23,7 @@ use crate::small_call::GivenCall;
 use dbg_base::limits::CALLS;
 use dbg_base::{Refusal, Reply};
 use dbg_board::{Publisher, SeatView};
-use proc_lang::Program;
+use proc_tree::Program;
 use std::sync::ledger::{Book, Share};
 
 /// The journal, the ledger's book that counts its entries, and the publisher that shows each. All three advance together.

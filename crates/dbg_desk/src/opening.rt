@@ -5,7 +5,7 @@ ghost use Rattle.dbg_base.specs.declared.limits.TheConstants.{SEATS};
 ghost use Rattle.dbg_board.specs.Boards.{listing};
 
 use dbg_board::{Board, Publisher, SeatView};
-use proc_lang::Program;
+use proc_tree::Program;
 use std::sync::ledger::Blank;
 
 /// What a run is opened from. The board is new, and has a view for each seat.

@@ -4,13 +4,13 @@ ghost use Rattle.std.specs.Prelude.{◌≡◌, ◌↔◌, ◌≤◌, [], length,
 ghost use Rattle.std.specs.Vec.{vec_capacity};
 ghost use Rattle.dbg_base.specs.declared.refusal.Refusal.TheVariants.{Memory};
 ghost use Rattle.dbg_base.specs.Copies.{counts_in};
-ghost use Rattle.proc_lang.specs.Programs.{program_of};
+ghost use Rattle.proc_tree.specs.Programs.{program_of};
 ghost use Rattle.dbg_command.specs.Tables.{said_of};
 ghost use Rattle.dbg_desk.specs.Small.{small_said_of};
 
 use crate::small_said::SmallSaid;
 use dbg_base::{Done, Refusal, Reply, Said};
-use proc_lang::Program;
+use proc_tree::Program;
 use std::alloc::Global;
 use std::mem;
 

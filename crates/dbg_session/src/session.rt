@@ -7,14 +7,14 @@ ghost use Rattle.dbg_base.specs.declared.limits.TheConstants.{BREAKPOINTS};
 ghost use Rattle.dbg_base.specs.ModelStates.{opening, IsHaltPlace};
 ghost use Rattle.dbg_base.specs.Journals.{LeadsTo, AnswersBack, counting, last_given};
 ghost use Rattle.dbg_base.specs.Fits.{FitsCall};
-ghost use Rattle.proc_lang.specs.Programs.{program_of};
+ghost use Rattle.proc_tree.specs.Programs.{program_of};
 ghost use Rattle.dbg_command.specs.Tables.{asks_memory, state_of, IsTableOf, AnswersOrRefuses, FollowsOrRefuses, said_of, reported_of};
 ghost use Rattle.dbg_command.specs.Boxes.{IsScanFor, ScansFor};
 
 use dbg_base::{Answer, Done, Gate, Plan, Query, Refusal, Reply};
 use dbg_command::{Command, Table};
 use least_cut::Scan;
-use proc_lang::Program;
+use proc_tree::Program;
 use std::alloc::Global;
 use std::marker::Model;
 use std::sync::Wait;
@@ -40,7 +40,7 @@ pub struct Session<C: Command> {
 impl<C: Command> Model for Session<C> {
     ghost use Rattle.std.specs.Prelude.{map};
     ghost use Rattle.std.specs.Coded.{codes};
-    ghost use Rattle.proc_lang.specs.Programs.{program_of};
+    ghost use Rattle.proc_tree.specs.Programs.{program_of};
     ghost use Rattle.dbg_command.specs.Tables.{state_of};
     ghost use Rattle.least_cut.specs.TreeCodes.{coded_tree};
     ghost use Rattle.dbg_session.specs.Sessions.{SessionState, IsSession, given_of};

@@ -5,7 +5,7 @@ ghost use Rattle.std.specs.Prelude.{slice_set, slice_index_or, IfOk, OnOk, IsSom
 ghost use Rattle.std.specs.Option.{option_map, option_to_list};
 ghost use Rattle.dbg_base.specs.Trees.{tree_of};
 ghost use Rattle.dbg_base.specs.LocalStates.{no_state, start_among};
-ghost use Rattle.proc_lang.specs.Programs.{program_of};
+ghost use Rattle.proc_tree.specs.Programs.{program_of};
 ghost use Rattle.event_rows.specs.Events.{after_events, past_of, advanced, retreated};
 ghost use Rattle.event_rows.specs.Truths as model;
 ghost use Rattle.dbg_base.specs.Predicates.{holds};
@@ -14,7 +14,7 @@ use crate::event::Event;
 use crate::history::EventHistory;
 use dbg_base::{Expr, Pid, Sequence};
 use local_eval::{Env, guard};
-use proc_lang::Program;
+use proc_tree::Program;
 use std::alloc::{AllocError, Global};
 use std::marker::Model;
 

@@ -1,7 +1,7 @@
 //! The effect of a command on its process.
 
 ghost use Rattle.dbg_base.specs.Firing.{assigned, effect_with, effect_of};
-ghost use Rattle.proc_lang.specs.ProcessTrees.{assignment_trees, command_tree};
+ghost use Rattle.proc_tree.specs.ProcessTrees.{assignment_trees, command_tree};
 ghost use Rattle.local_eval.specs.Changes.{Gives};
 
 use crate::env::Env;
@@ -9,7 +9,7 @@ use crate::evaluation::evaluate;
 use crate::fault::EvalError;
 use crate::local::{Local, LocalAfterReceive};
 use crate::value::number;
-use proc_lang::{Action, Assignment, Guarded};
+use proc_tree::{Action, Assignment, Guarded};
 use smallvec::SmallVec;
 use std::alloc::Global;
 

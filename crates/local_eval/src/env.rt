@@ -4,10 +4,10 @@ ghost use Rattle.std.specs.Prelude.{◌≡◌, ◌<◌, ◌↔◌, [], length, r
 ghost use Rattle.dbg_base.specs.Trees.{process_of};
 ghost use Rattle.dbg_base.specs.LocalStates.{counts_of, no_state, start_values, start_state};
 ghost use Rattle.dbg_base.specs.Configurations.{start_of};
-ghost use Rattle.proc_lang.specs.Programs.{program_of};
+ghost use Rattle.proc_tree.specs.Programs.{program_of};
 
 use dbg_base::{Direction, Pid};
-use proc_lang::Program;
+use proc_tree::Program;
 use std::alloc::{AllocError, Global};
 use std::marker::Model;
 

@@ -2,8 +2,8 @@
 use Rattle.std.proofs.Common.{◌≡◌, List, ◌∷◌, length}
 use Rattle.std.proofs.lemmas.List.{nil_from_length}
 use Rattle.dbg_base.specs.Trees.{tree_of}
-use Rattle.proc_lang.specs.declared.process.Assignment.{Assignment}
-use Rattle.proc_lang.specs.ProcessTrees.{assignment_trees}
+use Rattle.proc_tree.specs.declared.process.Assignment.{Assignment}
+use Rattle.proc_tree.specs.ProcessTrees.{assignment_trees}
 use Rattle.notation.specs.declared.syntax.AssignmentNode.{AssignmentNode}
 use Rattle.notation.specs.ModelScopes.{Scope}
 use Rattle.notation.specs.PlainExpressions.{Setting, Names, Stands}

@@ -3,7 +3,7 @@ use Rattle.std.specs.Prelude.{ℕ, ℤ, ◌==◌, List, [], ◌∷◌, ◌++◌,
 use Rattle.std.specs.Option.{option_map}
 use Rattle.dbg_base.specs.Evaluation.{Value, Num, Tru}
 use Rattle.dbg_base.specs.Trees.{Process, process_of, names_of}
-use Rattle.proc_lang.specs.Programs.{program_of}
+use Rattle.proc_tree.specs.Programs.{program_of}
 use Rattle.notation.specs.declared.environment.ConstantValue.{ConstantValue}
 use Rattle.notation.specs.declared.environment.ConstantValue.TheVariants as constants
 use Rattle.notation.specs.declared.agreement.scopes.MemberHere.{MemberHere}

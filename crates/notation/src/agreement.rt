@@ -1,7 +1,7 @@
 //! Whether a plain program is what a model means: both trees are read side by side, with no text between them.
 
 ghost use Rattle.std.specs.Prelude.{◌≡◌, replicate, IfOk, IsTrue};
-ghost use Rattle.proc_lang.specs.Programs.{program_of};
+ghost use Rattle.proc_tree.specs.Programs.{program_of};
 ghost use Rattle.notation.specs.ModelPrograms.{ProgramOf};
 
 mod arithmetic;
@@ -23,7 +23,7 @@ use crate::agreement::difference::Difference;
 use crate::agreement::programs::{ModelHere, ProgramProgress, declarations};
 use crate::environment::ConstantValue;
 use crate::model::ParsedModel;
-use proc_lang::Program;
+use proc_tree::Program;
 use std::alloc::{AllocError, Global};
 
 // So many constants, of which none has a value.

@@ -2,7 +2,7 @@
 
 ghost use Rattle.std.specs.Prelude.{◌≡◌, ℕ, length, IfOk, IfErr};
 ghost use Rattle.dbg_base.specs.Checks.{Reads};
-ghost use Rattle.proc_lang.specs.Programs.{program_of};
+ghost use Rattle.proc_tree.specs.Programs.{program_of};
 ghost use Rattle.notation.specs.Places.{IsInside};
 ghost use Rattle.notation.specs.Expansions.{model_of, plain_of, source_length};
 ghost use Rattle.notation.specs.ModelPrograms.{ProgramOf};
@@ -10,7 +10,8 @@ ghost use Rattle.notation.specs.ModelPrograms.{ProgramOf};
 use crate::agreement::agrees;
 use crate::expansion::{Expansion, expand};
 use crate::fault::{Fault, NotationError, Problem};
-use proc_lang::{ProgError, Program, parse_program};
+use proc_lang::{ProgError, parse_program};
+use proc_tree::Program;
 use std::alloc::Global;
 
 /// A model that was expanded, and its plain program.

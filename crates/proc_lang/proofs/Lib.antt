@@ -1,4 +1,3 @@
-pub mod ProcessSearchLemmas
 pub mod FirstTokenLemmas
 pub mod PassingPrefixLemmas
 pub mod Numbers

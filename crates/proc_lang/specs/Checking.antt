@@ -1,7 +1,7 @@
 -- The results of the checks, in terms of the model.
 use Rattle.std.specs.Prelude.{◌≡◌, ℕ, ℤ, List, [], map, Result, Ok, Err, Some, slice_get}
 use Rattle.dbg_base.specs.declared.fault.ProgFault.{ProgFault}
-use Rattle.proc_lang.specs.declared.process.Variable.{Variable}
+use Rattle.proc_tree.specs.declared.process.Variable.{Variable}
 use Rattle.proc_lang.specs.declared.fault.ProgError.{ProgError}
 use Rattle.proc_lang.specs.declared.fault.ProgError.TheVariants.{Bad, Memory}
 use Rattle.proc_lang.specs.declared.syntax.WrittenVariable.{WrittenVariable}

@@ -1,5 +1,3 @@
-pub mod ProcessTrees
-pub mod Programs
 pub mod Scanning
 pub mod Writing
 pub mod Parsing

@@ -12,9 +12,9 @@ ghost use Rattle.dbg_base.specs.Checks.{fault_where, unknown, expression_faults,
 ghost use Rattle.dbg_base.specs.Checks.{command_faults, commands_faults, name_faults, variables_faults, process_faults, processes_faults};
 ghost use Rattle.dbg_base.specs.Checks.{check_faults, index_of, phrase_tree, program_tree};
 ghost use Rattle.dbg_base.specs.Checks as model;
-ghost use Rattle.proc_lang.specs.ProcessTrees as program;
-ghost use Rattle.proc_lang.specs.ProcessTrees.{assignment_trees, process_trees};
-ghost use Rattle.proc_lang.specs.Programs.{program_of};
+ghost use Rattle.proc_tree.specs.ProcessTrees as program;
+ghost use Rattle.proc_tree.specs.ProcessTrees.{assignment_trees, process_trees};
+ghost use Rattle.proc_tree.specs.Programs.{program_of};
 ghost use Rattle.proc_lang.specs.Writing.{named_of, phrase_of, variable_of, action_of, assignment_of, command_of, process_of, processes_of};
 ghost use Rattle.proc_lang.specs.Scopes.{scope_of};
 ghost use Rattle.proc_lang.specs.Checking.{Checks, starts, written_starts};
@@ -22,14 +22,13 @@ ghost use Rattle.proc_lang.specs.Checking.{Checks, starts, written_starts};
 use crate::expressions::{expression, target, variable};
 use crate::fault::{ProgError, bad};
 use crate::names::ProcessNames;
-use crate::process::{Action, Assignment, Guarded, Process, Variable};
-use crate::program::Program;
 use crate::scope::Scope;
 use crate::syntax::{
     Named, WrittenAction, WrittenAssignment, WrittenCommand, WrittenProcess, WrittenVariable,
 };
 use dbg_base::limits::{COMMANDS, PROCESSES, VARIABLES};
 use dbg_base::{FaultKind, Name, Sequence, Sort};
+use proc_tree::{Action, Assignment, Guarded, Process, Program, Variable};
 use std::alloc::{AllocError, Global};
 
 fn action(alloc: Global, scope: &Scope, written: &WrittenAction) -> Result<Action, ProgError>

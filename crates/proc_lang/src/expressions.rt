@@ -10,9 +10,9 @@ ghost use Rattle.proc_lang.specs.Checking.{Checks};
 use crate::fault::{ProgError, bad};
 use crate::names::{ProcessNames, place};
 use crate::scope::Scope;
-use crate::sorts::{operand_sort, outcome_sort};
 use crate::syntax::{Named, Phrase};
 use dbg_base::{Direction, Expr, FaultKind, Name, Pid, Sort};
+use proc_tree::{operand_sort, outcome_sort};
 use std::alloc::Global;
 
 // The position of a name that must be among these.

@@ -6,7 +6,7 @@ ghost use Rattle.dbg_base.specs.Trees.{tree_of};
 ghost use Rattle.dbg_base.specs.declared.fault.ProgFault.{ProgFault};
 ghost use Rattle.dbg_base.specs.Grammar.{DerivesProgram, DerivesExpression};
 ghost use Rattle.dbg_base.specs.Checks.{Reads, IsFault, ReadsPredicate, IsPredicateFault};
-ghost use Rattle.proc_lang.specs.Programs.{program_of};
+ghost use Rattle.proc_tree.specs.Programs.{program_of};
 ghost use Rattle.proc_lang.specs.Scanning.{placed_of};
 ghost use Rattle.proc_lang.specs.Writing.{phrase_of, processes_of};
 ghost use Rattle.proc_lang.specs.Reading.{offset_of, IsStop};
@@ -17,10 +17,10 @@ use crate::fault::ProgError;
 use crate::lexer::tokens;
 use crate::parser::{self, Stop};
 use crate::predicate::predicate;
-use crate::program::Program;
 use crate::syntax::{Phrase, WrittenProcess};
 use crate::token::Placed;
 use dbg_base::{Expr, FaultKind, Pid, ProgFault};
+use proc_tree::Program;
 use std::alloc::Global;
 
 // The offset of the token from which on so many are left, or the end of the text if none is left.

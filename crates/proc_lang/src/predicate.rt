@@ -4,18 +4,17 @@ ghost use Rattle.std.specs.Prelude.{◌≡◌, ◌<◌, length, map, IfOk};
 ghost use Rattle.dbg_base.specs.declared.expr.Sort.TheVariants as sort;
 ghost use Rattle.dbg_base.specs.Trees.{tree_of};
 ghost use Rattle.dbg_base.specs.Checks.{scope_of, expression_faults, phrase_tree};
-ghost use Rattle.proc_lang.specs.Programs.{program_of};
+ghost use Rattle.proc_tree.specs.Programs.{program_of};
 ghost use Rattle.proc_lang.specs.Writing.{phrase_of};
 ghost use Rattle.proc_lang.specs.Checking.{Checks};
 
 use crate::expressions::expression;
 use crate::fault::ProgError;
 use crate::names::ProcessNames;
-use crate::process::{Process, Variable};
-use crate::program::Program;
 use crate::scope::Scope;
 use crate::syntax::Phrase;
 use dbg_base::{Expr, Name, Pid, Sort};
+use proc_tree::{Process, Program, Variable};
 use std::alloc::{AllocError, Global};
 
 fn process_names(alloc: Global, processes: &[Process]) -> Result<Vec<Name>, AllocError>

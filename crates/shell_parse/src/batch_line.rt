@@ -4,7 +4,7 @@ ghost use Rattle.std.specs.Prelude.{◌≡◌, ◌⊎◌, ◌<◌, ◌+◌, ℕ,
 ghost use Rattle.std.specs.List.{list_all};
 ghost use Rattle.dbg_base.specs.declared.refusal.Refusal.TheVariants.{Memory};
 ghost use Rattle.dbg_base.specs.CommandLines.{map_ok, is_separator, parentheses_after, spot_after, sets_break, commands_of, next_word, after_word};
-ghost use Rattle.proc_lang.specs.Programs.{program_of};
+ghost use Rattle.proc_tree.specs.Programs.{program_of};
 ghost use Rattle.shell_parse.specs.Lines.{depth_of, spot_of, has_shape, are_commands, IsMember, AreRead, IsBatchParsed, IsCommandParsed, IsGivable};
 
 use crate::break_line::{is_apart, parse_break};
@@ -12,7 +12,7 @@ use crate::command::{has_shape, parse_one, parse_words};
 use crate::words::{is_blank, next_word};
 use dbg_base::limits::BATCH;
 use dbg_base::{Call, Plan, Refusal};
-use proc_lang::Program;
+use proc_tree::Program;
 use std::alloc::Global;
 
 // Where a byte of a command is: between words, within a word, or within so many open parentheses.

@@ -6,12 +6,13 @@ ghost use Rattle.dbg_base.specs.Calls.{conjunct_of};
 ghost use Rattle.dbg_base.specs.CommandLines.{Part, closed_prefix, predicate_prefix, is_apart, with_part, parts_in, map_ok, named_process};
 ghost use Rattle.dbg_base.specs.CommandLines.{name_word, next_word, after_word};
 ghost use Rattle.dbg_base.specs.Requests.{ReadsParts};
-ghost use Rattle.proc_lang.specs.Programs.{program_of};
+ghost use Rattle.proc_tree.specs.Programs.{program_of};
 ghost use Rattle.shell_parse.specs.Lines.{has_parts, has_part, ReadsNamed, IsBreakParsed};
 
 use crate::words::{after_blanks, is_blank, name_word, named_process, next_word, word_length};
 use dbg_base::{Call, Conjunct, Name, Pid, Plan, Refusal, Sequence};
-use proc_lang::{ProgError, Program, parse_predicate};
+use proc_lang::{ProgError, parse_predicate};
+use proc_tree::Program;
 use std::alloc::Global;
 
 // The number of bytes up to the parenthesis that closes all open ones, or of all bytes if none closes them.

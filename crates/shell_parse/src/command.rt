@@ -12,7 +12,7 @@ ghost use Rattle.dbg_base.specs.CommandLines.{call_of_words, with_word, name_wor
 ghost use Rattle.dbg_base.specs.Trees as model;
 ghost use Rattle.dbg_base.specs.declared.refusal.Refusal.{Refusal};
 ghost use Rattle.dbg_base.specs.declared.refusal.Refusal.TheVariants.{BadLine};
-ghost use Rattle.proc_lang.specs.Programs.{program_of};
+ghost use Rattle.proc_tree.specs.Programs.{program_of};
 ghost use Rattle.shell_parse.specs.Lines.{IsOneParsed, has_shape};
 ghost use Rattle.shell_parse.specs.Words.{process_spelling, plan_word_call, query_word_call, process_word_call, call_by_process, break_word_call};
 
@@ -21,7 +21,7 @@ use crate::words::{
     first_word, name_bytes, name_word, named_process, next_word, number_word, process_word,
 };
 use dbg_base::{Call, Choice, Name, Pid, Plan, Query, Refusal};
-use proc_lang::Program;
+use proc_tree::Program;
 use std::alloc::Global;
 
 /// The word of a command that names a process.

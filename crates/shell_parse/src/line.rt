@@ -3,7 +3,7 @@
 ghost use Rattle.std.specs.Prelude.{◌≡◌, ◌<◌, ◌≤◌, ◌++◌, codes, Ok, Some, IfErr, IfOk, IfSome};
 ghost use Rattle.dbg_base.specs.declared.limits.TheConstants.{SEATS};
 ghost use Rattle.dbg_base.specs.CommandLines.{without_return};
-ghost use Rattle.proc_lang.specs.Programs.{program_of};
+ghost use Rattle.proc_tree.specs.Programs.{program_of};
 ghost use Rattle.shell_parse.specs.Lines.{seat_line, requested, process_request, IsParsed, IsGivable, IsLineRefusal, IsLineGivable};
 ghost use Rattle.shell_parse.specs.Words.{process_word_call};
 ghost use Rattle.dbg_base.specs.Requests.{Asks, AsksCall};
@@ -13,7 +13,7 @@ use crate::command::{ProcessWord, only_process};
 use crate::words::{next_word, seat_word};
 use dbg_base::limits::LINE_BYTES;
 use dbg_base::{Call, Pid, Refusal};
-use proc_lang::Program;
+use proc_tree::Program;
 use std::alloc::Global;
 
 /// What a command line asks for: a seat's call.

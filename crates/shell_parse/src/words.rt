@@ -7,12 +7,12 @@ ghost use Rattle.dbg_base.specs.declared.limits.TheConstants.{SEATS};
 ghost use Rattle.dbg_base.specs.Tokens.{is_letter, is_word_byte};
 ghost use Rattle.dbg_base.specs.CommandLines.{is_blank, words_of, without_blanks, next_word, after_word, number_word, seat_word, name_word};
 ghost use Rattle.dbg_base.specs.CommandLines.{map_ok, named_process};
-ghost use Rattle.proc_lang.specs.Programs.{program_of};
+ghost use Rattle.proc_tree.specs.Programs.{program_of};
 ghost use Rattle.shell_parse.specs.Words.{process_word};
 
 use dbg_base::limits::{NAME_BYTES, SEATS};
 use dbg_base::{Name, Pid, Refusal};
-use proc_lang::Program;
+use proc_tree::Program;
 
 pub(crate) fn is_blank(b: u8) -> bool
     ensures { result ≡ is_blank b }

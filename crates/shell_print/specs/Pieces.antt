@@ -3,7 +3,7 @@ use Rattle.std.specs.Prelude.{ℕ, List, [], ◌∷◌, map, codes}
 use Rattle.std.specs.Fmt.{decimal, signed_decimal}
 use Rattle.dbg_base.specs.Trees.{process_of, names_of}
 use Rattle.dbg_base.specs.Replies.{pair_words, mark_word, head_text, halted_words, name_of}
-use Rattle.proc_lang.specs.Programs.{program_of}
+use Rattle.proc_tree.specs.Programs.{program_of}
 use Rattle.shell_print.specs.declared.pieces.Term.{Term}
 use Rattle.shell_print.specs.declared.pieces.Term.TheVariants as term
 use Rattle.shell_print.specs.declared.pieces.Item.{Item}

@@ -5,7 +5,7 @@ ghost use Rattle.shell_io.specs.Seen.{Seen};
 ghost use Rattle.dbg_base.specs.Shell.{as_line, too_long_text, no_end_line_text, fault_text, size_text};
 ghost use Rattle.shell_print.specs.Writing.{Writes, in_a_row};
 ghost use Rattle.shell_print.specs.Pieces.{piece_words};
-ghost use Rattle.proc_lang.specs.Programs.{program_of};
+ghost use Rattle.proc_tree.specs.Programs.{program_of};
 ghost use Rattle.shell_print.specs.Closings.{command_count, program_size_text, too_many_turns_text, settled_text, differs_text};
 ghost use Rattle.dbg_base.specs.Replies.{joined};
 ghost use Rattle.shell_print.specs.declared.outcome.Served.TheVariants.{Done, Refused, TooLong};
@@ -13,8 +13,8 @@ ghost use Rattle.shell_print.specs.declared.outcome.Served.TheVariants.{Done, Re
 use crate::outcome::{ServeFault, Served};
 use crate::parts::write_line;
 use crate::pieces::{Item, Piece, Term};
-use dbg_base::Pid;
-use proc_lang::{ProgFault, Program};
+use dbg_base::{Pid, ProgFault};
+use proc_tree::Program;
 use shell_io::{Sink, Style};
 
 // Flushes the writer.

@@ -5,7 +5,7 @@ ghost use Rattle.std.specs.Fmt.{decimal, signed_decimal};
 ghost use Rattle.dbg_base.specs.Trees.{process_of, names_of};
 ghost use Rattle.dbg_base.specs.Replies.{joined, spaced, pair_words, mark_word, halted_words};
 ghost use Rattle.dbg_base.specs.Shell.{as_line};
-ghost use Rattle.proc_lang.specs.Programs.{program_of};
+ghost use Rattle.proc_tree.specs.Programs.{program_of};
 ghost use Rattle.shell_print.specs.Writing.{Writes, Puts, in_a_row};
 ghost use Rattle.shell_print.specs.declared.parts.TheConstants.{PAIR, LINE};
 ghost use Rattle.shell_print.specs.Pieces.{item_text, word_texts, names_in, amount_texts, piece_words};
@@ -14,7 +14,7 @@ use crate::outcome::ServeFault;
 use crate::pieces::{Amounts, Item, Names, Piece, Term, Words};
 use crate::words::{append_count, append_head, append_item, append_name, append_number};
 use dbg_base::{Name, Pid};
-use proc_lang::Program;
+use proc_tree::Program;
 use shell_io::{FixedBuffer, Sink};
 
 // Room for a space, a name, a sign and a number.

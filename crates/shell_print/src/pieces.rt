@@ -4,7 +4,7 @@ ghost use Rattle.std.specs.Prelude.{◌≡◌, ◌≤◌, length};
 ghost use Rattle.shell_print.specs.Pieces.{term_text};
 
 use dbg_base::{Head, Name, Pid};
-use proc_lang::Program;
+use proc_tree::Program;
 
 /// A fixed word of a line.
 #[derive(Clone, Copy)]

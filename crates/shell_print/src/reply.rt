@@ -10,7 +10,7 @@ ghost use Rattle.dbg_base.specs.Calls.{call_of, query_of};
 ghost use Rattle.dbg_base.specs.Fits.{FitsRefusal, FitsAnswer, FitsCall};
 ghost use Rattle.dbg_base.specs.Replies.{joined, spaced, pair_words, name_of, halted_words, carried_words, answer_words, refusal_text, reply_text};
 ghost use Rattle.dbg_base.specs.Shell.{as_line};
-ghost use Rattle.proc_lang.specs.Programs.{program_of};
+ghost use Rattle.proc_tree.specs.Programs.{program_of};
 ghost use Rattle.shell_print.specs.Writing.{Writes};
 ghost use Rattle.shell_print.specs.Questions.{question_of, FitsSaid};
 ghost use Rattle.shell_print.specs.declared.reply.TheConstants.{EVENT};
@@ -21,7 +21,7 @@ use crate::parts::{write_line, write_whole};
 use crate::pieces::{Amounts, Item, Names, Piece, Term, Words};
 use crate::words::{append_count, append_process};
 use dbg_base::{Answer, Call, Choice, Cut, Done, Name, Pid, Query, Refusal, Reply, Said};
-use proc_lang::Program;
+use proc_tree::Program;
 use shell_io::{FixedBuffer, Sink, Style};
 
 // Room for the line of an event: `ok`, a process, a count, `halted` with a breakpoint, and the line end.

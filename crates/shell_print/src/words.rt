@@ -3,13 +3,13 @@
 ghost use Rattle.std.specs.Prelude.{◌≡◌, ◌<◌, ◌≤◌, ◌+◌, ◌++◌, [], ◌∷◌, length, codes};
 ghost use Rattle.std.specs.Fmt.{decimal, signed_decimal};
 ghost use Rattle.dbg_base.specs.Replies.{head_text, name_of};
-ghost use Rattle.proc_lang.specs.Programs.{program_of};
+ghost use Rattle.proc_tree.specs.Programs.{program_of};
 ghost use Rattle.shell_print.specs.Pieces.{item_text};
 
 use crate::pieces::Item;
 use dbg_base::{Head, Name, Pid};
 use itoa::Buffer;
-use proc_lang::Program;
+use proc_tree::Program;
 use shell_io::FixedBuffer;
 
 /// Appends the name of a process.

@@ -2,7 +2,7 @@
 
 ghost use Rattle.std.specs.Prelude.{◌≡◌};
 ghost use Rattle.std.specs.Option.{option_map};
-ghost use Rattle.proc_lang.specs.Programs.{program_of};
+ghost use Rattle.proc_tree.specs.Programs.{program_of};
 ghost use Rattle.shell_serve.specs.Replying.{FitsReply};
 ghost use Rattle.shell_serve.specs.Sessions.{IsSeated, Manner, WritesForm};
 

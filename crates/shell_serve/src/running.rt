@@ -6,7 +6,7 @@ ghost use Rattle.dbg_base.specs.declared.refusal.Refusal.TheVariants as refusals
 ghost use Rattle.dbg_base.specs.Calls.{order_of};
 ghost use Rattle.dbg_base.specs.declared.limits.TheConstants.{SEATS};
 ghost use Rattle.dbg_desk.specs.Openings.{IsOpeningOf};
-ghost use Rattle.proc_lang.specs.Programs.{program_of};
+ghost use Rattle.proc_tree.specs.Programs.{program_of};
 ghost use Rattle.shell_print.specs.Outcomes.{source_after, sink_after};
 ghost use Rattle.shell_serve.specs.Sessions.{MayBeQuiet, Plays};
 ghost use Rattle.shell_serve.specs.Answering.{IsMaker, AreAllSeats};
@@ -22,7 +22,7 @@ use dbg_command::{
     RollbackCmd, StepCmd, UndoCmd,
 };
 use dbg_desk::{Locked, Opening, Run, Seat};
-use proc_lang::Program;
+use proc_tree::Program;
 use shell_io::{Sink, Source};
 use shell_print::{ServeFault, Served, tell_too_long};
 use std::alloc::Global;

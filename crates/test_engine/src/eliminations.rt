@@ -1,6 +1,6 @@
 //! Tests of `check_why` of `least_cut`: a list of eliminations is sound exactly if each step is justified.
 
-ghost use Rattle.proc_lang.specs.Programs.{program_of};
+ghost use Rattle.proc_tree.specs.Programs.{program_of};
 ghost use Rattle.causal_world.specs.Scenes.{IsWorldOf};
 
 use crate::expecting::expect_same;
@@ -8,7 +8,7 @@ use crate::worlds::{conjunct, parsed, played};
 use causal_world::World;
 use dbg_base::{Choice, Pid};
 use least_cut::{Cause, Elimination, check_why};
-use proc_lang::Program;
+use proc_tree::Program;
 use std::alloc::Global;
 use std::process::Abort;
 use test_programs::TWO;

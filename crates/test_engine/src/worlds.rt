@@ -1,12 +1,13 @@
 //! Worlds after some events, and conjuncts over them.
 
 ghost use Rattle.std.specs.Prelude.{◌<◌, length, OnOk};
-ghost use Rattle.proc_lang.specs.Programs.{program_of};
+ghost use Rattle.proc_tree.specs.Programs.{program_of};
 ghost use Rattle.causal_world.specs.Scenes.{IsWorldOf};
 
 use causal_world::World;
 use dbg_base::{Choice, Conjunct, Pid, Refusal};
-use proc_lang::{Program, parse_predicate, parse_program};
+use proc_lang::{parse_predicate, parse_program};
+use proc_tree::Program;
 use std::alloc::Global;
 use std::process::Abort;
 use test_programs::MEMORY;

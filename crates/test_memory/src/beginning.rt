@@ -5,7 +5,8 @@ ghost use Rattle.std.specs.Prelude.{◌≡◌};
 use dbg_base::Refusal;
 use dbg_board::{Board, SeatView};
 use dbg_desk::Opening;
-use proc_lang::{ProgError, Program, parse_program};
+use proc_lang::{ProgError, parse_program};
+use proc_tree::Program;
 use std::alloc::Global;
 use std::sync::ledger::Blank;
 

@@ -9,7 +9,7 @@ use crate::report::tell;
 use dbg_base::{Answer, Call, OpenGate, Refusal, Reply};
 use dbg_command::{Command, Givable};
 use dbg_desk::{Desk, Locked, Run, Seat};
-use proc_lang::Program;
+use proc_tree::Program;
 use shell_parse::parse_line;
 use std::alloc::Global;
 use std::io::Write;

@@ -1,7 +1,7 @@
 //! Everything that is made from a text: a program, a predicate, a command line, a world, a scan, a board and a session.
 
 ghost use Rattle.std.specs.Prelude.{◌<◌, length};
-ghost use Rattle.proc_lang.specs.Programs.{program_of};
+ghost use Rattle.proc_tree.specs.Programs.{program_of};
 
 use crate::beginning::program_of_text;
 use crate::report::tell;
@@ -11,7 +11,8 @@ use dbg_board::Board;
 use dbg_command::NextCmd;
 use dbg_session::Session;
 use least_cut::Scan;
-use proc_lang::{ProgError, Program, parse_predicate, parse_program};
+use proc_lang::{ProgError, parse_predicate, parse_program};
+use proc_tree::Program;
 use shell_parse::parse_line;
 use std::alloc::Global;
 use std::sync::Wait;

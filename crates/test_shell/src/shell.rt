@@ -23,7 +23,8 @@ mod views;
 
 use crate::expecting::{expect_same, expect_true};
 use dbg_shell::{Noted, check, serve, status};
-use proc_lang::{Program, parse_program};
+use proc_lang::parse_program;
+use proc_tree::Program;
 use std::alloc::Global;
 use std::io::{Read, Write};
 use std::process::Abort;

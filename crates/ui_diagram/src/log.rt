@@ -4,14 +4,14 @@ ghost use Rattle.std.specs.Prelude.{◌≡◌, ◌++◌, map, IfOk, IfErr, OnOk}
 ghost use Rattle.dbg_base.specs.declared.refusal.Refusal.TheVariants.{Memory};
 ghost use Rattle.dbg_base.specs.Replies.{name_of};
 ghost use Rattle.dbg_base.specs.SystemStates.{history_of};
-ghost use Rattle.proc_lang.specs.Programs.{program_of};
+ghost use Rattle.proc_tree.specs.Programs.{program_of};
 ghost use Rattle.causal_world.specs.Scenes.{IsWorldOf};
 ghost use Rattle.ui_diagram.specs.Logs.{after_commas, listed, counted, count_text, clock_text, entry_text, IsOneLine, IsLog};
 
 use dbg_base::{Cut, Pid, Refusal};
 use dbg_command::SessionView;
 use itoa::Buffer;
-use proc_lang::Program;
+use proc_tree::Program;
 use std::alloc::{AllocError, Global};
 use ui_text::{Notes, Part, ProgramText};
 use ui_timeline::{ShownEvent, TimedEvent, event_of, timed_events};

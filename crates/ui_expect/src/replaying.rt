@@ -6,7 +6,7 @@ use crate::outcome::Outcome;
 use crate::reports::{begin_report, put_explanation};
 use dbg_base::Call;
 use dbg_command::SessionView;
-use proc_lang::Program;
+use proc_tree::Program;
 use shell_io::{Noted, Sink, Source};
 use shell_print::{ServeFault, Served, tell_too_long, write_whole};
 use shell_serve::{Input, read_program_text, text_alone};

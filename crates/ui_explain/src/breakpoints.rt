@@ -3,7 +3,7 @@
 use crate::explained::ExplainedSession;
 use dbg_base::{Cut, Expr, Head, Name, Pid, Refusal};
 use least_cut::Detector;
-use proc_lang::Program;
+use proc_tree::Program;
 use shell_io::Style;
 use std::alloc::{AllocError, Global};
 use ui_text::{Notes, Part};

@@ -3,7 +3,7 @@
 use crate::explained::ExplainedSession;
 use dbg_base::limits::{LINE_BYTES, SEATS};
 use dbg_base::{Name, Pid, Refusal};
-use proc_lang::Program;
+use proc_tree::Program;
 use std::alloc::{AllocError, Global};
 use ui_text::{Notes, Part, is_directive_word, meaning, tell_near_word, tell_word};
 

@@ -4,7 +4,8 @@ use crate::explained::ExplainedSession;
 use crate::lines::{next_expression, next_word, process_named};
 use dbg_base::limits::{NAME_BYTES, PROCESSES};
 use dbg_base::{FaultKind, Pid, Refusal};
-use proc_lang::{ProgError, ProgFault, Program, parse_predicate};
+use proc_lang::{ProgError, ProgFault, parse_predicate};
+use proc_tree::Program;
 use std::alloc::{AllocError, Global};
 use ui_text::{Notes, Part, foreign_correction, is_word_byte, say_mark, tell_mark};
 

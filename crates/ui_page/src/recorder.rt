@@ -15,7 +15,7 @@ use causal_world::World;
 use dbg_base::{Call, Choice, Done, Pid, Plan, Refusal, Reply, Said};
 use dbg_command::SessionView;
 use lines::RecordedLines;
-use proc_lang::Program;
+use proc_tree::Program;
 use serde_json::{Map, Value};
 use std::alloc::{AllocError, Global};
 use ui_text::ProgramText;

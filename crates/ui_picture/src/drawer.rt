@@ -3,7 +3,7 @@
 use crate::artist::Artist;
 use dbg_base::Call;
 use dbg_command::SessionView;
-use proc_lang::Program;
+use proc_tree::Program;
 use shell_io::GivenLine;
 use std::alloc::{AllocError, Global};
 use ui_diagram::{Picture, PictureForm};

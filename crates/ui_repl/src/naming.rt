@@ -3,7 +3,7 @@
 use crate::expanding::{write_fault, write_notes};
 use crate::written_program::{ReadText, WrittenProgram, read_text};
 use dbg_base::{Choice, Pid};
-use proc_lang::Program;
+use proc_tree::Program;
 use shell_io::{Sink, Source};
 use shell_print::{ServeFault, Served, tell_too_long};
 use shell_serve::{Input, read_program_text, text_alone};

@@ -11,7 +11,7 @@ use crate::fault_places::{refuse, refuse_unended};
 use crate::read_line::LineFault;
 use crate::session_lines::SessionLines;
 use crate::written_program::{ReadText, WrittenProgram, read_text};
-use proc_lang::Program;
+use proc_tree::Program;
 use shell_io::{Noted, Sink, Source};
 use shell_print::{ServeFault, Served, tell_too_long};
 use shell_serve::{Input, TextEnd, play, read_program_text};

@@ -11,7 +11,7 @@ use crate::opening::{OpenSession, Opening, open};
 use crate::sentences::Sentences;
 use crate::session_lines::SessionLines;
 use crate::written_program::{ReadText, WrittenProgram, read_text};
-use proc_lang::Program;
+use proc_tree::Program;
 use shell_io::{Sink, Source};
 use shell_print::{ServeFault, Served, tell_size, tell_too_long};
 use shell_serve::{Input, play, read_program_text, text_alone};

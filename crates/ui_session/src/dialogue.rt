@@ -1,6 +1,6 @@
 //! An interactive session, as an observer.
 
-ghost use Rattle.proc_lang.specs.Programs.{program_of};
+ghost use Rattle.proc_tree.specs.Programs.{program_of};
 ghost use Rattle.shell_serve.specs.Replying.{FitsReply};
 ghost use Rattle.ui_session.specs.Dialogues.{interactive};
 
@@ -9,7 +9,7 @@ use crate::room::Room;
 use crate::written::{explain, gap_before, write_echo};
 use dbg_base::{Call, Said};
 use dbg_command::SessionView;
-use proc_lang::Program;
+use proc_tree::Program;
 use shell_io::{GivenLine, Noted, Sink};
 use shell_print::{ServeFault, print_refusal, print_reply};
 use shell_serve::{LineReply, LineSort, Observer};

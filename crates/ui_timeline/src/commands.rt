@@ -1,6 +1,6 @@
 //! Commands as text.
 
-use proc_lang::{Action, Guarded};
+use proc_tree::{Action, Guarded};
 use std::alloc::AllocError;
 use ui_text::{Notes, Part};
 use ui_view::ProcessView;

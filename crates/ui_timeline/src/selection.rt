@@ -2,7 +2,7 @@
 
 use crate::listing::ShownEvent;
 use dbg_base::Pid;
-use proc_lang::Program;
+use proc_tree::Program;
 use std::alloc::{AllocError, Global};
 use ui_text::{Notes, Part, ProgramText};
 use ui_view::SourceView;

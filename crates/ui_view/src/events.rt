@@ -5,7 +5,7 @@ use crate::view::SourceView;
 use causal_world::World;
 use dbg_base::{Direction, Pid};
 use event_rows::{Event, Exchange, Setting};
-use proc_lang::Program;
+use proc_tree::Program;
 use shell_io::Style;
 use std::alloc::AllocError;
 use ui_text::{Notes, Part};

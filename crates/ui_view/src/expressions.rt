@@ -2,7 +2,7 @@
 
 use dbg_base::{Direction, Expr, Operator, Pid};
 use local_eval::Env;
-use proc_lang::{Action, Guarded, Program};
+use proc_tree::{Action, Guarded, Program};
 use std::alloc::AllocError;
 use ui_text::{Notes, Part, ProgramText};
 

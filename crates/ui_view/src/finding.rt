@@ -6,8 +6,8 @@ ghost use Rattle.dbg_base.specs.declared.refusal.Refusal.TheVariants.{Memory};
 ghost use Rattle.dbg_base.specs.Configurations.{state_in, channel_of};
 ghost use Rattle.dbg_base.specs.Firing.{effect_of, proceed, fire_command};
 ghost use Rattle.dbg_base.specs.Choices.{step_choice};
-ghost use Rattle.proc_lang.specs.Programs.{program_of};
-ghost use Rattle.proc_lang.specs.ProcessTrees.{action_tree, command_tree};
+ghost use Rattle.proc_tree.specs.Programs.{program_of};
+ghost use Rattle.proc_tree.specs.ProcessTrees.{action_tree, command_tree};
 ghost use Rattle.causal_world.specs.Scenes.{IsWorldOf};
 ghost use Rattle.ui_view.specs.Hindrances.{FindsFault, Prevents, IsVerdict};
 
@@ -16,7 +16,7 @@ use causal_world::World;
 use dbg_base::limits::EVENTS;
 use dbg_base::{Choice, Pid, Refusal};
 use local_eval::{Env, EvalError, effect, guard};
-use proc_lang::{Action, Guarded, Program};
+use proc_tree::{Action, Guarded, Program};
 use std::alloc::Global;
 
 // The first message on the way from one process to another.

@@ -7,7 +7,7 @@ use causal_world::World;
 use dbg_base::limits::OPEN_PARENTHESES;
 use dbg_base::{Choice, Expr, Operator, Refusal};
 use local_eval::{Env, eval, guard};
-use proc_lang::{Action, Guarded};
+use proc_tree::{Action, Guarded};
 use std::alloc::{AllocError, Global};
 use ui_text::{Notes, Part, meaning};
 

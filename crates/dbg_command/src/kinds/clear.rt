@@ -10,7 +10,7 @@ use crate::table::Table;
 use break_book::Breakpoint;
 use dbg_base::{Name, Plan, Refusal, Reply};
 use least_cut::Scan;
-use proc_lang::Program;
+use proc_tree::Program;
 use std::alloc::Global;
 
 /// Removes a breakpoint. It keeps the breakpoint, with its position.

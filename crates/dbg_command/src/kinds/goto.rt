@@ -10,7 +10,7 @@ use crate::table::Table;
 use crate::undoing::TakenBack;
 use dbg_base::{Name, Plan, Refusal, Reply};
 use least_cut::Scan;
-use proc_lang::Program;
+use proc_tree::Program;
 use std::alloc::Global;
 
 /// Takes all processes back to a breakpoint's cut. It keeps the undone events.

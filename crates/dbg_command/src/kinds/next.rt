@@ -10,7 +10,7 @@ use crate::table::Table;
 use causal_world::Cutoff;
 use dbg_base::{Pid, Plan, Refusal, Reply};
 use least_cut::Scan;
-use proc_lang::Program;
+use proc_tree::Program;
 use std::alloc::Global;
 
 /// Makes a process fire its first command that can fire. It keeps the choices that were cut off the line.

@@ -9,7 +9,7 @@ use crate::command::Command;
 use crate::table::Table;
 use dbg_base::{Name, Plan, Refusal, Reply};
 use least_cut::Scan;
-use proc_lang::Program;
+use proc_tree::Program;
 use std::alloc::Global;
 
 /// Disarms a breakpoint that halts the session. It keeps nothing: the breakpoint was armed before.

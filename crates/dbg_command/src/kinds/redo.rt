@@ -9,7 +9,7 @@ use crate::command::Command;
 use crate::table::Table;
 use dbg_base::{Pid, Plan, Refusal, Reply};
 use least_cut::Scan;
-use proc_lang::Program;
+use proc_tree::Program;
 use std::alloc::Global;
 
 /// Makes a process fire the choice at its place again. It keeps nothing: the line stays.

@@ -10,7 +10,7 @@ use crate::table::Table;
 use crate::undoing::TakenBack;
 use dbg_base::{Pid, Plan, Refusal, Reply};
 use least_cut::Scan;
-use proc_lang::Program;
+use proc_tree::Program;
 use std::alloc::Global;
 
 /// Takes a process back to a count of events, and the others no further than they must go. It keeps the undone events.

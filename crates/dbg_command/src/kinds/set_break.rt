@@ -8,7 +8,7 @@ use crate::command::Command;
 use crate::table::Table;
 use dbg_base::{Conjunct, Name, Plan, Refusal, Reply, Sequence};
 use least_cut::Scan;
-use proc_lang::Program;
+use proc_tree::Program;
 use std::alloc::Global;
 
 /// Sets a breakpoint, armed. It keeps only the name.

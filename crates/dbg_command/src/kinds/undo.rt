@@ -10,7 +10,7 @@ use crate::table::Table;
 use causal_world::Rolled;
 use dbg_base::{Pid, Plan, Refusal, Reply};
 use least_cut::Scan;
-use proc_lang::Program;
+use proc_tree::Program;
 use std::alloc::Global;
 
 /// Undoes the last event of a process. It keeps the event.

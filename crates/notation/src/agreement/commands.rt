@@ -1,7 +1,7 @@
 //! Whether commands of a model are plain commands.
 
 ghost use Rattle.std.specs.Prelude.{IfOk};
-ghost use Rattle.proc_lang.specs.ProcessTrees.{action_tree, assignment_trees, command_tree};
+ghost use Rattle.proc_tree.specs.ProcessTrees.{action_tree, assignment_trees, command_tree};
 ghost use Rattle.notation.specs.ModelPrograms.{AssignmentsOf, ActionOf, CommandOf};
 ghost use Rattle.notation.specs.AgreementViews.{scope_of, setting_of};
 
@@ -11,7 +11,7 @@ use crate::agreement::scopes::PlaceScope;
 use crate::agreement::setting::PlainSetting;
 use crate::agreement::written::{names_process, names_variable};
 use crate::syntax::{ActionNode, AssignmentNode, CommandNode};
-use proc_lang::{Action, Assignment, Guarded};
+use proc_tree::{Action, Assignment, Guarded};
 
 // Whether assignments are these plain assignments.
 fn assignments(

@@ -16,7 +16,7 @@ use crate::agreement::variables::{after, variables};
 use crate::environment::ConstantValue;
 use crate::syntax::{Binder, CommandNode, Constant, Definition, ItemNode, VariableNode};
 use dbg_base::{Choice, Pid};
-use proc_lang::Program;
+use proc_tree::Program;
 use std::alloc::Global;
 
 /// What is the same for all items of a process: the definitions of the model, the plain program, and the number of the process there.

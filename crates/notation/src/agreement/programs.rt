@@ -3,7 +3,7 @@
 ghost use Rattle.std.specs.Prelude.{◌≡◌, slice_get, Some, IfOk};
 ghost use Rattle.dbg_base.specs.Trees as tree;
 ghost use Rattle.dbg_base.specs.Trees.{names_of};
-ghost use Rattle.proc_lang.specs.Programs.{program_of};
+ghost use Rattle.proc_tree.specs.Programs.{program_of};
 ghost use Rattle.notation.specs.declared.syntax.DeclarationNode.TheVariants as declared;
 ghost use Rattle.notation.specs.ModelScopes.{Top};
 ghost use Rattle.notation.specs.ModelPrograms.{ProcessOf, ProcessesOf, DeclarationOf, DeclarationsOf};
@@ -20,7 +20,7 @@ use crate::agreement::variables::after;
 use crate::environment::ConstantValue;
 use crate::syntax::{Constant, DeclarationNode, Definition, ProcessNode};
 use dbg_base::Pid;
-use proc_lang::Program;
+use proc_tree::Program;
 use std::alloc::Global;
 
 /// What is the same for all declarations: the definitions of the model, and the plain program.

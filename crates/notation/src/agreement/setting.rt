@@ -7,7 +7,7 @@ use crate::agreement::difference::Difference;
 use crate::environment::ConstantValue;
 use crate::syntax::{Definition, Expression};
 use dbg_base::Pid;
-use proc_lang::Program;
+use proc_tree::Program;
 use std::alloc::Global;
 
 /// What is the same for all expressions at a place: the definitions of the model, and the values of its constants so far, by their numbers.

@@ -3,7 +3,7 @@
 ghost use Rattle.std.specs.Prelude.{◌≡◌, ℤ, suc, [], ◌∷◌, List, ℕ, take, slice_get, Some, IfOk};
 ghost use Rattle.dbg_base.specs.Evaluation.{Num};
 ghost use Rattle.dbg_base.specs.Trees.{process_of};
-ghost use Rattle.proc_lang.specs.Programs.{program_of};
+ghost use Rattle.proc_tree.specs.Programs.{program_of};
 ghost use Rattle.notation.specs.ModelValues.{HasValue};
 ghost use Rattle.notation.specs.ModelFamilies.{Place, place_in, PlacesOf, IsIndexed};
 ghost use Rattle.notation.specs.ModelPrograms.{VariablesOf};

@@ -3,10 +3,10 @@
 ghost use Rattle.std.specs.Prelude.{◌≡◌, ◌==◌, length, nat_lt, IsTrue};
 ghost use Rattle.dbg_base.specs.Calls.{call_of, query_of};
 ghost use Rattle.dbg_base.specs.Fits.{FitsRefusal, FitsDone, FitsAnswer, FitsCall};
-ghost use Rattle.proc_lang.specs.Programs.{program_of};
+ghost use Rattle.proc_tree.specs.Programs.{program_of};
 
 use dbg_base::{Answer, Call, Done, Pid, Query, Refusal, Said};
-use proc_lang::Program;
+use proc_tree::Program;
 
 fn is_there(program: &Program, pid: Pid) -> bool
     ensures { result ≡ nat_lt pid.0 (length (program_of program.now)) }

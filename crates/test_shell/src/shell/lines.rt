@@ -2,7 +2,7 @@ use super::{add, repeat, two};
 use crate::expecting::expect_same;
 use dbg_base::{Call, Plan, Query, Refusal};
 use dbg_shell::{Line, parse_line};
-use proc_lang::Program;
+use proc_tree::Program;
 use std::alloc::Global;
 use std::process::Abort;
 

@@ -5,7 +5,7 @@ use dbg_base::{
     Answer, Call, Choice, Cut, Done, Head, Name, Pid, Plan, Query, Refusal, Reply, Said, Sequence,
 };
 use dbg_shell::{Noted, print_reply};
-use proc_lang::Program;
+use proc_tree::Program;
 use std::alloc::Global;
 use std::process::Abort;
 use test_programs::MEMORY;

@@ -3,7 +3,7 @@
 use super::predicates::program;
 use crate::expecting::expect_same;
 use dbg_base::{Expr, Operator, Pid};
-use proc_lang::fits;
+use proc_tree::fits;
 use std::alloc::Global;
 use std::process::Abort;
 use test_programs::MEMORY;

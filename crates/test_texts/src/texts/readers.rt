@@ -2,7 +2,8 @@
 
 use crate::expecting::{expect_same, expect_true};
 use dbg_base::{Choice, Expr, Name, Operator, Pid};
-use proc_lang::{Action, Program, parse_program};
+use proc_lang::parse_program;
+use proc_tree::{Action, Program};
 use std::process::Abort;
 
 const COUNTER: &[u8] = b"process a {

@@ -5,7 +5,7 @@ use crate::recorder::trail::Trail;
 use break_book::{Book, Breakpoint};
 use causal_world::World;
 use dbg_base::{Cause, Elimination, Expr, Name, Pid, Refusal};
-use proc_lang::Program;
+use proc_tree::Program;
 use std::alloc::{AllocError, Global};
 use ui_text::Notes;
 use ui_view::{BreakpointChange, ProcessView, SourceView};

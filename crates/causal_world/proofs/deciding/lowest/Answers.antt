@@ -1,6 +1,6 @@
 use Rattle.std.proofs.Common.{arith}
 use Rattle.dbg_base.specs.Configurations.{Configuration}
-use Rattle.proc_lang.specs.Programs.{program_of}
+use Rattle.proc_tree.specs.Programs.{program_of}
 use Rattle.causal_world.specs.Scenes.{with_done}
 use Rattle.causal_world.proofs.CommandEventLemmas.{first_is, passes_next}
 use Rattle.causal_world.proofs.deciding.lowest.Goals as goal

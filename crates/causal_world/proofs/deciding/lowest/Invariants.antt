@@ -1,4 +1,4 @@
-use Rattle.proc_lang.specs.Programs.{program_of}
+use Rattle.proc_tree.specs.Programs.{program_of}
 use Rattle.causal_world.proofs.CommandEventLemmas.{NoneBefore}
 use Rattle.causal_world.proofs.deciding.lowest.Given as goal
 

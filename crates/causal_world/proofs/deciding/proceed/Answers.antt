@@ -1,6 +1,6 @@
 use Rattle.std.proofs.Common.{◌≡◌, get_or, subst, sym}
 use Rattle.std.proofs.lemmas.List.{get_or_read}
-use Rattle.proc_lang.specs.ProcessTrees.{command_tree}
+use Rattle.proc_tree.specs.ProcessTrees.{command_tree}
 use Rattle.dbg_base.specs.LocalStates.{no_state}
 use Rattle.dbg_base.specs.Configurations.{Configuration}
 use Rattle.causal_world.specs.Deciding.{CanCount}

@@ -1,5 +1,5 @@
 use Rattle.std.proofs.Common.{sym, ◌∙◌, arith}
-use Rattle.proc_lang.specs.Programs.{program_of}
+use Rattle.proc_tree.specs.Programs.{program_of}
 use Rattle.dbg_command.proofs.ConjunctFitLemmas.{none_fitting, refused_unknown, refused_unfit, refused_twice, more_fitting, all_fitting}
 use Rattle.dbg_command.proofs.conjuncts.fitting.Goals as goal
 

@@ -1,4 +1,4 @@
-use Rattle.proc_lang.specs.Programs.{program_of}
+use Rattle.proc_tree.specs.Programs.{program_of}
 use Rattle.dbg_command.proofs.ConjunctFitLemmas.{AreFitting}
 use Rattle.dbg_command.proofs.conjuncts.fitting.Given as goal
 

@@ -2,10 +2,10 @@ use Rattle.std.proofs.Common.{Err, subst}
 use Rattle.dbg_base.specs.Checks.{IsFault}
 use Rattle.dbg_base.specs.Shell.{fault_text}
 use Rattle.proc_lang.specs.declared.fault.ProgError.{ProgError}
-use Rattle.proc_lang.specs.declared.program.Program.{Program}
+use Rattle.proc_tree.specs.declared.program.Program.{Program}
 use Rattle.proc_lang.specs.Answering.{IfBad}
 use Rattle.shell_print.specs.declared.outcome.Served.TheVariants as outcomes
-use Rattle.proc_lang.specs.Programs.{program_of}
+use Rattle.proc_tree.specs.Programs.{program_of}
 use Rattle.shell_print.specs.Closings.{program_size_text}
 use Rattle.dbg_shell.specs.Checking.{ChecksText}
 use Rattle.shell_serve.proofs.KnownInputLemmas.{line_done, line_cut}

@@ -1,6 +1,6 @@
 use Rattle.std.proofs.Common.{◌*◌, ◌<◌, ◌≤◌, length, inl, inr, refl, rules}
 use Rattle.dbg_base.specs.declared.limits.TheConstants.{CALLS}
-use Rattle.proc_lang.specs.Programs.{program_of}
+use Rattle.proc_tree.specs.Programs.{program_of}
 use Rattle.shell_print.specs.Closings.{too_many_turns_text}
 use Rattle.dbg_shell.specs.declared.crewed.Crewed.TheVariants as crewed
 use Rattle.dbg_shell.specs.Crewing.{CrewsProgram, closing_text, closing_end}

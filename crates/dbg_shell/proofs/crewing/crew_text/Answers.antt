@@ -4,8 +4,8 @@ use Rattle.dbg_base.specs.declared.fault.ProgFault.{ProgFault}
 use Rattle.shell_print.specs.Writing.{Writes}
 use Rattle.dbg_base.specs.Shell.{fault_text}
 use Rattle.proc_lang.specs.declared.fault.ProgError.{ProgError}
-use Rattle.proc_lang.specs.declared.program.Program.{Program}
-use Rattle.proc_lang.specs.Programs.{program_of}
+use Rattle.proc_tree.specs.declared.program.Program.{Program}
+use Rattle.proc_tree.specs.Programs.{program_of}
 use Rattle.proc_lang.specs.Answering.{IfBad}
 use Rattle.dbg_shell.specs.declared.crewed.Crewed.TheVariants as crewed
 use Rattle.dbg_shell.specs.Crewing.{CrewsProgram, CrewsText}

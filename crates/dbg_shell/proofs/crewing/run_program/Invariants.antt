@@ -1,5 +1,5 @@
 use Rattle.std.specs.Prelude.{length, min}
-use Rattle.proc_lang.specs.Programs.{program_of}
+use Rattle.proc_tree.specs.Programs.{program_of}
 use Rattle.dbg_base.specs.declared.limits.TheConstants.{SEATS}
 use Rattle.dbg_shell.proofs.crewing.run_program.Given as goal
 

@@ -1,6 +1,6 @@
 use Rattle.std.proofs.Common.{◌≡◌, drop}
 use Rattle.dbg_base.specs.Firing.{assigned, effect_with}
-use Rattle.proc_lang.specs.ProcessTrees.{assignment_trees}
+use Rattle.proc_tree.specs.ProcessTrees.{assignment_trees}
 use Rattle.local_eval.proofs.change.assign.Given as goal
 
 abbrev pub invariant-loop-assignment : goal.invariant-loop-assignment

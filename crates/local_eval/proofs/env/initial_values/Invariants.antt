@@ -1,7 +1,7 @@
 use Rattle.std.proofs.Common.{◌≡◌, take}
 use Rattle.dbg_base.specs.Trees.{process_of}
 use Rattle.dbg_base.specs.LocalStates.{start_values}
-use Rattle.proc_lang.specs.Programs.{program_of}
+use Rattle.proc_tree.specs.Programs.{program_of}
 use Rattle.local_eval.proofs.env.initial_values.Given as goal
 
 abbrev pub invariant-loop-index : goal.invariant-loop-index

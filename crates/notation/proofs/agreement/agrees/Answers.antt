@@ -1,6 +1,6 @@
 use Rattle.std.proofs.Common.{◌≡◌, ◌∙◌, ap, length}
 use Rattle.std.proofs.lemmas.Bool.{eqb-true}
-use Rattle.proc_lang.specs.Programs.{program_of}
+use Rattle.proc_tree.specs.Programs.{program_of}
 use Rattle.notation.specs.AgreementViews.{constants_of}
 use Rattle.notation.proofs.AgreementPrograms.{constants_unknown, program_done}
 use Rattle.notation.proofs.agreement.agrees.Goals as goal

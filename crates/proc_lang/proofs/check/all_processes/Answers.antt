@@ -1,7 +1,7 @@
 use Rattle.std.proofs.Common.{arith}
 use Rattle.std.proofs.lemmas.Result.{err_from_is_err_and}
 use Rattle.dbg_base.specs.Checks as model
-use Rattle.proc_lang.specs.ProcessTrees.{process_tree}
+use Rattle.proc_tree.specs.ProcessTrees.{process_tree}
 use Rattle.proc_lang.specs.Writing.{process_of}
 use Rattle.proc_lang.proofs.FirstCheckLemmas.{passed_on, first_left, first_right, none_in_both}
 use Rattle.proc_lang.proofs.ListCheckLemmas.{first_next, goes_on, processes_here, reads_more, length_before}

@@ -2,7 +2,7 @@ use Rattle.std.proofs.Common.{◌≡◌, ◌≤◌, [], map, take, vec_len}
 use Rattle.dbg_base.specs.declared.limits.TheConstants.{PROCESSES}
 use Rattle.dbg_base.specs.Checks.{processes_faults}
 use Rattle.dbg_base.specs.Checks as model
-use Rattle.proc_lang.specs.ProcessTrees.{process_trees}
+use Rattle.proc_tree.specs.ProcessTrees.{process_trees}
 use Rattle.proc_lang.specs.Writing.{processes_of}
 use Rattle.proc_lang.proofs.ListCheckLemmas.{processes_left}
 use Rattle.proc_lang.proofs.check.all_processes.Given as goal

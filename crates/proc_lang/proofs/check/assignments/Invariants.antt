@@ -1,7 +1,7 @@
 use Rattle.std.proofs.Common.{◌≡◌, map, take}
 use Rattle.dbg_base.specs.Checks.{assignment_faults, set_by_action, assignment_tree}
 use Rattle.proc_lang.specs.Writing.{action_of, assignment_of}
-use Rattle.proc_lang.specs.ProcessTrees.{assignment_trees}
+use Rattle.proc_tree.specs.ProcessTrees.{assignment_trees}
 use Rattle.proc_lang.specs.Scopes.{scope_of}
 use Rattle.proc_lang.proofs.ListCheckLemmas.{assignments_left}
 use Rattle.proc_lang.proofs.check.assignments.Given as goal

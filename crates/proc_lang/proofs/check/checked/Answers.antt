@@ -5,7 +5,7 @@ use Rattle.dbg_base.specs.WellFormed.{is_well_formed}
 use Rattle.dbg_base.specs.Checks.{processes_faults, process_tree}
 use Rattle.dbg_base.proofs.WellFormedTrees.{says_well_formed}
 use Rattle.proc_lang.specs.Writing.{processes_of}
-use Rattle.proc_lang.specs.ProcessTrees.{process_trees}
+use Rattle.proc_tree.specs.ProcessTrees.{process_trees}
 use Rattle.proc_lang.specs.Checking.{IsFirst}
 use Rattle.proc_lang.proofs.FirstCheckLemmas.{passed_on}
 use Rattle.proc_lang.proofs.ListCheckLemmas.{process_names_are}

@@ -2,7 +2,7 @@ use Rattle.std.proofs.Common.{◌≡◌, ◌≤◌, map, take, drop, vec_len}
 use Rattle.dbg_base.specs.declared.limits.TheConstants.{COMMANDS}
 use Rattle.dbg_base.specs.Checks.{commands_faults}
 use Rattle.dbg_base.specs.Checks as model
-use Rattle.proc_lang.specs.ProcessTrees.{command_tree}
+use Rattle.proc_tree.specs.ProcessTrees.{command_tree}
 use Rattle.proc_lang.specs.Writing.{command_of}
 use Rattle.proc_lang.specs.Scopes.{scope_of}
 use Rattle.proc_lang.proofs.check.commands.Given as goal

@@ -2,7 +2,7 @@ use Rattle.std.proofs.Common.{◌≡◌, [], map, subst}
 use Rattle.std.proofs.lemmas.Result.{err_from_is_err_and}
 use Rattle.dbg_base.specs.Checks.{commands_faults, variables_faults}
 use Rattle.dbg_base.specs.Checks as model
-use Rattle.proc_lang.specs.ProcessTrees.{command_tree}
+use Rattle.proc_tree.specs.ProcessTrees.{command_tree}
 use Rattle.proc_lang.specs.Writing.{command_of, variable_of}
 use Rattle.proc_lang.specs.Checking.{IsFirst, starts, written_starts}
 use Rattle.proc_lang.proofs.FirstCheckLemmas.{passed_on, first_right, none_in_both}

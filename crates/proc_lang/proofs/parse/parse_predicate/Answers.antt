@@ -2,7 +2,7 @@ use Rattle.dbg_base.specs.declared.expr.Sort.TheVariants as sort
 use Rattle.dbg_base.specs.Trees.{tree_of}
 use Rattle.dbg_base.specs.Grammar.{DerivesExpression}
 use Rattle.dbg_base.specs.Checks.{scope_of, expression_faults, phrase_tree}
-use Rattle.proc_lang.specs.Programs.{program_of}
+use Rattle.proc_tree.specs.Programs.{program_of}
 use Rattle.proc_lang.proofs.WholeTextLemmas.{predicate_once}
 use Rattle.proc_lang.proofs.Texts.{accepts, refuses}
 use Rattle.proc_lang.proofs.parse.parse_predicate.Goals as goal

@@ -1,6 +1,6 @@
 use Rattle.dbg_base.specs.Grammar.{DerivesProgram}
 use Rattle.dbg_base.specs.Checks.{check_faults, program_tree}
-use Rattle.proc_lang.specs.Programs.{program_of}
+use Rattle.proc_tree.specs.Programs.{program_of}
 use Rattle.proc_lang.proofs.WholeTextLemmas.{program_once}
 use Rattle.proc_lang.proofs.Texts.{accepts, refuses}
 use Rattle.proc_lang.proofs.parse.parse_program.Goals as goal

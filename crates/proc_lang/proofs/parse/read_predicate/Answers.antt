@@ -6,7 +6,7 @@ use Rattle.dbg_base.specs.Grammar.{DerivesExpression}
 use Rattle.dbg_base.specs.Checks.{scope_of, expression_faults, phrase_tree, IsPredicateFault}
 use Rattle.dbg_base.proofs.FirstFaults.{first_of_expression}
 use Rattle.proc_lang.specs.declared.syntax.Phrase.{Phrase}
-use Rattle.proc_lang.specs.Programs.{program_of}
+use Rattle.proc_tree.specs.Programs.{program_of}
 use Rattle.proc_lang.specs.Writing.{phrase_of}
 use Rattle.proc_lang.proofs.WholeTextLemmas.{predicate_once}
 use Rattle.proc_lang.proofs.Texts.{passed_on, checked_accepted, checked_refused}

@@ -3,7 +3,7 @@ use Rattle.std.proofs.lemmas.List.{length-map}
 use Rattle.dbg_base.specs.Grammar.{DerivesProgram}
 use Rattle.dbg_base.specs.Checks.{check_faults, program_tree}
 use Rattle.dbg_base.proofs.FirstFaults.{first_of_program, few_processes}
-use Rattle.proc_lang.specs.Programs.{program_of}
+use Rattle.proc_tree.specs.Programs.{program_of}
 use Rattle.proc_lang.specs.Writing.{process_of, processes_of}
 use Rattle.proc_lang.specs.Answering.{Writes}
 use Rattle.proc_lang.proofs.WholeTextLemmas.{program_once}

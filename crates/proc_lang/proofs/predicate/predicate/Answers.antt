@@ -4,8 +4,8 @@ use Rattle.std.proofs.lemmas.Simd.{map-map}
 use Rattle.dbg_base.specs.declared.expr.Sort.TheVariants as sort
 use Rattle.dbg_base.specs.Trees as tree
 use Rattle.dbg_base.specs.Checks.{Scope, scope_of, expression_faults, phrase_tree}
-use Rattle.proc_lang.specs.declared.process.Process.{Process}
-use Rattle.proc_lang.specs.ProcessTrees.{process_tree}
+use Rattle.proc_tree.specs.declared.process.Process.{Process}
+use Rattle.proc_tree.specs.ProcessTrees.{process_tree}
 use Rattle.proc_lang.specs.Writing.{phrase_of}
 use Rattle.proc_lang.specs.Checking.{Checks}
 use Rattle.proc_lang.proofs.ListCheckLemmas.{scope_with}

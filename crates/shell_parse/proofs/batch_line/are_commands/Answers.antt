@@ -1,6 +1,6 @@
 use Rattle.std.proofs.Common.{sym, length, ◌<◌, ◌∙◌}
 use Rattle.dbg_base.specs.CommandLines.{commands_of}
-use Rattle.proc_lang.specs.Programs.{program_of}
+use Rattle.proc_tree.specs.Programs.{program_of}
 use Rattle.shell_parse.proofs.Batches.{first_of, too_many, shapeless}
 use Rattle.shell_parse.proofs.batch_line.are_commands.Goals.{then-count-gt-BATCH-via-then-count-gt-BATCH, then-count-gt-BATCH-via-else-count-gt-BATCH+then-not-has_shape}
 use Rattle.shell_parse.proofs.batch_line.are_commands.Goals as goal

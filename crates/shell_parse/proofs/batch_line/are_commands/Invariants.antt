@@ -1,6 +1,6 @@
 use Rattle.std.proofs.Common.{length}
 use Rattle.dbg_base.specs.CommandLines.{commands_of}
-use Rattle.proc_lang.specs.Programs.{program_of}
+use Rattle.proc_tree.specs.Programs.{program_of}
 use Rattle.shell_parse.proofs.Batches.{Counted}
 use Rattle.shell_parse.proofs.batch_line.are_commands.Given as goal
 

@@ -1,6 +1,6 @@
 use Rattle.std.proofs.Common.{◌≡◌, true, false, Ok, sym, ◌∙◌, inl, arith}
 use Rattle.std.proofs.lemmas.Grind.{common_steps}
-use Rattle.proc_lang.specs.Programs.{program_of}
+use Rattle.proc_tree.specs.Programs.{program_of}
 use Rattle.shell_parse.specs.Lines.{are_commands}
 use Rattle.shell_parse.proofs.Batches.{no_batch}
 use Rattle.shell_parse.proofs.GivableBatchLemmas.{batch_call, batch_parsed, made_fits}

@@ -1,7 +1,7 @@
 use Rattle.std.proofs.Common.{◌≡◌, true, false, rules}
 use Rattle.std.specs.Prelude.{codes}
 use Rattle.std.specs.Str.{bytes_eq}
-use Rattle.proc_lang.specs.Programs.{program_of}
+use Rattle.proc_tree.specs.Programs.{program_of}
 use Rattle.shell_parse.proofs.CommandWordLemmas.{by_break, by_words, by_one}
 use Rattle.shell_parse.proofs.GivableBatchLemmas.{one_fits}
 use Rattle.shell_parse.proofs.batch_line.parse_command.Goals as goal

@@ -1,6 +1,6 @@
 use Rattle.std.proofs.Common.{Ok, subst}
 use Rattle.dbg_base.specs.declared.call.Call as call
-use Rattle.proc_lang.specs.Programs.{program_of}
+use Rattle.proc_tree.specs.Programs.{program_of}
 use Rattle.shell_parse.specs.Lines.{IsOneParsed}
 use Rattle.shell_parse.proofs.GivableBatchLemmas.{member_read}
 use Rattle.shell_parse.proofs.batch_line.read_command.Goals as goal

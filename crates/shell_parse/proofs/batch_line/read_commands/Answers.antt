@@ -2,7 +2,7 @@ use Rattle.std.proofs.Common.{◌≡◌, ⊎_elim, ◌<◌, ◌∷◌, ◌++◌,
 use Rattle.dbg_base.specs.declared.refusal.Refusal.TheVariants.{Memory}
 use Rattle.dbg_base.specs.declared.refusal.Refusal.{Refusal}
 use Rattle.dbg_base.specs.CommandLines.{commands_of}
-use Rattle.proc_lang.specs.Programs.{program_of}
+use Rattle.proc_tree.specs.Programs.{program_of}
 use Rattle.shell_parse.specs.Lines.{AreRead}
 use Rattle.shell_parse.proofs.Batches.{first_of, first_shaped, read_more, refused_next, all_read}
 use Rattle.shell_parse.proofs.batch_line.read_commands.Goals as goal

@@ -1,6 +1,6 @@
 use Rattle.std.proofs.Common.{length}
 use Rattle.dbg_base.specs.CommandLines.{commands_of}
-use Rattle.proc_lang.specs.Programs.{program_of}
+use Rattle.proc_tree.specs.Programs.{program_of}
 use Rattle.shell_parse.proofs.Batches.{ReadSoFar}
 use Rattle.shell_parse.proofs.batch_line.read_commands.Given as goal
 

@@ -1,7 +1,7 @@
 use Rattle.std.proofs.Common.{◌≡◌, Some, Ok, true, ap, arith}
 use Rattle.std.proofs.lemmas.Grind.{common_steps}
 use Rattle.dbg_base.specs.CommandLines.{name_word, parts_in}
-use Rattle.proc_lang.specs.Programs.{program_of}
+use Rattle.proc_tree.specs.Programs.{program_of}
 use Rattle.shell_parse.specs.Lines.{has_parts}
 use Rattle.shell_parse.proofs.BreakRequestLemmas.{asks_break, break_made}
 use Rattle.shell_parse.proofs.break_line.parse_break.Goals as goal

@@ -2,7 +2,7 @@ use Rattle.std.proofs.Common.{◌≡◌, Ok, true, false, arith, inl}
 use Rattle.std.proofs.lemmas.Grind.{common_steps}
 use Rattle.dbg_base.specs.Trees.{tree_of}
 use Rattle.dbg_base.specs.CommandLines.{named_process}
-use Rattle.proc_lang.specs.Programs.{program_of}
+use Rattle.proc_tree.specs.Programs.{program_of}
 use Rattle.shell_parse.specs.Lines.{has_part}
 use Rattle.shell_parse.proofs.ReadPartLemmas.{stood, stood_not}
 use Rattle.shell_parse.proofs.break_line.read_part.Goals as goal

@@ -3,7 +3,7 @@ use Rattle.dbg_base.specs.declared.call.Conjunct as conjunct
 use Rattle.dbg_base.specs.Calls.{conjunct_of}
 use Rattle.dbg_base.specs.CommandLines.{with_part}
 use Rattle.dbg_base.specs.Requests.{ReadsParts}
-use Rattle.proc_lang.specs.Programs.{program_of}
+use Rattle.proc_tree.specs.Programs.{program_of}
 use Rattle.dbg_base.specs.CommandLines.{parts_in}
 use Rattle.shell_parse.proofs.ReadPartLemmas.{ReadSoFar, none_read, all_read, has_form, refused_more, read_more}
 use Rattle.shell_parse.proofs.break_line.read_parts.Goals as goal

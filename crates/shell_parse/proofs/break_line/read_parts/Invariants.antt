@@ -1,5 +1,5 @@
 use Rattle.std.proofs.Common.{length}
-use Rattle.proc_lang.specs.Programs.{program_of}
+use Rattle.proc_tree.specs.Programs.{program_of}
 use Rattle.shell_parse.proofs.ReadPartLemmas.{ReadSoFar}
 use Rattle.shell_parse.proofs.break_line.read_parts.Given as goal
 

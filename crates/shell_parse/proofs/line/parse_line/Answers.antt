@@ -1,5 +1,5 @@
 use Rattle.std.proofs.Common.{rules}
-use Rattle.proc_lang.specs.Programs.{program_of}
+use Rattle.proc_tree.specs.Programs.{program_of}
 use Rattle.shell_parse.specs.Lines.{IsParsed}
 use Rattle.shell_parse.proofs.LineRefusals.{line_refused}
 use Rattle.shell_parse.proofs.line.parse_line.Goals as goal

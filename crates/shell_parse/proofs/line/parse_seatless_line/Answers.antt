@@ -1,7 +1,7 @@
 use Rattle.std.proofs.Common.{◌≤◌, ◌+◌, ◌∷◌, ◌++◌, Option, Result, length, codes, sym, subst, rules}
 use Rattle.dbg_base.specs.declared.limits.TheConstants.{LINE_BYTES}
 use Rattle.dbg_base.specs.CommandLines.{without_return}
-use Rattle.proc_lang.specs.Programs.{program_of}
+use Rattle.proc_tree.specs.Programs.{program_of}
 use Rattle.dbg_base.specs.declared.refusal.Refusal.{Refusal}
 use Rattle.shell_parse.specs.declared.line.Line.{Line}
 use Rattle.shell_parse.specs.Lines.{IsParsed}

@@ -1,4 +1,4 @@
-use Rattle.proc_lang.specs.Programs.{program_of}
+use Rattle.proc_tree.specs.Programs.{program_of}
 use Rattle.shell_parse.proofs.ProcessNameLemmas.{found_known}
 use Rattle.shell_parse.proofs.words.named_process.Goals as goal
 

@@ -2,7 +2,7 @@ use Rattle.std.proofs.Common.{◌≡◌, ℕ, ◌+◌, ◌*◌, ◌<◌, ◌≤�
 use Rattle.std.proofs.lemmas.List.{take_all}
 use Rattle.dbg_base.specs.declared.limits.TheConstants.{COMMANDS}
 use Rattle.dbg_base.specs.Trees.{Program}
-use Rattle.proc_lang.specs.Programs.{program_of}
+use Rattle.proc_tree.specs.Programs.{program_of}
 use Rattle.shell_print.specs.Closings.{command_count}
 use Rattle.shell_print.proofs.CountLemmas.{count_on}
 use Rattle.shell_print.proofs.notices.command_count.Goals as goal

@@ -1,5 +1,5 @@
 use Rattle.std.proofs.Common.{◌≡◌, ◌*◌, ◌≤◌, take}
-use Rattle.proc_lang.specs.Programs.{program_of}
+use Rattle.proc_tree.specs.Programs.{program_of}
 use Rattle.dbg_base.specs.declared.limits.TheConstants.{COMMANDS}
 use Rattle.shell_print.specs.Closings.{command_count}
 use Rattle.shell_print.proofs.notices.command_count.Given as goal

@@ -1,5 +1,5 @@
 use Rattle.std.proofs.Common.{subst}
-use Rattle.proc_lang.specs.Programs.{program_of}
+use Rattle.proc_tree.specs.Programs.{program_of}
 use Rattle.shell_print.proofs.CountLemmas.{size_of}
 use Rattle.shell_print.proofs.WriteLemmas.{writes_same}
 use Rattle.shell_print.proofs.notices.tell_size.Goals as goal

@@ -1,4 +1,4 @@
-use Rattle.proc_lang.specs.Programs.{program_of}
+use Rattle.proc_tree.specs.Programs.{program_of}
 use Rattle.dbg_base.specs.declared.limits.TheConstants.{SEATS}
 use Rattle.shell_serve.proofs.running.run_program.Given as goal
 

@@ -5,7 +5,7 @@ use Rattle.dbg_base.specs.declared.limits.TheConstants.{INPUT_BYTES}
 use Rattle.dbg_base.specs.Checks.{IsFault}
 use Rattle.dbg_base.specs.Shell.{fault_text, no_end_line_text, too_long_text}
 use Rattle.proc_lang.specs.declared.fault.ProgError.{ProgError}
-use Rattle.proc_lang.specs.declared.program.Program.{Program}
+use Rattle.proc_tree.specs.declared.program.Program.{Program}
 use Rattle.proc_lang.specs.Answering.{IfBad}
 use Rattle.shell_print.specs.declared.outcome.Served.TheVariants as outcomes
 use Rattle.shell_print.specs.Writing.{Writes}

@@ -1,4 +1,4 @@
-use Rattle.proc_lang.specs.Programs.{program_of}
+use Rattle.proc_tree.specs.Programs.{program_of}
 use Rattle.test_crew.proofs.crews.expect_ended.Given as goal
 
 abbrev pub ghosts-expect_crew-L-Ledger : goal.ghosts-expect_crew-L-Ledger

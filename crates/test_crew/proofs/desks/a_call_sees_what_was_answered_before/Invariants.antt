@@ -1,4 +1,4 @@
-use Rattle.proc_lang.specs.Programs.{program_of}
+use Rattle.proc_tree.specs.Programs.{program_of}
 use Rattle.test_crew.proofs.desks.a_call_sees_what_was_answered_before.Given as goal
 
 abbrev pub ghosts-one_sees_the_other-L-Ledger : goal.ghosts-one_sees_the_other-L-Ledger

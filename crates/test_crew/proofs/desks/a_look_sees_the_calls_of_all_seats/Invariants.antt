@@ -1,4 +1,4 @@
-use Rattle.proc_lang.specs.Programs.{program_of}
+use Rattle.proc_tree.specs.Programs.{program_of}
 use Rattle.test_crew.proofs.desks.a_look_sees_the_calls_of_all_seats.Given as goal
 
 abbrev pub ghosts-each_sees_all-L-Ledger : goal.ghosts-each_sees_all-L-Ledger

@@ -1,4 +1,4 @@
-use Rattle.proc_lang.specs.Programs.{program_of}
+use Rattle.proc_tree.specs.Programs.{program_of}
 use Rattle.test_crew.proofs.desks.no_seats_settle.Given as goal
 
 abbrev pub ghosts-none_differs-L-Ledger : goal.ghosts-none_differs-L-Ledger

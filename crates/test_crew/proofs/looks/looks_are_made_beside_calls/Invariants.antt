@@ -1,4 +1,4 @@
-use Rattle.proc_lang.specs.Programs.{program_of}
+use Rattle.proc_tree.specs.Programs.{program_of}
 use Rattle.test_crew.proofs.looks.looks_are_made_beside_calls.Given as goal
 
 abbrev pub ghosts-looks_beside_calls-L-Ledger : goal.ghosts-looks_beside_calls-L-Ledger

@@ -1,4 +1,4 @@
-use Rattle.proc_lang.specs.Programs.{program_of}
+use Rattle.proc_tree.specs.Programs.{program_of}
 use Rattle.test_crew.proofs.many.play_again.Given as goal
 
 abbrev pub ghosts-expect_again-L-Ledger : goal.ghosts-expect_again-L-Ledger

@@ -1,4 +1,4 @@
-use Rattle.proc_lang.specs.Programs.{program_of}
+use Rattle.proc_tree.specs.Programs.{program_of}
 use Rattle.test_crew.proofs.many.play_once.Given as goal
 
 abbrev pub ghosts-many_calls-L-Ledger : goal.ghosts-many_calls-L-Ledger

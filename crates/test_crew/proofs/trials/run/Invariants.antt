@@ -1,4 +1,4 @@
-use Rattle.proc_lang.specs.Programs.{program_of}
+use Rattle.proc_tree.specs.Programs.{program_of}
 use Rattle.test_crew.proofs.trials.run.Given as goal
 
 abbrev pub ghosts-each_call_is_shown-L-Ledger : goal.ghosts-each_call_is_shown-L-Ledger

@@ -1,4 +1,4 @@
-use Rattle.proc_lang.specs.Programs.{program_of}
+use Rattle.proc_tree.specs.Programs.{program_of}
 use Rattle.test_engine.proofs.journals.a_full_journal_takes_no_call_more.Given as goal
 
 abbrev pub ghosts-no_call_more-L-Ledger : goal.ghosts-no_call_more-L-Ledger

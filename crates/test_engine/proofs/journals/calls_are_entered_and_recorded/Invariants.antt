@@ -1,4 +1,4 @@
-use Rattle.proc_lang.specs.Programs.{program_of}
+use Rattle.proc_tree.specs.Programs.{program_of}
 use Rattle.test_engine.proofs.journals.calls_are_entered_and_recorded.Given as goal
 
 abbrev pub ghosts-calls_in_order-L-Ledger : goal.ghosts-calls_in_order-L-Ledger

@@ -1,4 +1,4 @@
-use Rattle.proc_lang.specs.Programs.{program_of}
+use Rattle.proc_tree.specs.Programs.{program_of}
 use Rattle.causal_world.specs.Scenes.{IsWorldOf}
 use Rattle.test_engine.proofs.worlds.play.Given as goal
 

@@ -1,4 +1,4 @@
-use Rattle.proc_lang.specs.Programs.{program_of}
+use Rattle.proc_tree.specs.Programs.{program_of}
 use Rattle.test_memory.proofs.crews.begin_and_work.Given as goal
 
 abbrev pub ghosts-work-L-Ledger : goal.ghosts-work-L-Ledger

@@ -1,4 +1,4 @@
-use Rattle.proc_lang.specs.Programs.{program_of}
+use Rattle.proc_tree.specs.Programs.{program_of}
 use Rattle.test_memory.proofs.script.expected.Given as goal
 
 abbrev pub ghosts-picture_of-L-Ledger : goal.ghosts-picture_of-L-Ledger

@@ -1,5 +1,5 @@
 use Rattle.std.proofs.Common.{◌≡◌, ◌++◌, map, take}
-use Rattle.proc_lang.specs.Programs.{program_of}
+use Rattle.proc_tree.specs.Programs.{program_of}
 use Rattle.ui_diagram.specs.Logs.{after_commas, count_text}
 use Rattle.ui_diagram.proofs.log.put_others.Given as goal
 

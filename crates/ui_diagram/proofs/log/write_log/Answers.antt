@@ -2,7 +2,7 @@ use Rattle.std.proofs.Common.{◌++◌, ℕ, List, ap, sym, ◌∙◌, subst, ar
 use Rattle.std.proofs.Math.Logic.{∥∥₁_map}
 use Rattle.dbg_base.specs.SystemStates.{history_of}
 use Rattle.dbg_command.specs.Tables.{IsTableOf}
-use Rattle.proc_lang.specs.Programs.{program_of}
+use Rattle.proc_tree.specs.Programs.{program_of}
 use Rattle.ui_timeline.specs.TimedEvents.{AreTimedEvents}
 use Rattle.ui_diagram.specs.Logs.{entry_text}
 use Rattle.ui_diagram.proofs.LogLemmas.{AreWritten, written_more, written_all, written_none}

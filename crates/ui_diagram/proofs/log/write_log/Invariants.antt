@@ -1,4 +1,4 @@
-use Rattle.proc_lang.specs.Programs.{program_of}
+use Rattle.proc_tree.specs.Programs.{program_of}
 use Rattle.ui_diagram.proofs.LogLemmas.{AreWritten}
 use Rattle.ui_diagram.proofs.log.write_log.Given as goal
 

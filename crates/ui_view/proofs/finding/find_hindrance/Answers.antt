@@ -1,7 +1,7 @@
 use Rattle.std.proofs.Common.{rules, arith, ◌≡◌, ℕ, length, sym}
 use Rattle.dbg_base.specs.Trees.{process_of}
 use Rattle.dbg_base.specs.LocalStates.{no_state}
-use Rattle.proc_lang.specs.Programs.{program_of}
+use Rattle.proc_tree.specs.Programs.{program_of}
 use Rattle.causal_world.proofs.LastEventLemmas.{states_there}
 use Rattle.ui_view.proofs.FiringLemmas.{there, missing}
 use Rattle.ui_view.proofs.finding.find_hindrance.Goals.{in_default-via-in-Some+in_default, in_default-via-in_default}

@@ -1,4 +1,4 @@
-use Rattle.proc_lang.specs.Programs.{program_of}
+use Rattle.proc_tree.specs.Programs.{program_of}
 use Rattle.causal_world.proofs.WorldOfLemmas.{opened}
 use Rattle.causal_world.proofs.world.World.new.Goals as goal
 use Rattle.std.proofs.Common.{rules}

@@ -1,7 +1,7 @@
 use Rattle.std.proofs.Common.{List, length, arith, rules, ap, sym, subst}
 use Rattle.dbg_base.specs.LocalStates.{LocalState}
 use Rattle.dbg_base.specs.Configurations.{state_in}
-use Rattle.proc_lang.specs.Programs.{program_of}
+use Rattle.proc_tree.specs.Programs.{program_of}
 use Rattle.causal_world.specs.Worlds.{Makes}
 use Rattle.causal_world.specs.Scenes.{scene}
 use Rattle.causal_world.specs.Deciding.{CanCount}

@@ -3,7 +3,7 @@ use Rattle.std.specs.Prelude.{slice_get}
 use Rattle.dbg_base.specs.SystemStates.{line_of, place_at}
 use Rattle.dbg_base.specs.LocalStates.{LocalState}
 use Rattle.dbg_base.specs.Configurations.{state_in}
-use Rattle.proc_lang.specs.Programs.{program_of}
+use Rattle.proc_tree.specs.Programs.{program_of}
 use Rattle.causal_world.specs.Worlds.{Makes}
 use Rattle.causal_world.specs.Scenes.{scene}
 use Rattle.causal_world.specs.Deciding.{CanCount}

@@ -1,6 +1,6 @@
 use Rattle.std.proofs.Common.{◌≡◌, Err, sym, ap, subst, rules}
 use Rattle.dbg_base.specs.Calls.{plans_in}
-use Rattle.proc_lang.specs.Programs.{program_of}
+use Rattle.proc_tree.specs.Programs.{program_of}
 use Rattle.dbg_command.specs.Tables.{IsTableOf, state_of}
 use Rattle.dbg_command.proofs.BatchLemmas.{batch_accepted, batch_refused}
 use Rattle.dbg_command.proofs.table.Table.after_batch.Goals as goal

@@ -1,5 +1,5 @@
 use Rattle.std.proofs.Common.{sym, ap, refl, subst, Ok}
-use Rattle.proc_lang.specs.Programs.{program_of}
+use Rattle.proc_tree.specs.Programs.{program_of}
 use Rattle.dbg_base.specs.Calls as model
 use Rattle.dbg_command.specs.Tables.{TableState, IsTableOf, ActsOrRefuses, state_of}
 use Rattle.break_book.specs.Books.{breakpoints_of}

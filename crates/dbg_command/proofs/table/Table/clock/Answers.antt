@@ -1,7 +1,7 @@
 use Rattle.std.proofs.Common.{ℕ, sym, subst}
 use Rattle.dbg_base.specs.Clocks.{IsClock}
 use Rattle.dbg_base.specs.SystemStates.{place_at, history_of}
-use Rattle.proc_lang.specs.Programs.{program_of}
+use Rattle.proc_tree.specs.Programs.{program_of}
 use Rattle.causal_world.specs.Scenes.{Scene, IsWorldOf}
 use Rattle.dbg_command.specs.Tables.{state_of}
 use Rattle.dbg_command.proofs.QueryAnswerLemmas.{tells_clock}

@@ -1,4 +1,4 @@
-use Rattle.proc_lang.specs.Programs.{program_of}
+use Rattle.proc_tree.specs.Programs.{program_of}
 use Rattle.dbg_command.specs.Tables.{state_of}
 use Rattle.dbg_command.proofs.QueryAnswerLemmas.{tells_cut, tells_no_break}
 use Rattle.dbg_command.proofs.table.Table.cut.Goals as goal

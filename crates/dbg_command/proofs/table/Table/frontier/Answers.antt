@@ -1,4 +1,4 @@
-use Rattle.proc_lang.specs.Programs.{program_of}
+use Rattle.proc_tree.specs.Programs.{program_of}
 use Rattle.dbg_command.proofs.QueryAnswerLemmas.{tells_frontier}
 use Rattle.dbg_command.proofs.table.Table.frontier.Goals as goal
 

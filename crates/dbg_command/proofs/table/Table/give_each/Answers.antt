@@ -1,7 +1,7 @@
 use Rattle.std.proofs.Common.{sym, subst, refl}
 use Rattle.dbg_base.specs.declared.call.Plan as given
 use Rattle.dbg_base.specs.Calls.{IsOne, order_of}
-use Rattle.proc_lang.specs.Programs.{program_of}
+use Rattle.proc_tree.specs.Programs.{program_of}
 use Rattle.least_cut.proofs.ListLoopLemmas.{all_at}
 use Rattle.dbg_command.specs.Tables.{state_of}
 use Rattle.dbg_command.proofs.BatchLemmas.{shown_state, goes_begin, goes_more, goes_refused, goes_all}

@@ -1,4 +1,4 @@
-use Rattle.proc_lang.specs.Programs.{program_of}
+use Rattle.proc_tree.specs.Programs.{program_of}
 use Rattle.dbg_command.specs.Tables.{IsTableOf, state_of}
 use Rattle.dbg_command.proofs.BatchLemmas.{GoesOn}
 use Rattle.dbg_command.proofs.table.Table.give_each.Given as goal

@@ -1,5 +1,5 @@
 use Rattle.std.proofs.Common.{ℕ, List, Option, Ok, subst}
-use Rattle.proc_lang.specs.Programs.{program_of}
+use Rattle.proc_tree.specs.Programs.{program_of}
 use Rattle.dbg_command.specs.Tables.{IsCutOf, state_of}
 use Rattle.dbg_command.proofs.CommandAnswerLemmas.{went_to, no_cut, not_there, consistent_least}
 use Rattle.dbg_command.proofs.CommandUndoLemmas.{accepted_in}

@@ -1,7 +1,7 @@
 use Rattle.std.proofs.Common.{◌≡◌, None, sym, ap, ◌∙◌, subst}
 use Rattle.std.proofs.lemmas.Result.{on_ok_weaker}
 use Rattle.dbg_base.specs.ModelStates.{ModelState, IsHalted}
-use Rattle.proc_lang.specs.Programs.{program_of}
+use Rattle.proc_tree.specs.Programs.{program_of}
 use Rattle.least_cut.specs.Detectors.{one_more}
 use Rattle.break_book.specs.Books.{breakpoints_of, HaveRoomUpTo}
 use Rattle.break_book.proofs.BookCallLemmas.{seen_breakpoints}

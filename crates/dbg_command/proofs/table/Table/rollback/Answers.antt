@@ -1,5 +1,5 @@
 use Rattle.std.proofs.Common.{◌≤◌, sym, arith, subst}
-use Rattle.proc_lang.specs.Programs.{program_of}
+use Rattle.proc_tree.specs.Programs.{program_of}
 use Rattle.dbg_base.specs.SystemStates.{place_at, history_of}
 use Rattle.dbg_base.specs.Reversal.{IsRollback}
 use Rattle.dbg_command.specs.Tables.{TableState, IsTableOf, state_of}

@@ -2,7 +2,7 @@ use Rattle.std.proofs.Common.{◌<◌, length, map, ap, sym, ◌∙◌, arith}
 use Rattle.std.proofs.lemmas.Bool.{eqb-false}
 use Rattle.std.proofs.lemmas.List.{length-map}
 use Rattle.dbg_base.specs.Calls.{conjunct_of}
-use Rattle.proc_lang.specs.Programs.{program_of}
+use Rattle.proc_tree.specs.Programs.{program_of}
 use Rattle.least_cut.specs.Watches.{scan_of}
 use Rattle.dbg_command.specs.Tables.{TableState}
 use Rattle.dbg_command.proofs.Scans.{not_refused, scans_fitting}

@@ -8,7 +8,7 @@ use Rattle.dbg_base.specs.Predicates.{Conjunct}
 use Rattle.dbg_base.specs.declared.call.Conjunct as given
 use Rattle.dbg_base.specs.declared.said.Done.TheVariants.{Plain}
 use Rattle.dbg_base.specs.Acts.{conjuncts_refusal}
-use Rattle.proc_lang.specs.Programs.{program_of}
+use Rattle.proc_tree.specs.Programs.{program_of}
 use Rattle.break_book.specs.Books.{breakpoints_of, new_breakpoint}
 use Rattle.dbg_command.specs.Tables.{TableState, Replies, ActsOrRefuses, state_of}
 use Rattle.dbg_command.proofs.ConjunctFitLemmas.{all_known}

@@ -1,5 +1,5 @@
 use Rattle.std.proofs.Common.{refl, sym, ap, ◌∙◌, subst}
-use Rattle.proc_lang.specs.Programs.{program_of}
+use Rattle.proc_tree.specs.Programs.{program_of}
 use Rattle.break_book.proofs.BookCallLemmas.{book_grown}
 use Rattle.dbg_command.specs.Tables.{TableState, IsTableOf, state_of}
 use Rattle.dbg_command.proofs.CommandUndoLemmas.{leads_from, stepped}

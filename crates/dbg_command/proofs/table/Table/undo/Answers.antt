@@ -5,7 +5,7 @@ use Rattle.dbg_base.specs.Choices.{CannotUndo}
 use Rattle.dbg_base.specs.Calls as model
 use Rattle.causal_world.specs.Scenes.{Scene, IsWorldOf}
 use Rattle.dbg_base.specs.SystemStates.{last_choice}
-use Rattle.proc_lang.specs.Programs.{program_of}
+use Rattle.proc_tree.specs.Programs.{program_of}
 use Rattle.break_book.proofs.BookCallLemmas.{book_shrunk}
 use Rattle.dbg_command.specs.Tables.{TableState, IsTableOf, ActsOrRefuses, state_of}
 use Rattle.dbg_command.proofs.CommandAnswerLemmas.{taken_back, not_taken_back, system_changed}

@@ -1,5 +1,5 @@
 use Rattle.std.proofs.Common.{inl, rules, vec_len}
-use Rattle.proc_lang.specs.Programs.{program_of}
+use Rattle.proc_tree.specs.Programs.{program_of}
 use Rattle.dbg_command.specs.Tables.{IsTableOf}
 use Rattle.dbg_session.proofs.Stacks.{EndsWith, last_written}
 use Rattle.dbg_session.proofs.StackUndoLemmas.{session_leads_to, session_kept, session_shorter, last_may_go_back, last_stays, answers_back, seen_same}

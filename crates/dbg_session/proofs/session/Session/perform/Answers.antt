@@ -1,6 +1,6 @@
 use Rattle.std.proofs.Common.{Ok, Err, rules}
 use Rattle.dbg_base.specs.declared.said.Reply.{Reply}
-use Rattle.proc_lang.specs.Programs.{program_of}
+use Rattle.proc_tree.specs.Programs.{program_of}
 use Rattle.dbg_command.specs.Tables.{FollowsOrRefuses, state_of}
 use Rattle.dbg_session.proofs.StackUndoLemmas.{session_leads_to, session_kept, session_longer, seen_same}
 use Rattle.dbg_session.proofs.AnswerFitLemmas.{order_fits}

@@ -1,6 +1,6 @@
 use Rattle.std.proofs.Common.{◌≡◌, length, take, map}
 use Rattle.dbg_base.specs.LocalStates.{start_among}
-use Rattle.proc_lang.specs.Programs.{program_of}
+use Rattle.proc_tree.specs.Programs.{program_of}
 use Rattle.local_eval.proofs.env.Env.starts.Given as goal
 
 abbrev pub invariant-loop-p : goal.invariant-loop-p

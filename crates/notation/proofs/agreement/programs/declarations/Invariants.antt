@@ -1,6 +1,6 @@
 use Rattle.std.proofs.Common.{length}
 use Rattle.dbg_base.specs.Trees.{names_of}
-use Rattle.proc_lang.specs.Programs.{program_of}
+use Rattle.proc_tree.specs.Programs.{program_of}
 use Rattle.notation.specs.AgreementViews.{model_progress_of}
 use Rattle.notation.proofs.AgreementParts.{DeclarationsGo}
 use Rattle.notation.proofs.agreement.programs.declarations.Given as goal

@@ -1,5 +1,5 @@
 use Rattle.std.proofs.Common.{◌∙◌, ap, take}
-use Rattle.proc_lang.specs.Programs.{program_of}
+use Rattle.proc_tree.specs.Programs.{program_of}
 use Rattle.notation.specs.AgreementViews.{model_progress_of}
 use Rattle.notation.proofs.AgreementParts.{take_next, processes_step, processes_done}
 use Rattle.notation.proofs.agreement.programs.family.Goals as goal

@@ -1,6 +1,6 @@
 use Rattle.std.proofs.Common.{length}
 use Rattle.dbg_base.specs.Trees.{process_of}
-use Rattle.proc_lang.specs.Programs.{program_of}
+use Rattle.proc_tree.specs.Programs.{program_of}
 use Rattle.notation.specs.AgreementViews.{context_of, scope_of}
 use Rattle.notation.proofs.AgreementParts.{VariablesGo}
 use Rattle.notation.proofs.agreement.variables.variables_at.Given as goal

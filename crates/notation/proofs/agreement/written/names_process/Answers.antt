@@ -1,7 +1,7 @@
 use Rattle.std.proofs.Common.{◌≡◌, sym, ◌∙◌, rules}
 use Rattle.std.proofs.lemmas.Option.{slice_get-map}
 use Rattle.dbg_base.specs.Trees.{Process}
-use Rattle.proc_lang.specs.Programs.{program_of}
+use Rattle.proc_tree.specs.Programs.{program_of}
 use Rattle.notation.proofs.AgreementPlain as lemma
 use Rattle.notation.proofs.agreement.written.names_process.Goals as goal
 

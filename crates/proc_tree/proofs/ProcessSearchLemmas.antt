@@ -4,8 +4,8 @@ use Rattle.std.specs.Str.{bytes_eq}
 use Rattle.std.proofs.lemmas.List.{at_drop_more}
 use Rattle.dbg_base.specs.Names.{place_from}
 use Rattle.dbg_base.specs.Trees.{names_of}
-use Rattle.proc_lang.specs.declared.process.Process.{Process}
-use Rattle.proc_lang.specs.ProcessTrees.{process_tree}
+use Rattle.proc_tree.specs.declared.process.Process.{Process}
+use Rattle.proc_tree.specs.ProcessTrees.{process_tree}
 
 -- the search from the i-th process on
 abbrev pub search_from : ℕ → List ℕ → List Process → Option ℕ

@@ -1,6 +1,6 @@
 use Rattle.std.proofs.Common.{sym, ◌∙◌}
-use Rattle.proc_lang.proofs.ProcessSearchLemmas.{search_found, search_passed}
-use Rattle.proc_lang.proofs.program.Program.find_process_by.Goals as goal
+use Rattle.proc_tree.proofs.ProcessSearchLemmas.{search_found, search_passed}
+use Rattle.proc_tree.proofs.program.Program.find_process_by.Goals as goal
 
 pub returns-then-is_named : goal.returns-then-is_named
 returns-then-is_named c =

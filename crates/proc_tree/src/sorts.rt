@@ -6,7 +6,7 @@ ghost use Rattle.dbg_base.specs.Sorts.{outcome_sort, operand_sort};
 use dbg_base::{Operator, Sort};
 
 /// The type of the operator's result.
-pub(crate) fn outcome_sort(operator: Operator) -> Sort
+pub fn outcome_sort(operator: Operator) -> Sort
     ensures { result ≡ outcome_sort operator }
 {
     match operator {
@@ -20,7 +20,7 @@ pub(crate) fn outcome_sort(operator: Operator) -> Sort
 }
 
 /// The type of the operator's operands.
-pub(crate) fn operand_sort(operator: Operator) -> Sort
+pub fn operand_sort(operator: Operator) -> Sort
     ensures { result ≡ operand_sort operator }
 {
     match operator {

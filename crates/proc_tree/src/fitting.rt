@@ -5,8 +5,8 @@ ghost use Rattle.dbg_base.specs.Trees.{tree_of};
 ghost use Rattle.dbg_base.specs.Sorts.{is_same_sort};
 ghost use Rattle.dbg_base.specs.WellFormed.{tree_sort, is_other, fits_within};
 ghost use Rattle.dbg_base.specs.Predicates.{is_predicate};
-ghost use Rattle.proc_lang.specs.Programs.{program_of};
-ghost use Rattle.proc_lang.specs.Scopes.{bounds_of};
+ghost use Rattle.proc_tree.specs.Programs.{program_of};
+ghost use Rattle.proc_tree.specs.Bounds.{bounds_of};
 
 use crate::program::Program;
 use crate::sorts::{operand_sort, outcome_sort};

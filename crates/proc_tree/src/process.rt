@@ -33,19 +33,19 @@ pub struct Guarded {
 
 /// A variable of a process.
 #[derive(Clone, Copy, Debug)]
-pub(crate) struct Variable {
-    pub(crate) name: Name,
-    pub(crate) start: i64,
+pub struct Variable {
+    pub name: Name,
+    pub start: i64,
 }
 
 /// A process.
 #[derive(Debug)]
-pub(crate) struct Process {
-    pub(crate) name: Name,
-    pub(crate) variables: Vec<Variable>,
-    pub(crate) commands: Vec<Guarded>,
-    ghost few_variables: { vec_len variables ≤ VARIABLES },
-    ghost few_commands: { vec_len commands ≤ COMMANDS },
+pub struct Process {
+    pub name: Name,
+    pub variables: Vec<Variable>,
+    pub commands: Vec<Guarded>,
+    pub ghost few_variables: { vec_len variables ≤ VARIABLES },
+    pub ghost few_commands: { vec_len commands ≤ COMMANDS },
 }
 
 impl Drop for Process {

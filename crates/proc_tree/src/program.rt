@@ -4,7 +4,7 @@ ghost use Rattle.std.specs.Prelude.{◌≡◌, ◌≤◌, true};
 ghost use Rattle.std.specs.Str.{bytes_eq};
 ghost use Rattle.dbg_base.specs.declared.limits.TheConstants.{PROCESSES, VARIABLES, COMMANDS};
 ghost use Rattle.dbg_base.specs.WellFormed.{is_well_formed};
-ghost use Rattle.proc_lang.specs.ProcessTrees.{process_trees};
+ghost use Rattle.proc_tree.specs.ProcessTrees.{process_trees};
 
 use crate::process::{Guarded, Process, Variable};
 use dbg_base::{Choice, Name, Pid};
@@ -12,7 +12,7 @@ use dbg_base::{Choice, Name, Pid};
 /// A program that has passed all checks, so it is well formed. Contracts see the tree `program_of`.
 #[derive(Debug)]
 pub struct Program {
-    pub(crate) processes: Vec<Process>,
+    pub processes: Vec<Process>,
     pub ghost well_formed: { is_well_formed (process_trees processes.items) ≡ true },
 }
 
@@ -35,8 +35,8 @@ impl Program {
     ghost use Rattle.std.specs.Option.{option_map, option_copied};
     ghost use Rattle.dbg_base.specs.Names.{place_of};
     ghost use Rattle.dbg_base.specs.Trees.{no_process, process_of, command_of, names_of};
-    ghost use Rattle.proc_lang.specs.Programs.{program_of};
-    ghost use Rattle.proc_lang.specs.ProcessTrees.{process_tree, command_tree};
+    ghost use Rattle.proc_tree.specs.Programs.{program_of};
+    ghost use Rattle.proc_tree.specs.ProcessTrees.{process_tree, command_tree};
 
     fn process(&self, pid: Pid) -> Option<&Process>
         ensures value { option_copied result ≡ slice_get self.now.processes.items pid.0 }

@@ -2,11 +2,11 @@
 use Rattle.std.specs.Prelude.{ℕ, List, map}
 use Rattle.dbg_base.specs.Trees as tree
 use Rattle.dbg_base.specs.Trees.{tree_of}
-use Rattle.proc_lang.specs.declared.process.Action.{Action}
-use Rattle.proc_lang.specs.declared.process.Action.TheVariants.{Local, Send, Receive}
-use Rattle.proc_lang.specs.declared.process.Assignment.{Assignment}
-use Rattle.proc_lang.specs.declared.process.Guarded.{Guarded}
-use Rattle.proc_lang.specs.declared.process.Process.{Process}
+use Rattle.proc_tree.specs.declared.process.Action.{Action}
+use Rattle.proc_tree.specs.declared.process.Action.TheVariants.{Local, Send, Receive}
+use Rattle.proc_tree.specs.declared.process.Assignment.{Assignment}
+use Rattle.proc_tree.specs.declared.process.Guarded.{Guarded}
+use Rattle.proc_tree.specs.declared.process.Process.{Process}
 
 abbrev pub action_tree : Action → tree.Action
 action_tree Local = tree.Local

@@ -1,7 +1,7 @@
 -- The tree of a program of the code.
 use Rattle.dbg_base.specs.Trees as tree
-use Rattle.proc_lang.specs.ProcessTrees.{process_trees}
-use Rattle.proc_lang.specs.declared.program.Program.{Program}
+use Rattle.proc_tree.specs.ProcessTrees.{process_trees}
+use Rattle.proc_tree.specs.declared.program.Program.{Program}
 
 abbrev pub program_of : Program → tree.Program
 program_of P = process_trees P.processes.items

@@ -1,0 +1,3 @@
+pub mod ProcessTrees
+pub mod Programs
+pub mod Bounds
