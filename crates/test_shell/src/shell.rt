@@ -1,38 +1,18 @@
 //! Tests of `dbg_shell`, with expected texts from the tables of the program's documents.
 
-mod back;
-mod batches;
-mod break_lines;
-mod breakpoints;
 mod broken;
 mod crews;
-mod deep_back;
 mod faults;
-mod files;
-mod fits;
-mod full_journal;
 mod jobs;
-mod lines;
-mod pictures;
-mod programs;
 mod replies;
-mod rollback;
 mod sessions;
-mod undo;
-mod views;
 
 use crate::expecting::{expect_same, expect_true};
 use dbg_shell::{Noted, check, serve, status};
-use proc_lang::parse_program;
-use proc_tree::Program;
 use std::alloc::Global;
 use std::io::{Read, Write};
 use std::process::Abort;
-use test_programs::{MEMORY, TWO};
-
-fn two(rt: &impl Abort, alloc: Global) -> Program {
-    parse_program(alloc, TWO.as_bytes()).expect(rt, "a program")
-}
+use test_programs::MEMORY;
 
 // Adds a text.
 fn add(rt: &impl Abort, all: &mut Vec<u8>, text: &str) {
@@ -66,14 +46,6 @@ fn serve_between<R: Read, W: Write>(alloc: Global, reader: &mut R, writer: &mut 
     status(&outcome)
 }
 
-// The output of `check` for a text, and the exit status.
-fn checked(alloc: Global, text: &[u8]) -> (Vec<u8>, u8) {
-    let mut reader = text;
-    let mut writer = Vec::new(alloc);
-    let code = check_between(alloc, &mut reader, &mut writer);
-    (writer, code)
-}
-
 // The output of `serve` for an input, and the exit status.
 fn served(alloc: Global, input: &[u8]) -> (Vec<u8>, u8) {
     let mut reader = input;
@@ -104,45 +76,24 @@ fn expect_written(rt: &impl Abort, name: &str, written: &[u8], code: u8, want: &
 
 // Expects this output of `check` for a text.
 fn expect_checked(rt: &impl Abort, alloc: Global, text: &[u8], want: &str) {
-    let (written, code) = checked(alloc, text);
-    expect_written(rt, want, written.as_slice(), code, want);
+    let mut reader = text;
+    let mut writer = Vec::new(alloc);
+    let code = check_between(alloc, &mut reader, &mut writer);
+    expect_written(rt, want, writer.as_slice(), code, want);
 }
 
 // Expects this output of `serve` for an input; a failure shows the name.
-fn expect_served_of(rt: &impl Abort, alloc: Global, name: &str, input: &[u8], want: &str) {
+fn expect_served(rt: &impl Abort, alloc: Global, name: &str, input: &[u8], want: &str) {
     let (replies, code) = served(alloc, input);
     expect_written(rt, name, replies.as_slice(), code, want);
-}
-
-// Expects this output of `serve` for an input.
-fn expect_served(rt: &impl Abort, alloc: Global, input: &[u8], want: &str) {
-    expect_served_of(rt, alloc, want, input, want);
 }
 
 // Rows of a name, a program, the lines after it and the output for them.
 fn expect_rows(rt: &impl Abort, alloc: Global, rows: &[(&str, &str, &str, &str)]) {
     for (name, program, lines, want) in rows {
         let input = joined(rt, alloc, program, lines);
-        expect_served_of(rt, alloc, name, input.as_slice(), want);
+        expect_served(rt, alloc, name, input.as_slice(), want);
     }
-}
-
-// Expects these replies to lines that are given so often after a program, and to the lines after them.
-fn expect_repeated(
-    rt: &impl Abort,
-    alloc: Global,
-    program: &str,
-    rounds: (&str, &str, u32),
-    after: (&str, &str),
-) {
-    let (lines, replies, count) = rounds;
-    let mut input = joined(rt, alloc, program, "%%\n");
-    let mut want = Vec::new(alloc);
-    repeat(rt, &mut input, lines, count);
-    repeat(rt, &mut want, replies, count);
-    add(rt, &mut input, after.0);
-    add(rt, &mut want, after.1);
-    expect_long(rt, alloc, input.as_slice(), want.as_slice(), 0);
 }
 
 // Expects so long an output of `serve`, with this exit status. A failure does not show it.

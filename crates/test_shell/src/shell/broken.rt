@@ -1,6 +1,6 @@
 //! Inputs that break off, and devices that are interrupted.
 
-use super::breakpoints::{GOING, GONE};
+use super::sessions::{GOING, GONE};
 use super::{expect_served, joined, served};
 use crate::expecting::{expect_same, expect_true};
 use dbg_shell::{Health, Noted, check, serve, status};
@@ -39,7 +39,8 @@ fn expect_answers(rt: &impl Abort, written: &[u8], whole: usize) {
 // Expects the output for a prefix of the input, whose command lines begin at an offset.
 fn expect_prefix(rt: &impl Abort, alloc: Global, prefix: &[u8], begun: usize) {
     if prefix.len() < begun {
-        expect_served(rt, alloc, prefix, "program refused: no end line\n");
+        let want = "program refused: no end line\n";
+        expect_served(rt, alloc, want, prefix, want);
         return;
     }
     let (written, code) = served(alloc, prefix);

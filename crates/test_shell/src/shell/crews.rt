@@ -1,15 +1,14 @@
 //! Runs of workers. Each `next` is a call, accepted or refused, so there are as many calls as turns of all processes.
 
-use super::joined;
 use crate::expecting::{expect_same, expect_true};
 use dbg_shell::{Closing, Mismatch, Noted, crew_status, fits_turns, print_closing, run_crew};
-use std::alloc::{AllocError, Global};
+use std::alloc::Global;
 use std::io;
 use std::io::{Read, Write};
 use std::process::Abort;
 use std::sync::Wait;
 use std::thread::Threads;
-use test_programs::{MEMORY, THREE};
+use test_programs::THREE;
 
 // Runs workers between a reader and a writer, and returns the exit status.
 fn crew_between<R: Threads + Wait + Sync, I: Read, O: Write>(
@@ -45,14 +44,7 @@ fn expect_crewed<R: Threads + Wait + Sync + Abort>(
 #[test]
 fn three_workers_settle(rt: HostRuntime) {
     let settled = "calls 300\njournal ok\n";
-    // If no line ends the text, the end of the input does.
     expect_crewed(&rt, rt.alloc(), 100, THREE.as_bytes(), settled, 0);
-    // What comes after the line that ends it is not read.
-    let more = "%%\n1 next a\nno line of any form";
-    let input = joined(&rt, rt.alloc(), THREE, more);
-    expect_crewed(&rt, rt.alloc(), 100, input.as_slice(), settled, 0);
-    let settled = "calls 3\njournal ok\n";
-    expect_crewed(&rt, rt.alloc(), 1, input.as_slice(), settled, 0);
 }
 
 // Turns, processes, and whether they are few enough.
@@ -72,84 +64,6 @@ fn there_are_no_more_turns_than_calls(rt: HostRuntime) {
         let found = (*turns, *processes, fits_turns(*turns, *processes));
         expect_same(&rt, found, (*turns, *processes, *fits));
     }
-    let many = "too many turns\n";
-    expect_crewed(&rt, rt.alloc(), 33_334, THREE.as_bytes(), many, 2);
-    expect_crewed(&rt, rt.alloc(), 100_000, THREE.as_bytes(), many, 2);
-    // The program is read first.
-    let refused = "program refused 1 at 8\n";
-    expect_crewed(&rt, rt.alloc(), 100_000, b"process A {}\n%%\n", refused, 3);
-}
-
-const REFUSED: [(&str, &str); 5] = [
-    ("process A {}\n%%\n", "program refused 1 at 8\n"),
-    ("process A {}", "program refused 1 at 8\n"),
-    (
-        "process a { when true : }\n%%\n",
-        "program refused 3 at 24\n",
-    ),
-    ("%%\n", "program refused 3 at 0\n"),
-    ("", "program refused 3 at 0\n"),
-];
-
-#[test]
-fn texts_that_are_refused_are_reported_as_by_check(rt: HostRuntime) {
-    for (input, want) in &REFUSED {
-        expect_crewed(&rt, rt.alloc(), 1, input.as_bytes(), want, 3);
-    }
-    let mut long = joined(&rt, rt.alloc(), THREE, "");
-    long.resize(1_048_577, b' ').expect(&rt, MEMORY);
-    expect_crewed(&rt, rt.alloc(), 1, long.as_slice(), "input too long\n", 1);
-}
-
-// So many processes, each of which counts.
-fn counters(alloc: Global, processes: u32) -> Result<Vec<u8>, AllocError> {
-    let mut text = Vec::new(alloc);
-    for p in 0..processes {
-        let line = format!(in alloc; "process p{p} {{ var x = 0; when true : x := (x + 1); }}\n")?;
-        text.extend_from_slice(line.as_bytes())?;
-    }
-    Ok(text)
-}
-
-// How many processes there are, and the output for ten turns of each.
-const COUNTERS: [(u32, &str); 4] = [
-    (1, "calls 10\njournal ok\n"),
-    (16, "calls 160\njournal ok\n"),
-    (17, "calls 170\njournal ok\n"),
-    (32, "calls 320\njournal ok\n"),
-];
-
-#[test]
-fn sixteen_seats_serve_all_processes(rt: HostRuntime) {
-    for (processes, want) in &COUNTERS {
-        let input = counters(rt.alloc(), *processes).expect(&rt, MEMORY);
-        expect_crewed(&rt, rt.alloc(), 10, input.as_slice(), want, 0);
-    }
-}
-
-// The program of examples/transfers.rdbg: two accounts, and a third process that counts by itself.
-const TRANSFERS: &str = "process alice {
-  var money = 10;
-  var sum = 0;
-  when ((sent(bob) < (10 * (1 + got(bob)))) and (money > 0)) : send bob 1, money := (money - 1);
-  when true : recv bob sum, money := (money + sum);
-}
-process bob {
-  var money = 0;
-  var sum = 0;
-  when (money > 4) : send alice 5, money := (money - 5);
-  when true : recv alice sum, money := (money + sum);
-}
-process watch {
-  var ticks = 0;
-  when true : ticks := (ticks + 1);
-}
-";
-
-#[test]
-fn transfers_settle(rt: HostRuntime) {
-    let settled = "calls 3000\njournal ok\n";
-    expect_crewed(&rt, rt.alloc(), 1_000, TRANSFERS.as_bytes(), settled, 0);
 }
 
 // Expects this output for the end of a run.
