@@ -11,7 +11,7 @@ use ui_diagram::{ALL_EVENTS, draw_text};
 use ui_explain::{Before, ExplainedSession};
 use ui_text::{Notes, Part, tell_help, tell_to_file, tell_too_long};
 use ui_timeline::Selection;
-use ui_view::{CountedCommand, Directive, Echo, Explainer, SourceView, Told};
+use ui_view::{CountedCommand, CountedCommands, Directive, Echo, Explainer, SourceView, Told};
 
 /// The most bytes of explanations of a session. A line that is answered without a call counts more, by the work that its answer takes.
 pub const EXPLAINED_BYTES: usize = 268_435_456;
@@ -185,6 +185,7 @@ impl<'a> Sentences<'a> {
         alloc: Global,
         notes: &mut Notes,
         view: SessionView<'_>,
+        commands: &CountedCommands,
         directive: Directive<'_>,
     ) -> Result<(), Refusal> {
         let view = view_of(self.program, view);
@@ -199,6 +200,7 @@ impl<'a> Sentences<'a> {
             Directive::State(name) => view.tell_state(alloc, notes, name),
             Directive::Line(name) => Ok(view.tell_line(notes, name)?),
             Directive::Draw => self.draw(alloc, notes, view.view),
+            Directive::Session => Ok(commands.tell_lines(notes)?),
             Directive::TooLong(word) => Ok(tell_too_long(notes, word)?),
             Directive::ToFile(word) => Ok(tell_to_file(notes, word)?),
         }
@@ -265,6 +267,7 @@ impl Explainer<Option<LineFault>> for Sentences<'_> {
         &mut self,
         alloc: Global,
         view: SessionView<'_>,
+        commands: &CountedCommands,
         directive: Directive<'_>,
         notes: &mut Notes,
     ) {
@@ -274,7 +277,7 @@ impl Explainer<Option<LineFault>> for Sentences<'_> {
         if self.left == 0 {
             return Sentences::tell_end(notes);
         }
-        let _ended = self.tell_directive(alloc, notes, view, directive);
+        let _ended = self.tell_directive(alloc, notes, view, commands, directive);
         let more = match directive {
             Directive::Draw => events_of(view).saturating_mul(EVENT_WEIGHT),
             _ => self.program.text().text().len(),

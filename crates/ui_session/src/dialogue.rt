@@ -55,13 +55,18 @@ impl<T> Dialogue<T> {
     }
 }
 
-// Keeps the reply to a line, without its line end, in place of the last one.
-fn keep_reply(alloc: Global, program: &Program, reply: LineReply<'_>, kept: &mut Vec<u8>)
+// Keeps the reply to a line, without its line end, in place of the last one. Error: memory ran out.
+fn keep_reply(
+    alloc: Global,
+    program: &Program,
+    reply: LineReply<'_>,
+    kept: &mut Vec<u8>,
+) -> Result<(), ServeFault>
     requires { FitsReply (program_of program.now) reply }
 {
     kept.clear();
     let mut line = Noted::new(Room::Text(mem::replace(kept, Vec::new(alloc))));
-    let _written = match reply {
+    let written = match reply {
         LineReply::Said(call, said) => print_reply(program, call, said, &mut line),
         LineReply::Refused(refusal) => print_refusal(program, refusal, &mut line),
     };
@@ -69,6 +74,7 @@ fn keep_reply(alloc: Global, program: &Program, reply: LineReply<'_>, kept: &mut
     if kept.last() == Some(&b'\n') {
         let _end = kept.pop();
     }
+    written
 }
 
 // What was said to a line. An accepted `back` took back the last command.
@@ -83,11 +89,16 @@ fn told<'x>(commands: &'x CountedCommands, reply: LineReply<'x>) -> Told<'x> {
 }
 
 // Notes the command of this line, if it was accepted, or that one was taken back.
-fn count(commands: &mut CountedCommands, line: &[u8], reply: LineReply<'_>) {
+fn count<N>(commands: &mut CountedCommands, line: &GivenLine<'_, N>, reply: LineReply<'_>) {
+    if line.is_first {
+        commands.begin_line();
+    }
     match reply {
         LineReply::Said(Call::Back, Said::Accepted(_)) => commands.pop(),
-        LineReply::Said(call, Said::Accepted(_)) => commands.push(line, call),
-        LineReply::Said(_, _) | LineReply::Refused(_) => {}
+        LineReply::Said(call, Said::Accepted(_)) => {
+            commands.push(line.played.unwrap_or(line.written), line.written, call);
+        }
+        LineReply::Said(_, _) | LineReply::Refused(_) => commands.skip(),
     }
 }
 
@@ -128,8 +139,13 @@ impl<T: Explainer<N>, N> Observer<N> for Dialogue<T> {
         line: &[u8],
         writer: &mut W,
     ) -> Result<(), ServeFault> {
-        self.explainer
-            .answer_directive(alloc, view, directive(line), &mut self.notes);
+        self.explainer.answer_directive(
+            alloc,
+            view,
+            &self.commands,
+            directive(line),
+            &mut self.notes,
+        );
         explain(&mut self.notes, writer)
     }
 
@@ -147,7 +163,8 @@ impl<T: Explainer<N>, N> Observer<N> for Dialogue<T> {
         writer: &mut W,
     ) -> Result<(), ServeFault> {
         if self.explainer.keeps_replies() {
-            keep_reply(alloc, view.program, reply, &mut self.reply);
+            let kept = keep_reply(alloc, view.program, reply, &mut self.reply);
+            self.is_out_of_memory |= kept.is_err();
         }
         let explained = self.explainer.explain(
             alloc,
@@ -158,11 +175,7 @@ impl<T: Explainer<N>, N> Observer<N> for Dialogue<T> {
             &mut self.notes,
         );
         self.is_out_of_memory |= explained.is_err();
-        count(
-            &mut self.commands,
-            line.played.unwrap_or(line.written),
-            reply,
-        );
+        count(&mut self.commands, line, reply);
         explain(&mut self.notes, writer)
     }
 

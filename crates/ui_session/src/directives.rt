@@ -19,6 +19,7 @@ pub(crate) enum Verb {
     State,
     Line,
     Draw,
+    Session,
     Quit,
 }
 
@@ -49,6 +50,8 @@ fn verb_of(word: &[u8]) -> Option<Verb>
         Some(Verb::Line)
     } else if word == b"draw".as_slice() {
         Some(Verb::Draw)
+    } else if word == b"session".as_slice() {
+        Some(Verb::Session)
     } else if word == b"quit".as_slice() || word == b"exit".as_slice() || word == b"q".as_slice() {
         Some(Verb::Quit)
     } else {
@@ -92,7 +95,7 @@ pub(crate) fn sort(line: &[u8]) -> LineSort
 impl Verb {
     // Whether a word may follow it.
     fn has_argument(self) -> bool {
-        !matches!(self, Verb::Draw | Verb::Quit)
+        !matches!(self, Verb::Draw | Verb::Session | Verb::Quit)
     }
 
     // The directive with this argument, which is empty if there is none.
@@ -104,6 +107,7 @@ impl Verb {
             Verb::State => Directive::State(argument),
             Verb::Line => Directive::Line(argument),
             Verb::Draw => Directive::Draw,
+            Verb::Session => Directive::Session,
             Verb::Quit => Directive::Quit,
         }
     }

@@ -31,12 +31,13 @@ static COMMANDS: [&str; 20] = [
 ];
 
 // The lines that an interactive session answers itself.
-static DIRECTIVES: [&str; 7] = [
+static DIRECTIVES: [&str; 8] = [
     "`on [P]`: shows which commands can fire now, of all processes or of P",
     "`list [P]`: shows all commands, and what prevents each from firing",
     "`state [P]`: shows all variables and counts, and the messages on their way",
     "`line P`: shows the events of P, and what it can redo",
     "`draw`: draws a picture: a column for each process, events downward",
+    "`session`: shows the lines that lead to the present state, to keep them or to play them again",
     "`help [WORD]`: shows these lines, or what a command or the number of a refusal means; so does `?`",
     "`quit`: ends the session; so do `exit` and `q`",
 ];
@@ -99,12 +100,18 @@ fn takes(form: &str, arguments: usize) -> bool {
     least <= arguments && (arguments <= most || form.contains(".."))
 }
 
+// Whether this line of the help is about a word that is short only where no other word is, so that older short lines keep their meaning.
+fn is_late(line: &str) -> bool {
+    is_about(line, b"session")
+}
+
 /// Whether this is a command or directive.
 pub fn is_whole_word(word: &[u8]) -> bool {
     help_line(word).is_some()
 }
 
-/// The command or directive of which this word is the start, if there is exactly one that can have so many more words.
+/// The command or directive of which this word is the start, if there is exactly one that can have so many more words. `session` gives way to
+/// any other.
 pub fn whole_word(word: &[u8], arguments: usize) -> Option<&'static str> {
     if word.is_empty() {
         return None;
@@ -112,10 +119,11 @@ pub fn whole_word(word: &[u8], arguments: usize) -> Option<&'static str> {
     let mut found = None;
     for line in COMMANDS.iter().chain(&DIRECTIVES) {
         if is_begun_by(line, word) && takes(form_of(line), arguments) {
-            if found.is_some() {
-                return None;
+            match found {
+                None => found = Some(word_of(line)),
+                Some(_) if is_late(line) => {}
+                Some(_) => return None,
             }
-            found = Some(word_of(line));
         }
     }
     found

@@ -17,6 +17,8 @@ pub enum Directive<'a> {
     Line(&'a [u8]),
     /// A picture of the events.
     Draw,
+    /// The lines that lead to the present state.
+    Session,
     /// The end of the session.
     Quit,
     /// A line that begins with this word, and has a word too many.

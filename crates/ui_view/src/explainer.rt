@@ -1,6 +1,6 @@
 //! Explanations of a session.
 
-use crate::counted::CountedCommand;
+use crate::counted::{CountedCommand, CountedCommands};
 use crate::directive::Directive;
 use dbg_base::{Call, Refusal, Said};
 use dbg_command::SessionView;
@@ -64,11 +64,12 @@ pub trait Explainer<N> {
         Ok(())
     }
 
-    /// Writes the answer to a directive.
+    /// Writes the answer to a directive, after these commands.
     fn answer_directive(
         &mut self,
         _alloc: Global,
         _view: SessionView<'_>,
+        _commands: &CountedCommands,
         _directive: Directive<'_>,
         _notes: &mut Notes,
     ) {}

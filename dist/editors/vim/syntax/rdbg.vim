@@ -32,7 +32,7 @@ syntax match rdbgHalted "\<halted \S\+\s*$" contained
 syntax match rdbgSeat "^\s*\d\+\ze\s" contained
 syntax match rdbgCommand "\%(\%(^\s*\|\s:\s\+\)\%(\d\+\s\+\)\?\|;\s\+\|\<batch\s\+\)\@<=\%(step\|next\|undo\|redo\|rollback\|break\|goto\|clear\|pass\|arm\|batch\|back\)\>" contained
 syntax match rdbgQuestion "\%(\%(^\s*\|\s:\s\+\)\%(\d\+\s\+\)\?\)\@<=\%(vars\|chan\|clock\|place\|can\|cut\|why\|breaks\)\>" contained
-syntax match rdbgOwnWord "\%(^\s*\)\@<=\%(help\|on\|list\|state\|line\|draw\|quit\|exit\|q\)\>" contained
+syntax match rdbgOwnWord "\%(^\s*\)\@<=\%(help\|on\|list\|state\|line\|draw\|session\|quit\|exit\|q\)\>" contained
 syntax match rdbgBetween "\s\zs;\ze\s" contained
 syntax region rdbgPredicate start="(" end=")" oneline contained contains=rdbgPredicate,rdbgTruth,rdbgOperatorWord,rdbgCount,rdbgNumber,rdbgOperator,rdbgNotation,rdbgNotationForm,rdbgRange
 
