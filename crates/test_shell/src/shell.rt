@@ -1,9 +1,11 @@
 //! Tests of `dbg_shell`, with expected texts from the tables of the program's documents.
 
+mod breakpoints;
 mod broken;
 mod crews;
 mod faults;
 mod jobs;
+mod limits;
 mod replies;
 mod sessions;
 
