@@ -1,8 +1,9 @@
 -- What is kept of a command undoes it: from the state to which it led, to the state in which it was given.
 use Rattle.std.proofs.Common.{◌≡◌, ℕ, zero, suc, ◌+◌, ◌-◌, ◌<◌, ◌≤◌, Bool, true, false, List, [], ◌∷◌, ◌++◌, length, get_or, set, insert}
 use Rattle.std.proofs.Common.{Option, Some, None, refl, sym, ap, ◌∙◌, subst, arith}
-use Rattle.std.specs.Prelude.{slice_get, Result, Ok, Err, OnOk, IfSome}
+use Rattle.std.specs.Prelude.{slice_get, Result, Ok, Err, OnOk, IfErr, IfSome}
 use Rattle.dbg_base.specs.declared.refusal.Refusal.{Refusal}
+use Rattle.dbg_base.specs.declared.refusal.Refusal.TheVariants.{Memory}
 use Rattle.std.proofs.lemmas.List.{length-map, set-set, set-get_or, get_or-set_same}
 use Rattle.dbg_base.specs.declared.limits.TheConstants.{BREAKPOINTS}
 use Rattle.dbg_base.specs.Trees.{Program}
@@ -31,6 +32,11 @@ pub leads_from : (MayGoBack : ModelState → Type 0) (undone : ModelState → Mo
     → LeadsBack MayGoBack undone M M' → LeadsBack MayGoBack undone N N'
 leads_from MayGoBack undone M M' N N' from to leads =
     subst (λ (X : ModelState). LeadsBack MayGoBack undone N X) to (subst (λ (X : ModelState). LeadsBack MayGoBack undone X M') from leads)
+
+-- what holds anyway holds also if memory ran out
+pub if_refused : {A Holds : Type 0} (r : Result A Refusal) → Holds → IfErr r (λ refusal. refusal ≡ Memory → Holds)
+if_refused (Ok done) holds = tt
+if_refused (Err refusal) holds = λ memory. holds
 
 -- what holds of an accepted command for each program of the table holds for one
 pub accepted_in : {A : Type 0} (r : Result A Refusal) (t : TableState) (P : Program) (Holds : Program → Type 0)

@@ -19,6 +19,7 @@ use Rattle.causal_world.specs.Scenes.{Scene, IsWorldOf}
 use Rattle.least_cut.specs.Detectors as detector
 use Rattle.least_cut.specs.Detectors.{DetectorState, IsDetectorOf, conjuncts_of}
 use Rattle.break_book.specs.Books.{Kept, Entry, breakpoint_of, breakpoints_of, AreDetectorsOf}
+use Rattle.dbg_command.specs.Boxes.{HasNamed}
 use Rattle.dbg_command.specs.Tables.{TableState, IsTableOf, IsCutOf, AnswersOrRefuses, state_of}
 
 -- the clock of an existing process
@@ -45,6 +46,14 @@ tells_no_break P M name refusal (inl lacks) =
     inl (subst (λ (o : Option Breakpoint). AboutFound o (λ b. TellsCut P M b said) said) (sym lacks.none)
     (ap (λ (r : Refusal). Refused r) lacks.is))
 tells_no_break P M name refusal (inr e) = inr (ap (λ (r : Refusal). Err r) e)
+
+-- a breakpoint that was found is there
+pub found_here : (t : TableState) (name : List ℕ) (kept : Kept) (book : List Entry) → book ≡ t.book
+    → named name (breakpoints_of book) ≡ Some (breakpoint_of (name, kept)) → HasNamed name (state_of t)
+found_here t name kept book same there = (
+  breakpoint_of (name, kept),
+  ap (λ (l : List Entry). named name (breakpoints_of l)) (sym same) ∙ there,
+)
 
 -- a breakpoint that was found, and its detector
 module _ (P : Program) (t : TableState) (is : IsTableOf P t) (name : List ℕ) (kept : Kept) (book : List Entry) (same : book ≡ t.book)

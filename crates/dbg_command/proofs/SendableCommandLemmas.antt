@@ -31,11 +31,11 @@ use Rattle.break_book.specs.contracts.book.Book as book
 use Rattle.break_book.specs.contracts.book.Book.TheInside as book_inside
 use Rattle.dbg_command.specs.contracts.table.Table as table
 use Rattle.dbg_command.specs.contracts.table.Table.TheInside as table_inside
-use Rattle.dbg_command.specs.contracts.kinds.rollback.RollbackCmd as rollback
-use Rattle.dbg_command.specs.contracts.kinds.goto.GotoCmd as goto
-use Rattle.dbg_command.specs.contracts.kinds.undo.UndoCmd as undo
-use Rattle.dbg_command.specs.contracts.kinds.clear.ClearCmd as clear
-use Rattle.dbg_command.specs.contracts.kinds.batch.BatchCmd as batch
+use Rattle.dbg_command.specs.contracts.kinds.undoing.RollbackCmd as rollback
+use Rattle.dbg_command.specs.contracts.kinds.undoing.GotoCmd as goto
+use Rattle.dbg_command.specs.contracts.kinds.undoing.UndoCmd as undo
+use Rattle.dbg_command.specs.contracts.kinds.breaking.ClearCmd as clear
+use Rattle.dbg_command.specs.contracts.kinds.batching.BatchCmd as batch
 
 expr_send : IsSend expr.the_row
 expr_send = search (send-Expr, sendable, crosses) depth 20

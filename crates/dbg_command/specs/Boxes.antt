@@ -5,11 +5,11 @@ use Rattle.dbg_base.specs.declared.call.Plan.TheVariants as plans
 use Rattle.dbg_base.specs.declared.refusal.Refusal.{Refusal}
 use Rattle.dbg_base.specs.declared.limits.TheConstants.{BREAKPOINTS}
 use Rattle.dbg_base.specs.Trees.{Program}
-use Rattle.dbg_base.specs.SystemStates.{line_of, place_at, redo_line, after_choice, after_redo, after_undo, after_rollback}
+use Rattle.dbg_base.specs.SystemStates.{line_of, place_at, redo_line, last_choice, after_choice, after_redo, after_undo, after_rollback}
 use Rattle.dbg_base.specs.Acts.{conjuncts_refusal}
 use Rattle.dbg_base.specs.Breakpoints.{Breakpoint, named, without, with_mark}
 use Rattle.dbg_base.specs.ModelStates.{ModelState, with_system}
-use Rattle.dbg_base.specs.Calls.{Order, One, Batch, Break, Clear, Arm, Pass}
+use Rattle.dbg_base.specs.Calls.{Order, One, Batch, Undo, Goto, Break, Clear, Arm, Pass}
 use Rattle.causal_world.specs.declared.rolled.Taken.{Taken}
 use Rattle.causal_world.specs.Scenes.{Scene, IsWorldOf, restored}
 use Rattle.causal_world.specs.Rollings.{IsRolledFrom}
@@ -115,12 +115,19 @@ abbrev pub is_batch : Order → Bool
 is_batch (One plan) = false
 is_batch (Batch plans) = true
 
--- Whether giving the order may allocate: removing or marking a breakpoint does not.
-abbrev pub takes_memory : Order → Bool
-takes_memory (One (Clear name)) = false
-takes_memory (One (Arm name)) = false
-takes_memory (One (Pass name)) = false
-takes_memory order = true
+-- process p has an event
+abbrev pub HasEvent : ℕ → ModelState → Type 0
+HasEvent p M = (k : ℕ) × (last_choice M.system p ≡ Some k)
+
+-- Giving the order in this state may allocate. Removing or marking a breakpoint does not. Neither does a refusal because a process has no
+-- event to undo, or because there is no breakpoint to go to.
+abbrev pub GiveMayAllocate : Order → ModelState → Type 0
+GiveMayAllocate (One (Clear name)) M = ⊥
+GiveMayAllocate (One (Arm name)) M = ⊥
+GiveMayAllocate (One (Pass name)) M = ⊥
+GiveMayAllocate (One (Undo p)) M = HasEvent p M
+GiveMayAllocate (One (Goto name)) M = HasNamed name M
+GiveMayAllocate order M = Unit {0}
 
 -- whether undoing the order may allocate: removing or marking a breakpoint does not, and exchanging two tables does not
 abbrev pub takes_memory_back : Order → Bool

@@ -19,12 +19,13 @@ use Rattle.dbg_base.specs.Predicates.{Conjunct, IsLeast, NoCut}
 use Rattle.dbg_base.specs.Breakpoints.{Breakpoint, named, name_refusal}
 use Rattle.dbg_base.specs.ModelStates.{ModelState, IsHalted, with_system}
 use Rattle.dbg_base.specs.Refusals.{refusal_number}
-use Rattle.dbg_base.specs.Calls.{Plan, Order, AreCommands, Query, Place, Can}
+use Rattle.dbg_base.specs.Calls.{Plan, Order, AreCommands, Query, Place, Can, CutOf, Why}
 use Rattle.dbg_base.specs.Acts.{Acts, Accepts, Batches, Follows, Refuses}
 use Rattle.dbg_base.specs.Views.{Answers}
 use Rattle.causal_world.specs.Scenes.{Scene, IsWorldOf}
 use Rattle.least_cut.specs.Detectors.{one_more}
 use Rattle.break_book.specs.Books.{Entry, Shown, shown_of, breakpoints_of, new_breakpoint, AreDetectorsOf, HaveRoomUpTo}
+use Rattle.dbg_command.specs.Boxes.{HasNamed}
 
 pub record TableState : Type 0 where
   pub world : Scene
@@ -138,11 +139,14 @@ abbrev pub reported_of : Result Answer Refusal → Said
 reported_of (Ok reported) = Answered reported
 reported_of (Err refusal) = Refused refusal
 
--- Whether answering the query may allocate: the place of a process does not, and whether its last event may be undone does not.
-abbrev pub asks_memory : Query → Bool
-asks_memory (Place p) = false
-asks_memory (Can p) = false
-asks_memory query = true
+-- Answering the query in this state may allocate. The place of a process does not, nor whether its last event may be undone, nor the refusal
+-- because there is no breakpoint of this name.
+abbrev pub AskMayAllocate : Query → ModelState → Type 0
+AskMayAllocate (Place p) M = ⊥
+AskMayAllocate (Can p) M = ⊥
+AskMayAllocate (CutOf name) M = HasNamed name M
+AskMayAllocate (Why name) M = HasNamed name M
+AskMayAllocate query M = Unit {0}
 
 -- the query had this answer, or memory ran out
 abbrev pub AnswersOrRefuses : Program → ModelState → Query → Result Answer Refusal → Type 0

@@ -1,9 +1,11 @@
 //! The answers of a table to queries.
 
-ghost use Rattle.std.specs.Prelude.{◌≢◌, IfErr};
+ghost use Rattle.std.specs.Prelude.{◌≡◌, ◌≢◌, IfErr};
 ghost use Rattle.dbg_base.specs.declared.refusal.Refusal.TheVariants.{Memory};
+ghost use Rattle.dbg_base.specs.Trees as tree;
 ghost use Rattle.dbg_base.specs.Calls as model;
 ghost use Rattle.proc_tree.specs.Programs.{program_of};
+ghost use Rattle.dbg_command.specs.Boxes.{HasNamed};
 ghost use Rattle.dbg_command.specs.Tables.{IsTableOf, AnswersOrRefuses, state_of};
 
 use crate::table::{Table, known};
@@ -81,9 +83,9 @@ impl Table {
     }
 
     // The least cut of the breakpoint of this name.
-    pub(crate) fn cut(&self, program: &Program, name: Name) -> Result<Answer, Refusal>
-        requires { IsTableOf (program_of program.now) self.now }
-        ensures { AnswersOrRefuses (program_of program.now) (state_of self.now) (model.CutOf name) result }
+    pub(crate) fn cut(&self, name: Name) -> Result<Answer, Refusal>
+        ensures answers { (P : tree.Program) → IsTableOf P self.now → AnswersOrRefuses P (state_of self.now) (model.CutOf name) result }
+        ensures memory { IfErr result (λ refusal. refusal ≡ Memory → HasNamed name (state_of self.now)) }
     {
         match self.cut_of(name) {
             Ok(cut) => Ok(Answer::CutIs(cut)),
@@ -92,14 +94,9 @@ impl Table {
     }
 
     // The frontier of the breakpoint of this name.
-    pub(crate) fn frontier(
-        &self,
-        alloc: Global,
-        program: &Program,
-        name: Name,
-    ) -> Result<Answer, Refusal>
-        requires { IsTableOf (program_of program.now) self.now }
-        ensures { AnswersOrRefuses (program_of program.now) (state_of self.now) (model.Why name) result }
+    pub(crate) fn frontier(&self, alloc: Global, name: Name) -> Result<Answer, Refusal>
+        ensures answers { (P : tree.Program) → IsTableOf P self.now → AnswersOrRefuses P (state_of self.now) (model.Why name) result }
+        ensures memory { IfErr result (λ refusal. refusal ≡ Memory → HasNamed name (state_of self.now)) }
     {
         let Some((_, breakpoint)) = self.book().find(name) else {
             return Err(Refusal::UnknownBreak);
@@ -108,8 +105,8 @@ impl Table {
     }
 
     // The breakpoints in order, with their marks.
-    pub(crate) fn marks(&self, alloc: Global, program: &Program) -> Result<Answer, Refusal>
-        ensures { AnswersOrRefuses (program_of program.now) (state_of self.now) model.Breaks result }
+    pub(crate) fn marks(&self, alloc: Global) -> Result<Answer, Refusal>
+        ensures { (P : tree.Program) → AnswersOrRefuses P (state_of self.now) model.Breaks result }
     {
         Ok(Answer::Marks(self.book().list(alloc)?))
     }

@@ -40,13 +40,13 @@ impl Table {
             Plan::Undo(pid) => self.undo(alloc, program, *pid, &mut None),
             Plan::Redo(pid) => self.redo(alloc, program, *pid),
             Plan::Rollback(pid, n) => self.rollback(alloc, program, *pid, *n, &mut None),
-            Plan::Goto(name) => self.go_to(alloc, program, *name, &mut None),
+            Plan::Goto(name) => self.go_to(alloc, *name, &mut None),
             Plan::Break(name, conjuncts) => {
                 self.set_break(alloc, program, *name, conjuncts, None)
             }
-            Plan::Clear(name) => self.clear(program, *name, &mut None),
-            Plan::Arm(name) => self.arm(program, *name),
-            Plan::Pass(name) => self.pass(program, *name),
+            Plan::Clear(name) => self.clear(*name, &mut None),
+            Plan::Arm(name) => self.arm(*name),
+            Plan::Pass(name) => self.pass(*name),
             Plan::Batch(_) => unreachable!(),
         }
     }

@@ -92,16 +92,16 @@ impl Table {
     // Removes the breakpoint. It is in `kept` then, with its position.
     pub(crate) fn clear(
         &mut self,
-        program: &Program,
         name: Name,
         kept: &mut Option<(usize, Breakpoint)>,
     ) -> Result<Reply, Refusal>
-        requires { IsTableOf (program_of program.now) self.old }
-        ensures of { IsTableOf (program_of program.now) self.new }
-        ensures acts { ActsOrRefuses (program_of program.now) (model.Clear name) (state_of self.old) result (state_of self.new) }
+        ensures of { (P : tree.Program) → IsTableOf P self.old → IsTableOf P self.new }
+        ensures acts { (P : tree.Program) → IsTableOf P self.old
+            → ActsOrRefuses P (model.Clear name) (state_of self.old) result (state_of self.new) }
         ensures memory { IfErr result (λ refusal. refusal ≢ Memory) }
-        ensures leads { OnOk result (LeadsBackBy kept.new (λ cleared. HasCleared (program_of program.now) cleared.0 name cleared.1)
-            (λ cleared. uncleared cleared.0 name cleared.1) (state_of self.old) (state_of self.new)) }
+        ensures leads { OnOk result ((P : tree.Program) → IsTableOf P self.old
+            → LeadsBackBy kept.new (λ cleared. HasCleared P cleared.0 name cleared.1) (λ cleared. uncleared cleared.0 name cleared.1)
+            (state_of self.old) (state_of self.new)) }
         ensures refused { OnErr result ((shown self.new ≡ shown self.old) × (kept.new ≡ kept.old)) }
     {
         let cleared = self.book.clear(name)?;
@@ -110,10 +110,10 @@ impl Table {
     }
 
     // Arms the breakpoint: it halts the session again.
-    pub(crate) fn arm(&mut self, program: &Program, name: Name) -> Result<Reply, Refusal>
-        requires { IsTableOf (program_of program.now) self.old }
-        ensures of { IsTableOf (program_of program.now) self.new }
-        ensures acts { ActsOrRefuses (program_of program.now) (model.Arm name) (state_of self.old) result (state_of self.new) }
+    pub(crate) fn arm(&mut self, name: Name) -> Result<Reply, Refusal>
+        ensures of { (P : tree.Program) → IsTableOf P self.old → IsTableOf P self.new }
+        ensures acts { (P : tree.Program) → IsTableOf P self.old
+            → ActsOrRefuses P (model.Arm name) (state_of self.old) result (state_of self.new) }
         ensures memory { IfErr result (λ refusal. refusal ≢ Memory) }
         ensures leads { OnOk result (LeadsBack (HasNamed name) (marked name false) (state_of self.old) (state_of self.new)) }
         ensures kept { OnErr result (shown self.new ≡ shown self.old) }
@@ -123,10 +123,11 @@ impl Table {
     }
 
     // Disarms the breakpoint: it no longer halts the session.
-    pub(crate) fn pass(&mut self, program: &Program, name: Name) -> Result<Reply, Refusal>
-        requires { IsTableOf (program_of program.now) self.old }
-        ensures of { IsTableOf (program_of program.now) self.new }
-        ensures acts { ActsOrRefuses (program_of program.now) (model.Pass name) (state_of self.old) result (state_of self.new) }
+    pub(crate) fn pass(&mut self, name: Name) -> Result<Reply, Refusal>
+        requires { (P : tree.Program) × IsTableOf P self.old }
+        ensures of { (P : tree.Program) → IsTableOf P self.old → IsTableOf P self.new }
+        ensures acts { (P : tree.Program) → IsTableOf P self.old
+            → ActsOrRefuses P (model.Pass name) (state_of self.old) result (state_of self.new) }
         ensures memory { IfErr result (λ refusal. refusal ≢ Memory) }
         ensures leads { OnOk result (LeadsBack (HasUnarmed name) (marked name true) (state_of self.old) (state_of self.new)) }
         ensures kept { OnErr result (shown self.new ≡ shown self.old) }

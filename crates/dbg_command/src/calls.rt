@@ -4,7 +4,7 @@ ghost use Rattle.std.specs.Prelude.{◌≡◌, true, IfErr};
 ghost use Rattle.dbg_base.specs.declared.refusal.Refusal.TheVariants.{Memory};
 ghost use Rattle.dbg_base.specs.Calls.{query_of};
 ghost use Rattle.proc_tree.specs.Programs.{program_of};
-ghost use Rattle.dbg_command.specs.Tables.{IsTableOf, AnswersOrRefuses, asks_memory, state_of};
+ghost use Rattle.dbg_command.specs.Tables.{IsTableOf, AnswersOrRefuses, AskMayAllocate, state_of};
 
 use crate::table::Table;
 use dbg_base::{Answer, Query, Refusal};
@@ -12,11 +12,12 @@ use proc_tree::Program;
 use std::alloc::Global;
 
 impl Table {
-    /// Answers a query. The errors depend on its kind. `Memory` if an allocation fails; `place` and `can` do not allocate.
+    /// Answers a query. The errors depend on its kind. `Memory` if an allocation fails. `place` and `can` do not
+    /// allocate, nor do `cut` and `why` of an unknown breakpoint.
     pub fn ask(&self, alloc: Global, program: &Program, query: &Query) -> Result<Answer, Refusal>
         requires { IsTableOf (program_of program.now) self.now }
         ensures answers { AnswersOrRefuses (program_of program.now) (state_of self.now) (query_of query.now) result }
-        ensures memory { IfErr result (λ refusal. refusal ≡ Memory → asks_memory (query_of query.now) ≡ true) }
+        ensures memory { IfErr result (λ refusal. refusal ≡ Memory → AskMayAllocate (query_of query.now) (state_of self.now)) }
     {
         match query {
             Query::Vars(pid) => self.values(alloc, program, *pid),
@@ -24,9 +25,9 @@ impl Table {
             Query::Clock(pid) => self.clock(alloc, program, *pid),
             Query::Place(pid) => self.place(program, *pid),
             Query::Can(pid) => self.can(program, *pid),
-            Query::CutOf(name) => self.cut(program, *name),
-            Query::Why(name) => self.frontier(alloc, program, *name),
-            Query::Breaks => self.marks(alloc, program),
+            Query::CutOf(name) => self.cut(*name),
+            Query::Why(name) => self.frontier(alloc, *name),
+            Query::Breaks => self.marks(alloc),
         }
     }
 }

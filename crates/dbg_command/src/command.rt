@@ -7,7 +7,7 @@ ghost use Rattle.dbg_base.specs.Calls.{Order, order_of};
 ghost use Rattle.dbg_base.specs.ModelStates.{ModelState};
 ghost use Rattle.proc_tree.specs.Programs.{program_of};
 ghost use Rattle.dbg_command.specs.Tables.{IsTableOf, FollowsOrRefuses, shown, state_of};
-ghost use Rattle.dbg_command.specs.Boxes.{LeadsBack, IsScanFor, takes_memory, takes_memory_back};
+ghost use Rattle.dbg_command.specs.Boxes.{LeadsBack, IsScanFor, GiveMayAllocate, takes_memory_back};
 
 use crate::table::Table;
 use dbg_base::{Plan, Refusal, Reply};
@@ -38,8 +38,8 @@ pub trait Command: Drop + Send {
     fn fresh(&self) -> bool
         ensures { IsTrue result ↔ IsFresh self.now };
 
-    /// Gives the command. On an error no call shows a change. The errors depend on its kind. `Memory` if an allocation fails; clear, arm
-    /// and pass do not allocate. A command that sets a breakpoint may be given the scan of its conjuncts in the table's world; other
+    /// Gives the command. On an error no call shows a change. The errors depend on its kind. `Memory` if an allocation fails. Clear, arm
+    /// and pass do not allocate, nor do an undo without an event and a goto of an unknown breakpoint. A command that sets a breakpoint may be given the scan of its conjuncts in the table's world; other
     /// commands ignore it.
     fn apply(
         &mut self,
@@ -56,7 +56,7 @@ pub trait Command: Drop + Send {
         ensures same { order self.new ≡ order self.old }
         ensures leads { OnOk result ((IsFresh self.new → ⊥) × LeadsBack (MayGoBack self.new (program_of program.now)) (before self.new)
             (state_of table.old) (state_of table.new)) }
-        ensures memory { IfErr result (λ refusal. refusal ≡ Memory → takes_memory (order self.old) ≡ true) }
+        ensures memory { IfErr result (λ refusal. refusal ≡ Memory → GiveMayAllocate (order self.old) (state_of table.old)) }
         ensures refused { OnErr result ((shown table.new ≡ shown table.old) × (self.new ≡ self.old)) };
 
     /// Undoes the command, in the state in which it left the table: the table is as before the command. Error: `Memory`, if an allocation

@@ -8,6 +8,7 @@ ghost use Rattle.dbg_base.specs.declared.limits.TheConstants.{BREAKPOINTS};
 ghost use Rattle.dbg_base.specs.ModelStates.{opening, IsHalted, IsHaltPlace};
 ghost use Rattle.proc_tree.specs.Programs.{program_of};
 ghost use Rattle.break_book.specs.Books.{breakpoints_of, shown_of};
+ghost use Rattle.dbg_command.specs.Boxes.{HasNamed};
 ghost use Rattle.dbg_command.specs.Tables.{IsTableOf, IsReady, Unready, UnknownIn, HaltedAt, Replies, shown, state_of, IsCutOf};
 
 use break_book::Book;
@@ -139,7 +140,8 @@ impl Table {
 
     // The least cut of the breakpoint of this name, if it has one.
     pub(crate) fn cut_of(&self, name: Name) -> Result<Option<Cut>, Refusal>
-        ensures { (P : tree.Program) → IsTableOf P self.now → IsCutOf P (state_of self.now) name result }
+        ensures of { (P : tree.Program) → IsTableOf P self.now → IsCutOf P (state_of self.now) name result }
+        ensures memory { IfErr result (λ refusal. refusal ≡ Memory → HasNamed name (state_of self.now)) }
     {
         let Some((_, breakpoint)) = self.book().find(name) else {
             return Err(Refusal::UnknownBreak);

@@ -1,12 +1,13 @@
 //! The commands that undo events: undo, rollback, goto.
 
-ghost use Rattle.std.specs.Prelude.{◌≡◌, OnOk, OnErr};
+ghost use Rattle.std.specs.Prelude.{◌≡◌, IfErr, OnOk, OnErr};
+ghost use Rattle.dbg_base.specs.declared.refusal.Refusal.TheVariants.{Memory};
 ghost use Rattle.dbg_base.specs.Trees as tree;
 ghost use Rattle.dbg_base.specs.Calls as model;
 ghost use Rattle.proc_tree.specs.Programs.{program_of};
 ghost use Rattle.cut_core.specs.ConsistentCuts.{IsConsistentCut};
 ghost use Rattle.dbg_command.specs.Tables.{IsTableOf, ActsOrRefuses, GoesBack, shown, state_of};
-ghost use Rattle.dbg_command.specs.Boxes.{LeadsBackBy, HasRolled, HasUndone, unrolled, remade};
+ghost use Rattle.dbg_command.specs.Boxes.{LeadsBackBy, HasEvent, HasNamed, HasRolled, HasUndone, unrolled, remade};
 
 use crate::table::{Table, known};
 use causal_world::Rolled;
@@ -36,6 +37,7 @@ impl Table {
         ensures leads { OnOk result (LeadsBackBy kept.new (HasUndone (program_of program.now) pid.0) (λ rolled. remade pid.0)
             (state_of self.old) (state_of self.new)) }
         ensures refused { OnErr result ((shown self.new ≡ shown self.old) × (kept.new ≡ kept.old)) }
+        ensures memory { IfErr result (λ refusal. refusal ≡ Memory → HasEvent pid.0 (state_of self.old)) }
     {
         known(program, pid)?;
         let choice = self.world.last(pid).ok_or(Refusal::NothingToUndo)?;
@@ -97,16 +99,18 @@ impl Table {
     pub(crate) fn go_to(
         &mut self,
         alloc: Global,
-        program: &Program,
         name: Name,
         kept: &mut Option<TakenBack>,
     ) -> Result<Reply, Refusal>
-        requires { IsTableOf (program_of program.now) self.old }
-        ensures of { IsTableOf (program_of program.now) self.new }
-        ensures acts { ActsOrRefuses (program_of program.now) (model.Goto name) (state_of self.old) result (state_of self.new) }
-        ensures leads { OnOk result (LeadsBackBy kept.new (λ taken. HasRolled (program_of program.now) taken.rolled taken.places)
-            (λ taken. unrolled taken.places) (state_of self.old) (state_of self.new)) }
+        requires { (P : tree.Program) × IsTableOf P self.old }
+        ensures of { (P : tree.Program) → IsTableOf P self.old → IsTableOf P self.new }
+        ensures acts { (P : tree.Program) → IsTableOf P self.old
+            → ActsOrRefuses P (model.Goto name) (state_of self.old) result (state_of self.new) }
+        ensures leads { OnOk result ((P : tree.Program) → IsTableOf P self.old
+            → LeadsBackBy kept.new (λ taken. HasRolled P taken.rolled taken.places) (λ taken. unrolled taken.places) (state_of self.old)
+            (state_of self.new)) }
         ensures refused { OnErr result ((shown self.new ≡ shown self.old) × (kept.new ≡ kept.old)) }
+        ensures memory { IfErr result (λ refusal. refusal ≡ Memory → HasNamed name (state_of self.old)) }
     {
         match self.cut_of(name) {
             Ok(Some(cut)) => self.roll_to(alloc, cut, kept),

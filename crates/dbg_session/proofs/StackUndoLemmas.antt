@@ -20,7 +20,7 @@ use Rattle.dbg_command.specs.Boxes.{LeadsBack}
 use Rattle.dbg_command.proofs.CommandAnswerLemmas.{accepted}
 use Rattle.dbg_command.proofs.BatchLemmas.{shown_state}
 use Rattle.dbg_session.specs.declared.session.Stacked.{Stacked}
-use Rattle.dbg_session.specs.Sessions.{SessionState, GoesBack, given_of, start_of, Unwinds, IsSession}
+use Rattle.dbg_session.specs.Sessions.{SessionState, GoesBack, GaveLast, given_of, start_of, Unwinds, IsSession}
 use Rattle.dbg_session.proofs.Stacks.{EndsWith, last_written, last_split, last_found}
 
 -- an order that was accepted did what the model's order does
@@ -127,6 +127,20 @@ module _ {C : Type 0} {order : C → Order} {MayGoBack : C → Program → Model
     last_stays command same =
         ap (λ (one : C). set stack (n - 1) (record { seat = last.seat; command = one })) same ∙ last_written stack n last ends
 
+    given_last : last_given given ≡ Some (given_of order last)
+    given_last =
+        ap (λ (k : ℕ). slice_get given (k - 1)) (length-map stack (given_of order) ∙ sym ends.long)
+        ∙ last_found given n (given_of order last) (record {
+          long = ends.long ∙ sym (length-map stack (given_of order));
+          some = ends.some;
+          is = ap (given_of order) ends.is ∙ sym (get_or-map (given_of order) stack (n - 1) last);
+        })
+
+    -- the seat that gave it
+    pub gave_last : (seat : ℕ) → last.seat ≡ seat → GaveLast given seat
+    gave_last seat same =
+        (order last.command, given_last ∙ ap (λ (giver : ℕ). Some (record { seat = giver; order = order last.command })) same)
+
     -- it was undone
     module _ {t' : TableState} (of : IsTableOf P t') (back : state_of t' ≡ before last.command (state_of t)) where
       shorter : Is t' prefix
@@ -147,15 +161,6 @@ module _ {C : Type 0} {order : C → Order} {MayGoBack : C → Program → Model
           ∙ ap (λ (k : ℕ). take (k - 1) given) (ends.long ∙ sym (length-map stack (given_of order))))
           (subst (λ (M : ModelState). Leads P (map (given_of order) prefix) M (state_of t')) shorter.start
           (chain_leads order MayGoBack before P prefix (state_of t') shorter.unwinds))
-
-      given_last : last_given given ≡ Some (given_of order last)
-      given_last =
-          ap (λ (k : ℕ). slice_get given (k - 1)) (length-map stack (given_of order) ∙ sym ends.long)
-          ∙ last_found given n (given_of order last) (record {
-            long = ends.long ∙ sym (length-map stack (given_of order));
-            some = ends.some;
-            is = ap (given_of order) ends.is ∙ sym (get_or-map (given_of order) stack (n - 1) last);
-          })
 
       pub answers_back : (seat : ℕ) (reply : Reply) → last.seat ≡ seat → Replies P (state_of t') Plain reply
           → AnswersBack P given seat (last_given given) (Accepted reply)

@@ -1,12 +1,12 @@
 -- What contracts see of a session, and what its stack of commands keeps.
-use Rattle.std.specs.Prelude.{◌≡◌, List, [], ◌∷◌}
+use Rattle.std.specs.Prelude.{◌≡◌, ℕ, List, [], ◌∷◌, Some}
 use Rattle.dbg_base.specs.declared.said.Reply.{Reply}
 use Rattle.dbg_base.specs.declared.said.Said.TheVariants.{Accepted}
 use Rattle.dbg_base.specs.Trees.{Program}
 use Rattle.dbg_base.specs.Calls.{Order}
 use Rattle.dbg_base.specs.ModelStates.{ModelState, opening}
 use Rattle.dbg_base.specs.Acts.{Follows}
-use Rattle.dbg_base.specs.Journals.{Given}
+use Rattle.dbg_base.specs.Journals.{Given, last_given}
 use Rattle.dbg_command.specs.Tables.{TableState, IsTableOf, state_of}
 use Rattle.dbg_session.specs.declared.session.Stacked.{Stacked}
 
@@ -15,6 +15,10 @@ pub record SessionState : Type 0 where
   pub program : Program
   pub effective : List Given
   pub state : ModelState
+
+-- the last order that counts is one of this seat
+abbrev pub GaveLast : List Given → ℕ → Type 0
+GaveLast given seat = (order : Order) × (last_given given ≡ Some (record { seat = seat; order = order }))
 
 -- The order led to M from the state before, and can be undone there.
 pub record GoesBack (P : Program) (MayGoBack : Program → ModelState → Type 0) (before : ModelState → ModelState) (order : Order)

@@ -8,8 +8,9 @@ ghost use Rattle.dbg_base.specs.ModelStates.{opening, IsHaltPlace};
 ghost use Rattle.dbg_base.specs.Journals.{LeadsTo, AnswersBack, counting, last_given};
 ghost use Rattle.dbg_base.specs.Fits.{FitsCall};
 ghost use Rattle.proc_tree.specs.Programs.{program_of};
-ghost use Rattle.dbg_command.specs.Tables.{asks_memory, state_of, IsTableOf, AnswersOrRefuses, FollowsOrRefuses, said_of, reported_of};
+ghost use Rattle.dbg_command.specs.Tables.{AskMayAllocate, state_of, IsTableOf, AnswersOrRefuses, FollowsOrRefuses, said_of, reported_of};
 ghost use Rattle.dbg_command.specs.Boxes.{IsScanFor, ScansFor};
+ghost use Rattle.dbg_session.specs.Sessions.{GaveLast};
 
 use dbg_base::{Answer, Done, Gate, Plan, Query, Refusal, Reply};
 use dbg_command::{Command, Table};
@@ -126,6 +127,7 @@ impl<C: Command> Session<C> {
         ensures program { self.new.program ≡ self.old.program }
         ensures due { AnswersBack self.old.program self.old.effective seat (last_given self.old.effective) (said_of result)
             ⊎ (result ≡ Err Memory) }
+        ensures memory { IfErr result (λ refusal. refusal ≡ Memory → GaveLast self.old.effective seat) }
         ensures effective { self.new.effective ≡ counting self.old.effective seat Back (said_of result) }
         ensures leads_to { LeadsTo self.new.program self.new.effective self.new.state }
         ensures fits { FitsCall self.old.program Back (said_of result) }
@@ -162,7 +164,7 @@ impl<C: Command> Session<C> {
     /// allocate.
     pub fn ask(&self, alloc: Global, query: &Query) -> Result<Answer, Refusal>
         ensures answers { AnswersOrRefuses self.now.program self.now.state (query_of query.now) result }
-        ensures memory { IfErr result (λ refusal. refusal ≡ Memory → asks_memory (query_of query.now) ≡ true) }
+        ensures memory { IfErr result (λ refusal. refusal ≡ Memory → AskMayAllocate (query_of query.now) self.now.state) }
         ensures fits { FitsCall self.now.program (Ask (query_of query.now)) (reported_of result) }
     {
         self.table.ask(alloc, &self.program, query)

@@ -9,8 +9,8 @@ use denote.Struct.Field.{row_field}
 use denote.Struct.Tuple.{TupleAt, type_at}
 use Rattle.std.proofs.Crossing.{crosses}
 use Rattle.dbg_base.proofs.ids.Pid.TheSendSync as pid_sent
-use Rattle.dbg_command.specs.contracts.kinds.next.NextCmd as next
-use Rattle.dbg_command.specs.contracts.kinds.next.NextCmdCommand.TheImpl.{ghosts}
+use Rattle.dbg_command.specs.contracts.kinds.playing.NextCmd as next
+use Rattle.dbg_command.specs.contracts.kinds.playing.NextCmdCommand.TheImpl.{ghosts}
 use Rattle.dbg_command.proofs.SendableCommandLemmas.{plan_send}
 use Rattle.dbg_desk.proofs.SendableEntryLemmas.{desk_sync, seat_send}
 use Rattle.dbg_desk.specs.contracts.desk.Desk as desk

@@ -1,6 +1,6 @@
 use Rattle.std.proofs.Common.{◌≡◌, length}
 use Rattle.std.specs.List.{AllByRecursion}
-use Rattle.dbg_command.specs.contracts.kinds.next.NextCmdCommand.TheImpl.{ghosts}
+use Rattle.dbg_command.specs.contracts.kinds.playing.NextCmdCommand.TheImpl.{ghosts}
 use Rattle.test_memory.proofs.crews.turns.Given as goal
 
 abbrev pub invariant-loop : goal.invariant-loop

@@ -1,5 +1,4 @@
 use Rattle.std.proofs.Common.{sym, ap, refl, subst, Ok}
-use Rattle.proc_tree.specs.Programs.{program_of}
 use Rattle.dbg_base.specs.Calls as model
 use Rattle.break_book.specs.Books.{breakpoint_of}
 use Rattle.dbg_command.specs.Tables.{TableState, IsTableOf, ActsOrRefuses, state_of}
@@ -8,24 +7,21 @@ use Rattle.dbg_command.proofs.CommandUndoLemmas.{leads_from, has_cleared}
 use Rattle.dbg_command.proofs.table.Table.clear.Goals as goal
 
 pub returns-clause-of : goal.returns-clause-of
-returns-clause-of c =
-    let P = program_of c.args.program.now in
+returns-clause-of c = λ P is.
     keeps_table P c.self.inside.world c.self.inside.book c.clear.new.self c.in_ok-cleared.ensures.of
-    (subst (IsTableOf P) (sym c.self.view_is) c.requires)
+    (subst (IsTableOf P) (sym c.self.view_is) is)
 
 pub returns-clause-acts : goal.returns-clause-acts
-returns-clause-acts c =
-    let P = program_of c.args.program.now in
+returns-clause-acts c = λ P is.
     let after : TableState = record { world = c.self.inside.world; book = c.clear.new.self } in
     subst (λ (t : TableState). ActsOrRefuses P (model.Clear c.args.name) (state_of t) (Ok c.reply.result) (state_of after)) c.self.view_is
-    (clears P c.self.inside.world c.self.inside.book c.clear.new.self c.reply.result (c.reply.ensures P (returns-clause-of c))
+    (clears P c.self.inside.world c.self.inside.book c.clear.new.self c.reply.result (c.reply.ensures P (returns-clause-of c P is))
     c.args.name (breakpoint_of (c.args.name, c.in_ok-cleared.cleared.1)) c.in_ok-cleared.ensures.clears.0
     c.in_ok-cleared.ensures.clears.1)
 
 pub returns-clause-leads : goal.returns-clause-leads
-returns-clause-leads c =
-    let P = program_of c.args.program.now in
-    let own = subst (IsTableOf P) (sym c.self.view_is) c.requires in
+returns-clause-leads c = λ P is.
+    let own = subst (IsTableOf P) (sym c.self.view_is) is in
     let before : TableState = record { world = c.self.inside.world; book = c.self.inside.book } in
     let after : TableState = record { world = c.self.inside.world; book = c.clear.new.self } in
     let did = c.in_ok-cleared.ensures in (

@@ -2,7 +2,8 @@ use Rattle.std.proofs.Common.{inl, rules, vec_len}
 use Rattle.proc_tree.specs.Programs.{program_of}
 use Rattle.dbg_command.specs.Tables.{IsTableOf}
 use Rattle.dbg_session.proofs.Stacks.{EndsWith, last_written}
-use Rattle.dbg_session.proofs.StackUndoLemmas.{session_leads_to, session_kept, session_shorter, last_may_go_back, last_stays, answers_back, seen_same}
+use Rattle.dbg_session.proofs.StackUndoLemmas.{session_leads_to, session_kept, session_shorter, last_may_go_back, last_stays, gave_last, answers_back, seen_same}
+use Rattle.dbg_command.proofs.CommandUndoLemmas.{if_refused}
 use Rattle.dbg_session.proofs.AnswerFitLemmas.{plain_fits}
 use Rattle.dbg_session.proofs.session.Session.back.Given.{Over}
 use Rattle.dbg_session.proofs.session.Session.back.Goals as goal
@@ -33,6 +34,11 @@ returns-in_err-revert-clause-kept g c =
     let ends : EndsWith c.self.inside.stack.items (vec_len c.self.inside.stack) c.in-Some.last.now = search rules in
     seen_same g.C.Command.order c.self.inside.table c.revert.new.table c.from_residual.result (last_stays c.self.invariant ends c.revert.new.self c.in_err-revert.ensures.unchanged)
     c.in_err-revert.ensures.kept c.self.view_is
+
+pub returns-in_err-revert-clause-memory : goal.returns-in_err-revert-clause-memory
+returns-in_err-revert-clause-memory g c =
+    let ends : EndsWith c.self.inside.stack.items (vec_len c.self.inside.stack) c.in-Some.last.now = search rules in
+    rw (← c.self.view_is) (if_refused c.from_residual.result (gave_last c.self.invariant ends c.args.seat c.if-last-seat.false))
 
 -- the command at the end of the stack, and the table after it is undone
 

@@ -1,4 +1,0 @@
-use Rattle.dbg_command.proofs.kinds.pass.PassCmdCommand.revert.Goals as goal
-
-pub returns-clause-of : goal.returns-clause-of
-returns-clause-of c = λ P is may. c.rearm.ensures.of P is
