@@ -168,13 +168,13 @@ impl ExplainedSession<'_> {
         self.tell_done(notes, before, call, &reply.done)?;
         if let Call::Give(Plan::Break(name, _)) = call {
             if reply.halted != Some(*name) {
-                self.tell_breakpoint(alloc, notes, *name)?;
+                self.view.tell_breakpoint(alloc, notes, *name)?;
             }
         }
         match reply.halted {
             Some(name) => {
                 self.tell_halt(alloc, notes, name)?;
-                self.tell_continuing(alloc, notes, name)
+                self.view.tell_continuing(alloc, notes, name)
             }
             None => Ok(()),
         }

@@ -1,11 +1,11 @@
 //! Explanations of the answers to queries.
 
-use crate::breakpoints::part_of;
 use crate::explained::ExplainedSession;
 use dbg_base::{Call, Cause, Choice, Elimination, Name, Pid, Query, Refusal};
 use least_cut::Detector;
 use std::alloc::{AllocError, Global};
 use ui_text::{Notes, Part};
+use ui_view::part_of;
 
 // What a search has ruled out of the states of one process.
 #[derive(Clone, Copy)]
@@ -126,7 +126,7 @@ impl ExplainedSession<'_> {
     ) -> Result<(), Refusal> {
         let scope = self.view.scope(pid);
         let mut fires = false;
-        self.tell_not_yet(notes, detector, pid)?;
+        self.view.tell_not_yet(notes, detector, pid)?;
         for number in 0..self.view.session.program.commands(pid) {
             if scope.fires(alloc, self.view.session.world, Choice(number))? {
                 let word = if fires { ", " } else { "; it can now fire " };
@@ -188,7 +188,7 @@ impl ExplainedSession<'_> {
             Call::Ask(Query::Can(pid)) if pid.0 < self.view.session.program.processes() => {
                 match self.view.session.world.can_undo(*pid) {
                     Err(Refusal::Consequence(receiver)) => {
-                        Ok(self.tell_consequence(notes, *pid, receiver)?)
+                        Ok(self.view.tell_consequence(notes, *pid, receiver)?)
                     }
                     _ => Ok(()),
                 }
@@ -199,17 +199,16 @@ impl ExplainedSession<'_> {
 
     // Says how the search for a breakpoint's cut went.
     fn tell_search(&self, alloc: Global, notes: &mut Notes, name: Name) -> Result<(), Refusal> {
-        let Some((_, breakpoint)) = self.view.session.book.find(name) else {
+        let Some(detector) = self.view.detector_of(name) else {
             return Ok(());
         };
-        let detector = breakpoint.detector();
         let rows = ruled_out(alloc, detector.why(), self.view.session.program.processes())?;
         self.tell_ruled_out(notes, rows.as_slice())?;
         if let Some(cut) = detector.cut() {
             notes.say("what is left is the earliest state:")?;
             return Ok(self.tell_cut_state(notes, detector, cut)?);
         }
-        let past = self.past_processes(alloc, detector)?;
+        let past = self.view.past_processes(alloc, detector)?;
         for pid in &past {
             self.tell_further(alloc, notes, detector, *pid)?;
         }

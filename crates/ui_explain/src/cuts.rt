@@ -1,6 +1,5 @@
 //! The state of a cut: what each process had done in it, and the messages on their way.
 
-use crate::breakpoints::part_of;
 use crate::explained::ExplainedSession;
 use dbg_base::{Cut, Expr, Pid};
 use event_rows::{Event, Exchange};
@@ -8,7 +7,7 @@ use least_cut::Detector;
 use local_eval::{Env, guard};
 use std::alloc::AllocError;
 use ui_text::{Notes, Part};
-use ui_view::sending;
+use ui_view::{part_of, sending};
 
 // At most this many events before a cut are searched for the one since which a part holds.
 const SEARCHED: u32 = 1_000;
@@ -70,6 +69,29 @@ impl ExplainedSession<'_> {
         }
     }
 
+    // Goes back from the state of a process after so many events, at most a thousand events, to the first state in which its part holds, or
+    // does not hold. Returns after how many events that is, or None if no state is one.
+    fn search_back(
+        &self,
+        pid: Pid,
+        part: &Expr,
+        env: &mut Env,
+        count: u32,
+        holds: bool,
+    ) -> Option<u32> {
+        for at in (count.saturating_sub(SEARCHED)..count).rev() {
+            self.view
+                .session
+                .world
+                .rows()
+                .retreat(pid, at as usize, env);
+            if matches!(guard(part, env), Ok(true)) == holds {
+                return Some(at);
+            }
+        }
+        None
+    }
+
     // Since when a part has held, which holds in this state of a process, after so many events.
     fn held_since(
         &self,
@@ -79,25 +101,18 @@ impl ExplainedSession<'_> {
         count: u32,
     ) -> Result<HeldSince, AllocError> {
         let mut env = env.copy()?;
-        let mut event = count;
-        for at in (count.saturating_sub(SEARCHED)..count).rev() {
-            self.view
-                .session
-                .world
-                .rows()
-                .retreat(pid, at as usize, &mut env);
-            if !matches!(guard(part, &env), Ok(true)) {
+        let event = match self.search_back(pid, part, &mut env, count, false) {
+            Some(at) => {
+                let event = at.saturating_add(1);
                 return Ok(HeldSince {
                     event,
                     is_exact: true,
                 });
             }
-            event = at;
-        }
-        Ok(HeldSince {
-            event,
-            is_exact: event == 0,
-        })
+            None => count.saturating_sub(SEARCHED),
+        };
+        let is_exact = event == 0;
+        Ok(HeldSince { event, is_exact })
     }
 
     /// After how many events of a process, fewer than these, its part held last. None if it did not hold in the last thousand states before.
@@ -114,17 +129,7 @@ impl ExplainedSession<'_> {
         if matches!(guard(part, &env), Ok(true)) {
             return Ok(Some(last));
         }
-        for at in (last.saturating_sub(SEARCHED)..last).rev() {
-            self.view
-                .session
-                .world
-                .rows()
-                .retreat(pid, at as usize, &mut env);
-            if matches!(guard(part, &env), Ok(true)) {
-                return Ok(Some(at));
-            }
-        }
-        Ok(None)
+        Ok(self.search_back(pid, part, &mut env, last, true))
     }
 
     // Appends since when the part of a process has held to the last line.

@@ -1,4 +1,4 @@
-//! Sentences about a session, for a person: what a command did, and why a line is refused.
+//! Sentences about a session, for a person: what a command did, and the present state.
 #![tactic(auto)]
 
 mod accepted;
@@ -8,11 +8,6 @@ mod breakpoints;
 mod cuts;
 mod depths;
 mod explained;
-mod lines;
-mod plans;
-mod predicates;
-mod refusals;
-mod refused_batches;
 mod standing;
 
 pub use accepted::Before;

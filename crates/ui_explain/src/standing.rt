@@ -23,7 +23,7 @@ impl ExplainedSession<'_> {
         match Name::new(word).and_then(|name| program.find_process(name)) {
             Some(pid) => Ok(Some((pid.0, pid.0.saturating_add(1)))),
             None => {
-                self.tell_processes(notes, word)?;
+                self.view.tell_processes(notes, word)?;
                 Ok(None)
             }
         }
@@ -54,7 +54,7 @@ impl ExplainedSession<'_> {
             "the breakpoint {} halts the session: `pass` ",
             &[Part::Name(name)],
         )?;
-        match self.next_halting(alloc, name)? {
+        match self.view.next_halting(alloc, name)? {
             Some(next) => notes.add_with(
                 "disarms it, and then the breakpoint {} does",
                 &[Part::Name(next)],
@@ -209,7 +209,7 @@ impl ExplainedSession<'_> {
         }
         let found = Name::new(word).and_then(|name| self.view.session.program.find_process(name));
         let Some(pid) = found else {
-            return self.tell_processes(notes, word);
+            return self.view.tell_processes(notes, word);
         };
         let place = self.view.session.world.place(pid);
         for at in 0..place {
@@ -226,23 +226,6 @@ impl ExplainedSession<'_> {
         )?;
         for at in place..self.view.session.world.line_len(pid) {
             self.tell_again(notes, pid, at)?;
-        }
-        Ok(())
-    }
-
-    /// Says that no process has this name, and which names there are.
-    pub fn tell_processes(&self, notes: &mut Notes, word: &[u8]) -> Result<(), AllocError> {
-        notes.say_with("`{}` is not a process; ", &[Part::Bytes(word)])?;
-        let mut between = match self.view.session.program.processes() {
-            1 => "the only process is ",
-            _ => "the processes are ",
-        };
-        for p in 0..self.view.session.program.processes() {
-            notes.add_with(
-                "{}{}",
-                &[Part::Text(between), self.view.scope(Pid(p)).name()],
-            )?;
-            between = ", ";
         }
         Ok(())
     }

@@ -9,6 +9,7 @@ use shell_parse::next_word;
 use std::alloc::{AllocError, Global};
 use ui_diagram::{ALL_EVENTS, draw_text};
 use ui_explain::{Before, ExplainedSession};
+use ui_refusals::RefusingSession;
 use ui_text::{Notes, Part, tell_help, tell_to_file, tell_too_long};
 use ui_timeline::Selection;
 use ui_view::{CountedCommand, CountedCommands, Directive, Echo, Explainer, SourceView, Told};
@@ -72,11 +73,9 @@ fn events_of(view: SessionView<'_>) -> usize {
 }
 
 // A session of this program, with its text.
-fn view_of<'b>(program: &'b WrittenProgram, session: SessionView<'b>) -> ExplainedSession<'b> {
+fn view_of<'b>(program: &'b WrittenProgram, session: SessionView<'b>) -> SourceView<'b> {
     let text = program.text();
-    ExplainedSession {
-        view: SourceView { session, text },
-    }
+    SourceView { session, text }
 }
 
 impl<'a> Sentences<'a> {
@@ -129,7 +128,10 @@ impl<'a> Sentences<'a> {
         if *refusal == Refusal::UnknownProcess && self.program.tell_family(notes, arguments)? {
             return Ok(());
         }
-        view_of(self.program, view).tell_bad_line(alloc, notes, line, refusal)?;
+        let refusing = RefusingSession {
+            view: view_of(self.program, view),
+        };
+        refusing.tell_bad_line(alloc, notes, line, refusal)?;
         if *refusal == Refusal::BadLine {
             self.tell_labels(notes, view, line)?;
         }
@@ -155,10 +157,13 @@ impl<'a> Sentences<'a> {
             return Ok(());
         }
         let view = view_of(self.program, view);
+        let explained = ExplainedSession { view };
         match said {
-            Said::Accepted(reply) => view.tell_reply(alloc, notes, &self.before, call, reply),
-            Said::Refused(refusal) => view.tell_refusal(alloc, notes, call, refusal),
-            Said::Answered(_) => view.tell_answer(alloc, notes, call),
+            Said::Accepted(reply) => explained.tell_reply(alloc, notes, &self.before, call, reply),
+            Said::Refused(refusal) => {
+                RefusingSession { view }.tell_refusal(alloc, notes, call, refusal)
+            }
+            Said::Answered(_) => explained.tell_answer(alloc, notes, call),
         }
     }
 
@@ -188,18 +193,19 @@ impl<'a> Sentences<'a> {
         commands: &CountedCommands,
         directive: Directive<'_>,
     ) -> Result<(), Refusal> {
-        let view = view_of(self.program, view);
         if self.program.tell_family(notes, directive.process())? {
             return Ok(());
         }
+        let view = view_of(self.program, view);
+        let explained = ExplainedSession { view };
         match directive {
             Directive::Remark | Directive::Quit => Ok(()),
             Directive::Help(word) => Ok(tell_help(notes, word)?),
-            Directive::On(name) => view.tell_on(alloc, notes, name),
-            Directive::List(name) => view.tell_list(alloc, notes, name),
-            Directive::State(name) => view.tell_state(alloc, notes, name),
-            Directive::Line(name) => Ok(view.tell_line(notes, name)?),
-            Directive::Draw => self.draw(alloc, notes, view.view),
+            Directive::On(name) => explained.tell_on(alloc, notes, name),
+            Directive::List(name) => explained.tell_list(alloc, notes, name),
+            Directive::State(name) => explained.tell_state(alloc, notes, name),
+            Directive::Line(name) => Ok(explained.tell_line(notes, name)?),
+            Directive::Draw => self.draw(alloc, notes, view),
             Directive::Session => Ok(commands.tell_lines(notes)?),
             Directive::TooLong(word) => Ok(tell_too_long(notes, word)?),
             Directive::ToFile(word) => Ok(tell_to_file(notes, word)?),
@@ -234,7 +240,9 @@ impl Explainer<Option<LineFault>> for Sentences<'_> {
         notes: &mut Notes,
     ) {
         let view = view_of(self.program, session);
-        self.is_prepared = self.left > 0 && view.note_before(notes, &mut self.before, call).is_ok();
+        let explained = ExplainedSession { view };
+        self.is_prepared = self.left > 0
+            && explained.note_before(notes, &mut self.before, call).is_ok();
     }
 
     fn explain(

@@ -1,7 +1,9 @@
 //! What explanations and pictures have in common: what they read of a session, and how they write expressions, commands and events.
 #![tactic(auto)]
 
+mod breakpoints;
 mod commands;
+mod consequences;
 mod counted;
 mod directive;
 mod events;
@@ -13,6 +15,7 @@ mod hindrances;
 mod values;
 mod view;
 
+pub use breakpoints::part_of;
 pub use counted::{BreakpointChange, CountedCommand, CountedCommands};
 pub use directive::Directive;
 pub use events::{EventNews, receiving, sending};

@@ -3,7 +3,8 @@
 use crate::expressions::ProcessView;
 use dbg_base::Pid;
 use dbg_command::SessionView;
-use ui_text::ProgramText;
+use std::alloc::AllocError;
+use ui_text::{Notes, Part, ProgramText};
 
 /// A session, and its program as it was written.
 #[derive(Clone, Copy)]
@@ -16,5 +17,19 @@ impl<'a> SourceView<'a> {
     /// A process of the session.
     pub fn scope(&self, pid: Pid) -> ProcessView<'a> {
         ProcessView::new(self.session.program, self.text, pid)
+    }
+
+    /// Says that no process has this name, and which names there are.
+    pub fn tell_processes(&self, notes: &mut Notes, word: &[u8]) -> Result<(), AllocError> {
+        notes.say_with("`{}` is not a process; ", &[Part::Bytes(word)])?;
+        let mut between = match self.session.program.processes() {
+            1 => "the only process is ",
+            _ => "the processes are ",
+        };
+        for p in 0..self.session.program.processes() {
+            notes.add_with("{}{}", &[Part::Text(between), self.scope(Pid(p)).name()])?;
+            between = ", ";
+        }
+        Ok(())
     }
 }

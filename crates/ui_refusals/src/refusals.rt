@@ -1,11 +1,9 @@
 //! Why a call is refused, and what the person can do.
 
-use crate::explained::ExplainedSession;
+use crate::refusing::RefusingSession;
 use dbg_base::{Call, Choice, Name, Pid, Plan, Query, Refusal};
-use event_rows::{Event, Exchange};
 use std::alloc::{AllocError, Global};
 use ui_text::{Notes, Part, meaning};
-use ui_view::receiving;
 
 // The process that a command names.
 fn process_of(plan: &Plan) -> Option<Pid> {
@@ -31,7 +29,7 @@ fn breakpoint_of(plan: &Plan) -> Option<Name> {
     }
 }
 
-impl ExplainedSession<'_> {
+impl RefusingSession<'_> {
     // The command of the program that would be made.
     fn choice_of(&self, plan: &Plan) -> Option<Choice> {
         match plan {
@@ -56,90 +54,6 @@ impl ExplainedSession<'_> {
                 notes.say_with("{} has commands 0 to {}", &[name, last])
             }
         }
-    }
-
-    // The number, from 1, of the event of the receiver by which it received the message of the process's last event.
-    fn received(&self, pid: Pid, receiver: Pid) -> Option<u32> {
-        let world = self.view.session.world;
-        match world.rows().last(pid).map(Event::exchange) {
-            Some(Exchange::Sent { count, .. }) => Some(receiving(world, receiver, pid, count)),
-            _ => None,
-        }
-    }
-
-    /// Says which events prevent the undo of the last event of a process, and what undoes them.
-    pub(crate) fn tell_consequence(
-        &self,
-        notes: &mut Notes,
-        pid: Pid,
-        receiver: Pid,
-    ) -> Result<(), AllocError> {
-        let Some(received) = self.received(pid, receiver) else {
-            return Ok(());
-        };
-        let events = self.view.session.world.rows().len(pid);
-        let scope = self.view.scope(pid);
-        notes.say_with(
-            "{} received the message of event {} of {} by its event {}",
-            &[
-                scope.process(receiver),
-                Part::Count(events),
-                scope.name(),
-                Part::Natural(received),
-            ],
-        )?;
-        notes.say_with(
-            "`rollback {} {}` undoes this event and all events that depend on it",
-            &[scope.name(), Part::Count(events.saturating_sub(1))],
-        )
-    }
-
-    /// Another armed breakpoint that has a cut, so it halts the session after `pass`.
-    pub(crate) fn next_halting(
-        &self,
-        alloc: Global,
-        halting: Name,
-    ) -> Result<Option<Name>, Refusal> {
-        for (name, is_armed) in self.view.session.book.list(alloc)?.items() {
-            if *is_armed && *name != halting && self.has_cut(*name) {
-                return Ok(Some(*name));
-            }
-        }
-        Ok(None)
-    }
-
-    /// Whether a breakpoint has a cut.
-    pub(crate) fn has_cut(&self, name: Name) -> bool {
-        match self.view.session.book.find(name) {
-            Some((_, breakpoint)) => breakpoint.detector().cut().is_some(),
-            None => false,
-        }
-    }
-
-    /// Says how the session continues after a halt.
-    pub(crate) fn tell_continuing(
-        &self,
-        alloc: Global,
-        notes: &mut Notes,
-        halting: Name,
-    ) -> Result<(), Refusal> {
-        notes.say_with("`pass {}", &[Part::Name(halting)])?;
-        match self.next_halting(alloc, halting)? {
-            Some(next) => notes.add_with(
-                "` disarms it, and then the breakpoint {} halts the session",
-                &[Part::Name(next)],
-            )?,
-            None => notes.add("` lets the session continue")?,
-        }
-        notes.say("")?;
-        if self.is_beyond_cut(halting) {
-            notes.add_with(
-                "`goto {}` undoes the events that are not in its cut; ",
-                &[Part::Name(halting)],
-            )?;
-        }
-        notes.add("`undo`, `rollback` and `back` undo what led there")?;
-        Ok(())
     }
 
     // Says which breakpoints exist.
@@ -178,7 +92,7 @@ impl ExplainedSession<'_> {
             }
             Refusal::NoneEnabled => scope.tell_hindrances(alloc, notes, self.view.session.world)?,
             Refusal::NothingToUndo => notes.say_with("{} is at its start", &[scope.name()])?,
-            Refusal::Consequence(receiver) => self.tell_consequence(notes, pid, *receiver)?,
+            Refusal::Consequence(receiver) => self.view.tell_consequence(notes, pid, *receiver)?,
             Refusal::NothingToRedo => notes.say_with(
                 "{}'s redo list is empty; `next` and `step` make new events",
                 &[scope.name()],
@@ -206,10 +120,10 @@ impl ExplainedSession<'_> {
     ) -> Result<(), Refusal> {
         match refusal {
             Refusal::UnknownBreak => self.tell_breakpoints(alloc, notes),
-            Refusal::BreakTaken | Refusal::NoCut => self.tell_breakpoint(alloc, notes, name),
+            Refusal::BreakTaken | Refusal::NoCut => self.view.tell_breakpoint(alloc, notes, name),
             Refusal::NotArmed => Ok(notes.say_with("`arm {}` arms it", &[Part::Name(name)])?),
-            Refusal::AlreadyArmed if self.has_cut(name) => {
-                self.tell_continuing(alloc, notes, name)
+            Refusal::AlreadyArmed if self.view.cut_of(name).is_some() => {
+                self.view.tell_continuing(alloc, notes, name)
             }
             _ => Ok(()),
         }
@@ -276,8 +190,8 @@ impl ExplainedSession<'_> {
     ) -> Result<(), Refusal> {
         match refusal {
             Refusal::Halted(name) => {
-                self.tell_breakpoint(alloc, notes, *name)?;
-                self.tell_continuing(alloc, notes, *name)
+                self.view.tell_breakpoint(alloc, notes, *name)?;
+                self.view.tell_continuing(alloc, notes, *name)
             }
             Refusal::OtherSeat(seat) => {
                 let seat = Part::Natural(*seat);

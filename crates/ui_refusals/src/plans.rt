@@ -1,6 +1,6 @@
 //! Commands as text.
 
-use crate::explained::ExplainedSession;
+use crate::refusing::RefusingSession;
 use dbg_base::{Name, Pid, Plan};
 use std::alloc::AllocError;
 use ui_text::{Notes, Part};
@@ -10,7 +10,7 @@ fn put_of_breakpoint(notes: &mut Notes, word: &'static str, name: Name) -> Resul
     notes.add_with("{} {}", &[Part::Text(word), Part::Name(name)])
 }
 
-impl ExplainedSession<'_> {
+impl RefusingSession<'_> {
     // Appends a command that names a process to the last line.
     fn put_of_process(
         &self,

@@ -1,7 +1,7 @@
 //! What is wrong with the predicates of a line that sets a breakpoint.
 
-use crate::explained::ExplainedSession;
 use crate::lines::{next_expression, next_word, process_named};
+use crate::refusing::RefusingSession;
 use dbg_base::limits::{NAME_BYTES, PROCESSES};
 use dbg_base::{FaultKind, Pid, Refusal};
 use proc_lang::{ProgError, ProgFault, parse_predicate};
@@ -119,7 +119,7 @@ fn wrong_end(rest: &[u8]) -> Option<&'static str> {
     }
 }
 
-impl ExplainedSession<'_> {
+impl RefusingSession<'_> {
     // Shows the variables of a process.
     fn tell_variables(&self, notes: &mut Notes, pid: Pid) -> Result<(), AllocError> {
         let scope = self.view.scope(pid);

@@ -1,6 +1,6 @@
 //! Why a command of a batch is refused.
 
-use crate::explained::ExplainedSession;
+use crate::refusing::RefusingSession;
 use dbg_base::{Name, Plan, Refusal};
 use std::alloc::{AllocError, Global};
 use ui_text::{Notes, Part, meaning};
@@ -38,14 +38,16 @@ fn is_armed_after(plans: &[Plan], name: Name, is_armed: bool) -> bool {
     is_armed
 }
 
-impl ExplainedSession<'_> {
+impl RefusingSession<'_> {
     // Says which event prevents an undo.
     fn tell_prevented(&self, notes: &mut Notes, plan: &Plan) -> Result<(), AllocError> {
         let Plan::Undo(pid) = plan else {
             return Ok(());
         };
         match self.view.session.world.can_undo(*pid) {
-            Err(Refusal::Consequence(receiver)) => self.tell_consequence(notes, *pid, receiver),
+            Err(Refusal::Consequence(receiver)) => self
+                .view
+                .tell_consequence(notes, *pid, receiver),
             _ => Ok(()),
         }
     }
@@ -54,8 +56,8 @@ impl ExplainedSession<'_> {
     fn tell_halted_batch(&self, alloc: Global, notes: &mut Notes) -> Result<(), Refusal> {
         match self.view.session.book.halted() {
             Some(name) => {
-                self.tell_breakpoint(alloc, notes, name)?;
-                self.tell_continuing(alloc, notes, name)
+                self.view.tell_breakpoint(alloc, notes, name)?;
+                self.view.tell_continuing(alloc, notes, name)
             }
             None => Ok(()),
         }

@@ -1,6 +1,6 @@
 //! Why a command line is refused for its form, or for a name in it.
 
-use crate::explained::ExplainedSession;
+use crate::refusing::RefusingSession;
 use dbg_base::limits::{LINE_BYTES, SEATS};
 use dbg_base::{Name, Pid, Refusal};
 use proc_tree::Program;
@@ -102,7 +102,7 @@ pub(crate) fn process_named(program: &Program, word: &[u8]) -> Option<Pid> {
     program.find_process(Name::new(word)?)
 }
 
-impl ExplainedSession<'_> {
+impl RefusingSession<'_> {
     // Says which word is not the name of a process.
     fn tell_unknown(
         &self,
@@ -120,7 +120,7 @@ impl ExplainedSession<'_> {
                 return Ok(());
             }
             if process_named(self.view.session.program, word).is_none() {
-                return self.tell_processes(notes, word);
+                return self.view.tell_processes(notes, word);
             }
             rest = if command == b"break".as_slice() {
                 next_expression(others).1
